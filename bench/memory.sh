@@ -78,6 +78,12 @@ try_audit() {
     is_due audit
 }
 
+try_explain() {
+    refused explain <questions.jsonl >sent
+    is_due explain
+    cmp -s answers.journal served.journal || complain explain "the journal is another one"
+}
+
 try_simulate() {
     refused simulate <transcript.jsonl >sent
     is_due simulate
@@ -95,6 +101,10 @@ done
 
 "$program" audit >due || exit 1
 each_request try_audit audit
+
+cp "$demo/explained.jsonl" due
+cp answers.journal served.journal
+each_request try_explain explain
 
 paste -d '\n' questions.jsonl "$demo/replies.jsonl" >transcript.jsonl
 cp "$demo/public.csv" table.csv

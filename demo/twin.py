@@ -6,8 +6,8 @@ bytes to the same questions.
 
 The report of `auditor audit` says which other tables there are: of a column of sums a change that alters no answer, of a column of
 maxima a list of highest numbers, any one of which may be less by 1. For each number of the table such a table is written, the demo's
-questions are asked of it over a fresh journal, and the replies are compared byte for byte. Ends with 0 if all are the same. It shows
-it of these tables and questions; the proof says it of all.
+questions are asked of it over a fresh journal and then explained, and what is sent is compared byte for byte. Ends with 0 if all are the
+same. It shows it of these tables and questions; the proof says it of all.
 """
 import csv
 import io
@@ -30,12 +30,12 @@ def run(program, command, folder, asked=b""):
 
 
 def ask(program, table, folder):
-    """The replies to the demo's questions over a table and a fresh journal."""
+    """The replies to the demo's questions over a table and a fresh journal, and then why those that were denied are."""
     (folder / "answers.journal").unlink(missing_ok=True)
     (folder / "schema.json").write_bytes(FILES["schema.json"])
     (folder / "table.csv").write_bytes(table)
     run(program, "init", folder)
-    return run(program, "serve", folder, FILES["questions.jsonl"])
+    return b"".join(run(program, command, folder, FILES["questions.jsonl"]) for command in ("serve", "explain"))
 
 
 def read_table():

@@ -7,10 +7,14 @@
 set -eu
 [ $# = 2 ] || { echo "usage: explain.sh FOLDER PROGRAM" >&2; exit 2; }
 folder=$(cd "$1" && pwd)
+case $2 in
+*/*) program=$(cd "$(dirname "$2")" && pwd)/$(basename "$2") ;;
+*) program=$2 ;;
+esac
 copy=$(mktemp -d)
 trap 'rm -rf "$copy"' EXIT
 trap 'exit 1' HUP INT TERM
 ln -s "$folder/schema.json" "$folder/table.csv" "$copy"
 cat "$folder/answers.journal" >"$copy/answers.journal"
 cd "$copy"
-"$2" explain
+"$program" explain

@@ -1,5 +1,5 @@
 -- What a crash leaves of both files if a call of one of them failed while a group was answered.
-use Rattle.std.proofs.Common.{◌≡◌, ℕ, ◌≤◌, List, ◌++◌, sym, ap, subst, ◌∙◌, refl, inl, inr, ⊎_elim}
+use Rattle.std.proofs.Common.{◌≡◌, ℕ, ◌≤◌, List, ◌++◌, sym, ap, subst, ◌∙◌, inl, inr, ⊎_elim}
 use Rattle.std.specs.Prelude.{All}
 use Rattle.std.specs.List.{flat_map}
 use Rattle.std.proofs.lemmas.List.{append-nil}
@@ -15,7 +15,7 @@ use Rattle.audit_store.specs.Stores.{KeptAhead}
 use Rattle.line_wire.specs.Reply.{reply_bytes}
 use Rattle.line_wire.specs.declared.reply.Reply.{Reply}
 use Rattle.question_plan.specs.declared.planning.Plan.{Plan}
-use Rattle.question_plan.specs.Session.{Replied, records_of}
+use Rattle.question_plan.specs.Session.{records_of}
 use Rattle.question_plan.specs.Replies.{IsReplyOf}
 use Rattle.question_plan.specs.Plans.{CanBeServed}
 use Rattle.question_plan.specs.Laws.{OutcomesCanBeTold, SomeReplyTells}
@@ -27,32 +27,42 @@ use Rattle.audit_session.proofs.Sending.{SendsPart}
 module _ {B E : Type 0} (bench : Ghosts B) (spare : Ghosts E) (old new : B) (spare_old spare_new : E) (secret : SecretView) (protected : List Protected)
     (history : List Answered) (plans : List Plan) where
   abbrev Both : List ℕ → List ℕ → Type 0
-  Both image other = BothInGroup (IsReplyOf (secret_table secret protected)) (stands_of secret.shape) history plans (bench.sent old) (bench.sent new) image other
+  Both image other =
+      BothInGroup (IsReplyOf (secret_table secret protected)) (stands_of secret.shape) history plans (bench.sent old) (bench.sent new) image other
 
   -- an image of a bench that wasn't called
-  uncalled : {C : Type 0} (any : Ghosts C) (at now : C) → now ≡ at → IsQuiet any at → stands_of secret.shape (any.file at) history → (image : List ℕ) → any.leaves now image → stands_of secret.shape image history
+  uncalled : {C : Type 0} (any : Ghosts C) (at now : C) → now ≡ at → IsQuiet any at → stands_of secret.shape (any.file at) history → (image : List ℕ)
+      → any.leaves now image → stands_of secret.shape image history
   uncalled any at now same quiet stands image left =
       subst (λ (i : List ℕ). stands_of secret.shape i history) (sym (quiet image (subst (λ b. any.leaves b image) same left))) stands
 
-  pub neither_called : IsQuiet bench old → IsQuiet spare spare_old → stands_of secret.shape (bench.file old) history → stands_of secret.shape (spare.file spare_old) history
+  pub neither_called : IsQuiet bench old → IsQuiet spare spare_old → stands_of secret.shape (bench.file old) history
+      → stands_of secret.shape (spare.file spare_old) history
       → new ≡ old → spare_new ≡ spare_old → (image other : List ℕ) → bench.leaves new image → spare.leaves spare_new other → Both image other
   neither_called quiet spare_quiet stands spare_stands same spare_same image other left spare_left =
-      inl (ap bench.sent same, uncalled bench old new same quiet stands image left, uncalled spare spare_old spare_new spare_same spare_quiet spare_stands other spare_left)
+      inl (
+        ap bench.sent same,
+        uncalled bench old new same quiet stands image left,
+        uncalled spare spare_old spare_new spare_same spare_quiet spare_stands other spare_left,
+      )
 
   pub spare_call_failed : IsQuiet bench old → stands_of secret.shape (bench.file old) history → new ≡ old
       → LeavesOnly spare spare_old spare_new (UnsentInGroup (IsReplyOf (secret_table secret protected)) (stands_of secret.shape) history plans (spare.sent spare_old))
       → ((image : List ℕ) → spare.moment spare_old ≤ spare.moment spare_new → spare.leaves spare_new image → spare.since spare_new (spare.moment spare_old) image (spare.sent spare_new))
       → (image other : List ℕ) → bench.leaves new image → spare.leaves spare_new other → Both image other
-  spare_call_failed quiet stands same moments here image other left spare_left = by (moments.each other (spare.sent spare_new) (here other moments.later spare_left))
+  spare_call_failed quiet stands same moments here image other left spare_left =
+      by (moments.each other (spare.sent spare_new) (here other moments.later spare_left))
     where
       stood : stands_of secret.shape image history
       stood = uncalled bench old new same quiet stands image left
 
-      by : UnsentInGroup (IsReplyOf (secret_table secret protected)) (stands_of secret.shape) history plans (spare.sent spare_old) other (spare.sent spare_new) → Both image other
+      by : UnsentInGroup (IsReplyOf (secret_table secret protected)) (stands_of secret.shape) history plans (spare.sent spare_old) other (spare.sent spare_new)
+          → Both image other
       by (unsent, inl found) = inl (ap bench.sent same, stood, found.1)
       by (unsent, inr found) = inr (found.0, found.1, found.2, inl (ap bench.sent same, stood))
 
-  pub bench_call_failed : OutcomesCanBeTold → SomeReplyTells → IsSecret secret → All (CanBeServed secret.shape) plans → bench.sent new ≡ bench.sent old → IsQuiet spare spare_new
+  pub bench_call_failed : OutcomesCanBeTold → SomeReplyTells → IsSecret secret → All (CanBeServed secret.shape) plans → bench.sent new ≡ bench.sent old
+      → IsQuiet spare spare_new
       → ((image : List ℕ) → bench.leaves new image → KeptAhead (spare.file spare_new) image (secret_table secret protected) history (questions_of plans))
       → (image other : List ℕ) → bench.leaves new image → spare.leaves spare_new other → Both image other
   bench_call_failed can some is served same spare_quiet aheads image other left spare_left =
@@ -71,7 +81,8 @@ module _ {B E : Type 0} (bench : Ghosts B) (spare : Ghosts E) (old new : B) (spa
             ahead.image_stands,
       )
 
-  pub sends_failed : (mid : B) (now : List Answered) (told : List Reply) → DecidesGroup bench old mid (secret_table secret protected) history now plans told → bench.sent mid ≡ bench.sent old
+  pub sends_failed : (mid : B) (now : List Answered) (told : List Reply) → DecidesGroup bench old mid (secret_table secret protected) history now plans told
+      → bench.sent mid ≡ bench.sent old
       → stands_of secret.shape (bench.file mid) now → IsQuiet spare spare_new → stands_of secret.shape (spare.file spare_new) now
       → LeavesOnly bench mid new (SendsPart (bench.file mid) (bench.sent mid) (flat_map reply_bytes told))
       → ((image : List ℕ) → bench.moment mid ≤ bench.moment new → bench.leaves new image → bench.since new (bench.moment mid) image (bench.sent new))

@@ -67,7 +67,8 @@ length-told (Ask take asked ∷ plans) (outcome ∷ outcomes) (reply ∷ told) t
 
 module _ {B : Type 0} (bench : Ghosts B) (old mid : B) (secret : SecretView) (protected : List Protected) (history : List Answered) (plans : List Plan) where
   -- the outcomes were told
-  pub told_group : (now : List Answered) (outcomes : List Outcome) (told : List Reply) → AreOutcomes (secret_table secret protected) history (questions_of plans) outcomes
+  pub told_group : (now : List Answered) (outcomes : List Outcome) (told : List Reply)
+      → AreOutcomes (secret_table secret protected) history (questions_of plans) outcomes
       → AreTold plans outcomes told
       → now ≡ history ++ records_made (questions_of plans) outcomes →
       (bench.told → bench.moment mid ≡ bench.moment old + calls_for (records_made (questions_of plans) outcomes))
@@ -122,16 +123,19 @@ module _ {B : Type 0} (bench : Ghosts B) (old mid : B) (secret : SecretView) (pr
       → IsQuiet bench old → stands_of secret.shape (bench.file old) history
       → LeavesOnly bench old mid (InGroup (IsReplyOf (secret_table secret protected)) (stands_of secret.shape) history plans (bench.sent old))
   nothing_called same only_now quiet stands =
-      subst (λ (b : B). LeavesOnly bench old b (InGroup (IsReplyOf (secret_table secret protected)) (stands_of secret.shape) history plans (bench.sent old))) (sym same)
+      subst (λ (b : B). LeavesOnly bench old b (InGroup (IsReplyOf (secret_table secret protected)) (stands_of secret.shape) history plans
+      (bench.sent old))) (sym same)
       (started bench old _ (λ image bytes was.
       let found = only_now image bytes was in
       inl (found.1, subst (λ (i : List ℕ). stands_of secret.shape i history) (sym (quiet image found.0)) stands)))
 
-  pub nothing_called_unsent : mid ≡ old → ((image bytes : List ℕ) → bench.since old (bench.moment old) image bytes → bench.leaves old image × (bytes ≡ bench.sent old))
+  pub nothing_called_unsent : mid ≡ old
+      → ((image bytes : List ℕ) → bench.since old (bench.moment old) image bytes → bench.leaves old image × (bytes ≡ bench.sent old))
       → IsQuiet bench old → stands_of secret.shape (bench.file old) history
       → LeavesOnly bench old mid (UnsentInGroup (IsReplyOf (secret_table secret protected)) (stands_of secret.shape) history plans (bench.sent old))
   nothing_called_unsent same only_now quiet stands =
-      subst (λ (b : B). LeavesOnly bench old b (UnsentInGroup (IsReplyOf (secret_table secret protected)) (stands_of secret.shape) history plans (bench.sent old))) (sym same)
+      subst (λ (b : B). LeavesOnly bench old b (UnsentInGroup (IsReplyOf (secret_table secret protected)) (stands_of secret.shape) history plans
+      (bench.sent old))) (sym same)
       (started bench old _ (λ image bytes was.
       let found = only_now image bytes was in
       (found.1, inl (refl, subst (λ (i : List ℕ). stands_of secret.shape i history) (sym (quiet image found.0)) stands))))

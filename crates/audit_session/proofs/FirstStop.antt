@@ -31,7 +31,8 @@ stops_first bench at base batch history lines only_now quiet stands = started be
     none = omega arith
 
 -- and no group was answered
-pub serves_none : (base : Database) (batch : ℕ) (history : List Answered) (lines : List CountedLine) (sent : List ℕ) → ServesSome base history batch lines history sent sent
+pub serves_none : (base : Database) (batch : ℕ) (history : List Answered) (lines : List CountedLine) (sent : List ℕ)
+    → ServesSome base history batch lines history sent sent
 serves_none base batch history lines sent = record {
   count = 0;
   serves = record {

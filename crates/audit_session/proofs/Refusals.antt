@@ -1,13 +1,15 @@
 -- What a refusal says: an answer that is none has no fault, and one that is has one alone.
-use Rattle.std.proofs.Common.{◌≡◌, ℕ, ◌≤◌, Bool, true, false, Result, Ok, Err, refl, subst}
+use Rattle.std.proofs.Common.{◌≡◌, ℕ, ◌≤◌, Bool, true, false, Result, Ok, Err, refl, sym, ◌∙◌, ap, subst}
 use Rattle.std.specs.Prelude.{IsErrOf}
 use Rattle.std.specs.Result.{IsErr, IsErrAnd}
 use Rattle.std.proofs.lemmas.Bool.{false≢true}
 use Rattle.audit_store.specs.declared.keeper.KeepFault.{KeepFault}
 use Rattle.audit_store.specs.declared.keeper.KeepFault.TheVariants as keep
+use Rattle.audit_session.specs.declared.serving.EndFault.{EndFault}
+use Rattle.audit_session.specs.declared.serving.EndFault.TheVariants as alone
 use Rattle.audit_session.specs.declared.session.TwinEnd.{TwinEnd}
 use Rattle.audit_session.specs.declared.session.TwinEnd.TheVariants as end
-use Rattle.audit_session.specs.Ends.{keep_end}
+use Rattle.audit_session.specs.Ends.{keep_end, twin_end}
 
 -- whether an input goes on has one answer
 pub no_more : {E P : Type 0} → (let given : Result Bool E = Ok false in given) ≡ Ok true → P
@@ -97,3 +99,44 @@ bench_no_memory answer same is = let none : ⊥ = cc in absurd none
 -- a count that stood still before it rose
 pub still_later : (before mid now : ℕ) → mid ≡ before → mid ≤ now → before ≤ now
 still_later before mid now steady later = subst (λ (n : ℕ). n ≤ now) steady later
+
+-- ---- an end of a session with one journal
+
+twin_end_once : (a b : EndFault) → twin_end a ≡ twin_end b → a ≡ b
+twin_end_once alone.Input alone.Input is = refl
+twin_end_once alone.Input alone.Bench is = let none : ⊥ = cc in absurd none
+twin_end_once alone.Input alone.Limit is = let none : ⊥ = cc in absurd none
+twin_end_once alone.Input alone.NoMemory is = let none : ⊥ = cc in absurd none
+twin_end_once alone.Bench alone.Input is = let none : ⊥ = cc in absurd none
+twin_end_once alone.Bench alone.Bench is = refl
+twin_end_once alone.Bench alone.Limit is = let none : ⊥ = cc in absurd none
+twin_end_once alone.Bench alone.NoMemory is = let none : ⊥ = cc in absurd none
+twin_end_once alone.Limit alone.Input is = let none : ⊥ = cc in absurd none
+twin_end_once alone.Limit alone.Bench is = let none : ⊥ = cc in absurd none
+twin_end_once alone.Limit alone.Limit is = refl
+twin_end_once alone.Limit alone.NoMemory is = let none : ⊥ = cc in absurd none
+twin_end_once alone.NoMemory alone.Input is = let none : ⊥ = cc in absurd none
+twin_end_once alone.NoMemory alone.Bench is = let none : ⊥ = cc in absurd none
+twin_end_once alone.NoMemory alone.Limit is = let none : ⊥ = cc in absurd none
+twin_end_once alone.NoMemory alone.NoMemory is = refl
+
+-- what it is, the session's is, and the other way round
+pub to_twin : {X : Type 0} (fault other : EndFault) (given : TwinEnd) → twin_end fault ≡ given
+    → (let answer : Result X EndFault = Err fault in answer) ≡ Err other →
+    (let answer : Result X TwinEnd = Err given in answer) ≡ Err (twin_end other)
+to_twin {X} fault other given same is =
+    let equal : fault ≡ other = cc in
+    subst (λ (f : EndFault). (let answer : Result X TwinEnd = Err given in answer) ≡ Err (twin_end f)) equal (ap (λ (t : TwinEnd). ended t) (sym same))
+  where
+    ended : TwinEnd → Result X TwinEnd
+    ended t = Err t
+
+pub from_twin : {X : Type 0} (fault other : EndFault) (given : TwinEnd) → twin_end fault ≡ given
+    → (let answer : Result X TwinEnd = Err given in answer) ≡ Err (twin_end other) →
+    (let answer : Result X EndFault = Err fault in answer) ≡ Err other
+from_twin {X} fault other given same is =
+    let equal : given ≡ twin_end other = cc in
+    ap (λ (f : EndFault). ended f) (twin_end_once fault other (same ∙ equal))
+  where
+    ended : EndFault → Result X EndFault
+    ended f = Err f

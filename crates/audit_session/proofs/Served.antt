@@ -73,13 +73,13 @@ pub record Served {P B : Type 0} (source : SourceGhosts P) (bench : Ghosts B) (c
   pub bench_steady : bench.faults at ≡ bench.faults first
 
 -- and of a spare, which isn't called if the keeper isn't spared
-pub record SpareServed {P K S : Type 0} (source : SourceGhosts P) (keeper : KeeperGhosts K) (spare : Ghosts S) (columns : List Column) (public : PublicView) (batch : ℕ)
-    (first_keeper kept : K) (first_source : P) (first at : S) : Type 0 where
+pub record SpareServed {P K S : Type 0} (source : SourceGhosts P) (keeper : KeeperGhosts K) (spare : Ghosts S) (columns : List Column) (public : PublicView)
+    (batch : ℕ) (first_keeper kept : K) (first_source : P) (first at : S) : Type 0 where
   pub stands : keeper.spared → spare.told → StandsAt (spare.file at) (keeper.store kept).secret.shape (keeper.store kept).history (keeper.spare_gate kept)
   pub moments : keeper.spared → spare.told → IsQuiet spare first →
       LeavesOnly spare first at
-      (SpareAmong source.told (base_of columns public (keeper.store first_keeper).protected (keeper.store first_keeper).secret) batch (keeper.store first_keeper).history
-      (counted_lines (source.left first_source)) (spare.sent first))
+      (SpareAmong source.told (base_of columns public (keeper.store first_keeper).protected (keeper.store first_keeper).secret) batch
+      (keeper.store first_keeper).history (counted_lines (source.left first_source)) (spare.sent first))
   pub quiet : keeper.spared → spare.told → IsQuiet spare first → IsQuiet spare at
   pub sent : spare.sent at ≡ spare.sent first
   pub steady : spare.faults at ≡ spare.faults first
@@ -92,7 +92,8 @@ pub first_moments : {B : Type 0} (told : Type 0) (bench : Ghosts B) (columns : L
     IsAsLeft (bench.file at) store
     → LeavesOnly bench at at (StopsAmong told (base_of columns public store.protected store.secret) batch store.history all (bench.sent at))
 first_moments told bench columns public batch store all at only_now quiet stands =
-    let stops : (ls : List CountedLine) → LeavesOnly bench at at (StopsOver (base_of columns public store.protected store.secret) batch store.history ls (bench.sent at)) =
+    let stops : (ls : List CountedLine) → LeavesOnly bench at at (StopsOver (base_of columns public store.protected store.secret) batch store.history ls
+    (bench.sent at)) =
     λ ls. stops_first bench at (base_of columns public store.protected store.secret) batch store.history ls only_now quiet (store.journal.gate, stands) in
     record {
       later = omega arith;
@@ -133,8 +134,8 @@ nothing_served source bench columns public batch lines store from at fresh usabl
   bench_steady = refl;
 }
 
-pub spare_unserved : {P K S : Type 0} (source : SourceGhosts P) (keeper : KeeperGhosts K) (spare : Ghosts S) (columns : List Column) (public : PublicView) (batch : ℕ)
-    (kept : K) (from : P) (at : S)
+pub spare_unserved : {P K S : Type 0} (source : SourceGhosts P) (keeper : KeeperGhosts K) (spare : Ghosts S) (columns : List Column) (public : PublicView)
+    (batch : ℕ) (kept : K) (from : P) (at : S)
     → ((image bytes : List ℕ) → spare.since at (spare.moment at) image bytes → spare.leaves at image × (bytes ≡ spare.sent at))
     → (keeper.spared → spare.told → StandsAt (spare.file at) (keeper.store kept).secret.shape (keeper.store kept).history (keeper.spare_gate kept))
     → SpareServed source keeper spare columns public batch kept kept from at at
@@ -142,8 +143,8 @@ spare_unserved source keeper spare columns public batch kept from at only_now st
   stands = stands;
   moments = λ spared told quiet.
       let store = keeper.store kept in
-      spare_first source.told spare at (base_of columns public store.protected store.secret) batch store.history (counted_lines (source.left from)) only_now quiet
-      (keeper.spare_gate kept, stands spared told);
+      spare_first source.told spare at (base_of columns public store.protected store.secret) batch store.history (counted_lines (source.left from)) only_now
+      quiet (keeper.spare_gate kept, stands spared told);
   quiet = λ spared told quiet. quiet;
   sent = refl;
   steady = refl;
@@ -265,7 +266,8 @@ module _ {P B : Type 0} (source : SourceGhosts P) (bench : Ghosts B) (columns : 
         (over_first (λ s p. LeavesOnly bench at new (InGroup (IsReplyOf (secret_table s p)) (stands_of s.shape) store.history plans (bench.sent at))) moments))
 
     -- the same of a spare, on which nothing is sent
-    pub spare_turn : {E : Type 0} (spare : Ghosts E) (start mid end : E) → (source.told → (length plans ≡ batch) ⊎ (behind ≡ [])) → spare.sent mid ≡ spare.sent start
+    pub spare_turn : {E : Type 0} (spare : Ghosts E) (start mid end : E) → (source.told → (length plans ≡ batch) ⊎ (behind ≡ []))
+        → spare.sent mid ≡ spare.sent start
         → LeavesOnly spare start mid (SpareAmong source.told base batch first_store.history all (spare.sent start))
         → LeavesOnly spare mid end (UnsentInGroup (IsReplyOf (table_of store)) (stands_of store.secret.shape) store.history plans (spare.sent mid))
         → LeavesOnly spare start end (SpareAmong source.told base batch first_store.history all (spare.sent start))
@@ -275,9 +277,11 @@ module _ {P B : Type 0} (source : SourceGhosts P) (bench : Ghosts B) (columns : 
           found.0 ∙ same,
           stops_where image (spare.sent mid) found.1,
         ))
-        (over_first (λ s p. LeavesOnly spare mid end (UnsentInGroup (IsReplyOf (secret_table s p)) (stands_of s.shape) store.history plans (spare.sent mid))) moments))
+        (over_first (λ s p. LeavesOnly spare mid end (UnsentInGroup (IsReplyOf (secret_table s p)) (stands_of s.shape) store.history plans
+        (spare.sent mid))) moments))
       where
-        stops_where : (image before : List ℕ) → InGroup (IsReplyOf (table_of first_store)) (stands_of first_store.secret.shape) store.history plans before image before →
+        stops_where : (image before : List ℕ)
+            → InGroup (IsReplyOf (table_of first_store)) (stands_of first_store.secret.shape) store.history plans before image before →
             (bytes : List ℕ) × StopsAmong source.told base batch first_store.history all [] image bytes
         stops_where image before (inl found) = (
           bytes_of served.answered.replies,

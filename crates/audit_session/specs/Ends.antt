@@ -13,6 +13,8 @@ use Rattle.question_plan.specs.declared.planner.PlanStop.{PlanStop}
 use Rattle.question_plan.specs.declared.planner.PlanStop.TheVariants as stop
 use Rattle.question_plan.specs.Session.{Replied, records_of, bytes_of, AreReplies, groups, commits}
 use Rattle.question_plan.specs.Replies.{IsDue}
+use Rattle.audit_session.specs.declared.serving.EndFault.{EndFault}
+use Rattle.audit_session.specs.declared.serving.EndFault.TheVariants as alone
 use Rattle.audit_session.specs.declared.session.TwinEnd.{TwinEnd}
 use Rattle.audit_session.specs.declared.session.TwinEnd.TheVariants as end
 
@@ -71,6 +73,13 @@ abbrev pub plan_end : PlanStop → TwinEnd
 plan_end stop.Input = end.Input
 plan_end stop.Limit = end.Limit
 plan_end stop.NoMemory = end.NoMemory
+
+-- an end of a session with one journal, as an end of any session
+abbrev pub twin_end : EndFault → TwinEnd
+twin_end alone.Input = end.Input
+twin_end alone.Bench = end.Bench
+twin_end alone.Limit = end.Limit
+twin_end alone.NoMemory = end.NoMemory
 
 -- the file stands for the history, and a quiet bench is still quiet
 pub record Rests {B : Type 0} (bench : Ghosts B) (old new : B) (store : StoreContents) : Type 0 where

@@ -1,5 +1,5 @@
 //! Serving over one journal, with no spare.
-ghost use Rattle.std.specs.Prelude.{◌≡◌, ◌≢◌, ◌<◌, ◌≤◌, ◌+◌, [], true, false, length, OnOk, Err};
+ghost use Rattle.std.specs.Prelude.{◌≡◌, ◌≢◌, ◌<◌, ◌≤◌, ◌+◌, ◌-◌, ◌^◌, [], true, false, length, OnOk, Err};
 ghost use Rattle.schema_json.specs.SecretShape.{shape_of};
 ghost use Rattle.table_load.specs.Cells.{FitsSchema};
 ghost use Rattle.table_load.specs.Database.{base_of};
@@ -9,7 +9,8 @@ ghost use Rattle.journal_form.specs.Journal.{StandsFor};
 ghost use Rattle.audit_store.specs.Stores.{IsAsLeft, IsStore, table_of};
 ghost use Rattle.line_wire.specs.Lines.{counted_lines, most_input};
 ghost use Rattle.audit_session.specs.Stops.{IsBatch, IsHarmless, StopsOver};
-ghost use Rattle.audit_session.specs.Ends.{Serves, ServesWhole, ServesSome, TakesCalls, limited};
+ghost use Rattle.audit_session.specs.Ends.{Serves, ServesWhole, ServesSome, TakesCalls, limited, twin_end};
+ghost use Rattle.audit_session.specs.declared.session.TwinEnd.{TwinEnd};
 
 use crate::session::{TwinEnd, serve_with};
 use audit_store::Store;
@@ -47,7 +48,7 @@ impl Bench for NoSpare {
 
     ghost since = { λ _ _ _ _. ⊥ };
 
-    ghost faults = { λ _. 18446744073709551615 };
+    ghost faults = { λ _. 2 ^ 64 - 1 };
 
     ghost last_failed = { λ _. true };
 
@@ -76,6 +77,20 @@ impl Bench for NoSpare {
     ghost counts_now = { λ bench t image le left. absurd left };
 
     ghost only_now = { λ bench image bytes since. absurd since };
+}
+
+// The end of a session that has no spare.
+fn without_spare(end: TwinEnd) -> EndFault
+    requires { end ≢ TwinEnd.Spare }
+    ensures { twin_end result ≡ end }
+{
+    match end {
+        TwinEnd::Input => EndFault::Input,
+        TwinEnd::Bench => EndFault::Bench,
+        TwinEnd::Limit => EndFault::Limit,
+        TwinEnd::NoMemory => EndFault::NoMemory,
+        TwinEnd::Spare => unreachable!(),
+    }
 }
 
 /// Answers the counted lines of the input in groups of `batch`; at the end of the input the last group may be shorter. The
@@ -142,10 +157,6 @@ pub fn serve<P: Source, B: Bench>(
     let mut none = NoSpare;
     match serve_with(alloc, schema, index, store, source, bench, &mut none, batch) {
         Ok(()) => Ok(()),
-        Err(TwinEnd::Input) => Err(EndFault::Input),
-        Err(TwinEnd::Bench) => Err(EndFault::Bench),
-        Err(TwinEnd::Limit) => Err(EndFault::Limit),
-        Err(TwinEnd::NoMemory) => Err(EndFault::NoMemory),
-        Err(TwinEnd::Spare) => unreachable!(),
+        Err(end) => Err(without_spare(end)),
     }
 }

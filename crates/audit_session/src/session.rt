@@ -152,8 +152,8 @@ fn make_room(alloc: Global, batch: u8) -> Result<(Planner, Group), NoMemory>
 }
 
 /// Answers the counted lines of the input in groups of `batch`; at the end of the input the last group may be shorter. The
-/// records of a group are on the spare, if the keeper is spared, and then in the journal before the first of its replies is sent, and each reply is one send. The lines of a
-/// group that a failed read or the limit cuts short are read and not answered.
+/// records of a group are on the spare, if the keeper is spared, and then in the journal before the first of its replies is sent, and
+/// each reply is one send. The lines of a group that a failed read or the limit cuts short are read and not answered.
 pub fn serve_with<K: Keeper, P: Source, B: Bench, S: Bench>(
     alloc: Global,
     schema: &Schema,
@@ -218,6 +218,7 @@ pub fn serve_with<K: Keeper, P: Source, B: Bench, S: Bench>(
     ensures spare_stands { K.spared → S.told → result ≢ Err TwinEnd.Bench → result ≢ Err TwinEnd.Spare → StandsFor (S.file spare.new) (K.store keeper.new).secret.shape (K.store keeper.new).history }
     ensures spare_moments { K.spared → P.told → S.told → IsQuiet S.Bench spare.old
         → LeavesOnly S.Bench spare.old spare.new (SpareStops (base_of schema.now.columns index.now.public index.now.protected (K.store keeper.old).secret) batch (K.store keeper.old).history (counted_lines (P.left source.old)) (S.sent spare.old)) }
+    ensures spare_legal { K.spared → S.told → IsQuiet S.Bench spare.old → LeavesOnly S.Bench spare.old spare.new (λ image sent. IsHarmless (table_of (K.store keeper.old)) image) }
     ensures spare_quiet { K.spared → S.told → IsQuiet S.Bench spare.old → result ≢ Err TwinEnd.Spare → IsQuiet S.Bench spare.new }
     ensures spare_sent { S.sent spare.new ≡ S.sent spare.old }
     ensures both { K.spared → P.told → B.told → S.told → IsQuiet B.Bench bench.old → IsQuiet S.Bench spare.old → (result ≡ Err TwinEnd.Bench) ⊎ (result ≡ Err TwinEnd.Spare)

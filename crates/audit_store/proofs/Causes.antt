@@ -130,7 +130,8 @@ module _ (shape : Shape) (history : List Answered) (table : Table) where
   due_answer (Ok x) same legal err due some cause = some (legal_has_no_cause due same legal cause)
   due_answer (Err fault) same legal err due some cause = one_cause due fault some cause err
 
-  pub opens_answer : {X : Type 0} (answer : Result X StartFault) → shape ≡ table.setting.shape → IfErr answer (λ fault. HistoryCause fault shape history table) →
+  pub opens_answer : {X : Type 0} (answer : Result X StartFault) → shape ≡ table.setting.shape
+      → IfErr answer (λ fault. HistoryCause fault shape history table) →
       IsLegal table history → StartsUnlessFailed answer
   opens_answer (Ok x) same err legal = tt
   opens_answer (Err fault) same err legal = legal_has_no_cause fault same legal err

@@ -1,12 +1,14 @@
 -- Histories that are replayed record by record stay legal.
-use Rattle.std.proofs.Common.{◌≡◌, inl, inr, ℕ, ◌+◌, ◌<◌, ◌≤◌, List, [], ◌∷◌, ◌++◌, length, get_or, take, Some, sym, ap, subst, ◌∙◌, arith, length-take}
+use Rattle.std.proofs.Common.{◌≡◌, inl, inr, ℕ, ◌+◌, ◌<◌, ◌≤◌, List, [], ◌∷◌, ◌++◌, length, get_or, take, Some, sym, ap, subst, ◌∙◌, arith, refl, length-take, length-append}
 use Rattle.std.specs.Prelude.{slice_get}
+use Rattle.std.specs.List.{All}
 use Rattle.std.proofs.lemmas.Bool.{cases_lt}
-use Rattle.std.proofs.lemmas.List.{take_more, take-take, get_or-take}
-use Rattle.std.proofs.lemmas.Option.{same_Some, slice_get_within, get_or_from_slice_get, slice_get-get_or}
+use Rattle.std.proofs.Math.Seq.{take-append-add}
+use Rattle.std.proofs.lemmas.List.{take_more, take-take, get_or-take, get_or-append-add}
+use Rattle.std.proofs.lemmas.Option.{same_Some, slice_get_within, get_or_from_slice_get, slice_get-get_or, slice_get_read}
 use Rattle.audit_types.specs.declared.records.Answered.{Answered}
 use Rattle.audit_types.specs.declared.records.Protected.{Protected}
-use Rattle.audit_types.specs.History.{Table, FitsShape, IsLegal, IsPossibleHistory}
+use Rattle.audit_types.specs.History.{Table, FitsShape, IsLegal, IsLegalRecord, IsPossibleHistory}
 use Rattle.audit_types.specs.Laws.{LegalIsPossible}
 use Rattle.audit_core.specs.Laws.{LegalGrows}
 use Rattle.table_load.specs.Cells.{SecretView, IsSecret}
@@ -46,3 +48,18 @@ next_is_true table list place at stands is before i r lt here = elim (cases_lt i
       let same : place ≡ i = omega (arith, lt, from) in
       subst (IsTrue table) (same_Some at r (sym stands ∙ ap (slice_get list) same ∙ here)) is
 ]
+
+-- a record after the first ones of a legal history may follow them
+pub legal_record_after : (table : Table) (history list : List Answered) (k : ℕ) (r : Answered) → IsLegal table (history ++ list) → k < length list → r ≡ get_or list k r →
+    IsLegalRecord table (history ++ take k list) r
+legal_record_after table history list k r legal inside is =
+    let long : length (history ++ list) ≡ length history + length list = length-append history list in
+    let here : slice_get (history ++ list) (length history + k) ≡ Some r =
+    slice_get_read (history ++ list) (length (history ++ list)) (length history + k) r refl (omega (arith, long, inside)) (is ∙ sym (get_or-append-add history list k r)) in
+    subst (λ (h : List Answered). IsLegalRecord table h r) (take-append-add history list k) (legal.each (length history + k) r here)
+
+-- the records after the first ones of a legal history fit
+pub legal_fits_after : (table : Table) (history list : List Answered) → IsLegal table (history ++ list) → All (λ r. FitsShape table.setting.shape r.column r.rows) list
+legal_fits_after table history list legal k d lt =
+    (legal.each (length history + k) (get_or list k d)
+    (slice_get-get_or (history ++ list) (length history + k) d (omega (arith, length-append history list, lt)) ∙ ap (λ x. Some x) (get_or-append-add history list k d))).fits

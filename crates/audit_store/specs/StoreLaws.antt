@@ -121,7 +121,8 @@ module _ (secret : SecretView) (protected : List Protected) (journal : JournalCo
   recovered_left file stands = subst (λ (h : List Answered). StandsAt file secret.shape h journal.gate) (sym all_released) stands
 
 -- a core that goes on over the same setting audits the same table
-same_table : (secret : SecretView) (old new : Audited) → new.setting ≡ old.setting → old.setting ≡ (table_by secret old).setting → new.setting ≡ (table_by secret new).setting
+same_table : (secret : SecretView) (old new : Audited) → new.setting ≡ old.setting → old.setting ≡ (table_by secret old).setting
+    → new.setting ≡ (table_by secret new).setting
 same_table secret old new same was =
     subst (λ (s : Setting). s ≡ setting_of secret.shape s.protected) (sym same) was
 

@@ -6,18 +6,20 @@ ghost use Rattle.audit_types.specs.declared.records.Answered.{Answered};
 ghost use Rattle.audit_types.specs.History.{FitsShape, IsLegal};
 ghost use Rattle.audit_core.specs.Outcomes.{IsOutcome, AreOutcomes, record_of, records_made};
 ghost use Rattle.bench_core.specs.Calls.{IsQuiet, LeavesOnly, TellsFault};
+ghost use Rattle.bench_core.specs.Causes.{HasCause};
 ghost use Rattle.journal_form.specs.Journal.{StandsAt};
 ghost use Rattle.answer_journal.specs.Moments.{IsBeforeOrAfter};
 ghost use Rattle.table_load.specs.Database.{secret_table};
 ghost use Rattle.audit_store.specs.Stores.{HasGroup, calls_for};
+ghost use Rattle.audit_store.specs.Twice.{IsReadyOver, group_of};
 
 use crate::outcome::StoreFault;
-use answer_journal::Journal;
+use answer_journal::{Journal, Ready};
 use audit_core::laws::released_records;
 use audit_core::{Core, Outcome};
 use audit_types::laws::true_answers;
 use audit_types::{Answered, Asked, MOST_RECORDS, NoMemory, Verdict};
-use bench_core::Bench;
+use bench_core::{Bench, Failed};
 use std::alloc::Global;
 use table_load::Secret;
 
@@ -97,6 +99,53 @@ pub fn decide_all(
     Ok(outcomes)
 }
 
+/// Makes a group ready, if there are records. It serves every journal of the same shape.
+pub fn made_ready(journal: &Journal, group: &[Answered]) -> Result<Option<Ready>, NoMemory>
+    requires group { length group.now ≤ 64 }
+    requires fit { All (λ r. FitsShape journal.now.shape r.column r.rows) group.now }
+    ensures over { IfOk result (λ ready. IsReadyOver journal.now.shape ready) }
+    ensures group { IfOk result (λ ready. group_of ready ≡ group.now) }
+{
+    if group.is_empty() {
+        return Ok(None);
+    }
+    let ready = journal.ready(group)?;
+    Ok(Some(ready))
+}
+
+/// Appends a group that is ready to the journal, if there is one. It takes no memory.
+pub fn keep_ready<B: Bench>(
+    journal: &mut Journal,
+    bench: &mut B,
+    ready: &Option<Ready>,
+) -> Result<(), Failed>
+    requires usable { journal.old.usable ≡ true }
+    requires over { IsReadyOver journal.old.shape ready.now }
+    requires few { journal.old.count + length (group_of ready.now) ≤ most_records }
+    requires stands { B.told → (history : List Answered) × StandsAt (B.file bench.old) journal.old.shape history journal.old.gate × (length history ≡ journal.old.count) }
+
+    ensures any_moment { (history : List Answered) → B.told → StandsAt (B.file bench.old) journal.old.shape history journal.old.gate → length history ≡ journal.old.count → IsQuiet B.Bench bench.old
+        → LeavesOnly B.Bench bench.old bench.new (IsBeforeOrAfter journal.old.shape history (group_of ready.now) (B.sent bench.old)) }
+    ensures done { (history : List Answered) → B.told → StandsAt (B.file bench.old) journal.old.shape history journal.old.gate → length history ≡ journal.old.count
+        → OnOk result (StandsAt (B.file bench.new) journal.new.shape (history ++ group_of ready.now) journal.new.gate) }
+    ensures written { B.told → OnOk result (HasGroup journal.old.shape (group_of ready.now) journal.old.gate (B.file bench.old) (B.file bench.new)) }
+    ensures quiet { B.told → IsQuiet B.Bench bench.old → OnOk result (IsQuiet B.Bench bench.new) }
+    ensures sent { B.sent bench.new ≡ B.sent bench.old }
+    ensures ticks { B.told → OnOk result (B.moment bench.new ≡ B.moment bench.old + calls_for (group_of ready.now)) }
+    ensures unasked { group_of ready.now ≡ [] → OnOk result (bench.new ≡ bench.old) }
+    ensures cause { HasCause (B.faults bench.old) (B.faults bench.new) result }
+    ensures last_call { OnErr result (B.last_failed bench.new ≡ true) }
+
+    ensures shape { journal.new.shape ≡ journal.old.shape }
+    ensures usable { OnOk result (journal.new.usable ≡ true) }
+    ensures counted { OnOk result (journal.new.count ≡ journal.old.count + length (group_of ready.now)) }
+{
+    match ready {
+        Some(ready) => journal.append_ready(bench, ready),
+        None => Ok(()),
+    }
+}
+
 /// Appends records to the journal as one group, if there are any. All memory is taken before the first call of the
 /// bench.
 pub fn keep<B: Bench>(
@@ -126,10 +175,7 @@ pub fn keep<B: Bench>(
     ensures usable { OnOk result (journal.new.usable ≡ true) }
     ensures counted { OnOk result (journal.new.count ≡ journal.old.count + length group.now) }
 {
-    if group.is_empty() {
-        return Ok(());
-    }
-    let ready = journal.ready(group)?;
-    journal.append_ready(bench, &ready)?;
+    let ready = made_ready(journal, group)?;
+    keep_ready(journal, bench, &ready)?;
     Ok(())
 }

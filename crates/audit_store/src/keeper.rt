@@ -9,7 +9,7 @@ ghost use Rattle.audit_store.specs.Stores.{StoreContents, IsAsLeft, IsStore, Kee
 use crate::outcome::StoreFault;
 use crate::store::Store;
 use audit_core::Outcome;
-use audit_types::Asked;
+use audit_types::{Asked, NoMemory};
 use bench_core::Bench;
 
 /// Why a group was not kept. The keeper is then no longer usable.
@@ -104,5 +104,15 @@ impl Keeper for Store {
             Err(StoreFault::Failed) => Err(KeepFault::Bench),
             Err(StoreFault::NoMemory) => Err(KeepFault::NoMemory),
         }
+    }
+}
+
+impl From<NoMemory> for KeepFault {
+    ghost use Rattle.audit_store.specs.declared.keeper.KeepFault.TheVariants.{NoMemory};
+
+    ghost from_gives = { λ _ e. e ≡ NoMemory };
+
+    fn from(_e: NoMemory) -> KeepFault {
+        KeepFault::NoMemory
     }
 }

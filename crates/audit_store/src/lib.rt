@@ -5,15 +5,19 @@
 //! the journal of a table to the rows that came at its end.
 #![tactic(auto)]
 
+mod agreeing;
 mod asking;
+mod bringing;
 mod growing;
 mod keeper;
 mod outcome;
 mod starting;
 mod store;
 
+pub use agreeing::agreement;
 pub use asking::decide_all;
 pub use audit_core::Outcome;
+pub use bringing::bring_up;
 pub use growing::GrowFault;
 pub use keeper::{KeepFault, Keeper};
 pub use outcome::StoreFault;

@@ -9,9 +9,11 @@ ghost use Rattle.bench_core.specs.Calls.{OnlyReads, TellsFault};
 ghost use Rattle.journal_form.specs.Journal.{StandsAt, StandsFor};
 ghost use Rattle.audit_store.specs.declared.starting.StartFault.{StartFault};
 ghost use Rattle.audit_store.specs.Starting.{AreTrue, GivesUp, HistoryCause, Recovers, RefusedUnlessFailed, StartCause, StartsUnlessFailed, start_fault};
+ghost use Rattle.audit_store.specs.Twice.{IsJournalOf};
 ghost use Rattle.table_load.specs.Cells.{IsSecret};
 ghost use Rattle.table_load.specs.Database.{secret_table};
 
+use crate::agreeing::agreement;
 use answer_journal::{BackFault, Journal};
 use audit_core::Core;
 use audit_core::laws::released_records;
@@ -23,7 +25,7 @@ use sum_basis::laws::narrow_or_wide;
 use table_load::Secret;
 
 /// Why a store was not started.
-#[derive(Clone, Copy)]
+#[derive(Clone, Copy, PartialEq, Eq)]
 pub enum StartFault {
     /// The file is shorter than a journal, or its header gate isn't open.
     NotMade,
@@ -201,4 +203,67 @@ pub fn recover<B: Bench>(
     let (journal, list) = Journal::read_back(alloc, bench)?;
     let core = opened(alloc, secret, protected, &journal.shape(), &list)?;
     Ok((journal, core))
+}
+
+/// Tests that the history of a journal of this shape is that of the secrets' table. One with which the core's history begins, which is
+/// legal, isn't tested again.
+pub fn test_other(
+    alloc: Global,
+    secret: &Secret,
+    core: &Core,
+    kept: &Shape,
+    list: &[Answered],
+) -> Result<(), StartFault>
+    requires setting { core.now.setting ≡ setting_of secret.now.shape core.now.setting.protected }
+    requires legal { IsLegal (secret_table secret.now core.now.setting.protected) core.now.history }
+    requires few { length list.now ≤ most_records }
+    requires fit { All (λ r. FitsShape kept.now r.column r.rows) list.now }
+    ensures ok { OnOk result ((kept.now ≡ secret.now.shape) × IsLegal (secret_table secret.now core.now.setting.protected) list.now) }
+    ensures err { IfErr result (λ fault. HistoryCause fault kept.now list.now (secret_table secret.now core.now.setting.protected)) }
+    ensures due { (fault : StartFault) → (GivesUp fault → ⊥) → HistoryCause fault kept.now list.now (secret_table secret.now core.now.setting.protected) → RefusedUnlessFailed fault result }
+    ensures opens { kept.now ≡ secret.now.shape → IsLegal (secret_table secret.now core.now.setting.protected) list.now → StartsUnlessFailed result }
+{
+    let now = secret.shape();
+    if *kept != now {
+        return Err(StartFault::OtherShape { kept: *kept, now });
+    }
+    if agreement(core.history(), list) == list.len() {
+        return Ok(());
+    }
+    let Ok(protected) = core.protected().to_vec(alloc) else {
+        return Err(StartFault::NoMemory);
+    };
+    audited(alloc, secret, protected, list)?;
+    Ok(())
+}
+
+/// Opens another journal of the table of a core, and tests it as `recover` does. Records with which the core's history begins are
+/// legal, and not tested again.
+pub fn recover_other<B: Bench>(
+    alloc: Global,
+    secret: &Secret,
+    core: &Core,
+    bench: &mut B,
+) -> Result<(Journal, Vec<Answered>), StartFault>
+    requires setting { core.now.setting ≡ setting_of secret.now.shape core.now.setting.protected }
+    requires legal { IsLegal (secret_table secret.now core.now.setting.protected) core.now.history }
+
+    // It is that of the file's history, which is legal.
+    ensures journal { IfOk result (λ found. IsJournalOf secret.now.shape found.1.items found.0) }
+    ensures legal { IfOk result (λ found. IsLegal (secret_table secret.now core.now.setting.protected) found.1.items) }
+    ensures stands { B.told → IfOk result (λ found. StandsAt (B.file bench.old) secret.now.shape found.1.items found.0.gate) }
+
+    // Each refusal has its cause in the file, and each cause has its refusal; a legal history is never refused.
+    ensures cause { (fault : StartFault) → B.told → result ≡ Err fault → StartCause fault (B.file bench.old) (secret_table secret.now core.now.setting.protected) }
+    ensures due { (fault : StartFault) → B.told → (GivesUp fault → ⊥) → StartCause fault (B.file bench.old) (secret_table secret.now core.now.setting.protected) → RefusedUnlessFailed fault result }
+    ensures opens { (history : List Answered) → B.told → StandsFor (B.file bench.old) secret.now.shape history → IsLegal (secret_table secret.now core.now.setting.protected) history → StartsUnlessFailed result }
+
+    // Nothing is written and nothing sent.
+    ensures reads { OnlyReads B.Bench bench.old bench.new }
+    ensures ticks { B.told → OnOk result (B.moment bench.new ≡ B.moment bench.old + 2) }
+    ensures fault { TellsFault B.Bench bench.old bench.new (IsErrOf result StartFault.Failed) }
+{
+    let (journal, list) = Journal::read_back(alloc, bench)?;
+    test_other(alloc, secret, core, &journal.shape(), &list)?;
+    Ok((journal, list))
 }

@@ -3,25 +3,28 @@ ghost use Rattle.std.specs.Prelude.{◌≡◌, ◌≢◌, ◌≤◌, ◌+◌, �
 ghost use Rattle.audit_types.specs.declared.records.Answered.{Answered};
 ghost use Rattle.audit_types.specs.History.{FitsShape, AreProtected, IsLegal, setting_of};
 ghost use Rattle.bench_core.specs.Calls.{IsQuiet, LeavesOnly, IsUntouched, OnlyReads, TellsFault};
-ghost use Rattle.journal_form.specs.Journal.{StandsFor};
+ghost use Rattle.journal_form.specs.Journal.{StandsAt, StandsFor};
 ghost use Rattle.answer_journal.specs.Moments.{IsBeforeOrAfter, IsBeforeOrGrown};
 ghost use Rattle.audit_types.specs.Widening.{over, widened};
 ghost use Rattle.audit_store.specs.Growing.{GrowCause, CanGrow, GivesUpGrowing, GrowsUnlessFailed, NotGrownUnlessFailed};
 ghost use Rattle.audit_store.specs.declared.growing.GrowFault.{GrowFault};
 ghost use Rattle.audit_core.specs.Outcomes.{AreOutcomes, records_made};
-ghost use Rattle.audit_store.specs.Stores.{IsAsLeft, IsStore, table_of, Keeps, HasGroup, calls_for};
+ghost use Rattle.audit_store.specs.Stores.{IsAsLeft, IsStore, table_of, Keeps, KeptAhead, HasGroup, calls_for};
+ghost use Rattle.audit_store.specs.Twice.{IsBroughtUp, IsJournalOf, calls_to_bring_up};
 ghost use Rattle.table_load.specs.Database.{secret_table};
 ghost use Rattle.audit_store.specs.Starting.{StartCause, GivesUp, StartsUnlessFailed, RefusedUnlessFailed};
 ghost use Rattle.audit_store.specs.declared.starting.StartFault.{StartFault};
 
-use crate::asking::{decide_all, keep};
+use crate::asking::{decide_all, keep, keep_ready, made_ready};
+use crate::bringing::{bring_up, take_all};
 use crate::growing::{GrowFault, may_grow};
+use crate::keeper::KeepFault;
 use crate::outcome::StoreFault;
-use crate::starting::{StartFault, recover};
+use crate::starting::{StartFault, recover, recover_other};
 use answer_journal::Journal;
 use audit_core::{Core, Outcome};
 use audit_types::{Answered, Asked, Protected};
-use bench_core::Bench;
+use bench_core::{Bench, Failed};
 use std::alloc::Global;
 use std::marker::Model;
 use table_load::Secret;
@@ -175,6 +178,138 @@ impl Store {
         self.released = self.core.history().len() as u32;
         self.usable = true;
         Ok(outcomes)
+    }
+
+    /// Decides questions as `ask_all` does, for a table with another journal of the same history on a spare: the records of the answers
+    /// are appended as one group to the other journal, and then to the store's own, in four calls of each bench. All memory is taken
+    /// before the first of them. After a refusal the store isn't usable.
+    pub fn ask_all_twice<B: Bench, S: Bench>(
+        &mut self,
+        other: &mut Journal,
+        bench: &mut B,
+        spare: &mut S,
+        asked: &[Asked],
+    ) -> Result<Vec<Outcome>, KeepFault>
+        requires usable { self.old.usable ≡ true }
+        requires other { IsJournalOf self.old.secret.shape self.old.history other.old }
+        requires few { length asked.now ≤ 64 }
+        requires fit { All (λ a. FitsShape self.old.secret.shape a.column a.rows) asked.now }
+        requires stands { B.told → IsAsLeft (B.file bench.old) self.old }
+        requires spare_stands { S.told → StandsAt (S.file spare.old) self.old.secret.shape self.old.history other.old.gate }
+
+        // One outcome for each question, and the history has the records that they make.
+        ensures outcomes { IfOk result (λ v. AreOutcomes (table_of self.old) self.old.history asked.now v.items) }
+        ensures history { IfOk result (λ v. self.new.history ≡ self.old.history ++ records_made asked.now v.items) }
+        ensures stands { B.told → OnOk result (IsAsLeft (B.file bench.new) self.new) }
+        ensures spare_stands { S.told → OnOk result (StandsAt (S.file spare.new) self.new.secret.shape self.new.history other.new.gate) }
+        ensures usable { OnOk result ((self.new.usable ≡ true) × IsJournalOf self.new.secret.shape self.new.history other.new) }
+
+        // A refusal leaves the history as it was. The spare comes first: if a call of it failed the bench wasn't called.
+        ensures kept { OnErr result ((self.new.history ≡ self.old.history) × (self.new.usable ≡ false)) }
+        ensures no_memory { IsErrOf result KeepFault.NoMemory → (bench.new ≡ bench.old) × (spare.new ≡ spare.old) }
+        ensures spare_first { IsErrOf result KeepFault.Spare → bench.new ≡ bench.old }
+        ensures fault { TellsFault B.Bench bench.old bench.new (IsErrOf result KeepFault.Bench) }
+        ensures spare_fault { TellsFault S.Bench spare.old spare.new (IsErrOf result KeepFault.Spare) }
+        ensures secret { self.new.secret ≡ self.old.secret }
+        ensures protected { self.new.protected ≡ self.old.protected }
+        ensures is { IsStore self.new }
+
+        // A crash at any moment leaves on each the history before, or that with the records of the group. If a call of the bench failed
+        // the spare stands for the latter.
+        ensures any_moment { B.told → IsQuiet B.Bench bench.old → (IsErrOf result KeepFault.NoMemory → ⊥)
+            → Keeps B.Bench bench.old bench.new (table_of self.old) self.old.history asked.now (B.sent bench.old) }
+        ensures spare_moments { S.told → IsQuiet S.Bench spare.old → (IsErrOf result KeepFault.NoMemory → ⊥)
+            → Keeps S.Bench spare.old spare.new (table_of self.old) self.old.history asked.now (S.sent spare.old) }
+        ensures ahead { B.told → S.told → IsQuiet B.Bench bench.old → IsErrOf result KeepFault.Bench → (image : List ℕ) → B.leaves bench.new image
+            → KeptAhead (S.file spare.new) image (table_of self.old) self.old.history asked.now }
+
+        // A group that makes no record leaves both as they were, any other takes four calls of each.
+        ensures written { B.told → IfOk result (λ v. HasGroup self.old.secret.shape (records_made asked.now v.items) self.old.journal.gate (B.file bench.old) (B.file bench.new)) }
+        ensures spare_written { S.told → IfOk result (λ v. HasGroup self.old.secret.shape (records_made asked.now v.items) other.old.gate (S.file spare.old) (S.file spare.new)) }
+        ensures quiet { B.told → IsQuiet B.Bench bench.old → (IsErrOf result KeepFault.Bench → ⊥) → IsQuiet B.Bench bench.new }
+        ensures spare_quiet { S.told → IsQuiet S.Bench spare.old → (IsErrOf result KeepFault.Spare → ⊥) → IsQuiet S.Bench spare.new }
+        ensures sent { B.sent bench.new ≡ B.sent bench.old }
+        ensures spare_sent { S.sent spare.new ≡ S.sent spare.old }
+        ensures ticks { B.told → IfOk result (λ v. B.moment bench.new ≡ B.moment bench.old + calls_for (records_made asked.now v.items)) }
+        ensures spare_ticks { S.told → IfOk result (λ v. S.moment spare.new ≡ S.moment spare.old + calls_for (records_made asked.now v.items)) }
+        ensures unasked { IfOk result (λ v. records_made asked.now v.items ≡ [] → (bench.new ≡ bench.old) × (spare.new ≡ spare.old)) }
+    {
+        self.usable = false;
+        let outcomes = decide_all(self.alloc, &self.secret, &mut self.core, asked)?;
+        let group = &self.core.history()[self.released as usize..];
+        let ready = made_ready(&self.journal, group)?;
+        match keep_ready(other, spare, &ready) {
+            Ok(()) => {}
+            Err(Failed) => return Err(KeepFault::Spare),
+        }
+        match keep_ready(&mut self.journal, bench, &ready) {
+            Ok(()) => {}
+            Err(Failed) => return Err(KeepFault::Bench),
+        }
+        self.released = self.core.history().len() as u32;
+        self.usable = true;
+        Ok(outcomes)
+    }
+
+    /// Opens another journal of the store's table, and tests it as `start` does: the faults come in the same order. Records with which
+    /// the store's history begins are legal, and not tested again.
+    pub fn open_other<S: Bench>(
+        &self,
+        spare: &mut S,
+    ) -> Result<(Journal, Vec<Answered>), StartFault>
+        requires usable { self.now.usable ≡ true }
+
+        // It is that of the file's history, which is legal.
+        ensures journal { IfOk result (λ r. IsJournalOf self.now.secret.shape r.1.items r.0) }
+        ensures legal { IfOk result (λ r. IsLegal (table_of self.now) r.1.items) }
+        ensures stands { S.told → IfOk result (λ r. StandsAt (S.file spare.old) self.now.secret.shape r.1.items r.0.gate) }
+
+        // Each refusal has its cause in the file, and each cause has its refusal; a legal history is never refused.
+        ensures cause { (fault : StartFault) → S.told → result ≡ Err fault → StartCause fault (S.file spare.old) (table_of self.now) }
+        ensures due { (fault : StartFault) → S.told → (GivesUp fault → ⊥) → StartCause fault (S.file spare.old) (table_of self.now) → RefusedUnlessFailed fault result }
+        ensures opens { (history : List Answered) → S.told → StandsFor (S.file spare.old) self.now.secret.shape history → IsLegal (table_of self.now) history → StartsUnlessFailed result }
+
+        // Nothing is written and nothing sent.
+        ensures reads { OnlyReads S.Bench spare.old spare.new }
+        ensures ticks { S.told → OnOk result (S.moment spare.new ≡ S.moment spare.old + 2) }
+        ensures fault { TellsFault S.Bench spare.old spare.new (IsErrOf result StartFault.Failed) }
+    {
+        recover_other(self.alloc, &self.secret, &self.core, spare)
+    }
+
+    /// Goes on with records that its journal lacks, and brings that up to them, in groups of up to 64. They aren't decided again.
+    /// After a refusal the store isn't usable, and some of them may have been appended.
+    pub fn bring_up<B: Bench>(
+        &mut self,
+        bench: &mut B,
+        missing: &[Answered],
+    ) -> Result<(), StoreFault>
+        requires usable { self.old.usable ≡ true }
+        requires legal { IsLegal (table_of self.old) (self.old.history ++ missing.now) }
+        requires stands { B.told → IsAsLeft (B.file bench.old) self.old }
+
+        ensures history { OnOk result (self.new.history ≡ self.old.history ++ missing.now) }
+        ensures stands { B.told → OnOk result (IsAsLeft (B.file bench.new) self.new) }
+        ensures usable { OnOk result (self.new.usable ≡ true) }
+        ensures kept { OnErr result ((self.new.history ≡ self.old.history) × (self.new.usable ≡ false)) }
+        ensures secret { self.new.secret ≡ self.old.secret }
+        ensures protected { self.new.protected ≡ self.old.protected }
+        ensures is { IsStore self.new }
+
+        // A crash at any moment leaves the history with some of them, from the first on.
+        ensures any_moment { B.told → IsQuiet B.Bench bench.old
+            → LeavesOnly B.Bench bench.old bench.new (IsBroughtUp self.old.secret.shape self.old.history missing.now (B.sent bench.old)) }
+        ensures quiet { B.told → IsQuiet B.Bench bench.old → (IsErrOf result StoreFault.Failed → ⊥) → IsQuiet B.Bench bench.new }
+        ensures sent { B.sent bench.new ≡ B.sent bench.old }
+        ensures ticks { B.told → OnOk result (B.moment bench.new ≡ B.moment bench.old + calls_to_bring_up missing.now) }
+        ensures fault { TellsFault B.Bench bench.old bench.new (IsErrOf result StoreFault.Failed) }
+    {
+        self.usable = false;
+        take_all(&mut self.core, missing)?;
+        bring_up(&mut self.journal, bench, missing)?;
+        self.released = self.core.history().len() as u32;
+        self.usable = true;
+        Ok(())
     }
 
     /// Whether questions may be asked. After a refused `ask_all` they may not.

@@ -1,1 +1,4 @@
+pub mod TermsSoFar
 pub mod SoFar
+pub mod Turns
+pub mod OneText

@@ -10,9 +10,17 @@ use Rattle.bench_core.specs.Causes.{Rose}
 use Rattle.schema_json.specs.Columns.{Column}
 use Rattle.set_index.specs.Indexed.{IndexView}
 use Rattle.line_wire.specs.Lines.{CountedLine, counted_lines, whole_lines, most_input}
+use Rattle.question_plan.specs.declared.planner.PlanStop.{PlanStop}
+use Rattle.question_plan.specs.declared.planner.PlanStop.TheVariants as stop
 use Rattle.certificate_lines.specs.declared.explaining.ExplainFault.{ExplainFault}
 use Rattle.certificate_lines.specs.declared.explaining.ExplainFault.TheVariants as fault
 use Rattle.certificate_lines.specs.Explained.{AreExplained}
+
+-- the end that a stop of the planner makes
+abbrev pub stop_end : PlanStop → ExplainFault
+stop_end stop.Input = fault.Input
+stop_end stop.Limit = fault.Limit
+stop_end stop.NoMemory = fault.NoMemory
 
 -- ---- which lines are explained
 

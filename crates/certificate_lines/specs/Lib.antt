@@ -1,3 +1,4 @@
 pub mod Texts
 pub mod Explained
 pub mod Ends
+pub mod Laws

@@ -1,5 +1,5 @@
 -- The lines that show why a question is denied.
-use Rattle.std.specs.Prelude.{ℕ, List, ◌++◌, map, codes, decimal, Option, Some, None}
+use Rattle.std.specs.Prelude.{ℕ, ℤ, List, ◌++◌, map, codes, decimal, Option, Some, None}
 use Rattle.std.specs.Fmt.{signed_decimal}
 use Rattle.line_wire.specs.CommaLists.{with_commas, at_place}
 use Rattle.denial_proof.specs.declared.proof_parts.Target.{Target}
@@ -22,14 +22,22 @@ abbrev pub pair_text : Option ℕ → List ℕ
 pair_text (Some place) = decimal place
 pair_text None = codes "\"asked\""
 
--- the line with a proof
-unfoldable pub proof_line : Proof → List ℕ
-proof_line (Sum target times terms asked) =
+-- the line of a sum
+abbrev pub sum_line : Target → ℤ → List Term → ℤ → List ℕ
+sum_line target times terms asked =
     codes "{\"verdict\":\"unsafe\"," ++ target_text target ++ codes ",\"times\":" ++ signed_decimal times ++ codes ",\"by\":[" ++ with_commas (map term_text terms)
     ++ codes "],\"asked\":" ++ signed_decimal asked ++ codes "}\n"
-proof_line (Max answer row pair high) =
+
+-- the line of a maximum
+abbrev pub max_line : ℤ → ℕ → Option ℕ → List ℤ → List ℕ
+max_line answer row pair high =
     codes "{\"verdict\":\"unsafe\",\"answer\":" ++ signed_decimal answer ++ codes ",\"row\":" ++ decimal row ++ codes ",\"pair\":" ++ pair_text pair
     ++ codes ",\"high\":[" ++ with_commas (map signed_decimal high) ++ codes "]}\n"
+
+-- the line with a proof
+abbrev pub proof_line : Proof → List ℕ
+proof_line (Sum target times terms asked) = sum_line target times terms asked
+proof_line (Max answer row pair high) = max_line answer row pair high
 
 -- the line without one
 abbrev pub wide_line : List ℕ

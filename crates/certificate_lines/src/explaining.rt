@@ -1,18 +1,27 @@
 //! Explaining the lines of an input.
-ghost use Rattle.std.specs.Prelude.{◌≡◌, ◌≢◌, ◌≤◌, ◌+◌, List, ℕ, length, OnOk, Err, true};
+ghost use Rattle.std.specs.Prelude.{◌≡◌, ◌≢◌, ◌≤◌, ◌+◌, [], List, ℕ, length, OnOk, Err, true, false};
+ghost use Rattle.audit_types.specs.History.{setting_of};
+ghost use Rattle.denial_proof.specs.Denied.{IsLegalIn};
 ghost use Rattle.bench_core.specs.Causes.{Rose};
 ghost use Rattle.bench_core.specs.Calls.{IsQuiet, LeavesOnly};
 ghost use Rattle.schema_json.specs.SecretShape.{shape_of};
 ghost use Rattle.table_load.specs.Cells.{FitsSchema};
 ghost use Rattle.line_wire.specs.Lines.{CountedLine, counted_lines};
 ghost use Rattle.certificate_lines.specs.Explained.{AreExplained};
-ghost use Rattle.certificate_lines.specs.Ends.{EndLines, EndReads, EndSends, ExplainsMeanwhile};
+ghost use Rattle.certificate_lines.specs.Ends.{EndLines, EndReads, EndSends, Explains, ExplainsMeanwhile, stop_end};
+ghost use Rattle.certificate_lines.specs.declared.explaining.ExplainFault.TheVariants as fault;
 
+use crate::deciding::write_line;
+use audit_core::Core;
 use audit_store::Store;
-use bench_core::{Bench, Source};
+use audit_types::NoMemory;
+use bench_core::{Bench, Failed, Source};
+use line_wire::laws::lines_in_turn;
+use question_plan::{PlanStop, Planner};
 use schema_json::Schema;
 use set_index::Index;
 use std::alloc::Global;
+use table_load::lists_of_secrets;
 
 /// Why explaining ended before the input did.
 #[derive(Clone, Copy)]
@@ -24,6 +33,60 @@ pub enum ExplainFault {
     /// The input has more than 2^30 bytes.
     Limit,
     NoMemory,
+}
+
+impl From<PlanStop> for ExplainFault {
+    ghost from_gives = { λ stop e. e ≡ stop_end stop };
+
+    fn from(stop: PlanStop) -> ExplainFault {
+        match stop {
+            PlanStop::Input => ExplainFault::Input,
+            PlanStop::Limit => ExplainFault::Limit,
+            PlanStop::NoMemory => ExplainFault::NoMemory,
+        }
+    }
+}
+
+impl From<Failed> for ExplainFault {
+    ghost from_gives = { λ _ e. e ≡ fault.Bench };
+
+    fn from(_e: Failed) -> ExplainFault {
+        ExplainFault::Bench
+    }
+}
+
+impl From<NoMemory> for ExplainFault {
+    ghost from_gives = { λ _ e. e ≡ fault.NoMemory };
+
+    fn from(_e: NoMemory) -> ExplainFault {
+        ExplainFault::NoMemory
+    }
+}
+
+// Explains the lines that are still to come.
+fn explain_lines<P: Source, B: Bench>(
+    alloc: Global,
+    planner: &mut Planner,
+    schema: &Schema,
+    index: &Index,
+    core: &Core,
+    source: &mut P,
+    bench: &mut B,
+) -> Result<(), ExplainFault>
+    requires fresh { (planner.old.taken ≡ 0) × (planner.old.pending ≡ []) × (planner.old.ended ≡ false) }
+    requires fits { FitsSchema schema.now.columns index.now.public }
+    requires setting { core.now.setting ≡ setting_of (shape_of schema.now.columns index.now.public.rows) index.now.protected }
+    requires legal { IsLegalIn core.now.setting core.now.history }
+    ensures { Explains P.Source B.Bench schema.now.columns index.now core.now.history source.old source.new bench.old bench.new result }
+{
+    lines_in_turn();
+    let mut kept = None;
+    let mut line = Vec::new(alloc);
+    while let Some(plan) = planner.next(alloc, schema, index, source)? {
+        write_line(alloc, core, &plan, &mut kept, &mut line)?;
+        bench.send(&line)?;
+    }
+    Ok(())
 }
 
 /// Sends a line for each counted line of the input: the verdict on it after the store's history, and for a denial as unsafe its
@@ -62,5 +125,17 @@ pub fn explain<P: Source, B: Bench>(
     ensures last_call { (result ≡ Err ExplainFault.Input → P.last_failed source.new ≡ true) × (result ≡ Err ExplainFault.Bench → B.last_failed bench.new ≡ true) }
     ensures steady { (result ≢ Err ExplainFault.Input → P.faults source.new ≡ P.faults source.old) × (result ≢ Err ExplainFault.Bench → B.faults bench.new ≡ B.faults bench.old) }
 {
-    Err(ExplainFault::NoMemory)
+    // A store says of itself that its history is legal.
+    let _history = store.history();
+    lists_of_secrets();
+    let mut planner = Planner::new(alloc)?;
+    explain_lines(
+        alloc,
+        &mut planner,
+        schema,
+        index,
+        store.core(),
+        source,
+        bench,
+    )
 }

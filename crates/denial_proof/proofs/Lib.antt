@@ -32,5 +32,8 @@ pub mod SpannedTargets
 pub mod AskedIsNew
 pub mod SumParts
 pub mod OneCanonicalSum
+pub mod OneProof
 pub mod UnsafeSums
 pub mod ByKind
+pub mod OutlookWalks
+pub mod LoneOutlook

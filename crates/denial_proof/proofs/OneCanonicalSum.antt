@@ -1,6 +1,6 @@
 -- A question has at most one canonical proof of a sum. The kept sets are independent, so two lists of numbers with which they come
 -- to the target lie on one line, and a line has one list without a common divisor.
-use Rattle.std.proofs.Common.{◌≡◌, ◌≢◌, ℕ, zero, suc, ◌+◌, ◌<◌, ◌⊎◌, Bool, true, false, ◌==◌, ℤ, pos, List, [], ◌∷◌, ◌++◌, map, length, Some, refl, sym, ap, ◌∙◌, subst, arith, inl, inr, length-append}
+use Rattle.std.proofs.Common.{◌≡◌, ◌≢◌, ℕ, zero, suc, ◌+◌, ◌<◌, Bool, true, false, ◌==◌, ℤ, pos, List, [], ◌∷◌, ◌++◌, map, length, Some, refl, sym, ap, ◌∙◌, subst, arith, inl, inr, length-append}
 use Rattle.std.specs.Prelude.{◌+ℤ◌, ◌*ℤ◌, neg_ℤ, unsigned_abs, Result, Ok, Err, IfOk}
 use Rattle.std.specs.Int.{◌∣◌}
 use Rattle.std.specs.List.{AllByRecursion}
@@ -19,6 +19,7 @@ use Rattle.audit_types.specs.PrimitiveLines.{times, one_primitive}
 use Rattle.audit_types.specs.Products.{neg-times, times_assoc}
 use Rattle.audit_types.specs.RowNumbers.{number_at-set_row}
 use Rattle.audit_types.specs.Truth.{number_at}
+use Rattle.audit_types.specs.Direction.{IsPinned}
 use Rattle.audit_types.specs.Form.{set_row, combined}
 use Rattle.int_rows.specs.ContentLaws.{all-ones}
 use Rattle.sum_basis.specs.Basis.{Echelon}
@@ -173,11 +174,11 @@ same_kept n column history places others first second =
     same_test false true there back = back refl
     same_test false false there back = refl
 
--- the numbers of two canonical proofs for one target are the same
-pub same_numbers : (P : ℤ → Type 0) (n : ℕ) (history : List Answered) (protected : List Protected) (asked : Asked) (target : Target) (times other : ℤ) (terms others : List Term) (own else : ℤ)
+-- two canonical proofs for one target are the same
+pub same_parts : (n : ℕ) (history : List Answered) (protected : List Protected) (asked : Asked) (target : Target) (times other : ℤ) (terms others : List Term) (own else : ℤ)
     (first : IsCanonicalSum n history protected asked target times terms own) → IsCanonicalSum n history protected asked target other others else →
-    AreIndependent n (kept_sets history first.places asked.rows.list) → AllByRecursion P (times ∷ own ∷ map (λ (t : Term). t.times) terms) → AllByRecursion P (other ∷ else ∷ map (λ (t : Term). t.times) others)
-same_numbers P n history protected asked target times other terms others own else first second independent all =
+    AreIndependent n (kept_sets history first.places asked.rows.list) → (times ≡ other) × (own ≡ else) × (terms ≡ others)
+same_parts n history protected asked target times other terms others own else first second independent =
     let one = has_numbers n history protected asked target times terms own first in
     let two = has_numbers n history protected asked target other others else second in
     let places : second.places ≡ first.places = same_kept n asked.column history second.places first.places second.kept first.kept in
@@ -191,12 +192,20 @@ same_numbers P n history protected asked target times other terms others own els
     let numbers : one.numbers ≡ two.numbers = cc in
     let same_own : own ≡ else = sym one.last ∙ ap (λ (list : List ℤ). number_at list (length first.places)) numbers ∙ ap (λ (list : List ℕ). number_at two.numbers (length list)) (sym places) ∙ two.last in
     let same_terms : terms ≡ others = sym one.terms_are ∙ ap (terms_of first.places) numbers ∙ ap (λ (list : List ℕ). terms_of list two.numbers) (sym places) ∙ two.terms_are in
-    (subst P same_times all.0, (subst P same_own all.1.0, subst (λ (list : List Term). AllByRecursion P (map (λ (t : Term). t.times) list)) same_terms all.1.1))
+    (same_times, same_own, same_terms)
+
+-- so what holds of the numbers of one holds of those of the other
+same_numbers : (P : ℤ → Type 0) (n : ℕ) (history : List Answered) (protected : List Protected) (asked : Asked) (target : Target) (times other : ℤ) (terms others : List Term) (own else : ℤ)
+    (first : IsCanonicalSum n history protected asked target times terms own) → IsCanonicalSum n history protected asked target other others else →
+    AreIndependent n (kept_sets history first.places asked.rows.list) → AllByRecursion P (times ∷ own ∷ map (λ (t : Term). t.times) terms) → AllByRecursion P (other ∷ else ∷ map (λ (t : Term). t.times) others)
+same_numbers P n history protected asked target times other terms others own else first second independent all =
+    let same = same_parts n history protected asked target times other terms others own else first second independent in
+    (subst P same.0 all.0, (subst P same.1 all.1.0, subst (λ (list : List Term). AllByRecursion P (map (λ (t : Term). t.times) list)) same.2 all.1.1))
 
 -- ---- what has a proof isn't too wide
 
 -- there is one least place
-one_least : (P : ℕ → Type 0) (p q : ℕ) → IsLeast P (Some p) → IsLeast P (Some q) → p ≡ q
+pub one_least : (P : ℕ → Type 0) (p q : ℕ) → IsLeast P (Some p) → IsLeast P (Some q) → p ≡ q
 one_least P p q (here, before) (there, earlier) = elim (cases_lt p q) [
   | inl less ↦ absurd (earlier p less here)
   | inr more ↦ elim (cases_lt q p) [
@@ -205,11 +214,13 @@ one_least P p q (here, before) (there, earlier) = elim (cases_lt p q) [
   ]
 ]
 
--- where the first target is a group, it is this one
-first_group_is : (n : ℕ) (protected : List Protected) (column : ℕ) (sets : List (List ℕ)) (target : Target) (place : ℕ) → IsFirstTarget n protected column sets target →
-    IsFirstTarget n protected column sets (Group place) → target ≡ Group place
-first_group_is n protected column sets (Row row) place (pinned, before) (none, least) = absurd (none (row, pinned))
-first_group_is n protected column sets (Group other) place (none, first) (no_row, least) = ap Group (one_least (IsSpannedGroup n protected column sets) other place first least)
+-- so there is one first target
+pub same_target : (n : ℕ) (protected : List Protected) (column : ℕ) (sets : List (List ℕ)) (a b : Target) → IsFirstTarget n protected column sets a →
+    IsFirstTarget n protected column sets b → a ≡ b
+same_target n protected column sets (Row row) (Row other) first second = ap Row (one_least (IsPinned n sets) row other first second)
+same_target n protected column sets (Row row) (Group place) (pinned, before) (none, least) = absurd (none (row, pinned))
+same_target n protected column sets (Group place) (Row row) (none, least) (pinned, before) = absurd (none (row, pinned))
+same_target n protected column sets (Group place) (Group other) (none, first) (no_row, least) = ap Group (one_least (IsSpannedGroup n protected column sets) place other first least)
 
 -- each term is counted a small number of times
 small_terms : (history : List Answered) (column : ℕ) (terms : List Term) → AllByRecursion (IsTerm history column) terms → AllByRecursion IsSmall (map (λ (t : Term). t.times) terms)
@@ -227,7 +238,7 @@ not_too_wide n history protected asked places form marks independent (Sum target
     marks.marked.narrow (subst (λ k. HasWideFront (n + k) (marked_rows n k 0 sets)) count moved)
 not_too_wide n history protected asked places form marks independent (Sum target times terms own) (canonical, shows) (inr wide) =
     let same = same_kept n asked.column history places canonical.places marks.kept canonical.kept in
-    let group : target ≡ Group wide.place = first_group_is n protected asked.column (sets_with_asked history asked) target wide.place canonical.first wide.canonical.first in
+    let group : target ≡ Group wide.place = same_target n protected asked.column (sets_with_asked history asked) target (Group wide.place) canonical.first wide.canonical.first in
     let other = subst (λ (t : Target). IsCanonicalSum n history protected asked t wide.times wide.terms wide.own) (sym group) wide.canonical in
     wide.large (same_numbers IsSmall n history protected asked target times wide.times terms wide.terms own wide.own canonical other
     (subst (λ (list : List ℕ). AreIndependent n (kept_sets history list asked.rows.list)) same independent) (shows.small_times, (shows.small_own, small_terms history asked.column terms shows.are_terms)))

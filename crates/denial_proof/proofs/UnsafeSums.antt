@@ -1,6 +1,6 @@
--- What a denial as unsafe says after a legal history: of a column of sums what its canonical proof is made from, of a column of
+-- What a legal history leaves open, and what a denial as unsafe says after it: of a column of sums what its canonical proof is made from, of a column of
 -- maxima that some candidate is bad.
-use Rattle.std.proofs.Common.{◌≡◌, ◌≢◌, ℕ, zero, suc, ◌+◌, ◌<◌, ◌≤◌, Bool, true, false, cond, ◌==◌, ℤ, List, [], ◌∷◌, map, length, get_or, Some, refl, sym, ap, ◌∙◌, subst, arith, inl, inr, ◌⊎◌}
+use Rattle.std.proofs.Common.{◌≡◌, ◌≢◌, ℕ, zero, suc, ◌<◌, Bool, true, false, cond, ◌==◌, ℤ, List, [], ◌∷◌, map, length, get_or, Some, refl, sym, ap, ◌∙◌, subst, arith, inl, inr, ◌⊎◌}
 use Rattle.std.specs.Prelude.{All, Contains, slice_get}
 use Rattle.std.specs.List.{AllByRecursion, filter}
 use Rattle.std.proofs.lemmas.Bool.{eqb-true}
@@ -15,18 +15,18 @@ use Rattle.audit_types.specs.declared.shapes.Kind.{Kind}
 use Rattle.audit_types.specs.declared.shapes.Shape.{Shape}
 use Rattle.audit_types.specs.declared.shapes.Kind.TheVariants.{Sum, Max}
 use Rattle.audit_types.specs.Rows.{AreRows}
-use Rattle.audit_types.specs.Shapes.{kind_at}
-use Rattle.audit_types.specs.Column.{Answer, Known, IsPossible, IsDangerous, IsWellFormed, known_sum, known_max}
+use Rattle.audit_types.specs.Shapes.{columns, kind_at}
+use Rattle.audit_types.specs.Column.{Answer, IsDangerous, IsWellFormed, known_max}
 use Rattle.audit_types.specs.Direction.{PinSomeRow}
-use Rattle.audit_types.specs.Form.{set_row, InSpan, HasNarrowForm}
-use Rattle.audit_types.specs.Judgement.{SpanSomeGroup, IsWithinWidthFor}
+use Rattle.audit_types.specs.Form.{set_row, InSpan}
+use Rattle.audit_types.specs.Judgement.{IsWithinWidthFor}
 use Rattle.audit_types.specs.History.{Setting, Table, FitsShape, IsProtected, AreProtected, IsDecisionAfter, list_of, answers_of, answer_in, groups_of, known_of}
 use Rattle.audit_types.specs.ListLaws.{all-map, all-filter, all-push, all-weaker}
-use Rattle.audit_core.specs.Laws.{LegalIsNarrow, sets_before}
+use Rattle.audit_core.specs.Laws.{LegalIsNarrow, LegalPinsNothing, sets_before}
 use Rattle.max_audit.specs.Laws.{DangerousByCandidates, HasBadCandidate}
 use Rattle.sum_audit.specs.Laws.{PinnedByUnitRow}
 use Rattle.denial_proof.specs.Canonical.{sets_with_asked, IsSpannedGroup}
-use Rattle.denial_proof.specs.Denied.{IsLegalIn, IsUnsafeSum}
+use Rattle.denial_proof.specs.Denied.{IsLegalIn, AreOpenSums, IsUnsafeSum}
 use Rattle.denial_proof.proofs.AskedIsNew.{LegalLaws, asked_new, own_agrees}
 use Rattle.denial_proof.proofs.SumParts.{sets_at_end}
 
@@ -86,11 +86,6 @@ entries_same_n shape list fit = all-weaker (IsProtected shape) (λ (p : Protecte
 
 -- ---- the answers before
 
--- some rows of a table are none of an empty one
-some_row : (n : ℕ) (rows : List ℕ) → AreRows n rows → rows ≢ [] → 0 < n
-some_row n [] are some = absurd (some refl)
-some_row n (r ∷ rows) are some = omega (arith, are.1)
-
 module _ (setting : Setting) (history : List Answered) (fit : All (λ (r : Answered). FitsShape setting.shape r.column r.rows) history) where
   -- what holds of each record that fits
   each_record : (P : Answered → Type 0) → ((r : Answered) → FitsShape setting.shape r.column r.rows → P r) → AllByRecursion P history
@@ -110,6 +105,26 @@ module _ (setting : Setting) (history : List Answered) (fit : All (λ (r : Answe
   sets_have_rows : (column : ℕ) → AllByRecursion (λ (a : Answer). a.rows ≢ []) (answers_of column history)
   sets_have_rows column =
       all-map answer_in (λ a. a.rows ≢ []) _ (all-filter (λ (r : Answered). r.rows.list ≢ []) (λ r. r.column == column) history (each_record (λ (r : Answered). r.rows.list ≢ []) (λ r fits. fits.some)))
+
+  all_sets : (column : ℕ) → AllByRecursion (AreRows setting.shape.rows) (map (λ a. a.rows) (answers_of column history))
+  all_sets column = all-map (λ (a : Answer). a.rows) (AreRows setting.shape.rows) (answers_of column history) (sets_are_rows column)
+
+  -- what the sets before the end span, all sets do
+  at_end : (column : ℕ) (row : List ℤ) → InSpan (map (set_row setting.shape.rows) (sets_before column history (length history))) row →
+      InSpan (map (set_row setting.shape.rows) (map (λ a. a.rows) (answers_of column history))) row
+  at_end column row span = subst (λ (sets : List (List ℕ)). InSpan (map (set_row setting.shape.rows) sets) row) (sets_at_end column history) span
+
+  pub open_sums : LegalIsNarrow → PinnedByUnitRow → LegalPinsNothing → AreProtected setting.shape setting.protected → IsLegalIn setting history → 0 < setting.shape.rows → (column : ℕ) →
+      column < columns setting.shape → kind_at setting.shape column ≡ Sum → AreOpenSums setting.shape.rows column history
+  open_sums narrow by_unit_row pins_nothing protected legal some column below sums =
+      let n = setting.shape.rows in
+      let sets = map (λ (a : Answer). a.rows) (answers_of column history) in
+      let table : Table = record { setting = setting; secrets = legal.secrets } in record {
+        narrow = λ place within. narrow table history column place legal.legal sums within;
+        leaves_open = λ span.
+            let pinned = (by_unit_row n sets 0 (all_sets column) some).1 (at_end column (set_row n (0 ∷ [])) span) in
+            pins_nothing table history column 0 legal.are_secrets protected legal.legal below sums pinned;
+      }
 
   -- ---- the question
 
@@ -134,9 +149,6 @@ module _ (setting : Setting) (history : List Answered) (fit : All (λ (r : Answe
       abbrev table : Table
       table = record { setting = setting; secrets = legal.secrets }
 
-      all_sets : AllByRecursion (AreRows setting.shape.rows) (map (λ a. a.rows) (answers_of asked.column history))
-      all_sets = all-map (λ (a : Answer). a.rows) (AreRows setting.shape.rows) (answers_of asked.column history) (sets_are_rows asked.column)
-
       -- the sets give something away
       gives_away : PinSomeRow setting.shape.rows (sets_with_asked history asked)
           ⊎ ((place : ℕ) × IsSpannedGroup setting.shape.rows setting.protected asked.column (sets_with_asked history asked) place)
@@ -145,34 +157,28 @@ module _ (setting : Setting) (history : List Answered) (fit : All (λ (r : Answe
           let groups = groups_of asked.column setting.protected in
           let answers = answers_of asked.column history in
           let agrees = own_agrees laws table history legal.are_secrets protected legal.legal asked.column question.column_below sums in
-          let with_asked = all-push (AreRows n) (map (λ a. a.rows) answers) asked.rows.list all_sets own_rows in
+          let with_asked = all-push (AreRows n) (map (λ a. a.rows) answers) asked.rows.list (all_sets asked.column) own_rows in
           let told = (laws.dangerous n answers groups asked.rows.list with_asked (groups_are_rows setting protected asked.column) (list_of legal.secrets asked.column, agrees)).0 (subst (λ kind. DangerousAs kind groups) sums denied.1) in
           elim told [
             | inl pinned ↦ inl pinned
             | inr (group, guarded, spanned) ↦
                 let found = entry_of_group setting.protected asked.column group guarded in
-                inr (found.place, record {
-                  entry = found.entry;
-                  there = found.there;
-                  own = found.own;
-                  spanned = subst (λ rows. InSpan (map (set_row n) (sets_with_asked history asked)) (set_row n rows)) (sym found.rows_are) spanned;
-                })
+                inr (
+                  found.place,
+                  record {
+                    entry = found.entry;
+                    there = found.there;
+                    own = found.own;
+                    spanned = subst (λ rows. InSpan (map (set_row n) (sets_with_asked history asked)) (set_row n rows)) (sym found.rows_are) spanned;
+                  },
+                )
           ]
 
-      pub unsafe_sum : LegalIsNarrow → PinnedByUnitRow → IsUnsafeSum setting.shape.rows history setting.protected asked
-      unsafe_sum narrow by_unit_row =
-          let n = setting.shape.rows in
-          let answers = answers_of asked.column history in
-          let at_end : (row : List ℤ) → InSpan (map (set_row n) (sets_before asked.column history (length history))) row → InSpan (map (set_row n) (map (λ a. a.rows) answers)) row
-          = λ row span. subst (λ (sets : List (List ℕ)). InSpan (map (set_row n) sets) row) (sets_at_end asked.column history) span in
-          record {
-            narrow = λ place within. narrow table history asked.column place legal.legal sums within;
-            leaves_open = λ span.
-                let pinned = (by_unit_row n (map (λ a. a.rows) answers) 0 all_sets (some_row n asked.rows.list own_rows question.some)).1 (at_end (set_row n (0 ∷ [])) span) in
-                laws.pins_nothing table history asked.column 0 legal.are_secrets protected legal.legal question.column_below sums pinned;
-            new = λ span.
-                asked_new laws table history legal.are_secrets protected legal.legal asked.column question.column_below sums all_sets asked.rows.list own_rows
-                (groups_are_rows setting protected asked.column) denied.1 (at_end (set_row n asked.rows.list) span);
-            width = subst (λ kind. IsWithinWidthFor kind (known_of setting history asked.column) asked.rows.list) sums denied.0;
-            gives_away = gives_away;
-          }
+      pub unsafe_sum : IsUnsafeSum setting.shape.rows history setting.protected asked
+      unsafe_sum = record {
+        new = λ span.
+            asked_new laws table history legal.are_secrets protected legal.legal asked.column question.column_below sums (all_sets asked.column) asked.rows.list own_rows
+            (groups_are_rows setting protected asked.column) denied.1 (at_end asked.column (set_row setting.shape.rows asked.rows.list) span);
+        width = subst (λ kind. IsWithinWidthFor kind (known_of setting history asked.column) asked.rows.list) sums denied.0;
+        gives_away = gives_away;
+      }

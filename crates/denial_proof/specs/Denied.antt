@@ -1,11 +1,11 @@
 -- What is known of a question that is denied as unsafe after a legal history.
-use Rattle.std.specs.Prelude.{◌≡◌, ℕ, ◌≤◌, ◌⊎◌, List, [], ◌∷◌, map, length, All}
+use Rattle.std.specs.Prelude.{◌≡◌, ℕ, ◌<◌, ◌≤◌, ◌⊎◌, List, [], ◌∷◌, map, length, All}
 use Rattle.audit_types.specs.declared.records.Answered.{Answered}
 use Rattle.audit_types.specs.declared.records.Asked.{Asked}
 use Rattle.audit_types.specs.declared.records.Protected.{Protected}
 use Rattle.audit_types.specs.declared.records.Verdict.TheVariants.{DeniedUnsafe}
 use Rattle.audit_types.specs.declared.shapes.Kind.TheVariants.{Sum, Max}
-use Rattle.audit_types.specs.Shapes.{kind_at}
+use Rattle.audit_types.specs.Shapes.{columns, kind_at}
 use Rattle.audit_types.specs.Column.{known_max}
 use Rattle.audit_types.specs.Form.{set_row, InSpan, HasNarrowForm}
 use Rattle.audit_types.specs.Direction.{PinSomeRow}
@@ -20,11 +20,19 @@ pub record IsLegalIn (setting : Setting) (history : List Answered) : Type 0 wher
   pub are_secrets : AreSecrets setting.shape secrets
   pub legal : IsLegal (record { setting = setting; secrets = secrets }) history
 
--- the sets of a column of sums were narrow at every record, and leave row 0 open and the asked set outside of their span; with it
--- they are narrow, and pin a row or span a protected group
+-- the sets of a column of sums were narrow at every record, and leave row 0 open
+pub record AreOpenSums (n column : ℕ) (history : List Answered) : Type 0 where
+  pub narrow : (place : ℕ) → place ≤ length history → HasNarrowForm n (sets_before column history place)
+  pub leaves_open : ¬ (InSpan (map (set_row n) (sets_before column history (length history))) (set_row n (0 ∷ [])))
+
+-- those of a legal history are such sets
+abbrev pub LegalSumsAreOpen : Type 0
+LegalSumsAreOpen =
+    (setting : Setting) (history : List Answered) (column : ℕ) → All (λ r. FitsShape setting.shape r.column r.rows) history → AreProtected setting.shape setting.protected → IsLegalIn setting history →
+    0 < setting.shape.rows → column < columns setting.shape → kind_at setting.shape column ≡ Sum → AreOpenSums setting.shape.rows column history
+
+-- the asked set lies outside the span of the column's sets; with it they are narrow, and pin a row or span a protected group
 pub record IsUnsafeSum (n : ℕ) (history : List Answered) (protected : List Protected) (asked : Asked) : Type 0 where
-  pub narrow : (place : ℕ) → place ≤ length history → HasNarrowForm n (sets_before asked.column history place)
-  pub leaves_open : ¬ (InSpan (map (set_row n) (sets_before asked.column history (length history))) (set_row n (0 ∷ [])))
   pub new : ¬ (InSpan (map (set_row n) (sets_before asked.column history (length history))) (set_row n asked.rows.list))
   pub width : HasNarrowForm n (sets_with_asked history asked)
   pub gives_away : PinSomeRow n (sets_with_asked history asked) ⊎ ((place : ℕ) × IsSpannedGroup n protected asked.column (sets_with_asked history asked) place)

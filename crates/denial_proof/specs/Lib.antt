@@ -6,4 +6,6 @@ pub mod Targets
 pub mod Numbers
 pub mod Canonical
 pub mod Denied
+pub mod Provers
+pub mod Outlook
 pub mod Laws

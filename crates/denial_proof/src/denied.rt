@@ -1,5 +1,14 @@
-//! What a denial as unsafe says after a legal history. Each function computes nothing: its contract is the law.
-ghost use Rattle.denial_proof.specs.Denied.{DeniedSumsAreUnsafe, DeniedMaximaHaveCandidates};
+//! What a legal history and a denial as unsafe say. Each function computes nothing: its contract is the law.
+ghost use Rattle.denial_proof.specs.Denied.{LegalSumsAreOpen, DeniedSumsAreUnsafe, DeniedMaximaHaveCandidates};
+
+/// The sets of a column of sums stay narrow in a legal history, and leave row 0 open.
+pub(crate) fn legal_sums()
+    ensures { LegalSumsAreOpen }
+{
+    audit_core::laws::free_numbers();
+    audit_core::laws::narrow_fronts();
+    sum_audit::laws::pinned_rows();
+}
 
 /// The sets of a denied sum give something away, and what its canonical proof is made from holds of them.
 pub(crate) fn denied_sums()
@@ -8,8 +17,6 @@ pub(crate) fn denied_sums()
     audit_types::laws::true_answers();
     audit_core::laws::legal_histories();
     audit_core::laws::free_numbers();
-    audit_core::laws::narrow_fronts();
-    sum_audit::laws::pinned_rows();
     sum_audit::laws::dangerous_sums();
 }
 

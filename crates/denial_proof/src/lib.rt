@@ -16,7 +16,9 @@ mod marking;
 mod marks;
 mod maxima;
 mod numbers;
+mod outlook;
 mod proof_parts;
+mod prover;
 mod proving;
 mod sums;
 mod targets;
@@ -25,4 +27,5 @@ mod totals;
 
 pub use checking::check_proof;
 pub use proof_parts::{Heights, Proof, ProveFault, Target, Term, Terms};
+pub use prover::Prover;
 pub use proving::prove;

@@ -1,5 +1,5 @@
 //! The canonical proof of a maximum.
-ghost use Rattle.std.specs.Prelude.{◌≡◌, ◌≢◌, ◌↔◌, ◌<◌, ◌≤◌, ◌≤ℤ◌, ◌^◌, ◌+◌, pos, neg_ℤ, [], Some, IsTrue, IfOk, IfSome, IfNone, length};
+ghost use Rattle.std.specs.Prelude.{◌≡◌, ◌≢◌, ◌↔◌, ◌<◌, ◌≤◌, [], Some, IsTrue, All, IfOk, IfSome, IfNone, length};
 ghost use Rattle.std.specs.List.{AllByRecursion};
 ghost use Rattle.audit_types.specs.Rows.{IsLeast};
 ghost use Rattle.audit_types.specs.Extremes.{IsConsistent, IsLeastLone, least_of, upper_bound};
@@ -7,10 +7,13 @@ ghost use Rattle.audit_types.specs.Column.{known_max};
 ghost use Rattle.audit_types.specs.History.{answers_of};
 ghost use Rattle.max_audit.specs.Laws.{LeavesLoneRow, HasBadCandidate};
 ghost use Rattle.max_audit.specs.Witnesses.{highest, bound_or_zero};
+ghost use Rattle.max_audit.specs.Candidates.{AreCandidates, IsNearRange};
 ghost use Rattle.max_bounds.specs.Maxima.{and_answer};
 ghost use Rattle.denial_proof.specs.Lone.{IsAt, IsOnly};
+ghost use Rattle.denial_proof.specs.Outlook.{IsOutlook};
 ghost use Rattle.denial_proof.specs.Canonical.{IsFirstAnswer, IsOnlyAt, IsMaxProof};
 
+use crate::outlook::Outlook;
 use crate::proof_parts::{Heights, Proof};
 use audit_types::{Answered, Asked, NoMemory, RowSet};
 use max_audit::MaxColumn;
@@ -26,37 +29,42 @@ struct LoneRow {
 }
 
 // The least lone row after this answer, if the answer is possible and leaves one.
-fn lone_row(bounds: &Bounds, rows: &RowSet, answer: i128) -> Option<u16>
+fn lone_row(bounds: &Bounds, outlook: &Outlook, rows: &RowSet, answer: i128) -> Option<u16>
     requires same_n { rows.now.n ≡ bounds.now.n }
     requires some { rows.now.list ≢ [] }
-    requires low { neg_ℤ (pos (2 ^ 63 + 1)) ≤ℤ answer }
-    requires high { answer ≤ℤ pos (2 ^ 63) }
+    requires outlook { IsOutlook bounds.now.answers rows.now.list outlook.now }
+    requires near { IsNearRange answer }
     ensures some { IfSome result (λ row. IsConsistent (and_answer bounds.now.answers rows.now.list answer) × IsLeastLone (and_answer bounds.now.answers rows.now.list answer) (Some row)) }
     ensures none { IfNone result (¬ (LeavesLoneRow (known_max bounds.now.n bounds.now.answers) rows.now.list answer)) }
 {
+    // Only an answer that passes is tried: a trial takes a step for each row of each set.
+    if !outlook.may_leave_one(answer) {
+        return None;
+    }
     let trial = bounds.trial(rows, answer);
     if trial.consistent { trial.lone } else { None }
 }
 
 // The least candidate that is possible and leaves a lone row.
-fn first_answer(maxima: &MaxColumn, rows: &RowSet) -> Result<Option<LoneRow>, NoMemory>
-    requires same_n { rows.now.n ≡ maxima.now.n }
+fn first_answer(bounds: &Bounds, candidates: &[i128], rows: &RowSet) -> Option<LoneRow>
+    requires same_n { rows.now.n ≡ bounds.now.n }
     requires some { rows.now.list ≢ [] }
-    ensures first { IfOk result (λ found. IfSome found (λ lone. IsFirstAnswer (known_max maxima.now.n maxima.now.answers) rows.now.list lone.answer)) }
-    ensures least { IfOk result (λ found. IfSome found (λ lone. IsLeastLone (and_answer maxima.now.answers rows.now.list lone.answer) (Some lone.row))) }
-    ensures none { IfOk result (λ found. IfNone found (¬ (HasBadCandidate (known_max maxima.now.n maxima.now.answers) rows.now.list))) }
+    requires candidates { AreCandidates bounds.now.answers candidates.now }
+    requires near { All IsNearRange candidates.now }
+    ensures first { IfSome result (λ lone. IsFirstAnswer (known_max bounds.now.n bounds.now.answers) rows.now.list lone.answer) }
+    ensures least { IfSome result (λ lone. IsLeastLone (and_answer bounds.now.answers rows.now.list lone.answer) (Some lone.row)) }
+    ensures none { IfNone result (¬ (HasBadCandidate (known_max bounds.now.n bounds.now.answers) rows.now.list)) }
 {
-    let bounds = maxima.bounds();
-    let candidates = maxima.candidates()?;
-    for answer in &candidates {
-        if let Some(row) = lone_row(bounds, rows, *answer) {
-            return Ok(Some(LoneRow {
+    let outlook = Outlook::new(bounds, rows);
+    for answer in candidates {
+        if let Some(row) = lone_row(bounds, &outlook, rows, *answer) {
+            return Some(LoneRow {
                 answer: *answer,
                 row,
-            }));
+            });
         }
     }
-    Ok(None)
+    None
 }
 
 fn or_zero(bound: Option<i64>) -> i128
@@ -123,6 +131,9 @@ fn is_only(heights: &[i128], rows: &RowSet, height: i128, row: u16) -> bool
     requires row { row < rows.now.n }
     ensures { IsTrue result ↔ IsOnly heights.now rows.now.list height row }
 {
+    if !is_at(heights, rows, height, row) {
+        return false;
+    }
     // A set says of itself that its rows are rows of the table.
     let n = rows.n();
     for q in 0..n {
@@ -130,7 +141,7 @@ fn is_only(heights: &[i128], rows: &RowSet, height: i128, row: u16) -> bool
             return false;
         }
     }
-    is_at(heights, rows, height, row)
+    true
 }
 
 // Whether the record is of the column, and the row the only one of its set at its answer.
@@ -193,6 +204,7 @@ fn prove_lone(
 pub(crate) fn prove_max(
     alloc: Global,
     maxima: &MaxColumn,
+    candidates: &[i128],
     history: &[Answered],
     asked: &Asked,
 ) -> Result<Proof, NoMemory>
@@ -201,10 +213,12 @@ pub(crate) fn prove_max(
     requires few { length history.now ≤ 65536 }
     requires records { AllByRecursion (λ r. r.rows.n ≡ maxima.now.n) history.now }
     requires answers { maxima.now.answers ≡ answers_of asked.now.column history.now }
+    requires candidates { AreCandidates maxima.now.answers candidates.now }
+    requires near { All IsNearRange candidates.now }
     requires dangerous { HasBadCandidate (known_max maxima.now.n maxima.now.answers) asked.now.rows.list }
     ensures { IfOk result (IsMaxProof maxima.now.n history.now asked.now) }
 {
-    match first_answer(maxima, &asked.rows)? {
+    match first_answer(maxima.bounds(), candidates, &asked.rows) {
         Some(lone) => prove_lone(alloc, maxima, history, asked, lone.answer, lone.row),
         None => unreachable!(),
     }

@@ -28,6 +28,22 @@ fn take_row(form: &Form, common: i128, target: &RowSet, k: u16) -> i128
     quotient(common, form.entry(k, pivot))
 }
 
+// What row k of the form has at a column, as often as it is taken. Most rows aren't, if the target is one row.
+fn taken_at(form: &Form, times: i128, k: u16, column: u16) -> i128
+    requires k { k < length form.now.rows }
+    requires column { column < form.now.n }
+    requires small { IsTakenSmall times }
+    ensures exact { result ≡ times *ℤ number_at (slice_index_or form.now.rows k []) column }
+    ensures small { unsigned_abs result ≤ 2 ^ 112 }
+{
+    if times == 0 {
+        return 0;
+    }
+    // A form says of itself that it is narrow.
+    let _ = form.columns();
+    times * form.entry(k, column)
+}
+
 // What the rows of the form, each as often as it is taken, have at a column.
 fn number_at(form: &Form, taken: &[i128], column: u16) -> i128
     requires column { column < form.now.n }
@@ -40,7 +56,7 @@ fn number_at(form: &Form, taken: &[i128], column: u16) -> i128
     let _ = form.columns();
     let mut sum = 0;
     for k in 0..form.rank() {
-        sum += taken[k as usize] * form.entry(k, column);
+        sum += taken_at(form, taken[k as usize], k, column);
     }
     sum
 }

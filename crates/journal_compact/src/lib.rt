@@ -10,4 +10,4 @@ pub mod laws;
 mod whole;
 
 pub use keeping::kept;
-pub use whole::{WholeFault, write_whole};
+pub use whole::{Found, WholeFault, look, write_whole};

@@ -57,8 +57,10 @@ pub enum Found {
     Short,
 }
 
-fn look<B: Bench>(bench: &mut B) -> Result<Found, Failed>
+/// Looks at what stands in a file. It writes nothing.
+pub fn look<B: Bench>(bench: &mut B) -> Result<Found, Failed>
     ensures found { B.told → IfOk result (λ what. IsFound what (B.file bench.old)) }
+    ensures made { B.told → result ≡ Ok Found.Made → B.moment bench.new ≡ B.moment bench.old + 2 }
     ensures short { B.told → result ≡ Ok Found.Short → B.moment bench.new ≡ B.moment bench.old + 1 }
     ensures closed { B.told → result ≡ Ok Found.Closed → B.moment bench.new ≡ B.moment bench.old + 2 }
     ensures reads { OnlyReads B.Bench bench.old bench.new }

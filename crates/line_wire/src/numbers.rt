@@ -7,11 +7,7 @@ use itoa::{Buffer, Integer};
 use std::alloc::AllocError;
 
 /// Appends words, and a number in decimal.
-pub fn put_number<I: Integer>(
-    line: &mut Vec<u8>,
-    words: &[u8],
-    number: I,
-) -> Result<(), AllocError>
+pub fn put_number<I: Integer>(line: &mut Vec<u8>, words: &[u8], number: I) -> Result<(), AllocError>
     ensures { OnOk result (line.new.items ≡ line.old.items ++ words.now ++ I.text number) }
 {
     let mut buffer = Buffer::new();

@@ -5,4 +5,5 @@ pub mod Requested
 pub mod OutcomesTold
 pub mod OnePlan
 pub mod OneReply
+pub mod AskedFit
 pub mod LegalReplies

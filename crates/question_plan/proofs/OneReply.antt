@@ -29,7 +29,7 @@ use Rattle.question_plan.specs.declared.planning.Plan.{Plan}
 use Rattle.question_plan.specs.declared.planning.Plan.TheVariants.{Ready, Ask}
 use Rattle.question_plan.specs.Session.{Replied}
 use Rattle.question_plan.specs.Replies.{IsDue, IsPlan, IsReplyOf, TellsOutcome, Tells, only}
-use Rattle.question_plan.specs.Laws.{AreAnswersAlike, OneJudgementIsMade, OneAnswerIsTold, OneReplyIsDue, DecidedAlike, EqualAnswersEqualReplies}
+use Rattle.question_plan.specs.Laws.{AreAnswersAlike, OneDecisionIsMade, OneJudgementIsMade, OneAnswerIsTold, OneReplyIsDue, DecidedAlike, EqualAnswersEqualReplies}
 use Rattle.question_plan.proofs.OneMean.{cancel_ℤ, one_mean}
 use Rattle.predicate_lang.specs.Laws.{OneMeaning}
 use Rattle.question_plan.proofs.OnePlan.{asked_some, one_plan}
@@ -68,6 +68,9 @@ one_judgement forms known rows DeniedUnsafe Released first second = absurd (seco
 one_judgement forms known rows Released DeniedWide first second = absurd (never_both forms known.kind known rows second first.0)
 one_judgement forms known rows Released DeniedUnsafe first second = absurd (first.1 second.1)
 one_judgement forms known rows Released Released first second = refl
+
+pub decided_once : NarrowOrWide → OneDecisionIsMade
+decided_once forms setting history column rows v w first second = one_decision forms (known_of setting history column) rows v w first second
 
 pub judged_once : NarrowOrWide → OneJudgementIsMade
 judged_once forms setting history column rows v w first second = one_judgement forms (known_of setting history column) rows v w first second

@@ -1,5 +1,5 @@
 //! Laws of the replies that are due. Each function computes nothing: its contract is the law.
-ghost use Rattle.question_plan.specs.Laws.{RepliesKeepLegal, OutcomesCanBeTold, SomeReplyTells, OnePlanIsMade, OneJudgementIsMade, OneAnswerIsTold, OneReplyIsDue, DecidedAlike, EqualAnswersEqualReplies};
+ghost use Rattle.question_plan.specs.Laws.{RepliesKeepLegal, OutcomesCanBeTold, SomeReplyTells, OnePlanIsMade, AskedQuestionsFit, OneDecisionIsMade, OneJudgementIsMade, OneAnswerIsTold, OneReplyIsDue, DecidedAlike, EqualAnswersEqualReplies};
 
 /// Answering lines keeps a history legal: each record that a reply makes may follow those before it.
 pub fn answered_lines()
@@ -22,6 +22,20 @@ pub fn one_plan()
     ensures { OnePlanIsMade }
 {
     predicate_lang::one_meaning();
+}
+
+/// A question that a line comes to is one of the table.
+pub fn asked_questions()
+    ensures { AskedQuestionsFit }
+{
+    schema_json::laws::secret_columns();
+}
+
+/// A question is decided in one way after a history.
+pub fn one_decision()
+    ensures { OneDecisionIsMade }
+{
+    sum_basis::laws::narrow_or_wide();
 }
 
 /// A question is judged in one way after a history.

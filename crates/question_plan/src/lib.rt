@@ -9,12 +9,14 @@
 
 mod averages;
 mod due;
+mod full;
 pub mod laws;
 mod planner;
 mod planning;
 mod telling;
 
 pub use due::{Due, due_of_reply, verdict_line};
+pub use full::is_full;
 pub use planner::{PlanStop, Planner};
 pub use planning::{Plan, plan_line};
 pub use telling::tell;

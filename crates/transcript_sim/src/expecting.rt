@@ -1,14 +1,13 @@
 //! What a question calls for, by the answers that were shown before it.
-ghost use Rattle.std.specs.Prelude.{◌≡◌, ◌≤◌, ◌↔◌, IfOk, length, true};
-ghost use Rattle.audit_types.specs.Limits.{most_records};
+ghost use Rattle.std.specs.Prelude.{◌≡◌, IfOk};
 ghost use Rattle.question_plan.specs.Plans.{CanBeServed};
 ghost use Rattle.transcript_sim.specs.Steps.{CanBeTaken};
 ghost use Rattle.transcript_sim.specs.Verdicts.{CallsFor, called_by, due_of};
 
 use audit_core::Core;
-use audit_types::{Asked, MOST_RECORDS, NoMemory, Verdict};
+use audit_types::{Asked, NoMemory, Verdict};
 use line_wire::{Reply, Take};
-use question_plan::{Due, Plan, due_of_reply};
+use question_plan::{Due, Plan, due_of_reply, is_full};
 
 /// What the reply to a question has to be.
 #[derive(Clone, Copy)]
@@ -29,13 +28,6 @@ impl Expected {
             Expected::Answer { .. } => Due::Released,
         }
     }
-}
-
-// Whether there are as many records as there may be.
-fn is_full(core: &Core) -> bool
-    ensures { (result ≡ true) ↔ (most_records ≤ length core.now.history) }
-{
-    core.history().len() >= MOST_RECORDS
 }
 
 // What the verdict on a question calls for: an answer, or the reply that refuses one.

@@ -43,10 +43,12 @@ returns-in_err-send_all g c =
           subst (λ (rs : List Reply). LeavesOnly g.B.Bench mid c.send_all.new.bench
           (SendsPart (g.B.Bench.file mid) (g.B.Bench.sent mid) (flat_map reply_bytes rs))) c.deref.ensures.value (c.send_all.ensures.moments t
           (e.stands.quiet t quiet)) in
-          then_sent g.B.Bench c.args.bench.now mid store.secret store.protected store.history c.args.group.now.plans.items (g.K.Keeper.store c.decide.new.keeper).history
+          then_sent g.B.Bench c.args.bench.now mid store.secret store.protected store.history c.args.group.now.plans.items
+          (g.K.Keeper.store c.decide.new.keeper).history
           c.decide.new.group.replies.items e.decides e.sent c.send_all.new.bench
           (left_stands (g.B.Bench.file mid) store (g.K.Keeper.store c.decide.new.keeper) (e.stands.as_left t) e.table.0) (e.moments t quiet) sends;
-      left = λ t usable. subst (λ (file : List ℕ). IsAsLeft file (g.K.Keeper.store c.decide.new.keeper)) (sym c.send_all.ensures.file) (c.in_ok-decide.ensures.stands.as_left t);
+      left = λ t usable. subst (λ (file : List ℕ). IsAsLeft file (g.K.Keeper.store c.decide.new.keeper)) (sym c.send_all.ensures.file)
+          (c.in_ok-decide.ensures.stands.as_left t);
       no_memory = λ is. bench_no_memory c.from_residual-in_err-send_all.result same is;
       room = c.decide.ensures.room;
       table = c.decide.ensures.table;
@@ -136,13 +138,15 @@ returns g c =
       answers =
           let sent = c.in_ok-send_all.ensures in
           let told = c.deref.ensures.value in
-          group_answered g.B.Bench c.args.bench.now mid store.secret store.protected store.history c.args.group.now.plans.items (g.K.Keeper.store c.decide.new.keeper).history
+          group_answered g.B.Bench c.args.bench.now mid store.secret store.protected store.history c.args.group.now.plans.items
+          (g.K.Keeper.store c.decide.new.keeper).history
           c.decide.new.group.replies.items e.decides e.sent c.send_all.new.bench
           (λ t. subst (λ (rs : List Reply). g.B.Bench.sent c.send_all.new.bench ≡ g.B.Bench.sent mid ++ flat_map reply_bytes rs) told (sent.all t))
           (λ t. subst (λ (rs : List Reply). g.B.Bench.moment c.send_all.new.bench ≡ g.B.Bench.moment mid + length rs) told (sent.ticks t));
       stands = record {
         usable = c.in_ok-decide.ensures.stands.usable;
-        as_left = λ t. subst (λ (file : List ℕ). IsAsLeft file (g.K.Keeper.store c.decide.new.keeper)) (sym c.send_all.ensures.file) (c.in_ok-decide.ensures.stands.as_left t);
+        as_left = λ t. subst (λ (file : List ℕ). IsAsLeft file (g.K.Keeper.store c.decide.new.keeper)) (sym c.send_all.ensures.file)
+            (c.in_ok-decide.ensures.stands.as_left t);
         quiet = λ t quiet image leaves. c.in_ok-decide.ensures.stands.quiet t quiet image (c.send_all.ensures.crash image leaves) ∙ sym c.send_all.ensures.file;
       };
       moments = λ t quiet.
@@ -150,10 +154,12 @@ returns g c =
           subst (λ (rs : List Reply). LeavesOnly g.B.Bench mid c.send_all.new.bench
           (SendsPart (g.B.Bench.file mid) (g.B.Bench.sent mid) (flat_map reply_bytes rs))) c.deref.ensures.value (c.send_all.ensures.moments t
           (e.stands.quiet t quiet)) in
-          then_sent g.B.Bench c.args.bench.now mid store.secret store.protected store.history c.args.group.now.plans.items (g.K.Keeper.store c.decide.new.keeper).history
+          then_sent g.B.Bench c.args.bench.now mid store.secret store.protected store.history c.args.group.now.plans.items
+          (g.K.Keeper.store c.decide.new.keeper).history
           c.decide.new.group.replies.items e.decides e.sent c.send_all.new.bench
           (left_stands (g.B.Bench.file mid) store (g.K.Keeper.store c.decide.new.keeper) (e.stands.as_left t) e.table.0) (e.moments t quiet) sends;
-      left = λ t usable. subst (λ (file : List ℕ). IsAsLeft file (g.K.Keeper.store c.decide.new.keeper)) (sym c.send_all.ensures.file) (c.in_ok-decide.ensures.stands.as_left t);
+      left = λ t usable. subst (λ (file : List ℕ). IsAsLeft file (g.K.Keeper.store c.decide.new.keeper)) (sym c.send_all.ensures.file)
+          (c.in_ok-decide.ensures.stands.as_left t);
       no_memory = λ is. no_refusal _ _ is;
       room = c.decide.ensures.room;
       table = c.decide.ensures.table;

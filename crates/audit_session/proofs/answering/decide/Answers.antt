@@ -1,4 +1,4 @@
-use Rattle.std.proofs.Common.{◌≡◌, refl, ◌+◌, ◌++◌, List, length, Result, Err, sym, ◌∙◌, ap, subst, arith, rules}
+use Rattle.std.proofs.Common.{◌≡◌, ◌+◌, ◌++◌, List, length, Result, Err, sym, ◌∙◌, ap, subst, arith, rules}
 use Rattle.std.specs.Prelude.{All}
 use Rattle.std.proofs.lemmas.Bool.{false≢true}
 use Rattle.std.proofs.lemmas.Result.{IfOk-from_err}
@@ -46,7 +46,8 @@ tell_all-requires-clause-can g c =
     subst (λ (l : List Asked). AreOutcomes
     (table_of store) store.history l c.in_ok-outcomes.outcomes.items) asked c.in_ok-outcomes.ensures.outcomes in
     let can : CanAllBeTold plans c.in_ok-outcomes.outcomes.items =
-    can_all c.told_outcomes.ensures.can store.secret store.protected c.requires.is.numbers store.history plans c.in_ok-outcomes.outcomes.items c.requires.served due in
+    can_all c.told_outcomes.ensures.can store.secret store.protected c.requires.is.numbers store.history plans c.in_ok-outcomes.outcomes.items
+    c.requires.served due in
     subst (λ (os : List Outcome). CanAllBeTold c.deref-2.result.now os) (sym c.deref-3.ensures.value)
     (subst (λ (ps : List Plan). CanAllBeTold ps c.in_ok-outcomes.outcomes.items) (sym c.deref-2.ensures.value) can)
 
@@ -70,7 +71,8 @@ returns-in_err-outcomes g c =
           (λ image bytes was. g.met.B.Bench.only_now c.args.bench.now image bytes was) quiet (store.journal.gate, c.requires.stands told))
           (λ other. while_kept g.B.Bench c.args.bench.now c.ask_group.new.bench store.secret store.protected store.history plans c.told_outcomes.ensures.can
           c.told_outcomes.ensures.some c.requires.is.numbers c.requires.served (g.B.Bench.sent c.args.bench.now)
-          (subst (λ (l : List Asked). Keeps g.B.Bench c.args.bench.now c.ask_group.new.bench (table_of store) store.history l (g.B.Bench.sent c.args.bench.now)) asked
+          (subst (λ (l : List Asked). Keeps g.B.Bench c.args.bench.now c.ask_group.new.bench (table_of store) store.history l
+          (g.B.Bench.sent c.args.bench.now)) asked
           (e.any_moment told quiet other)));
       sent = c.ask_group.ensures.sent;
       room = search rules;
@@ -90,12 +92,14 @@ returns-in_err-outcomes g c =
           let asked : c.deref.result.now ≡ questions_of plans = c.deref.ensures.value ∙ c.requires.questions in
           let e = c.in_err-outcomes.ensures in
           by_fault given
-          (λ memory. nothing_called_unsent g.S.Bench c.args.spare.now c.ask_group.new.spare store.secret store.protected store.history plans (e.no_memory memory).1
+          (λ memory. nothing_called_unsent g.S.Bench c.args.spare.now c.ask_group.new.spare store.secret store.protected store.history plans
+          (e.no_memory memory).1
           (λ image bytes was. g.met.S.Bench.only_now c.args.spare.now image bytes was) quiet
           (g.K.Keeper.spare_gate c.args.keeper.now, c.requires.spare_stands spared told))
           (λ other. while_kept_unsent g.S.Bench c.args.spare.now c.ask_group.new.spare store.secret store.protected store.history plans
           c.told_outcomes.ensures.can c.told_outcomes.ensures.some c.requires.is.numbers c.requires.served (g.S.Bench.sent c.args.spare.now)
-          (subst (λ (l : List Asked). Keeps g.S.Bench c.args.spare.now c.ask_group.new.spare (table_of store) store.history l (g.S.Bench.sent c.args.spare.now)) asked
+          (subst (λ (l : List Asked). Keeps g.S.Bench c.args.spare.now c.ask_group.new.spare (table_of store) store.history l
+          (g.S.Bench.sent c.args.spare.now)) asked
           (e.spare_moments spared told quiet other)));
       spare_quiet = λ spared told quiet other. c.in_err-outcomes.ensures.spare_quiet spared told quiet (λ is. other (same ∙ same_fault given fault.Spare is));
       spare_sent = c.ask_group.ensures.spare_sent;
@@ -108,7 +112,8 @@ returns-in_err-outcomes g c =
           let spare_stands : stands_of store.secret.shape (g.S.Bench.file c.args.spare.now) store.history =
           (g.K.Keeper.spare_gate c.args.keeper.now, c.requires.spare_stands spared spare_told) in
           by_kind given
-          (λ memory. neither_called g.B.Bench g.S.Bench c.args.bench.now c.ask_group.new.bench c.args.spare.now c.ask_group.new.spare store.secret store.protected
+          (λ memory. neither_called g.B.Bench g.S.Bench c.args.bench.now c.ask_group.new.bench c.args.spare.now c.ask_group.new.spare store.secret
+          store.protected
           store.history plans quiet spare_quiet stands spare_stands (e.no_memory memory).0 (e.no_memory memory).1)
           (λ failed. bench_call_failed g.B.Bench g.S.Bench c.args.bench.now c.ask_group.new.bench c.args.spare.now c.ask_group.new.spare store.secret
           store.protected store.history plans c.told_outcomes.ensures.can c.told_outcomes.ensures.some c.requires.is.numbers c.requires.served
@@ -119,7 +124,8 @@ returns-in_err-outcomes g c =
           store.protected store.history plans quiet stands (e.spare_first failed)
           (while_kept_unsent g.S.Bench c.args.spare.now c.ask_group.new.spare store.secret store.protected store.history plans c.told_outcomes.ensures.can
           c.told_outcomes.ensures.some c.requires.is.numbers c.requires.served (g.S.Bench.sent c.args.spare.now)
-          (subst (λ (l : List Asked). Keeps g.S.Bench c.args.spare.now c.ask_group.new.spare (table_of store) store.history l (g.S.Bench.sent c.args.spare.now)) asked
+          (subst (λ (l : List Asked). Keeps g.S.Bench c.args.spare.now c.ask_group.new.spare (table_of store) store.history l
+          (g.S.Bench.sent c.args.spare.now)) asked
           (e.spare_moments spared spare_told spare_quiet (spare_no_memory_fault given failed))))
           (λ image le left. g.met.S.Bench.counts_now c.ask_group.new.spare (g.S.Bench.moment c.args.spare.now) image le left));
       spare_fault = record {
@@ -145,7 +151,8 @@ returns g c =
           let told =
           subst (λ (os : List Outcome). AreTold plans os c.tell_all.new.replies.items) c.deref-3.ensures.value
           (subst (λ (ps : List Plan). AreTold ps c.deref-3.result.now c.tell_all.new.replies.items) c.deref-2.ensures.value c.tell_all.ensures.told) in
-          told_group g.B.Bench c.args.bench.now c.ask_group.new.bench store.secret store.protected store.history plans (g.K.Keeper.store c.ask_group.new.self).history outcomes
+          told_group g.B.Bench c.args.bench.now c.ask_group.new.bench store.secret store.protected store.history plans
+          (g.K.Keeper.store c.ask_group.new.self).history outcomes
           c.tell_all.new.replies.items due told
           (e.history ∙ ap (λ (l : List Asked). store.history ++ records_made l outcomes) asked)
           (λ t. e.ticks t ∙ ap (λ (l : List Asked). g.B.Bench.moment c.args.bench.now + calls_for (records_made l outcomes)) asked);
@@ -154,10 +161,12 @@ returns g c =
       err = search rules;
       no_memory = λ is. no_refusal _ _ is;
       moments = λ told quiet.
-          while_kept g.B.Bench c.args.bench.now c.ask_group.new.bench store.secret store.protected store.history plans c.told_outcomes.ensures.can c.told_outcomes.ensures.some
+          while_kept g.B.Bench c.args.bench.now c.ask_group.new.bench store.secret store.protected store.history plans c.told_outcomes.ensures.can
+          c.told_outcomes.ensures.some
           c.requires.is.numbers c.requires.served
           (g.B.Bench.sent c.args.bench.now)
-          (subst (λ (l : List Asked). Keeps g.B.Bench c.args.bench.now c.ask_group.new.bench (table_of store) store.history l (g.B.Bench.sent c.args.bench.now)) asked
+          (subst (λ (l : List Asked). Keeps g.B.Bench c.args.bench.now c.ask_group.new.bench (table_of store) store.history l
+          (g.B.Bench.sent c.args.bench.now)) asked
           (c.in_ok-outcomes.ensures.any_moment told quiet (search rules)));
       sent = c.ask_group.ensures.sent;
       room = c.tell_all.ensures.room;
@@ -174,7 +183,8 @@ returns g c =
       spare_moments = λ spared told quiet.
           while_kept_unsent g.S.Bench c.args.spare.now c.ask_group.new.spare store.secret store.protected store.history plans c.told_outcomes.ensures.can
           c.told_outcomes.ensures.some c.requires.is.numbers c.requires.served (g.S.Bench.sent c.args.spare.now)
-          (subst (λ (l : List Asked). Keeps g.S.Bench c.args.spare.now c.ask_group.new.spare (table_of store) store.history l (g.S.Bench.sent c.args.spare.now)) asked
+          (subst (λ (l : List Asked). Keeps g.S.Bench c.args.spare.now c.ask_group.new.spare (table_of store) store.history l
+          (g.S.Bench.sent c.args.spare.now)) asked
           (c.in_ok-outcomes.ensures.spare_moments spared told quiet (λ is. no_refusal _ _ is)));
       spare_quiet = λ spared told quiet other. c.in_ok-outcomes.ensures.spare_quiet spared told quiet (λ is. no_refusal _ _ is);
       spare_sent = c.ask_group.ensures.spare_sent;

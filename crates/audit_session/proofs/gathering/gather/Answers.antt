@@ -75,7 +75,8 @@ returns-in_err-plan g c =
       room = c.loop-alloc.invariant.room;
       steady = IfOk-from_err _ _ c.from_residual.ensures.0;
       ungathered =
-          subst (λ (r : Result Bool TwinEnd). IfErr r (IsUngathered g.P.Source c.args.batch c.args.planner.now c.next.new.self c.args.source.now c.next.new.source))
+          subst (λ (r : Result Bool TwinEnd). IfErr r (IsUngathered g.P.Source c.args.batch c.args.planner.now c.next.new.self c.args.source.now
+          c.next.new.source))
           (sym same)
           (no_next g.P.Source c.args.schema.now.columns c.args.index.now.public c.args.batch c.args.planner.now c.loop-alloc.planner c.args.source.now
           c.loop-alloc.source group.plans.items group.asked.items gathering c.next.new.self c.next.new.source given room c.in_err-plan.ensures.unplanned);
@@ -117,7 +118,8 @@ returns-in_err-add-in-Some g c =
     let from = c.next.new.source in
     let same : c.from_residual-in_err-add-in-Some.result ≡ refused end.NoMemory =
     refusal c.from_residual-in_err-add-in-Some.result _ c.from_residual-in_err-add-in-Some.ensures in
-    let next = subst (λ (o : Option Plan). PlansNext g.P.Source c.loop-alloc.planner now c.loop-alloc.source from c.args.schema.now.columns c.args.index.now.public o)
+    let next = subst (λ (o : Option Plan). PlansNext g.P.Source c.loop-alloc.planner now c.loop-alloc.source from c.args.schema.now.columns
+    c.args.index.now.public o)
     c.in-Some.is c.in_ok-plan.ensures.plans in
     record {
       gathers = IfOk-from_err _ _ c.from_residual-in_err-add-in-Some.ensures.0;

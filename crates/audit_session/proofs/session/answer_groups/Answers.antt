@@ -29,11 +29,13 @@ given more = Ok more
 pub loop-more-init : goal.loop-more-init
 loop-more-init g c = record {
   served =
-      nothing_served g.P.Source g.B.Bench c.args.schema.now.columns c.args.index.now.public c.args.batch c.args.planner.now (g.K.Keeper.store c.args.keeper.now) c.args.source.now
+      nothing_served g.P.Source g.B.Bench c.args.schema.now.columns c.args.index.now.public c.args.batch c.args.planner.now
+      (g.K.Keeper.store c.args.keeper.now) c.args.source.now
       c.args.bench.now c.requires.fresh c.requires.usable c.requires.is c.requires.stands
       (λ image bytes was. g.met.B.Bench.only_now c.args.bench.now image bytes was);
   spare =
-      spare_unserved g.P.Source g.K.Keeper g.S.Bench c.args.schema.now.columns c.args.index.now.public c.args.batch c.args.keeper.now c.args.source.now c.args.spare.now
+      spare_unserved g.P.Source g.K.Keeper g.S.Bench c.args.schema.now.columns c.args.index.now.public c.args.batch c.args.keeper.now c.args.source.now
+      c.args.spare.now
       (λ image bytes was. g.met.S.Bench.only_now c.args.spare.now image bytes was) c.requires.spare_stands;
   room = c.requires.room;
 }
@@ -49,7 +51,8 @@ loop-more-preserved g c =
     let bench_steady = a.fault.steady (search rules) in
     record {
       served =
-          next_turn g.P.Source g.B.Bench c.args.schema.now.columns c.args.index.now.public c.args.batch c.loop-more.planner (g.K.Keeper.store c.args.keeper.now) (g.K.Keeper.store c.loop-more.keeper)
+          next_turn g.P.Source g.B.Bench c.args.schema.now.columns c.args.index.now.public c.args.batch c.loop-more.planner
+          (g.K.Keeper.store c.args.keeper.now) (g.K.Keeper.store c.loop-more.keeper)
           c.args.source.now c.loop-more.source c.args.bench.now c.loop-more.bench c.loop-more.invariant.served
           now (not c.in_ok-more.more || now.ended) c.gather.new.source plans e.gathers e.most c.requires.batch.0
           (λ ended. still_ended c.in_ok-more.more now.ended (e.cuts.still ended)) (g.K.Keeper.store c.answer.new.keeper).history c.answer.new.bench a.answers
@@ -58,13 +61,14 @@ loop-more-preserved g c =
       spare = record {
         stands = a.spare_stands;
         moments = λ spared told quiet.
-            spare_turn g.P.Source g.B.Bench c.args.schema.now.columns c.args.index.now.public c.args.batch c.loop-more.planner (g.K.Keeper.store c.args.keeper.now)
-          (g.K.Keeper.store c.loop-more.keeper) c.args.source.now c.loop-more.source c.args.bench.now c.loop-more.bench c.loop-more.invariant.served
-          now (not c.in_ok-more.more || now.ended) c.gather.new.source plans e.gathers e.most c.requires.batch.0
-          (λ ended. still_ended c.in_ok-more.more now.ended (e.cuts.still ended)) g.S.Bench c.args.spare.now c.loop-more.spare c.answer.new.spare
-          (whole_or_last {E = TwinEnd} g.P.Source.told c.args.batch c.in_ok-more.more plans (now.pending ++ g.P.Source.left c.gather.new.source) e.whole e.last)
-          c.loop-more.invariant.spare.sent (c.loop-more.invariant.spare.moments spared told quiet)
-          (c.answer.ensures.spare_moments spared told (c.loop-more.invariant.spare.quiet spared told quiet));
+            spare_turn g.P.Source g.B.Bench c.args.schema.now.columns c.args.index.now.public c.args.batch c.loop-more.planner
+            (g.K.Keeper.store c.args.keeper.now)
+            (g.K.Keeper.store c.loop-more.keeper) c.args.source.now c.loop-more.source c.args.bench.now c.loop-more.bench c.loop-more.invariant.served
+            now (not c.in_ok-more.more || now.ended) c.gather.new.source plans e.gathers e.most c.requires.batch.0
+            (λ ended. still_ended c.in_ok-more.more now.ended (e.cuts.still ended)) g.S.Bench c.args.spare.now c.loop-more.spare c.answer.new.spare
+            (whole_or_last {E = TwinEnd} g.P.Source.told c.args.batch c.in_ok-more.more plans (now.pending ++ g.P.Source.left c.gather.new.source) e.whole e.last)
+            c.loop-more.invariant.spare.sent (c.loop-more.invariant.spare.moments spared told quiet)
+            (c.answer.ensures.spare_moments spared told (c.loop-more.invariant.spare.quiet spared told quiet));
         quiet = λ spared told quiet. a.spare_quiet spared told (c.loop-more.invariant.spare.quiet spared told quiet) (search rules);
         sent = c.answer.ensures.spare_sent ∙ c.loop-more.invariant.spare.sent;
         steady = a.spare_fault.steady (search rules) ∙ c.loop-more.invariant.spare.steady;
@@ -117,26 +121,32 @@ returns-in_err-more g c =
     let why : Ungathered fault = e.ungathered in
     record {
       ends = λ t u.
-          let base = base_of c.args.schema.now.columns c.args.index.now.public (g.K.Keeper.store c.args.keeper.now).protected (g.K.Keeper.store c.args.keeper.now).secret in
+          let base = base_of c.args.schema.now.columns c.args.index.now.public (g.K.Keeper.store c.args.keeper.now).protected
+          (g.K.Keeper.store c.args.keeper.now).secret in
           let before = g.B.Bench.sent c.args.bench.now in
           let after = g.B.Bench.sent c.loop-more.bench in
           let s = c.loop-more.invariant.served in
           let rest = c.loop-more.planner.pending ++ g.P.Source.left c.loop-more.source in
           let now = c.gather.new.planner in
-          subst (λ (r : Result (Unit {0}) TwinEnd). Ends c.args.batch r base (g.K.Keeper.store c.args.keeper.now).history input left (g.K.Keeper.store c.loop-more.keeper).history before after)
+          subst (λ (r : Result (Unit {0}) TwinEnd). Ends c.args.batch r base (g.K.Keeper.store c.args.keeper.now).history input left
+          (g.K.Keeper.store c.loop-more.keeper).history before after)
           (sym same)
-          (ends_by {X = Bool} c.args.batch base (g.K.Keeper.store c.args.keeper.now).history input left (g.K.Keeper.store c.loop-more.keeper).history before after fault
+          (ends_by {X = Bool} c.args.batch base (g.K.Keeper.store c.args.keeper.now).history input left (g.K.Keeper.store c.loop-more.keeper).history before
+          after fault
           (λ is.
           let fails = of_fault {X = Bool} fault end.Input Ungathered why is in
-          served_whole g.P.Source g.B.Bench c.args.schema.now.columns c.args.index.now.public c.args.batch c.loop-more.planner (g.K.Keeper.store c.args.keeper.now) (g.K.Keeper.store c.loop-more.keeper)
+          served_whole g.P.Source g.B.Bench c.args.schema.now.columns c.args.index.now.public c.args.batch c.loop-more.planner
+          (g.K.Keeper.store c.args.keeper.now) (g.K.Keeper.store c.loop-more.keeper)
           c.args.source.now c.loop-more.source c.args.bench.now c.loop-more.bench s t u left (λ ended none. fails.going ended) (fails.short t))
           (λ is.
           let passes = of_fault {X = Bool} fault end.Limit Ungathered why is in
-          served_limited g.P.Source g.B.Bench c.args.schema.now.columns c.args.index.now.public c.args.batch c.loop-more.planner (g.K.Keeper.store c.args.keeper.now)
+          served_limited g.P.Source g.B.Bench c.args.schema.now.columns c.args.index.now.public c.args.batch c.loop-more.planner
+          (g.K.Keeper.store c.args.keeper.now)
           (g.K.Keeper.store c.loop-more.keeper) c.args.source.now c.loop-more.source c.args.bench.now c.loop-more.bench s t u (now.pending ++ left)
           (λ ended none. cut_not_over c.args.batch rest now.pending left (passes.short t) passes.some none) (passes.short t) now.pending left now.taken refl
           passes.over (e.cuts.taken t ∙ s.taken t))
-          (λ is. some_served g.P.Source g.B.Bench c.args.schema.now.columns c.args.index.now.public c.args.batch c.loop-more.planner (g.K.Keeper.store c.args.keeper.now) (g.K.Keeper.store c.loop-more.keeper)
+          (λ is. some_served g.P.Source g.B.Bench c.args.schema.now.columns c.args.index.now.public c.args.batch c.loop-more.planner
+          (g.K.Keeper.store c.args.keeper.now) (g.K.Keeper.store c.loop-more.keeper)
           c.args.source.now c.loop-more.source c.args.bench.now c.loop-more.bench s t u));
       reads = λ t.
           subst (λ (r : Result (Unit {0}) TwinEnd). Reads r input left) (sym same)
@@ -146,7 +156,10 @@ returns-in_err-more g c =
           let passes = of_fault {X = Bool} fault end.Limit Ungathered why is in
           omega (arith, e.cuts.taken t, c.loop-more.invariant.served.taken t, passes.over, passes.some)));
       rests = λ no spare.
-          record { stands = λ u. ((g.K.Keeper.store c.loop-more.keeper).journal.gate, c.loop-more.invariant.served.as_left u); quiet = c.loop-more.invariant.served.quiet };
+          record {
+            stands = λ u. ((g.K.Keeper.store c.loop-more.keeper).journal.gate, c.loop-more.invariant.served.as_left u);
+            quiet = c.loop-more.invariant.served.quiet;
+          };
       again = IfOk-from_err _ _ c.from_residual.ensures.0;
       usable = λ bench spare memory. c.loop-more.invariant.served.usable;
       left = λ u usable. c.loop-more.invariant.served.as_left u;
@@ -192,18 +205,22 @@ returns-in_err-answer g c =
     let same : c.from_residual-in_err-answer.result ≡ ended_by fault = search rules in
     record {
       ends = λ t u.
-          let base = base_of c.args.schema.now.columns c.args.index.now.public (g.K.Keeper.store c.args.keeper.now).protected (g.K.Keeper.store c.args.keeper.now).secret in
+          let base = base_of c.args.schema.now.columns c.args.index.now.public (g.K.Keeper.store c.args.keeper.now).protected
+          (g.K.Keeper.store c.args.keeper.now).secret in
           let input = g.P.Source.left c.args.source.now in
           let left = g.P.Source.left c.gather.new.source in
           let before = g.B.Bench.sent c.args.bench.now in
           let some =
-          some_served g.P.Source g.B.Bench c.args.schema.now.columns c.args.index.now.public c.args.batch c.loop-more.planner (g.K.Keeper.store c.args.keeper.now) (g.K.Keeper.store c.loop-more.keeper)
+          some_served g.P.Source g.B.Bench c.args.schema.now.columns c.args.index.now.public c.args.batch c.loop-more.planner
+          (g.K.Keeper.store c.args.keeper.now) (g.K.Keeper.store c.loop-more.keeper)
           c.args.source.now c.loop-more.source c.args.bench.now c.loop-more.bench c.loop-more.invariant.served t u in
           subst
-          (λ (r : Result (Unit {0}) TwinEnd). Ends c.args.batch r base (g.K.Keeper.store c.args.keeper.now).history input left (g.K.Keeper.store c.answer.new.keeper).history before
+          (λ (r : Result (Unit {0}) TwinEnd). Ends c.args.batch r base (g.K.Keeper.store c.args.keeper.now).history input left
+          (g.K.Keeper.store c.answer.new.keeper).history before
           (g.B.Bench.sent c.answer.new.bench))
           (sym same)
-          (ends_by {X = Unit {0}} c.args.batch base (g.K.Keeper.store c.args.keeper.now).history input left (g.K.Keeper.store c.answer.new.keeper).history before
+          (ends_by {X = Unit {0}} c.args.batch base (g.K.Keeper.store c.args.keeper.now).history input left (g.K.Keeper.store c.answer.new.keeper).history
+          before
           (g.B.Bench.sent c.answer.new.bench) fault
           (λ is. absurd (e.others.0 is)) (λ is. absurd (e.others.1 is))
           (λ is.
@@ -211,14 +228,20 @@ returns-in_err-answer g c =
           subst (λ (h : List Answered). ServesSome base (g.K.Keeper.store c.args.keeper.now).history c.args.batch (counted_lines input) h before
           (g.B.Bench.sent c.answer.new.bench))
           (sym still.2)
-          (subst (λ b. ServesSome base (g.K.Keeper.store c.args.keeper.now).history c.args.batch (counted_lines input) (g.K.Keeper.store c.loop-more.keeper).history before (g.B.Bench.sent b))
+          (subst (λ b. ServesSome base (g.K.Keeper.store c.args.keeper.now).history c.args.batch (counted_lines input)
+          (g.K.Keeper.store c.loop-more.keeper).history before (g.B.Bench.sent b))
           (sym still.0) some)));
       reads = search rules;
       rests = λ no spare.
           let served = c.loop-more.invariant.served in
           rests_by {X = Unit {0}} fault e.others.0 e.others.1
-          (λ is. no (same ∙ is)) (λ is. spare (same ∙ is)) g.B.Bench c.args.bench.now c.loop-more.bench c.answer.new.bench (g.K.Keeper.store c.loop-more.keeper) (g.K.Keeper.store c.answer.new.keeper)
-          (λ is. let still = e.no_memory is in (still.0, still.2)) e.table.0 (record { stands = λ u. ((g.K.Keeper.store c.loop-more.keeper).journal.gate, served.as_left u); quiet = served.quiet });
+          (λ is. no (same ∙ is)) (λ is. spare (same ∙ is)) g.B.Bench c.args.bench.now c.loop-more.bench c.answer.new.bench
+          (g.K.Keeper.store c.loop-more.keeper) (g.K.Keeper.store c.answer.new.keeper)
+          (λ is. let still = e.no_memory is in (still.0, still.2)) e.table.0 (record {
+            stands = λ u.
+                ((g.K.Keeper.store c.loop-more.keeper).journal.gate, served.as_left u);
+            quiet = served.quiet;
+          });
       again = IfOk-from_err _ _ c.from_residual-in_err-answer.ensures.0;
       usable = search rules;
       left = c.answer.ensures.left;
@@ -228,7 +251,8 @@ returns-in_err-answer g c =
           let now = c.gather.new.planner in
           let plans = c.gather.new.group.plans.items in
           let rest = now.pending ++ g.P.Source.left c.gather.new.source in
-          turn_moments g.P.Source g.B.Bench c.args.schema.now.columns c.args.index.now.public c.args.batch c.loop-more.planner (g.K.Keeper.store c.args.keeper.now) (g.K.Keeper.store c.loop-more.keeper)
+          turn_moments g.P.Source g.B.Bench c.args.schema.now.columns c.args.index.now.public c.args.batch c.loop-more.planner
+          (g.K.Keeper.store c.args.keeper.now) (g.K.Keeper.store c.loop-more.keeper)
           c.args.source.now c.loop-more.source c.args.bench.now c.loop-more.bench c.loop-more.invariant.served
           now (not c.in_ok-more.more || now.ended) c.gather.new.source plans e.gathers e.most c.requires.batch.0
           (λ ended. still_ended c.in_ok-more.more now.ended (e.cuts.still ended)) c.answer.new.bench
@@ -242,7 +266,8 @@ returns-in_err-answer g c =
       steady = λ other. c.in_ok-more.ensures.steady ∙ c.loop-more.invariant.served.source_steady;
       fault = record {
         later = still_later _ _ _ c.loop-more.invariant.served.bench_steady c.answer.ensures.fault.later;
-        failed = λ is. subst (λ (n : ℕ). Rose n (g.B.Bench.faults c.answer.new.bench)) c.loop-more.invariant.served.bench_steady (e.fault.failed (sym same ∙ is));
+        failed = λ is. subst (λ (n : ℕ). Rose n (g.B.Bench.faults c.answer.new.bench)) c.loop-more.invariant.served.bench_steady
+            (e.fault.failed (sym same ∙ is));
         last_call = λ is. e.fault.last_call (sym same ∙ is);
         steady = λ other. e.fault.steady (λ is. other (same ∙ is)) ∙ c.loop-more.invariant.served.bench_steady;
       };
@@ -262,7 +287,8 @@ returns-in_err-answer g c =
           let e = c.in_ok-more.ensures in
           let now = c.gather.new.planner in
           let plans = c.gather.new.group.plans.items in
-          spare_turn g.P.Source g.B.Bench c.args.schema.now.columns c.args.index.now.public c.args.batch c.loop-more.planner (g.K.Keeper.store c.args.keeper.now)
+          spare_turn g.P.Source g.B.Bench c.args.schema.now.columns c.args.index.now.public c.args.batch c.loop-more.planner
+          (g.K.Keeper.store c.args.keeper.now)
           (g.K.Keeper.store c.loop-more.keeper) c.args.source.now c.loop-more.source c.args.bench.now c.loop-more.bench c.loop-more.invariant.served
           now (not c.in_ok-more.more || now.ended) c.gather.new.source plans e.gathers e.most c.requires.batch.0
           (λ ended. still_ended c.in_ok-more.more now.ended (e.cuts.still ended)) g.S.Bench c.args.spare.now c.loop-more.spare c.answer.new.spare
@@ -301,10 +327,12 @@ returns-then-not-more g c =
     let more_is : c.in_ok-more.more ≡ false = search rules in
     record {
       ends = λ t u.
-          all_served g.P.Source g.B.Bench c.args.schema.now.columns c.args.index.now.public c.args.batch c.loop-more.planner (g.K.Keeper.store c.args.keeper.now) (g.K.Keeper.store c.loop-more.keeper)
+          all_served g.P.Source g.B.Bench c.args.schema.now.columns c.args.index.now.public c.args.batch c.loop-more.planner
+          (g.K.Keeper.store c.args.keeper.now) (g.K.Keeper.store c.loop-more.keeper)
           c.args.source.now c.loop-more.source c.args.bench.now c.loop-more.bench c.loop-more.invariant.served
           now (not c.in_ok-more.more || now.ended) c.gather.new.source plans e.gathers e.most c.requires.batch.0
-          (λ ended. still_ended c.in_ok-more.more now.ended (e.cuts.still ended)) (g.K.Keeper.store c.answer.new.keeper).history c.answer.new.bench c.in_ok-answer.ensures.answers
+          (λ ended. still_ended c.in_ok-more.more now.ended (e.cuts.still ended)) (g.K.Keeper.store c.answer.new.keeper).history c.answer.new.bench
+          c.in_ok-answer.ensures.answers
           t u (ap counted_lines (e.last t (ap given more_is))) (g.K.Keeper.store c.answer.new.keeper).history refl;
       reads = λ t.
           all_read (g.P.Source.left c.args.source.now) c.gather.new.planner.pending (g.P.Source.left c.gather.new.source) c.gather.new.planner.taken
@@ -318,14 +346,17 @@ returns-then-not-more g c =
       usable = λ bench spare memory. c.in_ok-answer.ensures.stands.usable;
       left = λ u usable. c.in_ok-answer.ensures.stands.as_left u;
       calls = λ t u.
-          all_calls g.P.Source g.B.Bench c.args.schema.now.columns c.args.index.now.public c.args.batch c.loop-more.planner (g.K.Keeper.store c.args.keeper.now) (g.K.Keeper.store c.loop-more.keeper)
+          all_calls g.P.Source g.B.Bench c.args.schema.now.columns c.args.index.now.public c.args.batch c.loop-more.planner
+          (g.K.Keeper.store c.args.keeper.now) (g.K.Keeper.store c.loop-more.keeper)
           c.args.source.now c.loop-more.source c.args.bench.now c.loop-more.bench c.loop-more.invariant.served
           now (not c.in_ok-more.more || now.ended) c.gather.new.source plans e.gathers e.most c.requires.batch.0
-          (λ ended. still_ended c.in_ok-more.more now.ended (e.cuts.still ended)) (g.K.Keeper.store c.answer.new.keeper).history c.answer.new.bench c.in_ok-answer.ensures.answers
+          (λ ended. still_ended c.in_ok-more.more now.ended (e.cuts.still ended)) (g.K.Keeper.store c.answer.new.keeper).history c.answer.new.bench
+          c.in_ok-answer.ensures.answers
           t u (ap counted_lines (e.last t (ap given more_is)));
       moments = λ u quiet.
           let rest = now.pending ++ g.P.Source.left c.gather.new.source in
-          turn_moments g.P.Source g.B.Bench c.args.schema.now.columns c.args.index.now.public c.args.batch c.loop-more.planner (g.K.Keeper.store c.args.keeper.now) (g.K.Keeper.store c.loop-more.keeper)
+          turn_moments g.P.Source g.B.Bench c.args.schema.now.columns c.args.index.now.public c.args.batch c.loop-more.planner
+          (g.K.Keeper.store c.args.keeper.now) (g.K.Keeper.store c.loop-more.keeper)
           c.args.source.now c.loop-more.source c.args.bench.now c.loop-more.bench c.loop-more.invariant.served
           now (not c.in_ok-more.more || now.ended) c.gather.new.source plans e.gathers e.most c.requires.batch.0
           (λ ended. still_ended c.in_ok-more.more now.ended (e.cuts.still ended)) c.answer.new.bench
@@ -345,7 +376,8 @@ returns-then-not-more g c =
       };
       spare_stands = λ spared told bench spare. (g.K.Keeper.spare_gate c.answer.new.keeper, c.in_ok-answer.ensures.spare_stands spared told);
       spare_moments = λ spared told quiet.
-          spare_turn g.P.Source g.B.Bench c.args.schema.now.columns c.args.index.now.public c.args.batch c.loop-more.planner (g.K.Keeper.store c.args.keeper.now)
+          spare_turn g.P.Source g.B.Bench c.args.schema.now.columns c.args.index.now.public c.args.batch c.loop-more.planner
+          (g.K.Keeper.store c.args.keeper.now)
           (g.K.Keeper.store c.loop-more.keeper) c.args.source.now c.loop-more.source c.args.bench.now c.loop-more.bench c.loop-more.invariant.served
           now (not c.in_ok-more.more || now.ended) c.gather.new.source plans e.gathers e.most c.requires.batch.0
           (λ ended. still_ended c.in_ok-more.more now.ended (e.cuts.still ended)) g.S.Bench c.args.spare.now c.loop-more.spare c.answer.new.spare

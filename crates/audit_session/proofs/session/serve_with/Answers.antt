@@ -26,7 +26,8 @@ returns-in_err-planner g c =
       input_end = λ t u is. absurd (memory_no_input _ same is);
       limit_end = λ t u is. absurd (memory_no_limit _ same is);
       memory_end = λ t u is.
-          serves_none (base_of c.args.schema.now.columns c.args.index.now.public c.args.index.now.protected (g.K.Keeper.store c.args.keeper.now).secret) c.args.batch
+          serves_none (base_of c.args.schema.now.columns c.args.index.now.public c.args.index.now.protected (g.K.Keeper.store c.args.keeper.now).secret)
+          c.args.batch
           (g.K.Keeper.store c.args.keeper.now).history (counted_lines (g.P.Source.left c.args.source.now)) (g.B.Bench.sent c.args.bench.now);
       stands = λ u no spare. ((g.K.Keeper.store c.args.keeper.now).journal.gate, c.requires.stands u);
       quiet = λ u quiet no spare. quiet;
@@ -36,18 +37,22 @@ returns-in_err-planner g c =
       calls = λ t u. IfOk-from_err _ _ c.from_residual.ensures.0;
       any_moment = λ t u quiet.
           stops_first g.B.Bench c.args.bench.now
-          (base_of c.args.schema.now.columns c.args.index.now.public c.args.index.now.protected (g.K.Keeper.store c.args.keeper.now).secret) c.args.batch (g.K.Keeper.store c.args.keeper.now).history
+          (base_of c.args.schema.now.columns c.args.index.now.public c.args.index.now.protected (g.K.Keeper.store c.args.keeper.now).secret) c.args.batch
+          (g.K.Keeper.store c.args.keeper.now).history
           (counted_lines (g.P.Source.left c.args.source.now))
-          (λ image bytes was. g.met.B.Bench.only_now c.args.bench.now image bytes was) quiet ((g.K.Keeper.store c.args.keeper.now).journal.gate, c.requires.stands u);
+          (λ image bytes was. g.met.B.Bench.only_now c.args.bench.now image bytes was) quiet
+          ((g.K.Keeper.store c.args.keeper.now).journal.gate, c.requires.stands u);
       legal = λ u quiet.
-          let base = base_of c.args.schema.now.columns c.args.index.now.public (g.K.Keeper.store c.args.keeper.now).protected (g.K.Keeper.store c.args.keeper.now).secret in
+          let base = base_of c.args.schema.now.columns c.args.index.now.public (g.K.Keeper.store c.args.keeper.now).protected
+          (g.K.Keeper.store c.args.keeper.now).secret in
           weakens g.B.Bench c.args.bench.now c.args.bench.now _ _
           (λ image sent stop history stands.
           c.stops.ensures base c.args.batch (g.K.Keeper.store c.args.keeper.now).history [] image stop.0 history
           (record { schema = c.count-columns.ensures.columns; shape = c.requires.shape; protected = c.requires.is.fit }) c.requires.is.numbers
           c.requires.is.legal stop.2 stands)
           (stops_first g.B.Bench c.args.bench.now base c.args.batch (g.K.Keeper.store c.args.keeper.now).history []
-          (λ image bytes was. g.met.B.Bench.only_now c.args.bench.now image bytes was) quiet ((g.K.Keeper.store c.args.keeper.now).journal.gate, c.requires.stands u));
+          (λ image bytes was. g.met.B.Bench.only_now c.args.bench.now image bytes was) quiet
+          ((g.K.Keeper.store c.args.keeper.now).journal.gate, c.requires.stands u));
       table = (refl, refl);
       is = c.requires.is;
       read = λ t. IfOk-from_err _ _ c.from_residual.ensures.0;
@@ -70,6 +75,19 @@ returns-in_err-planner g c =
           (spare_first g.P.Source.told g.S.Bench c.args.spare.now
           (base_of c.args.schema.now.columns c.args.index.now.public c.args.index.now.protected (g.K.Keeper.store c.args.keeper.now).secret) c.args.batch
           (g.K.Keeper.store c.args.keeper.now).history (counted_lines (g.P.Source.left c.args.source.now))
+          (λ image bytes was. g.met.S.Bench.only_now c.args.spare.now image bytes was) quiet
+          (g.K.Keeper.spare_gate c.args.keeper.now, c.requires.spare_stands spared told));
+      spare_legal = λ spared told quiet.
+          let store = g.K.Keeper.store c.args.keeper.now in
+          let base = base_of c.args.schema.now.columns c.args.index.now.public store.protected store.secret in
+          weakens g.S.Bench c.args.spare.now c.args.spare.now _ _
+          (λ image sent found history stands.
+          let stop = found.1.1.0 in
+          c.stops.ensures base c.args.batch store.history stop.0 image stop.1.0 history
+          (record { schema = c.count-columns.ensures.columns; shape = c.requires.shape; protected = c.requires.is.fit }) c.requires.is.numbers
+          c.requires.is.legal
+          stop.1.2 stands)
+          (spare_first g.P.Source.told g.S.Bench c.args.spare.now base c.args.batch store.history (counted_lines (g.P.Source.left c.args.source.now))
           (λ image bytes was. g.met.S.Bench.only_now c.args.spare.now image bytes was) quiet
           (g.K.Keeper.spare_gate c.args.keeper.now, c.requires.spare_stands spared told));
       spare_quiet = λ spared told quiet other. quiet;
@@ -118,7 +136,8 @@ returns g c =
       usable = c.answer_groups.ensures.usable;
       left = c.answer_groups.ensures.left;
       calls = λ t u.
-          subst (λ (p : List Protected). OnOk c.answer_groups.result (TakesCalls (base_of columns public p store.secret) store.history batch (counted_lines input)
+          subst (λ (p : List Protected). OnOk c.answer_groups.result (TakesCalls (base_of columns public p store.secret) store.history batch
+          (counted_lines input)
           (g.B.Bench.moment c.args.bench.now) (g.B.Bench.moment c.answer_groups.new.bench))) same (c.answer_groups.ensures.calls t u);
       any_moment = λ t u quiet.
           subst (λ (p : List Protected). LeavesOnly g.B.Bench c.args.bench.now c.answer_groups.new.bench
@@ -150,10 +169,21 @@ returns g c =
           (SpareStops (base_of columns public p store.secret) batch store.history (counted_lines input) (g.S.Bench.sent c.args.spare.now))) same
           (weakens g.S.Bench c.args.spare.now c.answer_groups.new.spare _ _ (λ image sent found. (found.0, (found.1.0, found.1.1.1 t)))
           (c.answer_groups.ensures.spare_moments spared told quiet));
+      spare_legal = λ spared told quiet.
+          let base = base_of columns public store.protected store.secret in
+          weakens g.S.Bench c.args.spare.now c.answer_groups.new.spare _ _
+          (λ image sent found history stands.
+          let stop = found.1.1.0 in
+          c.stops.ensures base batch store.history stop.0 image stop.1.0 history
+          (record { schema = c.count-columns.ensures.columns; shape = c.requires.shape; protected = c.requires.is.fit }) c.requires.is.numbers
+          c.requires.is.legal
+          stop.1.2 stands)
+          (c.answer_groups.ensures.spare_moments spared told quiet);
       spare_quiet = c.answer_groups.ensures.spare_quiet;
       spare_sent = c.answer_groups.ensures.spare_sent;
       both = λ spared t told spare_told quiet spare_quiet failed image other left spare_left.
-          subst (λ (p : List Protected). LeavesBoth (base_of columns public p store.secret) batch store.history (counted_lines input) before after image other) same
+          subst (λ (p : List Protected). LeavesBoth (base_of columns public p store.secret) batch store.history (counted_lines input) before after image
+          other) same
           (c.answer_groups.ensures.both spared t told spare_told quiet spare_quiet failed image other left spare_left);
       spare_fault = c.answer_groups.ensures.spare_fault;
       own = c.answer_groups.ensures.own;

@@ -14,4 +14,5 @@ returns-clause-due c = λ due some cause.
 
 pub returns-clause-opens : goal.returns-clause-opens
 returns-clause-opens c = λ same legal.
-    opens_answer c.args.secret.now.shape c.args.list.now (secret_table c.args.secret.now c.args.protected.items) c.audited.result refl c.audited.ensures.err legal
+    opens_answer c.args.secret.now.shape c.args.list.now (secret_table c.args.secret.now c.args.protected.items) c.audited.result refl c.audited.ensures.err
+    legal

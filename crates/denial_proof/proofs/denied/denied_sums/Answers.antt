@@ -9,4 +9,4 @@ returns c = λ setting history asked fit protected legal question sums denied.
       pins_nothing = c.free_numbers.ensures.pinned;
       fixed = c.dangerous_sums.ensures.fixed;
       dangerous = c.dangerous_sums.ensures.dangerous;
-    }) legal sums c.narrow_fronts.ensures c.pinned_rows.ensures.by_unit_row
+    }) legal sums

@@ -1,8 +1,18 @@
+use Rattle.std.proofs.Common.{sym, ◌∙◌}
 use Rattle.std.specs.Int.{w128}
+use Rattle.std.proofs.lemmas.Bool.{true≢false}
 use Rattle.std.proofs.lemmas.Int.{to_z-of_z}
 use Rattle.max_bounds.specs.Maxima.{and_answer}
 use Rattle.denial_proof.proofs.FirstPairs.{lone_some, lone_none}
+use Rattle.denial_proof.proofs.LoneOutlook.{may_leave_one}
 use Rattle.denial_proof.proofs.maxima.lone_row.Goals as goal
+
+pub returns-then-not-may_leave_one-clause-none : goal.returns-then-not-may_leave_one-clause-none
+returns-then-not-may_leave_one-clause-none c = λ leaves.
+    let told = rw (to_z-of_z w128 c.args.answer c.ranges.answer) at c.may_leave_one.ensures in
+    true≢false
+    (sym (told.1 (may_leave_one c.args.bounds.now.n c.args.bounds.now.answers c.args.rows.now.list c.args.outlook.now c.args.answer c.requires.near c.requires.outlook leaves))
+    ∙ c.if-not-may_leave_one.true)
 
 pub returns-then-trial-clause-some : goal.returns-then-trial-clause-some
 returns-then-trial-clause-some c =

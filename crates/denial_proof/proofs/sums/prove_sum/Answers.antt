@@ -1,19 +1,14 @@
-use Rattle.std.proofs.Common.{◌≡◌, ◌++◌, ◌∷◌, [], ℕ, List, map, sym, subst, inl, inr}
+use Rattle.std.proofs.Common.{◌≡◌, ◌++◌, ◌∷◌, [], ℕ, List, map, sym, subst}
 use Rattle.std.specs.List.{AllByRecursion}
 use Rattle.audit_types.specs.declared.records.Protected.{Protected}
 use Rattle.audit_types.specs.Column.{Answer}
 use Rattle.audit_types.specs.Form.{HasNarrowForm}
 use Rattle.audit_types.specs.Rows.{AreRows}
+use Rattle.denial_proof.specs.Kept.{AreMarks, AreMarksOf}
 use Rattle.denial_proof.proofs.KeptFew.{independent_with}
 use Rattle.denial_proof.proofs.OneCanonicalSum.{none_too_wide}
 use Rattle.denial_proof.proofs.SumParts.{target_parts, target_there}
 use Rattle.denial_proof.proofs.sums.prove_sum.Goals as goal
-
-pub marks_of-requires-clause-narrow : goal.marks_of-requires-clause-narrow
-marks_of-requires-clause-narrow c = rw c.n-n.ensures.n c.requires.denied.narrow
-
-pub marks_of-requires-clause-open : goal.marks_of-requires-clause-open
-marks_of-requires-clause-open c = rw c.n-n.ensures.n c.requires.denied.leaves_open
 
 pub basis_with-requires-clause-narrow : goal.basis_with-requires-clause-narrow
 basis_with-requires-clause-narrow c =
@@ -26,40 +21,36 @@ pub prove_target-requires-clause-independent : goal.prove_target-requires-clause
 prove_target-requires-clause-independent c =
     let n = c.args.sums.now.n in
     let own : AreRows n c.args.asked.now.rows.list = subst (λ (k : ℕ). AreRows k c.args.asked.now.rows.list) c.requires.same_n c.n.ensures.are_rows in
-    let marks = rw c.n-n.ensures.n at c.in_ok-marks.ensures.marks in
-    rw c.n-n.ensures.n
+    rw (c.n-n.ensures.n, c.deref.ensures.value)
     (target_parts c.directions_of_a_form.ensures.pinned n c.args.history.now c.args.protected.now c.args.asked.now own c.args.sums.now.answers c.requires.answers c.n-n.ensures.are_rows c.in_ok-basis.basis
-    c.in_ok-basis.ensures.n c.in_ok-basis.ensures.form c.pinned_rows.ensures.spanned_or_moved c.requires.rows c.in_ok-marks.marks.places.items marks.kept c.requires.denied.new c.in-Some.target
+    c.in_ok-basis.ensures.n c.in_ok-basis.ensures.form c.pinned_rows.ensures.spanned_or_moved c.requires.rows c.args.marks.now.places.items c.requires.marks.kept c.requires.denied.new c.in-Some.target
     c.in-Some.ensures.some).independent
 
 pub prove_target-requires-clause-is_target : goal.prove_target-requires-clause-is_target
 prove_target-requires-clause-is_target c =
     let n = c.args.sums.now.n in
     let own : AreRows n c.args.asked.now.rows.list = subst (λ (k : ℕ). AreRows k c.args.asked.now.rows.list) c.requires.same_n c.n.ensures.are_rows in
-    let marks = rw c.n-n.ensures.n at c.in_ok-marks.ensures.marks in
     rw c.n-n.ensures.n
     (target_parts c.directions_of_a_form.ensures.pinned n c.args.history.now c.args.protected.now c.args.asked.now own c.args.sums.now.answers c.requires.answers c.n-n.ensures.are_rows c.in_ok-basis.basis
-    c.in_ok-basis.ensures.n c.in_ok-basis.ensures.form c.pinned_rows.ensures.spanned_or_moved c.requires.rows c.in_ok-marks.marks.places.items marks.kept c.requires.denied.new c.in-Some.target
+    c.in_ok-basis.ensures.n c.in_ok-basis.ensures.form c.pinned_rows.ensures.spanned_or_moved c.requires.rows c.args.marks.now.places.items c.requires.marks.kept c.requires.denied.new c.in-Some.target
     c.in-Some.ensures.some).is_target
 
 pub prove_target-requires-clause-first : goal.prove_target-requires-clause-first
 prove_target-requires-clause-first c =
     let n = c.args.sums.now.n in
     let own : AreRows n c.args.asked.now.rows.list = subst (λ (k : ℕ). AreRows k c.args.asked.now.rows.list) c.requires.same_n c.n.ensures.are_rows in
-    let marks = rw c.n-n.ensures.n at c.in_ok-marks.ensures.marks in
     rw c.n-n.ensures.n
     (target_parts c.directions_of_a_form.ensures.pinned n c.args.history.now c.args.protected.now c.args.asked.now own c.args.sums.now.answers c.requires.answers c.n-n.ensures.are_rows c.in_ok-basis.basis
-    c.in_ok-basis.ensures.n c.in_ok-basis.ensures.form c.pinned_rows.ensures.spanned_or_moved c.requires.rows c.in_ok-marks.marks.places.items marks.kept c.requires.denied.new c.in-Some.target
+    c.in_ok-basis.ensures.n c.in_ok-basis.ensures.form c.pinned_rows.ensures.spanned_or_moved c.requires.rows c.args.marks.now.places.items c.requires.marks.kept c.requires.denied.new c.in-Some.target
     c.in-Some.ensures.some).first
 
 pub prove_target-requires-clause-spanned : goal.prove_target-requires-clause-spanned
 prove_target-requires-clause-spanned c =
     let n = c.args.sums.now.n in
     let own : AreRows n c.args.asked.now.rows.list = subst (λ (k : ℕ). AreRows k c.args.asked.now.rows.list) c.requires.same_n c.n.ensures.are_rows in
-    let marks = rw c.n-n.ensures.n at c.in_ok-marks.ensures.marks in
-    rw c.n-n.ensures.n
+    rw (c.n-n.ensures.n, c.deref.ensures.value)
     (target_parts c.directions_of_a_form.ensures.pinned n c.args.history.now c.args.protected.now c.args.asked.now own c.args.sums.now.answers c.requires.answers c.n-n.ensures.are_rows c.in_ok-basis.basis
-    c.in_ok-basis.ensures.n c.in_ok-basis.ensures.form c.pinned_rows.ensures.spanned_or_moved c.requires.rows c.in_ok-marks.marks.places.items marks.kept c.requires.denied.new c.in-Some.target
+    c.in_ok-basis.ensures.n c.in_ok-basis.ensures.form c.pinned_rows.ensures.spanned_or_moved c.requires.rows c.args.marks.now.places.items c.requires.marks.kept c.requires.denied.new c.in-Some.target
     c.in-Some.ensures.some).spanned
 
 pub unreachable-requires : goal.unreachable-requires
@@ -71,7 +62,11 @@ unreachable-requires c =
 
 pub returns-clause-narrow : goal.returns-clause-narrow
 returns-clause-narrow c =
-    let marks = rw c.n-n.ensures.n at c.in_ok-marks.ensures.marks in
-    none_too_wide c.args.sums.now.n c.args.history.now c.args.protected.now c.args.asked.now c.in_ok-marks.marks.places.items c.in_ok-marks.marks.form marks
-    (independent_with c.args.sums.now.n c.args.asked.now.column c.args.history.now c.in_ok-marks.marks.places.items marks.kept c.args.asked.now.rows.list c.requires.denied.new)
+    let history = c.args.history.now in
+    let asked = c.args.asked.now in
+    let places = c.args.marks.now.places.items in
+    let before = subst (λ (k : ℕ). AreMarksOf k asked.column history places c.args.marks.now.form) (sym c.requires.same_n) c.requires.marks in
+    let marks = subst (λ (k : ℕ). AreMarks k history asked places c.in_ok-form.form) c.requires.same_n (c.in_ok-form.ensures.marks history before) in
+    none_too_wide c.args.sums.now.n history c.args.protected.now asked places c.in_ok-form.form marks
+    (independent_with c.args.sums.now.n asked.column history places marks.kept asked.rows.list c.requires.denied.new)
     c.prove_target.result (rw c.n-n.ensures.n at c.prove_target.ensures.is)

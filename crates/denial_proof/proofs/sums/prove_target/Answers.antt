@@ -1,4 +1,4 @@
-use Rattle.std.proofs.Common.{◌≡◌, ◌+◌, ◌-◌, ◌<◌, ℕ, suc, ℤ, List, pos, ◌∷◌, length, take, drop, sym, ap, ◌∙◌, subst, arith, to_z, of_z}
+use Rattle.std.proofs.Common.{◌≡◌, ◌+◌, ◌-◌, ◌<◌, ℕ, suc, ℤ, List, pos, ◌∷◌, length, take, drop, refl, sym, ap, ◌∙◌, subst, arith, to_z, of_z}
 use Rattle.std.specs.Int.{w128}
 use Rattle.std.specs.List.{AllByRecursion}
 use Rattle.std.proofs.lemmas.Bool.{true≢false}
@@ -16,31 +16,31 @@ use Rattle.denial_proof.proofs.sums.prove_target.Goals as goal
 
 pub overflow_cast-kept : goal.overflow_cast-kept
 overflow_cast-kept c =
-    let fewer = few c.args.n c.args.history.now c.args.protected.now c.args.asked.now c.args.marks.now.places.items c.args.marks.now.form c.args.target c.requires.marks c.requires.independent in
+    let fewer = few c.args.n c.args.history.now c.args.protected.now c.args.asked.now c.args.places.now c.args.form.now c.args.target c.requires.marks c.requires.independent in
     let most = c.requires.at_most in
     omega arith
 
 pub overflow_add-kept : goal.overflow_add-kept
 overflow_add-kept c =
-    let fewer = few c.args.n c.args.history.now c.args.protected.now c.args.asked.now c.args.marks.now.places.items c.args.marks.now.form c.args.target c.requires.marks c.requires.independent in
+    let fewer = few c.args.n c.args.history.now c.args.protected.now c.args.asked.now c.args.places.now c.args.form.now c.args.target c.requires.marks c.requires.independent in
     let most = c.requires.at_most in
     omega arith
 
 pub multipliers-requires-clause-below : goal.multipliers-requires-clause-below
 multipliers-requires-clause-below c =
-    subst (λ (k : ℕ). AllByRecursion (λ row. pivot row < k) c.args.marks.now.form.rows) (sym c.rows_of-rows.ensures.n)
-    (below c.args.n c.args.history.now c.args.protected.now c.args.asked.now c.args.marks.now.places.items c.args.marks.now.form c.args.target c.requires.marks c.requires.independent)
+    subst (λ (k : ℕ). AllByRecursion (λ row. pivot row < k) c.args.form.now.rows) (sym c.rows_of-rows.ensures.n)
+    (below c.args.n c.args.history.now c.args.protected.now c.args.asked.now c.args.places.now c.args.form.now c.args.target c.requires.marks c.requires.independent)
 
 pub returns-then-not-are_small-clause-wide : goal.returns-then-not-are_small-clause-wide
 returns-then-not-are_small-clause-wide c = λ fault.
     let n = c.args.n in
-    let places = c.args.marks.now.places.items in
-    let form = c.args.marks.now.form in
+    let places = c.args.places.now in
+    let form = c.args.form.now in
     let group = rows_of c.args.protected.now c.args.target in
     let items = c.in_ok-numbers.numbers.items in
-    let mark : c.len-kept.result ≡ length places = omega arith in
+    let mark : length places ≡ length places = refl in
     let are : AreMultipliers form.rows (set_row n group) n (length places + 1) items
-    = as_asked form.rows n c.rows_of-rows.result.n group c.rows_of-rows.result.list (length places) c.len-kept.result items c.rows_of-rows.ensures.n c.rows_of-rows.ensures.rows mark c.in_ok-numbers.ensures.are in
+    = as_asked form.rows n c.rows_of-rows.result.n group c.rows_of-rows.result.list (length places) (length places) items c.rows_of-rows.ensures.n c.rows_of-rows.ensures.rows mark c.in_ok-numbers.ensures.are in
     let split = head_and_tail form.rows (set_row n group) n (length places + 1) items are in
     too_wide n c.args.history.now c.args.protected.now c.args.asked.now places form c.args.target c.requires.marks c.requires.independent c.requires.first c.requires.spanned c.columns.ensures.narrow
     (number_at items 0) split.0 (subst (AreMultipliers form.rows (set_row n group) n (length places + 1)) split.1 are)
@@ -49,13 +49,13 @@ returns-then-not-are_small-clause-wide c = λ fault.
 pub returns-clause-is : goal.returns-clause-is
 returns-clause-is c =
     let n = c.args.n in
-    let places = c.args.marks.now.places.items in
-    let form = c.args.marks.now.form in
+    let places = c.args.places.now in
+    let form = c.args.form.now in
     let group = rows_of c.args.protected.now c.args.target in
     let items = c.in_ok-numbers.numbers.items in
-    let mark : c.len-kept.result ≡ length places = omega arith in
+    let mark : length places ≡ length places = refl in
     let are : AreMultipliers form.rows (set_row n group) n (length places + 1) items
-    = as_asked form.rows n c.rows_of-rows.result.n group c.rows_of-rows.result.list (length places) c.len-kept.result items c.rows_of-rows.ensures.n c.rows_of-rows.ensures.rows mark c.in_ok-numbers.ensures.are in
+    = as_asked form.rows n c.rows_of-rows.result.n group c.rows_of-rows.result.list (length places) (length places) items c.rows_of-rows.ensures.n c.rows_of-rows.ensures.rows mark c.in_ok-numbers.ensures.are in
     let split = head_and_tail form.rows (set_row n group) n (length places + 1) items are in
     let times = number_at items 0 in
     let rest = split.0 in
@@ -65,14 +65,14 @@ returns-clause-is c =
     let small_own : IsSmall own = last_small rest (length places) small.1 in
     let size : length items ≡ length places + 2 = let all = c.in_ok-numbers.ensures.one_each in omega arith in
     let first_is : c.index.result.now ≡ times = c.index.ensures ∙ same_default items 0 (pos 0) c.index.result.now (omega arith) in
-    let place : c.len-kept.result + 1 ≡ suc (length places) = omega arith in
+    let place : (length places) + 1 ≡ suc (length places) = omega arith in
     let own_is : c.index-2.result.now ≡ own
-    = c.index-2.ensures ∙ same_default items (c.len-kept.result + 1) (pos 0) c.index-2.result.now (omega arith) ∙ ap (number_at items) place ∙ ap (λ (list : List ℤ). number_at list (suc (length places))) split.1 in
+    = c.index-2.ensures ∙ same_default items (length places + 1) (pos 0) c.index-2.result.now (omega arith) ∙ ap (number_at items) place ∙ ap (λ (list : List ℤ). number_at list (suc (length places))) split.1 in
     let times_is : to_z w128 (of_z w128 c.index.result.now) ≡ times = ap (λ z. to_z w128 (of_z w128 z)) first_is ∙ to_z-of_z w128 times (fits_signed_from_abs w128 times (omega arith)) in
     let asked_is : to_z w128 (of_z w128 c.index-2.result.now) ≡ own = ap (λ z. to_z w128 (of_z w128 z)) own_is ∙ to_z-of_z w128 own (fits_signed_from_abs w128 own (omega arith)) in
     let terms_is : c.in_ok-list.list.items ≡ terms_of places rest
-    = c.in_ok-list.ensures ∙ ap (λ (some : List ℕ). terms_of some (take (length c.deref-3.result.now - 1) (drop 1 c.deref-3.result.now))) c.deref-2.ensures.value
-    ∙ ap (λ (list : List ℤ). terms_of places (take (length list - 1) (drop 1 list))) (c.deref-3.ensures.value ∙ split.1) ∙ ap (terms_of places) (the_rest times rest) in
+    = c.in_ok-list.ensures
+    ∙ ap (λ (list : List ℤ). terms_of places (take (length list - 1) (drop 1 list))) (c.deref-2.ensures.value ∙ split.1) ∙ ap (terms_of places) (the_rest times rest) in
     let Shown : ℤ → List Term → ℤ → Type 0
     = λ t list o. IsCanonicalSum n c.args.history.now c.args.protected.now c.args.asked.now c.args.target t list o × ShowsTotal n c.args.history.now c.args.protected.now c.args.asked.now c.args.target t list o in
     let shown : Shown times (terms_of places rest) own

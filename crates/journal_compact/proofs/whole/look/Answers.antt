@@ -11,6 +11,7 @@ pub returns-in_err-length : goal.returns-in_err-length
 returns-in_err-length g c = record {
   found = λ told. IfOk-from_err _ _ c.from_residual.ensures.0;
   short = search rules;
+  made = search rules;
   closed = search rules;
   reads = one_read g.B.Bench c.args.bench.now c.length.new.self (g.met.B.Bench.only_now c.args.bench.now) c.length.ensures.stays;
   cause =
@@ -25,6 +26,7 @@ pub returns-then-length : goal.returns-then-length
 returns-then-length g c = record {
   found = search rules;
   short = search rules;
+  made = search rules;
   closed = search rules;
   reads = one_read g.B.Bench c.args.bench.now c.length.new.self (g.met.B.Bench.only_now c.args.bench.now) c.length.ensures.stays;
   cause = record { later = c.length.ensures.cause.later; failed = tt; steady = c.in_ok-length.ensures.cause.steady };
@@ -37,6 +39,7 @@ pub returns-in_err-read_at : goal.returns-in_err-read_at
 returns-in_err-read_at g c = record {
   found = λ told. IfOk-from_err _ _ c.from_residual-in_err-read_at.ensures.0;
   short = search rules;
+  made = search rules;
   closed = search rules;
   reads = two_read g.B.Bench g.met.B.Bench.only_now c.args.bench.now c.length.new.self c.read_at.new.self c.length.ensures.stays c.read_at.ensures.stays;
   cause =
@@ -53,6 +56,7 @@ pub returns-then-gate-eq1 : goal.returns-then-gate-eq1
 returns-then-gate-eq1 g c = record {
   found = search rules;
   short = search rules;
+  made = search rules;
   closed = search rules;
   reads = two_read g.B.Bench g.met.B.Bench.only_now c.args.bench.now c.length.new.self c.read_at.new.self c.length.ensures.stays c.read_at.ensures.stays;
   cause =
@@ -72,6 +76,7 @@ pub returns-else-gate-eq1 : goal.returns-else-gate-eq1
 returns-else-gate-eq1 g c = record {
   found = search rules;
   short = search rules;
+  made = search rules;
   closed = search rules;
   reads = two_read g.B.Bench g.met.B.Bench.only_now c.args.bench.now c.length.new.self c.read_at.new.self c.length.ensures.stays c.read_at.ensures.stays;
   cause =

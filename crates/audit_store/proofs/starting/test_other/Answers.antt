@@ -1,0 +1,49 @@
+use Rattle.std.proofs.Common.{◌≡◌, rules, length, take, sym, ap, subst, refl, List, ◌∙◌}
+use Rattle.std.proofs.Math.Seq.{take-length}
+use Rattle.audit_types.specs.declared.records.Answered.{Answered}
+use Rattle.audit_types.specs.declared.records.Protected.{Protected}
+use Rattle.audit_types.specs.declared.shapes.Shape.{Shape}
+use Rattle.audit_types.specs.History.{IsLegal}
+use Rattle.audit_store.specs.Starting.{HistoryCause, StartsUnlessFailed}
+use Rattle.table_load.specs.Database.{secret_table}
+use Rattle.audit_store.proofs.Causes.{legal_has_no_cause}
+use Rattle.audit_store.specs.LegalFronts.{legal_front}
+use Rattle.audit_store.proofs.StoreFaults.{of_refusal}
+use Rattle.audit_store.proofs.starting.test_other.Goals as goal
+
+-- ---- it begins what is known
+
+pub returns-then-agreement-list-clause-ok : goal.returns-then-agreement-list-clause-ok
+returns-then-agreement-list-clause-ok c =
+    let list = c.args.list.now in
+    let known = c.args.core.now.history in
+    let table = secret_table c.args.secret.now c.args.core.now.setting.protected in
+    let whole : take c.agreement.result known ≡ list = ap (take c.agreement.result) (sym c.history.ensures.is) ∙ c.agreement.ensures.same
+    ∙ ap (λ n. take n list) c.if-agreement-list.true ∙ take-length list in
+    (search rules, subst (λ (h : List Answered). IsLegal table h) whole (legal_front table known c.agreement.result c.requires.legal))
+
+pub returns-then-agreement-list-clause-due : goal.returns-then-agreement-list-clause-due
+returns-then-agreement-list-clause-due c = λ due some cause.
+    let is = returns-then-agreement-list-clause-ok c in
+    some (legal_has_no_cause c.args.kept.now c.args.list.now (secret_table c.args.secret.now c.args.core.now.setting.protected) due is.0 is.1 cause)
+
+-- ---- it was tested
+
+pub returns-in_err-audited-clause-opens : goal.returns-in_err-audited-clause-opens
+returns-in_err-audited-clause-opens c = λ same legal.
+    let fault = c.in_err-audited.field-0.0 in
+    let list = c.args.list.now in
+    let groups : c.in-Ok.protected.items ≡ c.args.core.now.setting.protected = search rules in
+    let cause : HistoryCause fault c.args.kept.now list (secret_table c.args.secret.now c.args.core.now.setting.protected) =
+    subst (λ (s : Shape). HistoryCause fault s list (secret_table c.args.secret.now c.args.core.now.setting.protected)) (sym same)
+    (subst (λ (p : List Protected). HistoryCause fault c.args.secret.now.shape list (secret_table c.args.secret.now p)) groups c.in_err-audited.ensures.err) in
+    of_refusal c.from_residual.result fault c.from_residual.ensures StartsUnlessFailed
+    (legal_has_no_cause c.args.kept.now list (secret_table c.args.secret.now c.args.core.now.setting.protected) fault same legal cause)
+
+pub returns-clause-due : goal.returns-clause-due
+returns-clause-due c = λ due some cause.
+    let list = c.args.list.now in
+    let same : c.args.kept.now ≡ c.args.secret.now.shape = search rules in
+    let groups : c.in-Ok.protected.items ≡ c.args.core.now.setting.protected = search rules in
+    some (legal_has_no_cause c.args.kept.now list (secret_table c.args.secret.now c.args.core.now.setting.protected) due same
+    (subst (λ (p : List Protected). IsLegal (secret_table c.args.secret.now p) list) groups c.in_ok-audited.ensures.ok.1) cause)

@@ -1,0 +1,66 @@
+//! Bringing a journal, and a core, up to a longer history.
+ghost use Rattle.std.specs.Prelude.{◌≡◌, ◌≤◌, ◌+◌, ◌++◌, List, true, length, take, All, OnOk, IsErrOf};
+ghost use Rattle.audit_types.specs.Limits.{most_records};
+ghost use Rattle.audit_types.specs.declared.records.Answered.{Answered};
+ghost use Rattle.audit_types.specs.History.{FitsShape, IsLegal, Table};
+ghost use Rattle.bench_core.specs.Calls.{IsQuiet, LeavesOnly, TellsFault};
+ghost use Rattle.journal_form.specs.Journal.{StandsAt};
+ghost use Rattle.audit_store.specs.Twice.{IsBroughtUp, calls_to_bring_up};
+
+use crate::asking::keep;
+use crate::outcome::StoreFault;
+use answer_journal::Journal;
+use audit_core::Core;
+use audit_types::{Answered, NoMemory};
+use bench_core::Bench;
+
+// The most records of a group.
+const MOST_IN_GROUP: usize = 64;
+
+/// Appends the records that a journal lacks, in groups of up to 64. After `NoMemory` some of them may have been appended.
+pub fn bring_up<B: Bench>(
+    journal: &mut Journal,
+    bench: &mut B,
+    missing: &[Answered],
+) -> Result<(), StoreFault>
+    requires usable { journal.old.usable ≡ true }
+    requires fit { All (λ r. FitsShape journal.old.shape r.column r.rows) missing.now }
+    requires few { journal.old.count + length missing.now ≤ most_records }
+    requires stands { B.told → (history : List Answered) × StandsAt (B.file bench.old) journal.old.shape history journal.old.gate × (length history ≡ journal.old.count) }
+
+    // A crash at any moment leaves the history with some of them, from the first on.
+    ensures any_moment { (history : List Answered) → B.told → StandsAt (B.file bench.old) journal.old.shape history journal.old.gate → length history ≡ journal.old.count → IsQuiet B.Bench bench.old
+        → LeavesOnly B.Bench bench.old bench.new (IsBroughtUp journal.old.shape history missing.now (B.sent bench.old)) }
+    ensures done { (history : List Answered) → B.told → StandsAt (B.file bench.old) journal.old.shape history journal.old.gate → length history ≡ journal.old.count
+        → OnOk result (StandsAt (B.file bench.new) journal.new.shape (history ++ missing.now) journal.new.gate) }
+    ensures quiet { B.told → IsQuiet B.Bench bench.old → (IsErrOf result StoreFault.Failed → ⊥) → IsQuiet B.Bench bench.new }
+    ensures sent { B.sent bench.new ≡ B.sent bench.old }
+    ensures ticks { B.told → OnOk result (B.moment bench.new ≡ B.moment bench.old + calls_to_bring_up missing.now) }
+    ensures fault { TellsFault B.Bench bench.old bench.new (IsErrOf result StoreFault.Failed) }
+
+    ensures shape { journal.new.shape ≡ journal.old.shape }
+    ensures usable { OnOk result (journal.new.usable ≡ true) }
+    ensures counted { OnOk result (journal.new.count ≡ journal.old.count + length missing.now) }
+{
+    let mut at = 0;
+    while at < missing.len() {
+        let end = missing.len().min(at + MOST_IN_GROUP);
+        keep(journal, bench, &missing[at..end])?;
+        at = end;
+    }
+    Ok(())
+}
+
+/// Adds records to a core whose history, with them, is legal for some table. On `NoMemory` it may have some of them.
+pub fn take_all(core: &mut Core, list: &[Answered]) -> Result<(), NoMemory>
+    requires { (table : Table) × (table.setting ≡ core.old.setting) × IsLegal table (core.old.history ++ list.now) }
+    ensures history { OnOk result (core.new.history ≡ core.old.history ++ list.now) }
+    ensures begins { take (length core.old.history) core.new.history ≡ core.old.history }
+    ensures within { length core.old.history ≤ length core.new.history }
+    ensures setting { core.new.setting ≡ core.old.setting }
+{
+    for answered in list {
+        core.take(answered)?;
+    }
+    Ok(())
+}

@@ -1,0 +1,5 @@
+use Rattle.question_plan.proofs.OneReply.{decided_once}
+use Rattle.question_plan.proofs.laws.one_decision.Goals as goal
+
+pub returns : goal.returns
+returns c = decided_once c.narrow_or_wide.ensures

@@ -1,0 +1,139 @@
+-- Two journals of one table, on a bench and on a spare, of which one history begins the other.
+use Rattle.std.specs.Prelude.{◌≡◌, ◌≢◌, ◌⊎◌, ℕ, ◌+◌, ◌<◌, true, List, length, drop, slice_get, Some, Result, Ok, Err}
+use Rattle.audit_types.specs.declared.records.Answered.{Answered}
+use Rattle.audit_types.specs.declared.shapes.Shape.{Shape}
+use Rattle.audit_types.specs.History.{Table, IsLegal}
+use Rattle.journal_form.specs.Journal.{StandsAt, StandsFor}
+use Rattle.answer_journal.specs.Contents.{JournalContents}
+use Rattle.audit_store.specs.Stores.{StoreContents}
+use Rattle.audit_store.specs.Starting.{StartCause, StandsForOne, GivesUp}
+use Rattle.audit_store.specs.declared.starting.StartFault.{StartFault}
+use Rattle.audit_store.specs.declared.starting.StartFault.TheVariants as start
+use Rattle.audit_store.specs.Twice.{calls_to_bring_up}
+use Rattle.audit_session.specs.Stops.{IsFront}
+use Rattle.twin_journal.specs.declared.starting.TwinFault.{TwinFault}
+use Rattle.twin_journal.specs.declared.starting.TwinFault.TheVariants.{Main, Spare, Differ, MainFailed, SpareFailed, NoMemory}
+
+-- a twin store as contracts see it: the store of the journal on the bench, and the journal on the spare
+pub record TwinContents : Type 0 where
+  pub store : StoreContents
+  pub spare : JournalContents
+
+-- what is true of every twin store: while it is usable the spare's journal is that of its table and history, too
+pub record IsTwin (twin : TwinContents) : Type 0 where
+  pub spare_usable : twin.store.usable ≡ true → twin.spare.usable ≡ true
+  pub same_shape : twin.store.usable ≡ true → twin.spare.shape ≡ twin.store.secret.shape
+  pub counted : twin.store.usable ≡ true → twin.spare.count ≡ length twin.store.history
+
+-- the spare's file is as the twin store left it: it stands for its history, and its closing gate is where the journal says
+abbrev pub IsSpareAsLeft : List ℕ → TwinContents → Type 0
+IsSpareAsLeft file twin = StandsAt file twin.store.secret.shape twin.store.history twin.spare.gate
+
+-- ---- at the start
+
+-- one of these histories begins the other, and the whole is the longer one
+pub record Meet (main other whole : List Answered) : Type 0 where
+  pub main_front : IsFront main whole
+  pub other_front : IsFront other whole
+  pub longer : (main ≡ whole) ⊎ (other ≡ whole)
+
+-- the files stand for histories over the rows of one table, of which one begins the other; the whole is the longer one, and legal
+pub record KeepTogether (table : Table) (file spare : List ℕ) (main other whole : List Answered) : Type 0 where
+  pub main_stands : StandsFor file table.setting.shape main
+  pub spare_stands : StandsFor spare table.setting.shape other
+  pub main_front : IsFront main whole
+  pub spare_front : IsFront other whole
+  pub longer : (main ≡ whole) ⊎ (other ≡ whole)
+  pub legal : IsLegal table whole
+
+-- there are such histories, with this whole
+abbrev pub KeepWhole : Table → List ℕ → List ℕ → List Answered → Type 0
+KeepWhole table file spare whole = (main : List Answered) × (other : List Answered) × KeepTogether table file spare main other whole
+
+-- there are none
+abbrev pub KeepApart : Table → List ℕ → List ℕ → Type 0
+KeepApart table file spare = (main other whole : List Answered) → KeepTogether table file spare main other whole → ⊥
+
+-- the first place at which both histories have a record, and these differ
+pub record DifferFirst (main other : List Answered) (place : ℕ) : Type 0 where
+  pub ours : Answered
+  pub theirs : Answered
+  pub here : slice_get main place ≡ Some ours
+  pub there : slice_get other place ≡ Some theirs
+  pub differ : ours ≢ theirs
+  pub before : (i : ℕ) → i < place → slice_get main i ≡ slice_get other i
+
+-- the file stands for a legal history of the table
+abbrev pub HoldsLegal : List ℕ → Table → Type 0
+HoldsLegal file table = StandsForOne file table.setting.shape (λ history. IsLegal table history)
+
+-- both files do, and this is the first place at which the histories differ
+abbrev pub HoldApart : List ℕ → List ℕ → Table → ℕ → Type 0
+HoldApart file spare table place =
+    StandsForOne file table.setting.shape (λ main. IsLegal table main × StandsForOne spare table.setting.shape (λ other. IsLegal table other × DifferFirst main other place))
+
+-- why no twin store was started. The spare is looked at only if the journal has no fault
+abbrev pub TwinCause : TwinFault → List ℕ → List ℕ → Table → Type 0
+TwinCause (Main fault) file spare table = (GivesUp fault → ⊥) × StartCause fault file table
+TwinCause (Spare fault) file spare table = HoldsLegal file table × (GivesUp fault → ⊥) × StartCause fault spare table
+TwinCause (Differ place) file spare table = HoldApart file spare table place
+TwinCause MainFailed file spare table = Unit {0}
+TwinCause SpareFailed file spare table = HoldsLegal file table
+TwinCause NoMemory file spare table = Unit {0}
+
+-- the fault of the journal, or of the spare, that opening it found
+abbrev pub fault_of_main : StartFault → TwinFault
+fault_of_main start.NotMade = Main start.NotMade
+fault_of_main (start.Damaged at) = Main (start.Damaged at)
+fault_of_main (start.OtherShape kept now) = Main (start.OtherShape kept now)
+fault_of_main (start.Untrue place kept now) = Main (start.Untrue place kept now)
+fault_of_main (start.Illegal place) = Main (start.Illegal place)
+fault_of_main start.Failed = MainFailed
+fault_of_main start.NoMemory = NoMemory
+
+abbrev pub fault_of_spare : StartFault → TwinFault
+fault_of_spare start.NotMade = Spare start.NotMade
+fault_of_spare (start.Damaged at) = Spare (start.Damaged at)
+fault_of_spare (start.OtherShape kept now) = Spare (start.OtherShape kept now)
+fault_of_spare (start.Untrue place kept now) = Spare (start.Untrue place kept now)
+fault_of_spare (start.Illegal place) = Spare (start.Illegal place)
+fault_of_spare start.Failed = SpareFailed
+fault_of_spare start.NoMemory = NoMemory
+
+-- a call failed, or memory ran out: that may come whatever the files are
+abbrev pub TwinGivesUp : TwinFault → Type 0
+TwinGivesUp (Main fault) = ⊥
+TwinGivesUp (Spare fault) = ⊥
+TwinGivesUp (Differ place) = ⊥
+TwinGivesUp MainFailed = Unit {0}
+TwinGivesUp SpareFailed = Unit {0}
+TwinGivesUp NoMemory = Unit {0}
+
+-- no twin store was started, for this cause unless it gave up
+abbrev pub RefusedUnlessGivenUp : TwinFault → Result TwinContents TwinFault → Type 0
+RefusedUnlessGivenUp due (Ok twin) = ⊥
+RefusedUnlessGivenUp due (Err fault) = (fault ≡ due) ⊎ TwinGivesUp fault
+
+-- a twin store was started, or it gave up
+abbrev pub StartsUnlessGivenUp : Result TwinContents TwinFault → Type 0
+StartsUnlessGivenUp (Ok twin) = Unit {0}
+StartsUnlessGivenUp (Err fault) = TwinGivesUp fault
+
+-- the image stands for a history that begins with the first and is a front of the whole
+pub record StandsBetween (shape : Shape) (first whole : List Answered) (image : List ℕ) : Type 0 where
+  pub now : List Answered
+  pub stands : StandsFor image shape now
+  pub from : IsFront first now
+  pub to : IsFront now whole
+
+-- while a journal catches up nothing is sent
+abbrev pub CatchesUp : Shape → List Answered → List Answered → List ℕ → List ℕ → List ℕ → Type 0
+CatchesUp shape first whole before image sent = (sent ≡ before) × StandsBetween shape first whole image
+
+-- the records of the whole that a history lacks
+abbrev pub missing : List Answered → List Answered → List Answered
+missing history whole = drop (length history) whole
+
+-- the calls with which a journal is read back and brought up: two, and four for each 64 records that it lacks
+abbrev pub calls_to_open : List Answered → List Answered → ℕ
+calls_to_open history whole = 2 + calls_to_bring_up (missing history whole)

@@ -1,0 +1,228 @@
+//! Opening two journals of one table, and asking over both.
+ghost use Rattle.std.specs.Prelude.{◌≡◌, ◌≢◌, ◌≤◌, ◌+◌, ◌++◌, [], List, ℕ, true, false, length, All, Err, IfOk, OnOk, OnErr, IsErrOf};
+ghost use Rattle.audit_types.specs.declared.records.Answered.{Answered};
+ghost use Rattle.audit_types.specs.History.{AreProtected, FitsShape};
+ghost use Rattle.audit_core.specs.Outcomes.{AreOutcomes, records_made};
+ghost use Rattle.bench_core.specs.Calls.{IsQuiet, IsUntouched, LeavesOnly, OnlyReads, TellsFault};
+ghost use Rattle.answer_journal.specs.Moments.{IsBeforeOrAfter};
+ghost use Rattle.table_load.specs.Database.{secret_table};
+ghost use Rattle.audit_store.specs.Stores.{HasGroup, IsAsLeft, IsStore, Keeps, KeptAhead, calls_for, table_of};
+ghost use Rattle.audit_store.specs.declared.starting.StartFault.{StartFault};
+ghost use Rattle.twin_journal.specs.declared.starting.TwinFault.{TwinFault};
+ghost use Rattle.twin_journal.specs.Twins.{CatchesUp, IsSpareAsLeft, IsTwin, KeepApart, KeepTogether, KeepWhole, RefusedUnlessGivenUp, StartsUnlessGivenUp, TwinCause, TwinGivesUp, calls_to_open, fault_of_main, fault_of_spare};
+
+use crate::catching::catch_up;
+use answer_journal::Journal;
+use audit_store::{KeepFault, Outcome, StartFault, Store};
+use audit_types::{Answered, Asked, Protected};
+use bench_core::Bench;
+use std::alloc::Global;
+use std::marker::Model;
+use table_load::Secret;
+
+/// Why two journals were not opened.
+#[derive(Clone, Copy)]
+pub enum TwinFault {
+    /// The journal has this fault, one of NotMade to Illegal.
+    Main(StartFault),
+    /// The journal has none, and the spare has this one.
+    Spare(StartFault),
+    /// Both are journals of the table, and differ first at the record of this place, from 0.
+    Differ { place: u32 },
+    /// A call of the bench failed.
+    MainFailed,
+    /// A call of the spare failed.
+    SpareFailed,
+    NoMemory,
+}
+
+/// Why questions were not decided. The store is then no longer usable.
+#[derive(Clone, Copy)]
+pub enum TwinStop {
+    /// A call of the bench failed. The spare may have the records of the group.
+    MainFailed,
+    /// A call of the spare failed. The bench wasn't called.
+    SpareFailed,
+    /// Nothing was called.
+    NoMemory,
+}
+
+/// A store over the journal on the bench, and a journal of the same answers on a spare.
+#[derive(Drop)]
+pub struct TwinStore {
+    store: Store,
+    spare: Journal,
+}
+
+impl Model for TwinStore {
+    ghost use Rattle.twin_journal.specs.Twins.{TwinContents, IsTwin};
+
+    ghost Value = { TwinContents };
+
+    ghost view = { λ t. record { store = t.store; spare = t.spare } };
+
+    ghost invariant = { λ t. IsTwin (record { store = t.store; spare = t.spare }) };
+}
+
+// What a fault of the journal is here.
+fn main_fault(fault: StartFault) -> TwinFault
+    ensures { result ≡ fault_of_main fault }
+{
+    match fault {
+        StartFault::Failed => TwinFault::MainFailed,
+        StartFault::NoMemory => TwinFault::NoMemory,
+        fault => TwinFault::Main(fault),
+    }
+}
+
+// What a fault of the spare is here.
+fn spare_fault(fault: StartFault) -> TwinFault
+    ensures { result ≡ fault_of_spare fault }
+{
+    match fault {
+        StartFault::Failed => TwinFault::SpareFailed,
+        StartFault::NoMemory => TwinFault::NoMemory,
+        fault => TwinFault::Spare(fault),
+    }
+}
+
+impl TwinStore {
+    /// Opens the journal of a table and then the spare, and tests both as `Store::start` does. If one history begins the other the
+    /// missing records are appended to the shorter journal, in groups of up to 64; the secrets and the groups are dropped with a
+    /// refusal. After `NoMemory` some of the missing records may have been appended.
+    pub fn start<B: Bench, S: Bench>(
+        alloc: Global,
+        secret: Secret,
+        protected: Vec<Protected>,
+        bench: &mut B,
+        spare: &mut S,
+    ) -> Result<TwinStore, TwinFault>
+        requires fit { AreProtected secret.shape protected.items }
+
+        // The store is that of the longer history, and both files are as it left them.
+        ensures store { IfOk result (λ twin. (twin.store.secret ≡ secret) × (twin.store.protected ≡ protected.items) × (twin.store.usable ≡ true) × IsStore twin.store × IsTwin twin) }
+        ensures stands { B.told → IfOk result (λ twin. IsAsLeft (B.file bench.new) twin.store) }
+        ensures spare_stands { S.told → IfOk result (λ twin. IsSpareAsLeft (S.file spare.new) twin) }
+        ensures together { B.told → S.told → IfOk result (λ twin. KeepWhole (secret_table secret protected.items) (B.file bench.old) (S.file spare.old) twin.store.history) }
+        ensures longer { (main other whole : List Answered) → B.told → S.told → KeepTogether (secret_table secret protected.items) (B.file bench.old) (S.file spare.old) main other whole
+            → IfOk result (λ twin. twin.store.history ≡ whole) }
+
+        // Each refusal has its cause in the files, and each cause has its refusal; files that keep together are never refused.
+        ensures cause { (fault : TwinFault) → B.told → S.told → result ≡ Err fault → TwinCause fault (B.file bench.old) (S.file spare.old) (secret_table secret protected.items) }
+        ensures due { (fault : TwinFault) → B.told → S.told → (TwinGivesUp fault → ⊥) → TwinCause fault (B.file bench.old) (S.file spare.old) (secret_table secret protected.items) → RefusedUnlessGivenUp fault result }
+        ensures opens { (main other whole : List Answered) → B.told → S.told → KeepTogether (secret_table secret protected.items) (B.file bench.old) (S.file spare.old) main other whole → StartsUnlessGivenUp result }
+
+        // At every moment each file stands for a history between its own and the whole. Files that don't keep together are only read.
+        ensures main_moments { (main other whole : List Answered) → B.told → S.told → IsQuiet B.Bench bench.old → KeepTogether (secret_table secret protected.items) (B.file bench.old) (S.file spare.old) main other whole
+            → LeavesOnly B.Bench bench.old bench.new (CatchesUp secret.shape main whole (B.sent bench.old)) }
+        ensures spare_moments { (main other whole : List Answered) → B.told → S.told → IsQuiet S.Bench spare.old → KeepTogether (secret_table secret protected.items) (B.file bench.old) (S.file spare.old) main other whole
+            → LeavesOnly S.Bench spare.old spare.new (CatchesUp secret.shape other whole (S.sent spare.old)) }
+        ensures untouched { B.told → S.told → IsQuiet B.Bench bench.old → KeepApart (secret_table secret protected.items) (B.file bench.old) (S.file spare.old)
+            → LeavesOnly B.Bench bench.old bench.new (IsUntouched (B.file bench.old) (B.sent bench.old)) }
+        ensures spare_untouched { B.told → S.told → IsQuiet S.Bench spare.old → KeepApart (secret_table secret protected.items) (B.file bench.old) (S.file spare.old)
+            → LeavesOnly S.Bench spare.old spare.new (IsUntouched (S.file spare.old) (S.sent spare.old)) }
+        ensures quiet { B.told → IsQuiet B.Bench bench.old → result ≢ Err TwinFault.MainFailed → IsQuiet B.Bench bench.new }
+        ensures spare_quiet { S.told → IsQuiet S.Bench spare.old → result ≢ Err TwinFault.SpareFailed → IsQuiet S.Bench spare.new }
+        ensures sent { B.sent bench.new ≡ B.sent bench.old }
+        ensures spare_sent { S.sent spare.new ≡ S.sent spare.old }
+
+        // If the files are refused, both were only read; if the journal is, the spare wasn't called.
+        ensures reads { (fault : TwinFault) → result ≡ Err fault → (TwinGivesUp fault → ⊥) → OnlyReads B.Bench bench.old bench.new × OnlyReads S.Bench spare.old spare.new }
+        ensures main_first { (fault : StartFault) → result ≡ Err (TwinFault.Main fault) → spare.new ≡ spare.old }
+        ensures ticks { (main other whole : List Answered) → B.told → S.told → KeepTogether (secret_table secret protected.items) (B.file bench.old) (S.file spare.old) main other whole
+            → OnOk result (B.moment bench.new ≡ B.moment bench.old + calls_to_open main whole) }
+        ensures spare_ticks { (main other whole : List Answered) → B.told → S.told → KeepTogether (secret_table secret protected.items) (B.file bench.old) (S.file spare.old) main other whole
+            → OnOk result (S.moment spare.new ≡ S.moment spare.old + calls_to_open other whole) }
+        ensures fault { TellsFault B.Bench bench.old bench.new (IsErrOf result TwinFault.MainFailed) }
+        ensures spare_fault { TellsFault S.Bench spare.old spare.new (IsErrOf result TwinFault.SpareFailed) }
+    {
+        let mut store = match Store::start(alloc, secret, protected, bench) {
+            Ok(store) => store,
+            Err(fault) => return Err(main_fault(fault)),
+        };
+        let (mut journal, list) = match store.open_other(spare) {
+            Ok(found) => found,
+            Err(fault) => return Err(spare_fault(fault)),
+        };
+        catch_up(&mut store, bench, &mut journal, spare, &list)?;
+        Ok(TwinStore {
+            store,
+            spare: journal,
+        })
+    }
+
+    /// Decides up to 64 questions in order, as `Store::ask_all` does, and keeps the records of the answers as one group on the spare
+    /// and then on the bench, in four calls of each. All memory is taken before the first of them. After a refusal the store isn't
+    /// usable.
+    pub fn ask_all<B: Bench, S: Bench>(
+        &mut self,
+        bench: &mut B,
+        spare: &mut S,
+        asked: &[Asked],
+    ) -> Result<Vec<Outcome>, TwinStop>
+        requires usable { self.old.store.usable ≡ true }
+        requires few { length asked.now ≤ 64 }
+        requires fit { All (λ a. FitsShape self.old.store.secret.shape a.column a.rows) asked.now }
+        requires stands { B.told → IsAsLeft (B.file bench.old) self.old.store }
+        requires spare_stands { S.told → IsSpareAsLeft (S.file spare.old) self.old }
+
+        // One outcome for each question, and the history has the records that they make.
+        ensures outcomes { IfOk result (λ v. AreOutcomes (table_of self.old.store) self.old.store.history asked.now v.items) }
+        ensures history { IfOk result (λ v. self.new.store.history ≡ self.old.store.history ++ records_made asked.now v.items) }
+        ensures stands { B.told → OnOk result (IsAsLeft (B.file bench.new) self.new.store) }
+        ensures spare_stands { S.told → OnOk result (IsSpareAsLeft (S.file spare.new) self.new) }
+        ensures usable { OnOk result (self.new.store.usable ≡ true) }
+
+        // A refusal leaves the history as it was. The spare comes first: if a call of it failed the bench wasn't called.
+        ensures kept { OnErr result ((self.new.store.history ≡ self.old.store.history) × (self.new.store.usable ≡ false)) }
+        ensures no_memory { IsErrOf result TwinStop.NoMemory → (bench.new ≡ bench.old) × (spare.new ≡ spare.old) }
+        ensures spare_first { IsErrOf result TwinStop.SpareFailed → bench.new ≡ bench.old }
+        ensures fault { TellsFault B.Bench bench.old bench.new (IsErrOf result TwinStop.MainFailed) }
+        ensures spare_fault { TellsFault S.Bench spare.old spare.new (IsErrOf result TwinStop.SpareFailed) }
+        ensures table { (self.new.store.secret ≡ self.old.store.secret) × (self.new.store.protected ≡ self.old.store.protected) }
+        ensures is { IsStore self.new.store × IsTwin self.new }
+
+        // A crash at any moment leaves on each the history before, or that with the records of the group. If a call of the bench failed
+        // the spare stands for the latter.
+        ensures any_moment { B.told → IsQuiet B.Bench bench.old → (IsErrOf result TwinStop.NoMemory → ⊥)
+            → Keeps B.Bench bench.old bench.new (table_of self.old.store) self.old.store.history asked.now (B.sent bench.old) }
+        ensures spare_moments { S.told → IsQuiet S.Bench spare.old → (IsErrOf result TwinStop.NoMemory → ⊥)
+            → Keeps S.Bench spare.old spare.new (table_of self.old.store) self.old.store.history asked.now (S.sent spare.old) }
+        ensures ahead { B.told → S.told → IsQuiet B.Bench bench.old → IsErrOf result TwinStop.MainFailed → (image : List ℕ) → B.leaves bench.new image
+            → KeptAhead (S.file spare.new) image (table_of self.old.store) self.old.store.history asked.now }
+
+        // A group that makes no record leaves both as they were, any other takes four calls of each.
+        ensures written { B.told → IfOk result (λ v. HasGroup self.old.store.secret.shape (records_made asked.now v.items) self.old.store.journal.gate (B.file bench.old) (B.file bench.new)) }
+        ensures spare_written { S.told → IfOk result (λ v. HasGroup self.old.store.secret.shape (records_made asked.now v.items) self.old.spare.gate (S.file spare.old) (S.file spare.new)) }
+        ensures quiet { B.told → IsQuiet B.Bench bench.old → (IsErrOf result TwinStop.MainFailed → ⊥) → IsQuiet B.Bench bench.new }
+        ensures spare_quiet { S.told → IsQuiet S.Bench spare.old → (IsErrOf result TwinStop.SpareFailed → ⊥) → IsQuiet S.Bench spare.new }
+        ensures sent { B.sent bench.new ≡ B.sent bench.old }
+        ensures spare_sent { S.sent spare.new ≡ S.sent spare.old }
+        ensures ticks { B.told → IfOk result (λ v. B.moment bench.new ≡ B.moment bench.old + calls_for (records_made asked.now v.items)) }
+        ensures spare_ticks { S.told → IfOk result (λ v. S.moment spare.new ≡ S.moment spare.old + calls_for (records_made asked.now v.items)) }
+        ensures unasked { IfOk result (λ v. records_made asked.now v.items ≡ [] → (bench.new ≡ bench.old) × (spare.new ≡ spare.old)) }
+    {
+        let decided = self.store.ask_all_twice(&mut self.spare, bench, spare, asked);
+        match decided {
+            Ok(outcomes) => Ok(outcomes),
+            Err(KeepFault::Bench) => Err(TwinStop::MainFailed),
+            Err(KeepFault::Spare) => Err(TwinStop::SpareFailed),
+            Err(KeepFault::NoMemory) => Err(TwinStop::NoMemory),
+        }
+    }
+
+    /// The released records, in order.
+    pub fn history(&self) -> &[Answered]
+        ensures history { result.now ≡ self.now.store.history }
+        ensures is { IsStore self.now.store × IsTwin self.now }
+    {
+        self.store.history()
+    }
+
+    /// Whether questions may be asked. After a refused `ask_all` they may not.
+    pub fn usable(&self) -> bool
+        ensures { result ≡ self.now.store.usable }
+    {
+        self.store.usable()
+    }
+}
