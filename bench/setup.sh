@@ -1,8 +1,8 @@
-# Read by the scripts beside it: finds their folder and the built program, goes to a fresh folder that is gone at the end, and has what
-# times a run.
+# Read by the scripts beside it: finds their folder and the built program, or the one that AUDITOR names, goes to a fresh folder that
+# is gone at the end, and has what times a run.
 set -u
 here=$(cd "$(dirname "$0")" && pwd)
-program=$here/../crates/auditor/out/auditor
+program=${AUDITOR:-$here/../crates/auditor/out/auditor}
 if [ ! -x "$program" ]; then
     echo "bench: build the program first, as demo/run.sh does" >&2
     exit 1

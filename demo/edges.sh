@@ -5,8 +5,8 @@
 #
 #   demo/edges.sh [PROGRAM]
 #
-# Then it runs replace.sh, which puts a compacted journal in the journal's place, kills it between each two of its steps, and lets other
-# runs come between.
+# Then it runs replace.sh, which puts a compacted journal in the journal's place, with a second journal and without, kills it between each
+# two of its steps, and lets other runs come between.
 #
 # As root it also tries a full disk and one that may only be read, by small file systems in memory, and folders that the program may
 # not write.
@@ -219,17 +219,19 @@ twice() {
     cp answers.journal twice.journal
 }
 
-# Runs replace.sh, and reports its end by the first line that it said, which has to begin with this: `replacing NAME STATUS TEXT`.
+# Runs replace.sh, and reports its end by the first line that it said, which has to begin with this: `replacing NAME STATUS TEXT OPTION..`.
 replacing() {
+    name=$1 due=$2 text=$3
+    shift 3
     by=$program
     [ ! -e "$top/instead/auditor" ] || by=$top/instead/auditor
-    { PATH=$top/instead:$PATH "$demo/replace.sh" . "$by" >sent 2>all; } 2>/dev/null
+    { PATH=$top/instead:$PATH "$demo/replace.sh" "$@" . "$by" >sent 2>all; } 2>/dev/null
     status=$?
     sed -n 's/^replace: //p' all | head -n 1 >said
-    tell "$1" "$2" "$status"
+    tell "$name" "$due" "$status"
     case $(cat said) in
-    "$3"*) ;;
-    *) complain "replace.sh said something else than '$3'" ;;
+    "$text"*) ;;
+    *) complain "replace.sh said something else than '$text'" ;;
     esac
 }
 
@@ -297,6 +299,64 @@ first mv '*' "$more | '$program' serve >more 2>refused"
 replacing 'a run comes once it is locked' 0 'answers.journal is compacted'
 [ ! -s more ] && [ "$(cat refused)" = 'journal or output failed' ] || complain 'that run was not refused'
 stands kept.journal
+
+# The same with a second journal, which is written anew at the end.
+pair() {
+    twice
+    "$program" restore || complain 'the spare was not made'
+    cp answers.spare spare.before
+}
+
+are_twins() {
+    stands kept.journal
+    "$program" serve --twin </dev/null || complain 'the two journals are no twins'
+    [ "$(records answers.journal)" = "$(records answers.spare)" ] || complain 'the spare lacks a record'
+}
+
+pair
+replacing 'the journal of twins is replaced' 0 'answers.journal is compacted' --twin
+[ "$(cat sent)" = '{"records":12,"kept":6}' ] || complain "compact sent $(cat sent)"
+cmp -s answers.spare.old spare.before || complain 'answers.spare.old is not the spare of before'
+cmp -s answers.journal answers.spare || complain 'the spare is not the compacted journal'
+are_twins
+replacing '  and again' 1 'answers.journal.old is already there' --twin
+
+pair
+mkdir elsewhere && mv answers.spare elsewhere && ln -s elsewhere/answers.spare answers.spare
+replacing 'the spare is a link' 0 'answers.journal is compacted' --twin
+cmp -s elsewhere/answers.spare.old spare.before || complain 'what the link led to is not there any more'
+[ -L answers.spare ] && cmp -s answers.journal elsewhere/answers.spare || complain 'the link does not lead to the compacted journal'
+are_twins
+
+for step in 'auditor serve*--twin' 'sync *old' 'mv *spare.old' 'auditor compact' 'flock *' 'cmp *' 'mv *journal' 'sync *.' 'auditor serve' 'auditor restore'; do
+    pair
+    tool=${step%% *}
+    [ "$tool" != auditor ] || tool=$program
+    first "$tool" "${step#* }" "$killed"
+    replacing "with twins it is killed before: $step" 137 '' --twin
+    rm "$top/instead"/*
+    case $step in
+    'sync *.' | 'auditor serve' | 'auditor restore') cmp -s answers.journal kept.journal || complain 'the journal is not the compacted one' ;;
+    *) cmp -s answers.journal twice.journal || complain 'the journal is another one' ;;
+    esac
+    rm -f answers.journal.old answers.spare answers.spare.old
+    "$program" restore || complain 'the spare was not restored'
+    replacing '  and is run again, with the spare restored' 0 'answers.journal is compacted' --twin
+    are_twins
+done
+
+pair
+"$program" serve --twin <questions.jsonl >/dev/null || complain 'the twins were not asked'
+cp twice.journal answers.journal
+replacing 'the journal lacks what the spare has' 0 'answers.journal is compacted' --twin
+are_twins
+
+pair
+printf X | dd of=answers.spare bs=1 seek=3 conv=notrunc 2>/dev/null
+replacing 'the spare is damaged' 1 'auditor serve --twin ended with code 20' --twin
+cmp -s answers.journal twice.journal || complain 'the journal was replaced'
+rm answers.spare
+replacing 'there is no spare' 1 'there is no answers.spare' --twin
 
 twice
 cp answers.journal answers.spare

@@ -1,4 +1,4 @@
-# Read by edges.sh, attacks.sh and statuses.sh, after `set -u` and with their arguments: finds the program, makes a folder that is
+# Read by edges.sh, two_disks.sh, attacks.sh and statuses.sh, after `set -u` and with their arguments: finds the program, makes a folder that is
 # gone at the end, and has what they say of an end. If no program is given it is the one that run.sh built in the source.
 demo=$(cd "$(dirname "$0")" && pwd)
 built=${1:-$demo/../crates/auditor/out/auditor}
@@ -41,11 +41,22 @@ tell_unwritten() {
     tell "$@"
 }
 
-# Starts a run on a pipe, which is open as number 4, and waits for the replies to three lines of the demo.
+# The number of records of the journal in this file, by its groups, each a gate and a count.
+records() {
+    od -An -v -tu1 -w1 "$1" | awk '
+        { byte[NR - 1] = $1 + 0 }
+        END {
+            width = int((byte[9] * 256 + byte[10] + 7) / 8)
+            for (gate = 20; byte[gate] == 1; gate += 2 + byte[gate + 1] * (9 + width)) count += byte[gate + 1]
+            print count + 0
+        }'
+}
+
+# Starts a run on a pipe, which is open as number 4, and waits for the replies to three lines of the demo. Arguments are those of `serve`.
 open_run() {
     mkfifo lines
     : >first
-    "$program" serve <lines >first 2>said &
+    "$program" serve "$@" <lines >first 2>said &
     run=$!
     exec 4>lines
     head -n 3 questions.jsonl >&4

@@ -40,7 +40,7 @@ for page in PROMISES THREATS FORMATS OPERATIONS; do
     cp "$top/docs/$page.md" "$name/share/doc/auditor/" || exit 1
 done
 cp "$top/CHANGELOG.md" "$name/share/doc/auditor/" || exit 1
-for file in run.sh ends.sh edges.sh attacks.sh statuses.sh said.txt check_report.py check_certificate.py twin.py drill.py grow.sh replace.sh schema.json table.csv public.csv questions.jsonl replies.jsonl explained.jsonl; do
+for file in run.sh ends.sh edges.sh two_disks.sh attacks.sh statuses.sh said.txt check_report.py check_certificate.py twin.py drill.py grow.sh replace.sh schema.json table.csv public.csv questions.jsonl replies.jsonl explained.jsonl; do
     cp "$demo/$file" "$name/share/doc/auditor/demo/" || exit 1
 done
 mkdir -p "$name/share/doc/auditor/front" || exit 1

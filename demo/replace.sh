@@ -4,7 +4,11 @@
 # folder. Each step has to succeed; otherwise it stops there, and says what stands and what to do. At every moment answers.journal is
 # the old journal or the whole compacted one, and no answer that was given is missing in it.
 #
-#   demo/replace.sh [FOLDER [PROGRAM]]
+# With --twin the journal has a second one, answers.spare, which `serve --twin` keeps. Both are first brought to one history. The spare
+# is given the name answers.spare.old before compact runs, and at the end `auditor restore` writes it anew from the compacted journal. If
+# answers.spare is a link, it is the file that it leads to that gets `.old` after its name.
+#
+#   demo/replace.sh [--twin] [FOLDER [PROGRAM]]
 #
 # FOLDER is the one that the program works in, the current one if none is given. PROGRAM is the auditor to run; if none is given it is
 # $AUDITOR, or `auditor` in the path. The exit status is 0 if the journal was replaced, 1 if it is as it was, 2 if the arguments are wrong,
@@ -14,6 +18,7 @@ set -eu
 journal=answers.journal
 copy=answers.journal.old
 spare=answers.spare
+aside=answers.spare.old
 
 # Says why it stops, and ends with this status: `stop STATUS LINE..`.
 stop() {
@@ -25,12 +30,24 @@ stop() {
 
 # Stops before anything is replaced.
 stop_before() {
+    if [ -e "$aside" ] || [ -L "$aside" ]; then
+        stop 1 "$1" "$journal is as it was, and nothing is lost. To begin again, remove $copy and $spare, and rename $aside to $spare."
+    fi
     stop 1 "$1" "$journal is as it was, and nothing is lost. To begin again, remove $copy and $spare."
 }
 
-usage='usage: replace.sh [FOLDER [PROGRAM]]'
+# Stops after the journal was replaced, and before its twin is there again.
+stop_without_twin() {
+    stop 3 "$1" "$journal is the compacted one, and $spare isn't written yet: the journal alone has what was answered." \
+        "Mend the cause. If $spare or $aside is a link, give what it leads to another name, and the link the name $spare." \
+        "If $spare is a file, give it another name. Then run auditor restore."
+}
+
+usage='usage: replace.sh [--twin] [FOLDER [PROGRAM]]'
+twin=
 case ${1:-} in
 -h | --help) echo "$usage" && exit 0 ;;
+--twin) twin=--twin && shift ;;
 -*) stop 2 "$usage" ;;
 esac
 [ $# -le 2 ] || stop 2 "$usage"
@@ -57,14 +74,34 @@ if [ -e "$copy" ] || [ -L "$copy" ]; then
     stop 1 "$copy is already there: an earlier replacing was stopped, or left it." \
         "$journal is in force, whichever it is. Give the copy another name, or remove it, and begin again."
 fi
-if [ -e "$spare" ] || [ -L "$spare" ]; then
+if [ -z "$twin" ] && { [ -e "$spare" ] || [ -L "$spare" ]; }; then
     stop 1 "$spare is already there, and may lack answers that were given since it was written." \
-        "Never put it in the journal's place by hand. Remove it, and begin again."
+        "If it is the second journal, which serve --twin keeps, give --twin. Otherwise never put it in the journal's place by hand:" \
+        "remove it, and begin again."
+fi
+
+# Where the second journal is, and what it is called once it is out of the way.
+if [ -n "$twin" ]; then
+    [ -f "$spare" ] || stop 1 "there is no $spare: run auditor restore first"
+    there=$spare
+    [ ! -L "$spare" ] || there=$(readlink -- "$spare")
+    for name in "$aside" "$there.old"; do
+        if [ -e "$name" ] || [ -L "$name" ]; then
+            stop 1 "$name is already there: an earlier replacing was stopped, or left it." \
+                "If $spare is there too, give $name another name, or remove it. If it isn't, rename $name to $spare. Then begin again."
+        fi
+    done
+    # A spare that is a group ahead brings the journal up; journals that differ stop here.
+    "$program" serve --twin </dev/null || stop 1 "auditor serve --twin ended with code $?: OPERATIONS.md says for each code what to do." \
+        "$journal and $spare are as that left them, and nothing is lost."
 fi
 
 # The copy is made only if nothing has its name, and is for the owner alone, as the journal is.
 (umask 077 && set -C && cat -- "$journal" >"$copy") || stop_before "$journal can't be copied to $copy."
 sync -- "$copy" || stop_before "$copy can't be synced."
+if [ -n "$twin" ]; then
+    mv -T -- "$spare" "$aside" || stop_before "$spare can't be renamed."
+fi
 
 "$program" compact || stop_before "auditor compact ended with code $?: OPERATIONS.md says for each code what to do."
 if [ ! -s "$spare" ] || [ -L "$spare" ]; then
@@ -84,4 +121,18 @@ sync -- . || stop 3 "$journal is the compacted one, and a power cut may still br
     "The next run over it syncs the folder first, and ends with code 6 if it can't. $copy is as it was before."
 "$program" serve </dev/null || stop 3 "$journal is the compacted one, and auditor serve ended with code $? over it." \
     "OPERATIONS.md says for each code what to do. As long as no answer was given since, $copy may be put back."
+
+# The second journal is written anew over the compacted one: in the place of its name, or where a link leads.
+if [ -n "$twin" ]; then
+    if [ -L "$aside" ]; then
+        mv -T -- "$there" "$there.old" || stop_without_twin "$there can't be renamed."
+        mv -T -- "$aside" "$spare" || stop_without_twin "$aside can't be renamed to $spare."
+    fi
+    "$program" restore || stop_without_twin "auditor restore ended with code $?: OPERATIONS.md says for each code what to do."
+    "$program" serve --twin </dev/null || stop_without_twin "auditor serve --twin ended with code $?."
+fi
 printf 'replace: %s\n' "$journal is compacted, and $copy is what it was before." "Never put that back once an answer was given since." >&2
+if [ -n "$twin" ]; then
+    [ -L "$spare" ] && aside=$there.old
+    printf 'replace: %s\n' "$spare is its twin again, and $aside what that was before." >&2
+fi

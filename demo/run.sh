@@ -1,11 +1,12 @@
 #!/bin/sh
 # Makes a journal beside copies of the demo's files in a fresh folder, asks the demo's questions, compares the replies with
 # those due, has the report checked, and shows for each number another table that sends the same bytes, if there is a python3. The
-# questions are explained after their answers: each denial has a certificate, which a script checks. Then a table gets a row at its end. The questions are asked twice, and the journal compacted, so that each answer stands in it once; the
-# replies stay. In a folder with the public columns alone the decisions of the transcript are computed again: it agrees, and with one
-# reply changed it doesn't. Then a schema protects a team's total, and that total is denied. At last the table is prepared anew from its
-# CSV, as with a table of your own, and asked about in plain words. The exit status is 0 if all is as it should be. If no program is
-# given it is built first, which takes the source and the kit; in a package it is bin/auditor.
+# questions are explained after their answers: each denial has a certificate, which a script checks. Then a table gets a row at its end.
+# The questions are asked twice, and the journal compacted, so that each answer stands in it once; the replies stay. The journal gets a
+# twin, is lost, and is written anew from it. In a folder with the public columns alone the decisions of the transcript are computed
+# again: it agrees, and with one reply changed it doesn't. Then a schema protects a team's total, and that total is denied. At last the
+# table is prepared anew from its CSV, as with a table of your own, and asked about in plain words. The exit status is 0 if all is as it
+# should be. If no program is given it is built first, which takes the source and the kit; in a package it is bin/auditor.
 #
 #   demo/run.sh [PROGRAM]
 set -u
@@ -59,6 +60,17 @@ mkdir twice && cp schema.json table.csv questions.jsonl answers.journal twice &&
 [ "$(cat counts)" = '{"records":12,"kept":6}' ] || { echo "demo: auditor compact sent $(cat counts)" >&2; exit 1; }
 "$program" serve <questions.jsonl | cmp - "$demo/replies.jsonl" || exit 1
 echo "the journal is compacted, and the replies stay: $(cat counts)" >&2
+cd ..
+
+# Each answer is in two journals before it leaves, so the one that is lost is written anew from the other.
+mkdir pair && cp schema.json table.csv questions.jsonl answers.journal pair && cd pair || exit 1
+"$program" restore || { echo "demo: auditor restore ended with status $?" >&2; exit 1; }
+"$program" serve --twin <questions.jsonl | cmp - "$demo/replies.jsonl" || exit 1
+cp answers.spare kept.spare && rm answers.journal || exit 1
+"$program" restore || { echo "demo: a lost journal wasn't restored, status $?" >&2; exit 1; }
+cmp answers.spare kept.spare || exit 1
+"$program" serve --twin <questions.jsonl | cmp - "$demo/replies.jsonl" || exit 1
+echo "the journal was lost and written anew from its twin, and the replies stay" >&2
 cd ..
 
 # Blank lines have no reply.

@@ -21,7 +21,7 @@ due() {
 }" | cmp -s - said || complain "the text of $code is not '$text'"
     cmp -s replies sent || complain "what was sent at $code is not what was due"
     case $* in
-    compact*) ;;
+    compact* | restore* | *--twin*) ;;
     *) [ ! -e answers.spare ] || complain "there is a spare after $*" ;;
     esac
 }
@@ -45,9 +45,9 @@ cp answers.journal served.journal
 due 0 '' explain
 cmp -s answers.journal served.journal || complain 'the journal was written by explain'
 
-usage='usage: auditor init, serve [--batch N], audit, simulate, drill N, grow, explain, compact'
+usage='usage: auditor init, serve [--batch N] [--twin], audit, simulate, drill N, grow, explain, compact, restore'
 begin
-for words in '' help 'serve 3' '--batch 65 serve' 'audit --batch 2' 'grow 7' 'compact 3' 'explain 3' 'explain --batch 2' drill 'drill x' 'drill 4294967296'; do
+for words in '' help 'serve 3' '--batch 65 serve' 'audit --batch 2' 'grow 7' 'compact 3' 'explain 3' 'explain --batch 2' drill 'drill x' 'drill 4294967296' 'audit --twin' 'restore --twin' 'restore 3'; do
     due 2 "$usage" $words
 done
 
@@ -137,5 +137,52 @@ due 18 'spare is already there' compact
 begin
 mkdir answers.spare
 due 19 'spare failed' compact
+due 19 'spare failed' serve --twin
+due 19 'spare failed' restore
+
+# Both journals of twins.
+begin_twins() {
+    begin
+    "$program" restore || complain 'restore over no spare failed'
+}
+
+begin_twins
+cp questions.jsonl asked
+cp "$demo/replies.jsonl" replies
+due 0 '' serve --twin
+: >asked
+: >replies
+due 0 '' serve --twin --batch 64
+cmp -s answers.journal answers.spare || complain 'the spare is another file than the journal'
+
+begin
+due 20 'spare: no journal' serve --twin
+[ ! -e answers.spare ] || complain 'a spare was made'
+
+begin_twins
+printf X | dd of=answers.spare bs=1 seek=3 conv=notrunc 2>/dev/null
+due 20 'spare: journal damaged at byte 3' serve --twin
+rm answers.journal
+due 20 'spare: journal damaged at byte 3' restore
+
+# The rows are in bytes 9 and 10.
+begin_twins
+printf '\005' | dd of=answers.spare bs=1 seek=10 conv=notrunc 2>/dev/null
+due 20 'spare: journal is of another table: rows 5, now 6' serve --twin
+
+begin_twins
+cp answers.spare other.journal
+echo '{"ask":"sum","column":"salary","where":"all"}' | "$program" serve >/dev/null
+mv answers.journal first.journal
+mv other.journal answers.journal
+echo '{"ask":"sum","column":"salary","where":"age > 40"}' | "$program" serve >/dev/null
+mv answers.journal answers.spare
+mv first.journal answers.journal
+due 21 'journals differ at record 0' serve --twin
+
+begin_twins
+due 22 'no journal is lost' restore
+rm answers.journal answers.spare
+due 7 'no journal' restore
 
 conclude

@@ -30,7 +30,7 @@ HERE = pathlib.Path(__file__).resolve().parent
 
 def make_table(name, places, settings):
     opener = Sockets(places.serve, places.audit, places.explain) if places.serve else Child(settings.auditor, places.folder)
-    groups = Groups(opener, settings.batch, settings.run_limit)
+    groups = Groups(opener, settings.batch, settings.run_limit, settings.twin)
     table = Table(name, groups, places, settings.auditor, settings.report_every)
     # Tests are less patient.
     groups.patience = settings.group_patience or groups.patience

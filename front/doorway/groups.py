@@ -21,8 +21,8 @@ REPLY = 64                          # bytes that a reply has at most
 class Groups:
     """Runs of `serve`, one after the other, and groups of lines asked of them."""
 
-    def __init__(self, opener, batch, limit):
-        self.opener, self.batch, self.limit = opener, batch, limit
+    def __init__(self, opener, batch, limit, twin=False):
+        self.opener, self.batch, self.limit, self.twin = opener, batch, limit, twin
         self.most = max(batch - 1, 1) if batch > 1 else 63
         self.patience = PATIENCE
         self.run = None
@@ -33,7 +33,8 @@ class Groups:
     async def start(self):
         """Opens a run. A first group of no question shows that the journal is read and is this run's alone."""
         self.kill()
-        self.run = await self.opener.open("serve", "--batch", str(self.batch))
+        twin = ["--twin"] if self.twin else []
+        self.run = await self.opener.open("serve", *twin, "--batch", str(self.batch))
         self.taken, self.broken = 0, ""
         await self.ask([])
 

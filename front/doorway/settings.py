@@ -37,6 +37,7 @@ def parser():
     add("--audit", metavar="SOCKET", help="where another user runs `auditor audit`")
     add("--explain", metavar="SOCKET", help="where another user runs `auditor explain`; without it nobody is told why")
     add("--batch", type=int, default=64, help="lines that the program answers together, 1 to 64; 64 by default")
+    add("--twin", action="store_true", help="the program keeps two journals: `auditor serve --twin`. With --serve the unit says so")
     add("--listen", default="127.0.0.1:8087", help="unix:PATH, or an address of this machine and a port")
     add("--host", action="append", default=[], help="a name under which a proxy hands requests on; may be repeated")
     add("--report-every", type=float, default=0, metavar="SECONDS", help="the rest after which a report is made; 0 for none")
@@ -56,6 +57,8 @@ def read(arguments=None):
     settings = words.parse_args(arguments)
     if not 1 <= settings.batch <= 64:
         words.error("--batch is 1 to 64")
+    if settings.twin and settings.serve:
+        words.error("--twin is for a program that the door starts: with --serve it is the unit that starts `auditor serve --twin`")
     if settings.fewest < 0 or settings.report_every < 0:
         words.error("--fewest and --report-every are at least 0")
     if settings.report_every and settings.serve and not settings.audit:

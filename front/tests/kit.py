@@ -81,9 +81,9 @@ class Folder:
         kind = chance.choice(["sum", "sum", "max", "count"])
         return (kind, low, high), line_of(kind, low, high)
 
-    def journal(self):
+    def journal(self, name="answers.journal"):
         """The records by the page on formats: column, rows, answer."""
-        data = (self.path / "answers.journal").read_bytes()
+        data = (self.path / name).read_bytes()
         assert data[0] == 1 and data[1:8] == b"SQAJRNL" and data[8] == 1
         rows = int.from_bytes(data[9:11], "big")
         size, at, records, sets = 9 + (rows + 7) // 8, 20, [], {}

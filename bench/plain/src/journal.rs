@@ -6,39 +6,88 @@ use std::fs::{File, OpenOptions};
 use std::io::{self, Read};
 use std::os::unix::fs::FileExt;
 
-const HEADER: usize = 20;
+pub const HEADER: usize = 20;
 const NAME: &[u8] = b"\x01SQAJRNL\x01";
 
+#[derive(PartialEq, Eq)]
 pub struct Record {
     pub column: u8,
     pub rows: RowSet,
     pub answer: i64,
 }
 
-pub struct Journal {
-    file: File,
+/// Records that are to be written together: their count and bytes, which stand after a gate.
+pub struct Group {
     n: u16,
-    /// Where the next group's gate stands.
-    gate: u64,
-    group: Vec<u8>,
+    bytes: Vec<u8>,
 }
 
-fn set_size(n: u16) -> usize {
+impl Group {
+    pub fn new(n: u16) -> Group {
+        let bytes = Vec::new();
+        Group { n, bytes }
+    }
+
+    /// Adds a record.
+    pub fn put(&mut self, record: &Record) {
+        if self.bytes.is_empty() {
+            self.bytes.push(0);
+        }
+        self.bytes[0] += 1;
+        self.bytes.push(record.column);
+        self.bytes.extend(record.answer.to_be_bytes());
+        let mut set = [0; 128];
+        for (part, word) in set.chunks_exact_mut(8).zip(&record.rows.words) {
+            part.copy_from_slice(&word.to_le_bytes());
+        }
+        self.bytes.extend(&set[..set_size(self.n)]);
+    }
+
+    pub fn is_empty(&self) -> bool {
+        self.bytes.is_empty()
+    }
+
+    pub fn bytes(&self) -> &[u8] {
+        &self.bytes
+    }
+
+    pub fn clear(&mut self) {
+        self.bytes.clear();
+    }
+}
+
+pub struct Journal {
+    file: File,
+    /// Where the next group's gate stands.
+    gate: u64,
+}
+
+pub fn set_size(n: u16) -> usize {
     usize::from(n).div_ceil(8)
+}
+
+/// The bytes of a header, behind an open gate.
+pub fn header(n: u16, secrets: &[Role]) -> Vec<u8> {
+    let mut header = NAME.to_vec();
+    header.extend(n.to_be_bytes());
+    header.push(secrets.len() as u8);
+    let kind = |role: &Role| if *role == Role::Sum { 1 } else { 2 };
+    header.extend(secrets.iter().map(kind));
+    header.resize(HEADER, 0);
+    header
 }
 
 impl Journal {
     pub fn make(path: &str, n: u16, secrets: &[Role]) -> io::Result<()> {
-        let mut header = NAME.to_vec();
-        header.extend(n.to_be_bytes());
-        header.push(secrets.len() as u8);
-        header.extend(
-            secrets
-                .iter()
-                .map(|role| if *role == Role::Sum { 1 } else { 2 }),
-        );
-        header.resize(HEADER + 1, 0);
-        std::fs::write(path, header)
+        let mut fresh = header(n, secrets);
+        fresh.push(0);
+        std::fs::write(path, fresh)
+    }
+
+    /// A journal in this file, whose last gate stands there.
+    pub fn at(file: File, gate: usize) -> Journal {
+        let gate = gate as u64;
+        Journal { file, gate }
     }
 
     /// Opens a journal, with the records that count.
@@ -47,43 +96,18 @@ impl Journal {
         let mut bytes = Vec::new();
         file.read_to_end(&mut bytes)?;
         let (records, gate) = read_groups(&bytes, n);
-        let group = Vec::new();
-        let journal = Journal {
-            file,
-            n,
-            gate: gate as u64,
-            group,
-        };
-        Ok((journal, records))
+        Ok((Journal::at(file, gate), records))
     }
 
-    /// Adds a record to the group that is being made.
-    pub fn put(&mut self, record: &Record) {
-        if self.group.is_empty() {
-            self.group.push(0);
-        }
-        self.group[0] += 1;
-        self.group.push(record.column);
-        self.group.extend(record.answer.to_be_bytes());
-        let mut bytes = [0; 128];
-        for (part, word) in bytes.chunks_exact_mut(8).zip(&record.rows.words) {
-            part.copy_from_slice(&word.to_le_bytes());
-        }
-        self.group.extend(&bytes[..set_size(self.n)]);
-    }
-
-    /// Writes the group, and then the gate before it.
-    pub fn write(&mut self) -> io::Result<()> {
-        if self.group.is_empty() {
-            return Ok(());
-        }
-        self.group.push(0);
-        self.file.write_all_at(&self.group, self.gate + 1)?;
+    /// Writes a group and a closed gate, and then opens the gate before it.
+    pub fn append(&mut self, group: &Group) -> io::Result<()> {
+        let mut bytes = group.bytes.clone();
+        bytes.push(0);
+        self.file.write_all_at(&bytes, self.gate + 1)?;
         self.file.sync_all()?;
         self.file.write_all_at(&[1], self.gate)?;
         self.file.sync_all()?;
-        self.gate += self.group.len() as u64;
-        self.group.clear();
+        self.gate += bytes.len() as u64;
         Ok(())
     }
 }
@@ -109,7 +133,8 @@ fn read_groups(bytes: &[u8], n: u16) -> (Vec<Record>, usize) {
     (records, at)
 }
 
-fn read_record(bytes: &[u8], n: u16, size: usize) -> Record {
+/// The record at the start of these bytes, whose set has so many bytes, over so many rows.
+pub fn read_record(bytes: &[u8], n: u16, size: usize) -> Record {
     let mut set = [0; 128];
     set[..size].copy_from_slice(&bytes[9..9 + size]);
     let mut rows = RowSet::new(n);

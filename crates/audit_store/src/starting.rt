@@ -25,7 +25,7 @@ use sum_basis::laws::narrow_or_wide;
 use table_load::Secret;
 
 /// Why a store was not started.
-#[derive(Clone, Copy)]
+#[derive(Clone, Copy, PartialEq, Eq)]
 pub enum StartFault {
     /// The file is shorter than a journal, or its header gate isn't open.
     NotMade,

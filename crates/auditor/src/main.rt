@@ -46,8 +46,9 @@ fn run_on_files(rt: &HostRuntime, words: &Vec<String>) -> Status {
     let mut table = FileSource::new(rt, "table.csv");
     let mut input = InputSource::new(rt.stdin());
     let mut bench = journal(rt, words);
-    // Only `compact` calls it, and a bench that isn't called opens no file.
-    let mut spare = FileBench::new(rt, "answers.spare");
+    // Only `compact` and the commands for twins call it, after the journal, and a bench that isn't called opens no file. A link
+    // may lead to another disk.
+    let mut spare = FileBench::following(rt, rt.alloc(), "answers.spare");
     run(
         rt.alloc(),
         words,

@@ -14,7 +14,7 @@ use Rattle.auditor_top.specs.declared.status.Status.TheVariants.{Done, SourceFau
 use Rattle.auditor_top.specs.Causes.{FaultCounts, FaultCause, WordCause, FileCause, SpareCause, HoldsLegal, NothingFailed, IsDoneOrWants}
 use Rattle.auditor_top.specs.Compactions.{CompactEnds, Compacts, CompactsFront}
 use Rattle.auditor_top.specs.declared.status.Status.{Status}
-use Rattle.auditor_top.specs.Stages.{Before, writing_spare, reading_lines}
+use Rattle.auditor_top.specs.Stages.{Before, opening_spare, reading_lines}
 use Rattle.auditor_top.specs.Status.{compacting_status}
 use Rattle.auditor_top.proofs.StepStatuses.{EndsLastStep}
 
@@ -44,7 +44,7 @@ compact_file (Err compact.NoMemory) file table legal = tt
 
 -- it is refused if a journal is made on the spare, and done if none is
 pub compact_spare : {X : Type 0} (ended : Result X CompactFault) (file : List ℕ) → (IsErrOf ended compact.AlreadyThere → IsMade file) →
-    (IsMade file → IsErr ended) → SpareCause (compacting_status ended) file
+    (IsMade file → IsErr ended) → SpareCause (compacting_status ended) Compact file
 compact_spare (Ok done) file already refused = λ made. absurd (false≢true (refused made))
 compact_spare (Err compact.AlreadyThere) file already refused = already refl
 compact_spare (Err compact.Spare) file already refused = tt
@@ -126,7 +126,7 @@ compact_wants (Err compact.NoMemory) before after absent rose none fine = inr re
 pub compact_at_lines : {X : Type 0} (P : Type 0) (ended : Result X CompactFault) → OnErr ended (ended ≢ Err compact.Bench → P) → Before reading_lines (compacting_status ended) P
 compact_at_lines P (Ok done) unsent = tt
 compact_at_lines P (Err compact.AlreadyThere) unsent = unsent (λ is. cc)
-compact_at_lines P (Err compact.Spare) unsent = unsent (λ is. cc)
+compact_at_lines P (Err compact.Spare) unsent = tt
 compact_at_lines P (Err compact.Bench) unsent = tt
 compact_at_lines P (Err compact.NoMemory) unsent = tt
 
@@ -138,16 +138,24 @@ compact_done (Err compact.Spare) is holds = cc
 compact_done (Err compact.Bench) is holds = cc
 compact_done (Err compact.NoMemory) is holds = cc
 
+-- if the spare failed nothing was sent
+pub spare_unsent : {X P : Type 0} (ended : Result X CompactFault) → compacting_status ended ≡ SpareFault → OnErr ended (ended ≢ Err compact.Bench → P) → P
+spare_unsent (Ok done) is unsent = cc
+spare_unsent (Err compact.AlreadyThere) is unsent = cc
+spare_unsent (Err compact.Spare) is unsent = unsent (λ other. cc)
+spare_unsent (Err compact.Bench) is unsent = cc
+spare_unsent (Err compact.NoMemory) is unsent = cc
+
 -- what follows holds of the same refusals
 pub unsent_so : {X P Q : Type 0} (ended : Result X CompactFault) → (P → Q) → OnErr ended (ended ≢ Err compact.Bench → P) → OnErr ended (ended ≢ Err compact.Bench → Q)
 unsent_so (Ok done) follows unsent = tt
 unsent_so (Err fault) follows unsent = λ other. follows (unsent other)
 
 -- a compaction comes to the spare
-pub at_spare : {X : Type 0} (P : Type 0) (status : Status) (ended : Result X CompactFault) → status ≡ compacting_status ended → Before writing_spare status P
-at_spare P status ended is = subst (λ (s : Status). Before writing_spare s P) (sym is) (reached_it ended)
+pub at_spare : {X : Type 0} (P : Type 0) (status : Status) (ended : Result X CompactFault) → status ≡ compacting_status ended → Before opening_spare status P
+at_spare P status ended is = subst (λ (s : Status). Before opening_spare s P) (sym is) (reached_it ended)
   where
-    reached_it : {X : Type 0} (ended : Result X CompactFault) → Before writing_spare (compacting_status ended) P
+    reached_it : {X : Type 0} (ended : Result X CompactFault) → Before opening_spare (compacting_status ended) P
     reached_it (Ok done) = tt
     reached_it (Err compact.AlreadyThere) = tt
     reached_it (Err compact.Spare) = tt

@@ -5,7 +5,7 @@ use Rattle.auditor_top.specs.declared.words.Command.{Command}
 use Rattle.auditor_top.specs.declared.ready.Ready.{Ready}
 use Rattle.auditor_top.specs.declared.words.WordFault.{WordFault}
 use Rattle.auditor_top.specs.declared.words.WordFault.TheVariants.{Bad}
-use Rattle.auditor_top.specs.declared.words.Command.TheVariants.{Init, Serve, Audit, Simulate, Drill, Grow, Explain, Compact}
+use Rattle.auditor_top.specs.declared.words.Command.TheVariants.{Init, Serve, Audit, Simulate, Drill, Grow, Explain, Compact, Restore}
 use Rattle.auditor_top.specs.declared.status.Status.{Status}
 use Rattle.auditor_top.specs.declared.status.Status.TheVariants.{SpareFault}
 use Rattle.auditor_top.specs.Causes.{WordCause}
@@ -15,16 +15,18 @@ use Rattle.auditor_top.specs.Ready.{command_for}
 pub one_command : (asked : Option Command) (a b : Command) → asked ≡ Some a → asked ≡ Some b → a ≡ b
 one_command asked a b is also = cc
 
--- the place of a command among the eight
+-- the place of a command among the nine, `serve` in two ways
 abbrev place_of : Command → ℕ
 place_of Init = 0
-place_of (Serve batch) = 1
+place_of (Serve batch false) = 1
+place_of (Serve batch true) = 9
 place_of Audit = 2
 place_of Simulate = 3
 place_of (Drill number) = 4
 place_of Grow = 5
 place_of Explain = 6
 place_of Compact = 7
+place_of Restore = 8
 
 -- one command has one place
 same_place : (a b : Command) → a ≡ b → nat_eq (place_of a) (place_of b) ≡ true
@@ -32,13 +34,15 @@ same_place a b is = subst (λ (k : Command). nat_eq (place_of a) (place_of k) �
   where
     to_itself : (a : Command) → nat_eq (place_of a) (place_of a) ≡ true
     to_itself Init = refl
-    to_itself (Serve batch) = refl
+    to_itself (Serve batch false) = refl
+    to_itself (Serve batch true) = refl
     to_itself Audit = refl
     to_itself Simulate = refl
     to_itself (Drill number) = refl
     to_itself Grow = refl
     to_itself Explain = refl
     to_itself Compact = refl
+    to_itself Restore = refl
 
 -- arguments that name one command name no other
 pub not_asked : {Y : Type 0} (asked : Option Command) (one another : Command) → asked ≡ Some one → asked ≡ Some another →

@@ -1,5 +1,5 @@
 -- A life with one run more.
-use Rattle.std.proofs.Common.{◌≡◌, ℕ, inl, List, [], ◌∷◌, ◌++◌, true, Option, Some, refl, sym, ◌∙◌, ap, subst, arith}
+use Rattle.std.proofs.Common.{◌≡◌, ℕ, inl, List, [], ◌∷◌, ◌++◌, Bool, true, false, Option, Some, refl, sym, ◌∙◌, ap, subst, append_assoc, arith}
 use Rattle.std.proofs.lemmas.List.{append_cancel_left, append-nil}
 use Rattle.audit_types.specs.declared.shapes.Shape.{Shape}
 use Rattle.audit_types.specs.declared.records.Answered.{Answered}
@@ -13,27 +13,35 @@ use Rattle.audit_types.specs.Widening.{over}
 use Rattle.answer_journal.specs.Moments.{IsBeforeOrGrown}
 use Rattle.line_wire.specs.Lines.{counted_lines}
 use Rattle.question_plan.specs.Replies.{IsDue}
-use Rattle.audit_session.specs.Stops.{IsBatch, Stop, StopsOver, stands_over}
-use Rattle.audit_session.specs.Lives.{Standing, serves, grows, Run, GoesFrom, Lead, IsLife, in_force}
+use Rattle.audit_session.specs.Stops.{IsBatch, IsFront, Stop, StopsOver, stands_over}
+use Rattle.audit_session.specs.Lives.{Standing, serves, grows, Run, GoesFrom, Lead, IsLife, in_force, over_all}
 use Rattle.auditor_top.specs.declared.status.Status.{Status}
 use Rattle.auditor_top.specs.declared.words.Command.{Command}
-use Rattle.auditor_top.specs.declared.words.Command.TheVariants.{Init, Serve, Audit, Simulate, Drill, Grow, Explain, Compact}
-use Rattle.auditor_top.specs.Commands.{GoesOnOver, deed_of, reads_lines}
+use Rattle.auditor_top.specs.declared.words.Command.TheVariants.{Serve, Grow}
+use Rattle.auditor_top.specs.Commands.{AreSoundFilesOf, GoesOnOver, deed_of, reads_lines}
 use Rattle.auditor_top.specs.Promise.{GoesOn, RunsMakeLives}
-use Rattle.auditor_top.specs.Runs.{Objects, Does, Serving, Growing}
+use Rattle.auditor_top.specs.Runs.{Objects, Does, Serving, TwinServing, Growing}
+use Rattle.auditor_top.specs.Twins.{Reaches}
 use Rattle.auditor_top.proofs.OneCommand.{one_command}
-
--- one file has one history
-abbrev pub OneReading : Type 0
-OneReading =
-    (file : List ℕ) (shape other : Shape) (history others : List Answered) (gate place : ℕ) → StandsAt file shape history gate →
-    StandsAt file other others place → (shape ≡ other) × (history ≡ others) × (gate ≡ place)
+use Rattle.auditor_top.proofs.OneTable.{OneReading, untouched_stops}
 
 -- the empty history is legal
 pub nothing_is_legal : (table : Table) → IsLegal table []
 nothing_is_legal table = record { few = omega arith; each = λ i r is. cc }
 
-pub lead_push : (at : Standing) (runs : List Run) (mid : Standing) (run : Run) → Lead at runs mid → GoesFrom mid run → Lead at (runs ++ run ∷ []) run.left
+pub -- what begins each other is the same
+pub fronts_meet : (a b : List Answered) → IsFront a b → IsFront b a → a ≡ b
+fronts_meet a b first second =
+    let whole : a ≡ a ++ (first.rest ++ second.rest) =
+    second.is ∙ ap (λ (l : List Answered). l ++ second.rest) first.is ∙ append_assoc a first.rest second.rest in
+    let none : [] ≡ first.rest ++ second.rest = append_cancel_left a [] _ (append-nil a ∙ whole) in
+    sym (first.is ∙ ap (λ (l : List Answered). a ++ l) (none_first first.rest second.rest none) ∙ append-nil a)
+  where
+    none_first : (x y : List Answered) → [] ≡ x ++ y → x ≡ []
+    none_first [] y is = refl
+    none_first (r ∷ x) y is = cc
+
+lead_push : (at : Standing) (runs : List Run) (mid : Standing) (run : Run) → Lead at runs mid → GoesFrom mid run → Lead at (runs ++ run ∷ []) run.left
 lead_push at [] mid run lead goes = (subst (λ (s : Standing). GoesFrom s run) lead goes, refl)
 lead_push at (before ∷ runs) mid run lead goes = (lead.0, lead_push before.left runs mid run lead.1 goes)
 
@@ -44,30 +52,53 @@ module _ {P I B : Type 0} (files : source.Ghosts P) (lines : source.Ghosts I) (b
   abbrev before : List ℕ
   before = bench.sent old.bench
 
-  -- the life goes on with a run of `serve`
-  serves_on : (batch : ℕ) → IsBatch batch → Serving files lines bench batch status old new → files.told → lines.told → bench.told →
-      GoesOnOver (Serve batch) (files.left old.schema) (files.left old.table) (bench.file old.bench) at left.base →
+  -- the life goes on with a stop of the answers to lines
+  stops_on : (batch : ℕ) → IsBatch batch → AreSoundFilesOf (files.left old.schema) (files.left old.table) left.base → at ≡ over_all left.base at.history →
+      StopsOver left.base batch at.history (counted_lines (lines.left old.input)) before image (before ++ sent) →
       GoesOn first runs (record { deed = serves batch (lines.left old.input); left = left; sent = sent })
-  serves_on batch is serving ptold itold told goes =
-      let base = left.base in
-      let stops : StopsOver base batch at.history (counted_lines (lines.left old.input)) before image (before ++ sent) =
-      (serving.any_moment ptold itold told quiet base at.history goes.0).each image (before ++ sent) was in
+  stops_on batch is sound stood stops =
       let same : stops.0 ≡ sent = sym (append_cancel_left before sent stops.0 stops.1) in
       longer (files.left old.schema) (files.left old.table) first runs at (record { deed = serves batch (lines.left old.input); left = left; sent = sent })
-      goes.0.files life (record {
-        table = inl (sym (ap (λ (s : Standing). s.base) goes.1));
+      sound life (record {
+        table = inl (sym (ap (λ (s : Standing). s.base) stood));
         image = image;
         stands = stands;
         makes = (
           is,
-          ap (λ (s : Standing). s.rows) goes.1,
-          subst (λ (bytes : List ℕ). Stop (IsDue base) (stands_over base) batch at.history (counted_lines (lines.left old.input)) image bytes) same stops.2,
+          ap (λ (s : Standing). s.rows) stood,
+          subst (λ (bytes : List ℕ). Stop (IsDue left.base) (stands_over left.base) batch at.history (counted_lines (lines.left old.input)) image bytes) same stops.2,
         );
       })
 
+  -- so with a run of `serve`
+  serves_on : (batch : ℕ) → IsBatch batch → Serving files lines bench batch status old new → files.told → lines.told → bench.told →
+      GoesOnOver (Serve batch false) (files.left old.schema) (files.left old.table) (bench.file old.bench) (bench.file old.spare) at left.base →
+      GoesOn first runs (record { deed = serves batch (lines.left old.input); left = left; sent = sent })
+  serves_on batch is serving ptold itold told goes =
+      stops_on batch is goes.0.files goes.1 ((serving.any_moment ptold itold told quiet left.base at.history goes.0).each image (before ++ sent) was)
+
+  -- and with one over two journals, once the file isn't behind the longer one: while it is brought up it stands for that one at the end alone
+  twins_on : (batch : ℕ) → IsBatch batch → OneReading → TwinServing files lines bench batch status old new → files.told → lines.told → bench.told →
+      GoesOnOver (Serve batch true) (files.left old.schema) (files.left old.table) (bench.file old.bench) (bench.file old.spare) at left.base →
+      IsFront at.history left.history → GoesOn first runs (record { deed = serves batch (lines.left old.input); left = left; sent = sent })
+  twins_on batch is one serving ptold itold told goes reaches =
+      let text = counted_lines (lines.left old.input) in
+      stops_on batch is goes.2.files goes.3 (
+        elim (serving.twin_moment ptold itold told quiet left.base goes.0 goes.1 at.history goes.2).each image (before ++ sent) was [
+          | inl catches ↦
+              let same : catches.1.now ≡ left.history = (one image left.base.secret.shape (in_force left).setting.shape catches.1.now left.history catches.1.stands.0 stands.0
+              catches.1.stands.1 stands.1).1 in
+              let now : at.history ≡ catches.1.now = fronts_meet at.history catches.1.now
+              (subst (λ (h : List Answered). IsFront at.history h) (sym same) reaches) catches.1.to in
+              untouched_stops left.base batch at.history text image before image (before ++ sent)
+              (subst (λ (h : List Answered). StandsFor image left.base.secret.shape h) (sym now) catches.1.stands) (catches.0, refl)
+          | inr stops ↦ stops
+        ]
+      )
+
   -- and with one of `grow`
   grows_on : Growing files lines bench status old new → files.told → bench.told →
-      GoesOnOver Grow (files.left old.schema) (files.left old.table) (bench.file old.bench) at left.base →
+      GoesOnOver Grow (files.left old.schema) (files.left old.table) (bench.file old.bench) (bench.file old.spare) at left.base →
       GoesOn first runs (record { deed = grows; left = left; sent = sent })
   grows_on growing ptold told goes =
       let found : IsBeforeOrGrown (over at.rows left.base.secret.shape) at.history left.base.secret.shape.rows before image (before ++ sent) =
@@ -81,31 +112,30 @@ module _ {P I B : Type 0} (files : source.Ghosts P) (lines : source.Ghosts I) (b
 
 -- whatever moment a run of a command is stopped at, the life goes on with it
 pub goes_on : {P I B : Type 0} (files : source.Ghosts P) (lines : source.Ghosts I) (bench : Ghosts B) (status : Status) (old new : Objects P I B) →
-    RunsMakeLives → (command : Command) → ((batch : ℕ) → command ≡ Serve batch → IsBatch batch) → Does files lines bench command status old new → files.told → bench.told → (reads_lines command ≡ true → lines.told) →
+    RunsMakeLives → OneReading → (command : Command) → ((batch : ℕ) (twin : Bool) → command ≡ Serve batch twin → IsBatch batch) →
+    Does files lines bench command status old new → files.told → bench.told → (reads_lines command ≡ true → lines.told) →
     IsQuiet bench old.bench → (base : Database) (at : Standing) →
-    GoesOnOver command (files.left old.schema) (files.left old.table) (bench.file old.bench) at base → (first : Database) (runs : List Run) →
+    GoesOnOver command (files.left old.schema) (files.left old.table) (bench.file old.bench) (bench.file old.spare) at base → (first : Database) (runs : List Run) →
     IsLife first runs at → (image sent : List ℕ) (left : Standing) → left.base ≡ base →
     bench.since new.bench (bench.moment old.bench) image (bench.sent old.bench ++ sent) → StandsFor image (in_force left).setting.shape left.history →
-    GoesOn first runs (record { deed = deed_of command (lines.left old.input); left = left; sent = sent })
-goes_on files lines bench status old new longer Init batches does ptold told itold quiet base at goes first runs life image sent left is was stands = absurd goes
-goes_on files lines bench status old new longer (Serve batch) batches does ptold told itold quiet base at goes first runs life image sent left is was stands =
-    serves_on files lines bench status old new longer quiet at first runs life image sent left was stands batch (batches batch refl) does ptold (itold refl) told
-    (subst (λ (b : Database). GoesOnOver (Serve batch) (files.left old.schema) (files.left old.table) (bench.file old.bench) at b) (sym is) goes)
-goes_on files lines bench status old new longer Audit batches does ptold told itold quiet base at goes first runs life image sent left is was stands = absurd goes
-goes_on files lines bench status old new longer Simulate batches does ptold told itold quiet base at goes first runs life image sent left is was stands = absurd goes
-goes_on files lines bench status old new longer (Drill number) batches does ptold told itold quiet base at goes first runs life image sent left is was stands =
-    absurd goes
-goes_on files lines bench status old new longer Explain batches does ptold told itold quiet base at goes first runs life image sent left is was stands = absurd goes
-goes_on files lines bench status old new longer Compact batches does ptold told itold quiet base at goes first runs life image sent left is was stands = absurd goes
-goes_on files lines bench status old new longer Grow batches does ptold told itold quiet base at goes first runs life image sent left is was stands =
+    Reaches command at left → GoesOn first runs (record { deed = deed_of command (lines.left old.input); left = left; sent = sent })
+goes_on files lines bench status old new longer one (Serve batch false) batches does ptold told itold quiet base at goes first runs life image sent left is was stands reaches =
+    serves_on files lines bench status old new longer quiet at first runs life image sent left was stands batch (batches batch false refl) does ptold (itold refl) told
+    (subst (λ (b : Database). GoesOnOver (Serve batch false) (files.left old.schema) (files.left old.table) (bench.file old.bench) (bench.file old.spare) at b) (sym is) goes)
+goes_on files lines bench status old new longer one (Serve batch true) batches does ptold told itold quiet base at goes first runs life image sent left is was stands reaches =
+    twins_on files lines bench status old new longer quiet at first runs life image sent left was stands batch (batches batch true refl) one does ptold (itold refl) told
+    (subst (λ (b : Database). GoesOnOver (Serve batch true) (files.left old.schema) (files.left old.table) (bench.file old.bench) (bench.file old.spare) at b) (sym is) goes)
+    reaches
+goes_on files lines bench status old new longer one Grow batches does ptold told itold quiet base at goes first runs life image sent left is was stands reaches =
     grows_on files lines bench status old new longer quiet at first runs life image sent left was stands does ptold told
-    (subst (λ (b : Database). GoesOnOver Grow (files.left old.schema) (files.left old.table) (bench.file old.bench) at b) (sym is) goes)
+    (subst (λ (b : Database). GoesOnOver Grow (files.left old.schema) (files.left old.table) (bench.file old.bench) (bench.file old.spare) at b) (sym is) goes)
+goes_on files lines bench status old new longer one command batches does ptold told itold quiet base at goes first runs life image sent left is was stands reaches = absurd goes
 
 -- with a run of any other command none does
-pub never_goes_on : {Y : Type 0} (words : Option Command) (command one : Command) (schema table file : List ℕ) (at : Standing) (base : Database) →
-    words ≡ Some one → words ≡ Some command → (GoesOnOver one schema table file at base → ⊥) → GoesOnOver command schema table file at base → Y
-never_goes_on words command one schema table file at base is asked never goes =
-    absurd (never (subst (λ (k : Command). GoesOnOver k schema table file at base) (one_command words command one asked is) goes))
+pub never_goes_on : {Y : Type 0} (words : Option Command) (command one : Command) (schema table file spare : List ℕ) (at : Standing) (base : Database) →
+    words ≡ Some one → words ≡ Some command → (GoesOnOver one schema table file spare at base → ⊥) → GoesOnOver command schema table file spare at base → Y
+never_goes_on words command one schema table file spare at base is asked never goes =
+    absurd (never (subst (λ (k : Command). GoesOnOver k schema table file spare at base) (one_command words command one asked is) goes))
 
 -- what a run of the command does that the arguments name
 pub does_so : {P I B : Type 0} (files : source.Ghosts P) (lines : source.Ghosts I) (bench : Ghosts B) (status : Status) (old new : Objects P I B)

@@ -5,6 +5,7 @@ use Rattle.std.proofs.Math.Nat.{zero-mul}
 use Rattle.std.proofs.Math.Seq.{take-nil}
 use Rattle.std.proofs.lemmas.List.{append-nil}
 use Rattle.audit_types.specs.declared.records.Answered.{Answered}
+use Rattle.audit_types.specs.declared.shapes.Shape.{Shape}
 use Rattle.audit_types.specs.declared.records.Protected.{Protected}
 use Rattle.set_index.specs.Groups.{AreEntries, AreSound}
 use Rattle.set_index.specs.Indexed.{OneListOfEntries}
@@ -28,7 +29,12 @@ use Rattle.auditor_top.specs.Causes.{HoldsLegal}
 use Rattle.auditor_top.specs.Commands.{AreFilesOf, AreSoundFilesOf, ServesOver, reads_groups}
 use Rattle.auditor_top.proofs.OneCommand.{one_command}
 use Rattle.auditor_top.specs.Ends.{StandsForWhat}
-use Rattle.auditor_top.proofs.OneRunMore.{OneReading}
+
+-- one file has one history
+abbrev pub OneReading : Type 0
+OneReading =
+    (file : List ℕ) (shape other : Shape) (history others : List Answered) (gate place : ℕ) → StandsAt file shape history gate →
+    StandsAt file other others place → (shape ≡ other) × (history ≡ others) × (gate ≡ place)
 
 -- a good answer holds one value
 pub same_ok : {X E : Type 0} (r : Result X E) (x y : X) → r ≡ Ok x → r ≡ Ok y → x ≡ y

@@ -1,12 +1,13 @@
 -- The plain spellings of the commands are commands, whatever number they hold.
-use Rattle.std.proofs.Common.{◌≡◌, ℕ, ◌≤◌, ◌<◌, ◌^◌, Bool, true, false, nat_le, List, [], ◌∷◌, ◌++◌, Option, Some, None, refl, codes, ap, sym, subst, ◌∙◌, inl, inr, arith, cond}
+use Rattle.std.proofs.Common.{◌≡◌, ℕ, ◌≤◌, ◌<◌, ◌^◌, Bool, true, false, nat_le, List, [], ◌∷◌, ◌++◌, Option, Some, None, option_and_then, refl, codes, ap, sym, subst, ◌∙◌, inl, inr, arith, cond}
 use Rattle.std.specs.List.{list_all}
 use Rattle.std.specs.Char.{is_ascii_digit}
 use Rattle.std.proofs.lemmas.Bool.{cases_lt, and_parts, and_from, cond-true, le-leb, leb-true, lt-ltb}
 use Rattle.clap.proofs.OnLiterals.{clap_on_literals}
 use Rattle.audit_session.specs.Stops.{IsBatch}
-use Rattle.auditor_top.specs.declared.words.Command.TheVariants.{Init, Serve, Audit, Simulate, Drill, Grow, Explain, Compact}
-use Rattle.auditor_top.specs.Words.{command_of, number_of, serve_with, drill_with}
+use Rattle.auditor_top.specs.declared.words.Command.{Command}
+use Rattle.auditor_top.specs.declared.words.Command.TheVariants.{Init, Serve, Audit, Simulate, Drill, Grow, Explain, Compact, Restore}
+use Rattle.auditor_top.specs.Words.{command_of, number_of, serve_with, drill_with, twinned}
 
 -- ---- one word
 
@@ -14,9 +15,13 @@ pub init_is : command_of (codes "init" ∷ []) ≡ Some Init
 unfolding command_of clap_on_literals
 init_is = refl
 
-pub serve_is : command_of (codes "serve" ∷ []) ≡ Some (Serve 1)
+pub serve_is : command_of (codes "serve" ∷ []) ≡ Some (Serve 1 false)
 unfolding command_of clap_on_literals
 serve_is = refl
+
+pub twin_is : command_of (codes "serve" ∷ codes "--twin" ∷ []) ≡ Some (Serve 1 true)
+unfolding command_of clap_on_literals
+twin_is = refl
 
 pub audit_is : command_of (codes "audit" ∷ []) ≡ Some Audit
 unfolding command_of clap_on_literals
@@ -38,12 +43,22 @@ pub compact_is : command_of (codes "compact" ∷ []) ≡ Some Compact
 unfolding command_of clap_on_literals
 compact_is = refl
 
+pub restore_is : command_of (codes "restore" ∷ []) ≡ Some Restore
+unfolding command_of clap_on_literals
+restore_is = refl
+
 -- ---- `serve` with a batch
 
 -- what follows `=` is the batch
 in_one_word : (word : List ℕ) → command_of (codes "serve" ∷ (codes "--batch=" ++ word) ∷ []) ≡ serve_with (number_of word)
 unfolding command_of clap_on_literals
 in_one_word word = refl
+
+-- and the flag before it asks for a second journal
+twin_in_one_word : (word : List ℕ) → command_of (codes "serve" ∷ codes "--twin" ∷ (codes "--batch=" ++ word) ∷ []) ≡
+    option_and_then twinned (serve_with (number_of word))
+unfolding command_of clap_on_literals
+twin_in_one_word word = refl
 
 -- what holds of each digit holds of every byte between the first digit and the last
 each_digit : (P : ℕ → Type 0) → P 48 → P 49 → P 50 → P 51 → P 52 → P 53 → P 54 → P 55 → P 56 → P 57 → (x : ℕ) → 48 ≤ x → x ≤ 57 → P x
@@ -152,16 +167,20 @@ in_next_word (x ∷ xs) batch is =
     by_digit x xs digit.0 digit.1
 
 -- a number of 1 to 64 is a batch
-is_served : (number : Option ℕ) (batch : ℕ) → number ≡ Some batch → IsBatch batch → serve_with number ≡ Some (Serve batch)
+is_served : (number : Option ℕ) (batch : ℕ) → number ≡ Some batch → IsBatch batch → serve_with number ≡ Some (Serve batch false)
 is_served number batch is within = ap serve_with is ∙ cond-true _ _ _ (and_from _ _ (le-leb 1 batch within.0) (le-leb batch 64 within.1))
 
 pub batch_is : (word : List ℕ) (batch : ℕ) → number_of word ≡ Some batch → IsBatch batch →
-    command_of (codes "serve" ∷ codes "--batch" ∷ word ∷ []) ≡ Some (Serve batch)
+    command_of (codes "serve" ∷ codes "--batch" ∷ word ∷ []) ≡ Some (Serve batch false)
 batch_is word batch is within = in_next_word word batch is ∙ is_served (number_of word) batch is within
 
 pub batch_in_one_is : (word : List ℕ) (batch : ℕ) → number_of word ≡ Some batch → IsBatch batch →
-    command_of (codes "serve" ∷ (codes "--batch=" ++ word) ∷ []) ≡ Some (Serve batch)
+    command_of (codes "serve" ∷ (codes "--batch=" ++ word) ∷ []) ≡ Some (Serve batch false)
 batch_in_one_is word batch is within = in_one_word word ∙ is_served (number_of word) batch is within
+
+pub twin_batch_is : (word : List ℕ) (batch : ℕ) → number_of word ≡ Some batch → IsBatch batch →
+    command_of (codes "serve" ∷ codes "--twin" ∷ (codes "--batch=" ++ word) ∷ []) ≡ Some (Serve batch true)
+twin_batch_is word batch is within = twin_in_one_word word ∙ ap (λ (k : Option Command). option_and_then twinned k) (is_served (number_of word) batch is within)
 
 -- ---- `drill` with a number
 

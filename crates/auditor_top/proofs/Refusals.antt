@@ -18,21 +18,26 @@ use Rattle.audit_session.specs.Ends.{ServesSome}
 use Rattle.journal_audit.specs.Reports.{subjects, ReportsFront}
 use Rattle.journal_audit.specs.SendLaws.{none_front}
 use Rattle.auditor_top.specs.declared.words.Command.{Command}
-use Rattle.auditor_top.specs.declared.words.Command.TheVariants.{Init, Serve, Audit, Simulate, Drill, Grow, Explain, Compact}
+use Rattle.auditor_top.specs.declared.words.Command.TheVariants.{Init, Serve, Audit, Simulate, Drill, Grow, Explain, Compact, Restore}
 use Rattle.auditor_top.specs.declared.status.Status.{Status}
 use Rattle.auditor_top.specs.declared.status.Status.TheVariants.{Done}
-use Rattle.auditor_top.specs.Causes.{FaultCause, NothingFailed, IsDoneOrWants}
+use Rattle.audit_types.specs.declared.shapes.Shape.{Shape}
+use Rattle.audit_session.specs.Stops.{IsFront}
+use Rattle.twin_journal.specs.Twins.{StandsBetween}
+use Rattle.auditor_top.specs.Stages.{opening_journal}
+use Rattle.auditor_top.specs.Twins.{TwinEnds}
+use Rattle.auditor_top.specs.Causes.{BothCause, FaultCause, NothingFailed, IsDoneOrWants}
 use Rattle.auditor_top.specs.Commands.{AreSoundFilesOf, opens_store}
 use Rattle.auditor_top.specs.Compactions.{CompactEnds}
 use Rattle.auditor_top.specs.Ends.{AuditEnds, GrowEnds, LeavesFile, ServeEnds, SimulateEnds, SendsLines, StandsForWhat, ExplainEnds, audit_over, outside, public_part}
 use Rattle.auditor_top.specs.Ready.{IsGiven, EndsEarly, GivesUp}
-use Rattle.auditor_top.specs.Runs.{Objects, objects, faults_of, Does, Making, Serving, Auditing, Simulating, Drilling, Growing, Explaining, Compacting}
+use Rattle.auditor_top.specs.Runs.{Objects, objects, faults_of, Does, Making, Serving, Auditing, Simulating, Drilling, Growing, Explaining, Compacting, TwinServing, Restoring}
 use Rattle.auditor_top.proofs.AuditEndings.{untouched_report}
 use Rattle.auditor_top.proofs.ExplainEndings.{none_first, untouched_lines}
 use Rattle.auditor_top.proofs.OneTable.{nothing_served, untouched_stops}
 use Rattle.auditor_top.proofs.SimulationEndings.{none_begun, no_verdict}
 use Rattle.auditor_top.proofs.StepFaults.{not_made}
-use Rattle.auditor_top.proofs.StepStatuses.{by_giving_up}
+use Rattle.auditor_top.proofs.StepStatuses.{always_before, by_giving_up}
 
 -- every history for which a stop over a legal history leaves an image is legal, and discloses nothing
 abbrev pub StopsAreLegal : Type 0
@@ -44,6 +49,16 @@ StopsAreLegal =
 -- a run isn't done before its command goes on
 never_done : {Y : Type 0} (status : Status) → EndsEarly status → status ≡ Done → Y
 never_done status early done = absurd (subst EndsEarly done early)
+
+-- a file that is left as it was stands for a history between its own and the whole
+pub at_first : (shape : Shape) (first whole : List Answered) {file : List ℕ} → StandsFor file shape first → IsFront first whole → (image : List ℕ) → image ≡ file →
+    StandsBetween shape first whole image
+at_first shape first whole stands front image same = record {
+  now = first;
+  stands = subst (λ (f : List ℕ). StandsFor f shape first) (sym same) stands;
+  from = record { rest = []; is = sym (append-nil first) };
+  to = front;
+}
 
 -- a bench that wasn't called was only read
 pub uncalled : {B : Type 0} (bench : Ghosts B) (at : B) →
@@ -98,14 +113,14 @@ module _ {P I B : Type 0} (files : source.Ghosts P) (lines : source.Ghosts I) (b
     makes = λ ptold told base given absent none. wants (gives_up Init is ptold (λ opens. told) (base, given)) none;
   }
 
-  unserved : StopsAreLegal → (batch : ℕ) → asked ≡ Some (Serve batch) → Serving files lines bench batch status old new
+  unserved : StopsAreLegal → (batch : ℕ) → asked ≡ Some (Serve batch false) → Serving files lines bench batch status old new
   unserved legal batch is = record {
     served = λ ptold itold told base history over.
         let text = lines.left input in
         let some : List ℕ → List ℕ → Type 0 =
         λ file sent. StandsForWhat file base (λ now. ServesSome base history batch (counted_lines text) now (bench.sent at) sent) in
         by_giving_up (λ (s : Status). ServeEnds batch s base history (outside lines bench input at) (outside lines bench input later)) status
-        (gives_up (Serve batch) is ptold (λ opens. told) (base, history, over)) (reads.sent, reads.file) (reads.sent, reads.file) tt
+        (gives_up (Serve batch false) is ptold (λ opens. told) (base, history, over)) (reads.sent, reads.file) (reads.sent, reads.file) tt
         (subst (λ (file : List ℕ). some file (bench.sent later)) (sym reads.file)
         (subst (λ (sent : List ℕ). some (bench.file at) sent) (sym reads.sent)
         (nothing_served base batch history text (bench.sent at) (bench.file at) over.stands)));
@@ -119,8 +134,60 @@ module _ {P I B : Type 0} (files : source.Ghosts P) (lines : source.Ghosts I) (b
         ((reads.untouched quiet).each image sent was)) stands;
     serve_calls = λ ptold itold told done base history over. never_done status early done;
     complete = λ ptold itold told base history over within none.
-        wants (gives_up (Serve batch) is ptold (λ opens. told) (base, history, over)) none;
+        wants (gives_up (Serve batch false) is ptold (λ opens. told) (base, history, over)) none;
   }
+
+  untwinned : OnlyReads bench spare spare → (batch : ℕ) → asked ≡ Some (Serve batch true) → TwinServing files lines bench batch status old new
+  untwinned spared batch is =
+      let gave = λ (ptold : files.told) (told : bench.told). gives_up (Serve batch true) is ptold (λ opens. told) in
+      record {
+        twins_served = λ ptold itold told base main other whole over.
+            by_giving_up (λ (s : Status). TwinEnds batch s base whole (outside lines bench input at) (outside lines bench input later) (bench.file spare)) status
+            (gave ptold told (base, over.files)) (reads.sent, reads.file) (reads.sent, reads.file) tt (inl reads.sent);
+        twin_moment = λ ptold itold told quiet base main other whole over.
+            weakens bench at later (IsUntouched (bench.file at) (bench.sent at)) _
+            (λ image sent same. inl (same.0, at_first base.secret.shape main whole over.together.main_stands over.together.main_front image same.1)) (reads.untouched quiet);
+        spare_moment = λ ptold itold told quiet base main other whole over.
+            weakens bench spare spare (IsUntouched (bench.file spare) (bench.sent spare)) _
+            (λ image sent same. inl (same.0, at_first base.secret.shape other whole over.together.spare_stands over.together.spare_front image same.1))
+            (spared.untouched quiet);
+        twins_left = λ ptold itold told quiet spare_quiet failed base main other whole over image found left left_there. inl (
+          reads.sent,
+          at_first base.secret.shape main whole over.together.main_stands over.together.main_front image (quiet image (reads.crash image left)),
+          at_first base.secret.shape other whole over.together.spare_stands over.together.spare_front found (spare_quiet found left_there),
+        );
+        apart = λ ptold told quiet none. reads.untouched quiet;
+        spare_apart = λ ptold told quiet none. spared.untouched quiet;
+        cause = λ ptold told base sound.
+            by_giving_up (λ (s : Status). BothCause s (Serve batch true) (bench.file at) (bench.file spare) (table_in base)) status (gave ptold told (base, sound)) tt tt tt tt;
+        spare_quiet = λ told quiet fine. quiet;
+        spare_unsent = refl;
+        twins_complete = λ ptold itold told base main other whole over within none fine. wants (gave ptold told (base, over.files)) none;
+      }
+
+  unrestored : OnlyReads bench spare spare → asked ≡ Some Restore → Restoring files lines bench status old new
+  unrestored spared is =
+      let gave = λ (ptold : files.told) (told : bench.told). gives_up Restore is ptold (λ opens. told) in
+      record {
+        restored = λ ptold told done base sound. never_done status early done;
+        same = λ told done. never_done status early done;
+        cause = λ ptold told base sound.
+            by_giving_up (λ (s : Status). BothCause s Restore (bench.file at) (bench.file spare) (table_in base)) status (gave ptold told (base, sound)) tt tt tt tt;
+        restoring = λ ptold told quiet base history sound lost.
+            weakens bench at later (IsUntouched (bench.file at) (bench.sent at)) _
+            (λ image sent same. (same.0, inl (λ made. lost.unmade (subst IsMade same.1 made)))) (reads.untouched quiet);
+        spare_restoring = λ ptold told quiet base history sound lost.
+            weakens bench spare spare (IsUntouched (bench.file spare) (bench.sent spare)) _
+            (λ image sent same. (same.0, inl (λ made. lost.unmade (subst IsMade same.1 made)))) (spared.untouched quiet);
+        kept = λ told quiet made. reads.untouched quiet;
+        spare_kept = λ told quiet made. spared.untouched quiet;
+        untouched = λ ptold told quiet none. reads.untouched quiet;
+        spare_untouched = λ ptold told quiet none. spared.untouched quiet;
+        spare_quiet = λ told quiet fine. quiet;
+        unsent = (reads.sent, refl);
+        uncalled = always_before opening_journal status refl;
+        restores = λ ptold told base sound can none fine. wants (gave ptold told (base, sound)) none;
+      }
 
   unaudited : asked ≡ Some Audit → Auditing files lines bench status old new
   unaudited is = record {
@@ -205,6 +272,7 @@ module _ {P I B : Type 0} (files : source.Ghosts P) (lines : source.Ghosts I) (b
             weakens bench spare spare (IsUntouched (bench.file spare) (bench.sent spare)) _
             (λ image sent same. (same.0, inl (λ made. unmade (subst IsMade same.1 made)))) (still quiet);
         stable = λ told done. never_done status early done;
+        unsent_yet = λ failed. reads.sent;
         alike = λ ptold told unmade quiet base history over image sent found was made stands.
             absurd (unmade (subst IsMade ((still quiet).each image sent was).1 made));
         sending = λ ptold told quiet base history over.
@@ -224,10 +292,12 @@ module _ {P I B : Type 0} (files : source.Ghosts P) (lines : source.Ghosts I) (b
       ((number : ℕ) → asked ≡ Some (Drill number) → Drilling files lines bench number status old new) →
       (command : Command) → asked ≡ Some command → Does files lines bench command status old new
   refused legal spared drilled Init is = unmade is
-  refused legal spared drilled (Serve batch) is = unserved legal batch is
+  refused legal spared drilled (Serve batch false) is = unserved legal batch is
+  refused legal spared drilled (Serve batch true) is = untwinned spared batch is
   refused legal spared drilled Audit is = unaudited is
   refused legal spared drilled Simulate is = unsimulated is
   refused legal spared drilled (Drill number) is = drilled number is
   refused legal spared drilled Grow is = ungrown is
   refused legal spared drilled Explain is = unexplained is
   refused legal spared drilled Compact is = uncompacted spared is
+  refused legal spared drilled Restore is = unrestored spared is

@@ -29,7 +29,7 @@ use Rattle.auditor_top.specs.declared.status.Status.TheVariants.{Done, BadWords,
 use Rattle.auditor_top.specs.Status.{making_status, session_status, audit_status, simulation_status}
 use Rattle.auditor_top.specs.Causes.{FaultCounts, counts, NeverFall, WordCause, SchemaCause, TableCause, GroupCause, FileCause, InputCause}
 use Rattle.auditor_top.specs.Ready.{EndsEarly, GivesUp}
-use Rattle.auditor_top.specs.Stages.{Stage, reading_table, opening_journal, reading_lines, is_short_of, reached, Before}
+use Rattle.auditor_top.specs.Stages.{Stage, reading_schema, reading_table, reading_groups, opening_journal, reading_lines, is_short_of, has_passed, reached, Before, Passed}
 
 -- what holds anyway holds before each stage
 on_any : {P : Type 0} (b : Bool) → P → OnTrue b P
@@ -38,6 +38,9 @@ on_any false holds = tt
 
 pub always_before : {P : Type 0} (stage : Stage) (status : Status) → P → Before stage status P
 always_before stage status holds = on_any (is_short_of stage (reached status)) holds
+
+pub always_passed : {P : Type 0} (stage : Stage) (status : Status) → P → Passed stage status P
+always_passed stage status holds = on_any (has_passed stage (reached status)) holds
 
 -- and what follows from it
 so_then : {P Q : Type 0} (b : Bool) → (P → Q) → OnTrue b P → OnTrue b Q
@@ -108,51 +111,19 @@ memory_no_source which is = cc
 
 -- what holds at each status with which opening gives up
 pub by_giving_up : (P : Status → Type 0) (status : Status) → GivesUp status → P (SourceFault Schema) → P (SourceFault Table) → P BenchFault → P NoMemory → P status
-by_giving_up P Done gave_up schema table bench memory = absurd gave_up
-by_giving_up P BadWords gave_up schema table bench memory = absurd gave_up
-by_giving_up P (BadSchema fault) gave_up schema table bench memory = absurd gave_up
-by_giving_up P (BadTable fault) gave_up schema table bench memory = absurd gave_up
 by_giving_up P (SourceFault Schema) gave_up schema table bench memory = schema
 by_giving_up P (SourceFault Table) gave_up schema table bench memory = table
-by_giving_up P (SourceFault Input) gave_up schema table bench memory = absurd gave_up
 by_giving_up P BenchFault gave_up schema table bench memory = bench
-by_giving_up P NotMade gave_up schema table bench memory = absurd gave_up
-by_giving_up P AlreadyThere gave_up schema table bench memory = absurd gave_up
-by_giving_up P (Damaged at) gave_up schema table bench memory = absurd gave_up
-by_giving_up P (OtherShape kept now) gave_up schema table bench memory = absurd gave_up
-by_giving_up P (NothingNew rows) gave_up schema table bench memory = absurd gave_up
-by_giving_up P (Untrue place kept now) gave_up schema table bench memory = absurd gave_up
-by_giving_up P (Illegal place) gave_up schema table bench memory = absurd gave_up
-by_giving_up P InputLimit gave_up schema table bench memory = absurd gave_up
-by_giving_up P (Disagrees line due) gave_up schema table bench memory = absurd gave_up
-by_giving_up P (BadGroup place) gave_up schema table bench memory = absurd gave_up
-by_giving_up P SpareThere gave_up schema table bench memory = absurd gave_up
-by_giving_up P SpareFault gave_up schema table bench memory = absurd gave_up
 by_giving_up P NoMemory gave_up schema table bench memory = memory
+by_giving_up P status gave_up schema table bench memory = absurd gave_up
 
 -- a run that ends early read nothing of the input, and isn't done
 pub reads_nothing : (status : Status) (bytes : List ℕ) → EndsEarly status → InputCause status bytes bytes
 reads_nothing Done bytes early = absurd early
-reads_nothing BadWords bytes early = absurd early
-reads_nothing (BadSchema fault) bytes early = refl
-reads_nothing (BadTable fault) bytes early = refl
-reads_nothing (SourceFault Schema) bytes early = refl
-reads_nothing (SourceFault Table) bytes early = refl
 reads_nothing (SourceFault Input) bytes early = absurd early
-reads_nothing BenchFault bytes early = tt
-reads_nothing NotMade bytes early = refl
-reads_nothing AlreadyThere bytes early = absurd early
-reads_nothing (Damaged at) bytes early = refl
-reads_nothing (OtherShape kept now) bytes early = refl
-reads_nothing (NothingNew rows) bytes early = absurd early
-reads_nothing (Untrue place kept now) bytes early = refl
-reads_nothing (Illegal place) bytes early = refl
 reads_nothing InputLimit bytes early = absurd early
 reads_nothing (Disagrees line due) bytes early = absurd early
-reads_nothing (BadGroup place) bytes early = refl
-reads_nothing SpareThere bytes early = absurd early
-reads_nothing SpareFault bytes early = absurd early
-reads_nothing NoMemory bytes early = tt
+reads_nothing status bytes early = always_before reading_lines status refl
 
 -- ---- the last step of a command
 
@@ -166,53 +137,33 @@ EndsLastStep (SourceFault Table) = ⊥
 EndsLastStep (BadGroup place) = ⊥
 EndsLastStep status = Unit {0}
 
--- what holds at each of these holds
-pub by_last_step : (P : Status → Type 0) (status : Status) → EndsLastStep status → P Done → P (SourceFault Input) → P BenchFault → P NotMade → P AlreadyThere →
-    ((at : ℕ) → P (Damaged at)) → ((kept now : Shape) → P (OtherShape kept now)) → ((rows : ℕ) → P (NothingNew rows)) →
-    ((place : ℕ) (kept now : ℤ) → P (Untrue place kept now)) → ((place : ℕ) → P (Illegal place)) → P InputLimit →
-    ((line : ℕ) (due : Due) → P (Disagrees line due)) → P SpareThere → P SpareFault → P NoMemory → P status
-by_last_step P Done last done input bench unmade there damaged other nothing untrue illegal limit disagrees made spare memory = done
-by_last_step P BadWords last done input bench unmade there damaged other nothing untrue illegal limit disagrees made spare memory = absurd last
-by_last_step P (BadSchema fault) last done input bench unmade there damaged other nothing untrue illegal limit disagrees made spare memory = absurd last
-by_last_step P (BadTable fault) last done input bench unmade there damaged other nothing untrue illegal limit disagrees made spare memory = absurd last
-by_last_step P (SourceFault Schema) last done input bench unmade there damaged other nothing untrue illegal limit disagrees made spare memory = absurd last
-by_last_step P (SourceFault Table) last done input bench unmade there damaged other nothing untrue illegal limit disagrees made spare memory = absurd last
-by_last_step P (SourceFault Input) last done input bench unmade there damaged other nothing untrue illegal limit disagrees made spare memory = input
-by_last_step P BenchFault last done input bench unmade there damaged other nothing untrue illegal limit disagrees made spare memory = bench
-by_last_step P NotMade last done input bench unmade there damaged other nothing untrue illegal limit disagrees made spare memory = unmade
-by_last_step P AlreadyThere last done input bench unmade there damaged other nothing untrue illegal limit disagrees made spare memory = there
-by_last_step P (Damaged at) last done input bench unmade there damaged other nothing untrue illegal limit disagrees made spare memory = damaged at
-by_last_step P (OtherShape kept now) last done input bench unmade there damaged other nothing untrue illegal limit disagrees made spare memory = other kept now
-by_last_step P (NothingNew rows) last done input bench unmade there damaged other nothing untrue illegal limit disagrees made spare memory = nothing rows
-by_last_step P (Untrue place kept now) last done input bench unmade there damaged other nothing untrue illegal limit disagrees made spare memory = untrue place kept now
-by_last_step P (Illegal place) last done input bench unmade there damaged other nothing untrue illegal limit disagrees made spare memory = illegal place
-by_last_step P InputLimit last done input bench unmade there damaged other nothing untrue illegal limit disagrees made spare memory = limit
-by_last_step P (Disagrees line due) last done input bench unmade there damaged other nothing untrue illegal limit disagrees made spare memory = disagrees line due
-by_last_step P (BadGroup place) last done input bench unmade there damaged other nothing untrue illegal limit disagrees made spare memory = absurd last
-by_last_step P SpareThere last done input bench unmade there damaged other nothing untrue illegal limit disagrees made spare memory = made
-by_last_step P SpareFault last done input bench unmade there damaged other nothing untrue illegal limit disagrees made spare memory = spare
-by_last_step P NoMemory last done input bench unmade there damaged other nothing untrue illegal limit disagrees made spare memory = memory
-
 -- the files were read before, the groups were made ready, and the journal was opened
 pub groups_read : (status : Status) (columns : List Column) (groups : List Group) → EndsLastStep status → AreSound columns groups → GroupCause status columns groups
-groups_read status columns groups last are = by_last_step (λ (s : Status). GroupCause s columns groups) status last are are are are are (λ at. are) (λ kept now. are) (λ rows. are)
-    (λ place kept now. are) (λ place. are) are (λ line due. are) are are tt
+groups_read (BadGroup place) columns groups last are = absurd last
+groups_read status columns groups last are = always_passed reading_groups status are
 
 pub schema_read : (status : Status) (meant : Result SchemaView SchemaFault) → EndsLastStep status → IsOk meant → SchemaCause status meant
-schema_read status meant last is = by_last_step (λ (s : Status). SchemaCause s meant) status last is is is is is (λ at. is) (λ kept now. is) (λ rows. is)
-    (λ place kept now. is) (λ place. is) is (λ line due. is) is is tt
+schema_read (BadSchema fault) meant last is = absurd last
+schema_read status meant last is = always_passed reading_schema status is
 
 pub table_read : {X : Type 0} (status : Status) (meant : Result X TableFault) → EndsLastStep status → IsOk meant → TableCause status meant
-table_read status meant last is = by_last_step (λ (s : Status). TableCause s meant) status last is is is is is (λ at. is) (λ kept now. is) (λ rows. is)
-    (λ place kept now. is) (λ place. is) is (λ line due. is) is is tt
+table_read (BadTable fault) meant last is = absurd last
+table_read status meant last is = always_passed reading_table status is
 
 pub past_table : (P : Type 0) (status : Status) → EndsLastStep status → Before reading_table status P
-past_table P status last = by_last_step (λ (s : Status). Before reading_table s P) status last tt tt tt tt tt (λ at. tt) (λ kept now. tt) (λ rows. tt)
-    (λ place kept now. tt) (λ place. tt) tt (λ line due. tt) tt tt tt
+past_table P BadWords last = absurd last
+past_table P (BadSchema fault) last = absurd last
+past_table P (SourceFault Schema) last = absurd last
+past_table P status last = tt
 
 pub past_journal : (P : Type 0) (status : Status) → EndsLastStep status → Before opening_journal status P
-past_journal P status last = by_last_step (λ (s : Status). Before opening_journal s P) status last tt tt tt tt tt (λ at. tt) (λ kept now. tt) (λ rows. tt)
-    (λ place kept now. tt) (λ place. tt) tt (λ line due. tt) tt tt tt
+past_journal P BadWords last = absurd last
+past_journal P (BadSchema fault) last = absurd last
+past_journal P (BadTable fault) last = absurd last
+past_journal P (BadGroup place) last = absurd last
+past_journal P (SourceFault Schema) last = absurd last
+past_journal P (SourceFault Table) last = absurd last
+past_journal P status last = tt
 
 -- so it isn't one of theirs that failed
 pub no_schema_fault : (status : Status) → EndsLastStep status → status ≢ BadSchema schema_fault.NoMemory

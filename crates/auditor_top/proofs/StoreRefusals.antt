@@ -1,6 +1,6 @@
 -- What a refusal says if the journal wasn't opened, or there was no memory to open it.
-use Rattle.std.proofs.Common.{rules, ◌≡◌, ℕ, Bool, true, List, Some, Result, Ok, Err, IsOk, IsErrOf, refl, sym, ap, subst}
-use Rattle.std.proofs.lemmas.Bool.{false≢true}
+use Rattle.std.proofs.Common.{rules, ◌≡◌, ℕ, Bool, true, false, List, Some, Result, Ok, Err, IsOk, IsErrOf, refl, sym, ap, subst}
+use Rattle.std.proofs.lemmas.Bool.{false≢true, true≢false}
 use Rattle.audit_types.specs.declared.records.Answered.{Answered}
 use Rattle.audit_types.specs.History.{IsLegal}
 use Rattle.std.specs.Bool.{OnTrue}
@@ -30,7 +30,7 @@ use Rattle.audit_store.specs.declared.starting.StartFault.TheVariants as start
 use Rattle.auditor_top.specs.declared.starting.NotStarted.{NotStarted}
 use Rattle.auditor_top.specs.declared.starting.NotStarted.TheVariants as began
 use Rattle.auditor_top.specs.declared.words.Command.{Command}
-use Rattle.auditor_top.specs.declared.words.Command.TheVariants.{Init, Serve, Audit, Simulate, Drill, Grow, Explain, Compact}
+use Rattle.auditor_top.specs.declared.words.Command.TheVariants.{Init, Serve, Audit, Simulate, Drill, Grow, Explain, Compact, Restore}
 use Rattle.auditor_top.specs.declared.status.Status.{Status}
 use Rattle.auditor_top.specs.declared.status.Status.TheVariants.{BenchFault, NotMade, Damaged, OtherShape, Untrue, Illegal, NoMemory}
 use Rattle.auditor_top.specs.Status.{index_status, start_status, started_status}
@@ -72,33 +72,35 @@ start_early start.Failed = tt
 start_early start.NoMemory = tt
 
 -- a command that opens a store opens the journal, and refuses it as a start does
-opens_too : (asked : Command) → opens_store asked ≡ true → opens_journal asked ≡ true
+pub opens_too : (asked : Command) → opens_store asked ≡ true → opens_journal asked ≡ true
 opens_too Init opens = opens
-opens_too (Serve batch) opens = refl
+opens_too (Serve batch twin) opens = refl
 opens_too Audit opens = refl
 opens_too Simulate opens = opens
 opens_too (Drill number) opens = opens
 opens_too Grow opens = refl
 opens_too Explain opens = refl
 opens_too Compact opens = refl
+opens_too Restore opens = refl
 
 refused_so : (fault : StartFault) (asked : Command) (file : List ℕ) (table : Guarded) → opens_store asked ≡ true → StartCause fault file table →
     OpeningCause fault asked file table
 refused_so fault Init file table opens cause = absurd (false≢true opens)
-refused_so fault (Serve batch) file table opens cause = cause
+refused_so fault (Serve batch twin) file table opens cause = cause
 refused_so fault Audit file table opens cause = cause
 refused_so fault Simulate file table opens cause = absurd (false≢true opens)
 refused_so fault (Drill number) file table opens cause = absurd (false≢true opens)
 refused_so fault Grow file table opens cause = absurd (false≢true opens)
 refused_so fault Explain file table opens cause = cause
 refused_so fault Compact file table opens cause = cause
+refused_so fault Restore file table opens cause = cause
 
-start_words : (fault : StartFault) (asked : Command) → opens_store asked ≡ true → WordCause (start_status fault) (Some asked)
-start_words start.NotMade asked opens = opens_too asked opens
-start_words (start.Damaged at) asked opens = opens_too asked opens
-start_words (start.OtherShape kept now) asked opens = opens_too asked opens
-start_words (start.Untrue place kept now) asked opens = opens_too asked opens
-start_words (start.Illegal place) asked opens = opens_too asked opens
+pub start_words : (fault : StartFault) (asked : Command) → opens_journal asked ≡ true → WordCause (start_status fault) (Some asked)
+start_words start.NotMade asked opens = opens
+start_words (start.Damaged at) asked opens = opens
+start_words (start.OtherShape kept now) asked opens = opens
+start_words (start.Untrue place kept now) asked opens = opens
+start_words (start.Illegal place) asked opens = opens
 start_words start.Failed asked opens = tt
 start_words start.NoMemory asked opens = tt
 
@@ -180,45 +182,63 @@ start_before P start.NoMemory = (tt, tt)
 pub given_history : (asked : Command) (schema table file : List ℕ) → opens_store asked ≡ true → IsGiven asked schema table file →
     (base : Database) × (history : List Answered) × ServesOver schema table file base history
 given_history Init schema table file opens given = absurd (false≢true opens)
-given_history (Serve batch) schema table file opens given = given
+given_history (Serve batch true) schema table file opens given = absurd (false≢true opens)
+given_history (Serve batch false) schema table file opens given = given
 given_history Audit schema table file opens given = given
 given_history Simulate schema table file opens given = absurd (false≢true opens)
 given_history (Drill number) schema table file opens given = absurd (false≢true opens)
 given_history Grow schema table file opens given = absurd (false≢true opens)
 given_history Explain schema table file opens given = given
 given_history Compact schema table file opens given = given
+given_history Restore schema table file opens given = absurd (false≢true opens)
 
--- a command that opens a store reads the files of a table, not the public columns alone
-pub opens_files : (asked : Command) → opens_store asked ≡ true → reads_files asked ≡ true
+-- and to one that opens its journals later
+pub given_files : (asked : Command) (schema table file : List ℕ) → opens_journal asked ≡ true → opens_store asked ≡ false → IsGiven asked schema table file →
+    (base : Database) × AreSoundFilesOf schema table base
+given_files Init schema table file opens later given = absurd (false≢true opens)
+given_files (Serve batch true) schema table file opens later given = given
+given_files (Serve batch false) schema table file opens later given = absurd (true≢false later)
+given_files Audit schema table file opens later given = absurd (true≢false later)
+given_files Simulate schema table file opens later given = absurd (false≢true opens)
+given_files (Drill number) schema table file opens later given = absurd (false≢true opens)
+given_files Grow schema table file opens later given = given
+given_files Explain schema table file opens later given = absurd (true≢false later)
+given_files Compact schema table file opens later given = absurd (true≢false later)
+given_files Restore schema table file opens later given = given
+
+-- a command that opens a journal reads the files of a table, not the public columns alone
+pub opens_files : (asked : Command) → opens_journal asked ≡ true → reads_files asked ≡ true
 opens_files Init opens = refl
-opens_files (Serve batch) opens = refl
+opens_files (Serve batch twin) opens = refl
 opens_files Audit opens = refl
 opens_files Simulate opens = refl
 opens_files (Drill number) opens = opens
 opens_files Grow opens = refl
 opens_files Explain opens = refl
 opens_files Compact opens = refl
+opens_files Restore opens = refl
 
-pub not_public : {Y : Type 0} (asked : Command) → opens_store asked ≡ true → asked ≡ Simulate → Y
-not_public asked opens is = absurd (false≢true (subst (λ (k : Command). opens_store k ≡ true) is opens))
+pub not_public : {Y : Type 0} (asked : Command) → opens_journal asked ≡ true → asked ≡ Simulate → Y
+not_public asked opens is = absurd (false≢true (subst (λ (k : Command). opens_journal k ≡ true) is opens))
 
 -- and makes the groups ready
-opens_groups : (asked : Command) → opens_store asked ≡ true → reads_groups asked ≡ true
+pub opens_groups : (asked : Command) → opens_journal asked ≡ true → reads_groups asked ≡ true
 opens_groups Init opens = opens
-opens_groups (Serve batch) opens = refl
+opens_groups (Serve batch twin) opens = refl
 opens_groups Audit opens = refl
 opens_groups Simulate opens = refl
 opens_groups (Drill number) opens = opens
 opens_groups Grow opens = refl
 opens_groups Explain opens = refl
 opens_groups Compact opens = refl
+opens_groups Restore opens = refl
 
 module _ {P B : Type 0} (files : source.Ghosts P) (bench : Ghosts B) (law : OneListOfEntries) (asked : Command)
     (schema later_schema table later_table : P) (at later : B) (opens : opens_store asked ≡ true) (read : SchemaView) (meant : TableView)
     (schema_is : files.told → schema_of (files.left schema) ≡ Ok read) (table_is : files.told → table_of read.columns (files.left table) ≡ Ok meant)
     (same_schema : files.faults later_schema ≡ files.faults schema) (same_table : files.faults later_table ≡ files.faults table) where
   grouped : reads_groups asked ≡ true
-  grouped = opens_groups asked opens
+  grouped = opens_groups asked (opens_too asked opens)
 
   abbrev seen : List Protected → Database
   seen protected = base_of read.columns meant.public protected meant.secret
@@ -238,10 +258,10 @@ module _ {P B : Type 0} (files : source.Ghosts P) (bench : Ghosts B) (law : OneL
       TellsFault bench at later (IsErrOf {T = X} (Err fault) start.Failed) →
       Refuses files bench asked (start_status fault) schema later_schema table later_table at later
   store_refused fault protected entries cause tells = record {
-    words = start_words fault asked opens;
+    words = start_words fault asked (opens_too asked opens);
     schema = λ ptold reads. start_schema fault _ (schema_is_ok _ read (schema_is ptold));
     table = λ ptold reads other is. start_table fault _ (table_ok ptold other is);
-    public = λ ptold is. not_public asked opens is;
+    public = λ ptold is. not_public asked (opens_too asked opens) is;
     groups = λ ptold reads other is.
         start_groups fault _ _ (groups_are_sound law _ read.columns meant.public read.groups protected other (schema_is ptold) entries is);
     file = λ ptold told base given sound.
@@ -294,10 +314,10 @@ not_started {P} {B} {X} files bench law asked schema later_schema table later_ta
     (began.Groups f) bad cause tells uncalled =
     let first = λ (place : ℕ) (is : f ≡ index.BadGroup place). bad place (ap (λ (g : IndexFault). Err (began.Groups g)) is) in
     subst (λ b. Refuses files bench asked (index_status f) schema later_schema table later_table at b) (sym (uncalled f refl))
-    (groups_refused files bench asked schema later_schema table later_table at (opens_groups asked opens) read schema_is same_schema same_table f first
+    (groups_refused files bench asked schema later_schema table later_table at (opens_groups asked (opens_too asked opens)) read schema_is same_schema same_table f first
     (λ ptold reads other is. table_is_ok (λ (cs : List Column). table_of cs (files.left table)) (files.left schema) read other meant (schema_is ptold)
     (table_is ptold) is)
-    (λ ptold simulates. not_public asked opens simulates)
+    (λ ptold simulates. not_public asked (opens_too asked opens) simulates)
     (λ ptold told given.
     let all = given_history asked _ _ _ opens given in
     let view : SchemaView = record { columns = all.0.columns; groups = all.2.files.files.groups } in

@@ -11,4 +11,5 @@ pub mod Runs
 pub mod Shown
 pub mod Stages
 pub mod Status
+pub mod Twins
 pub mod Words

@@ -19,12 +19,12 @@ use Rattle.table_load.specs.Tables.{table_of, public_of}
 use Rattle.table_load.specs.declared.faults.TableFault.TheVariants as table_fault
 use Rattle.audit_store.specs.Stores.{StoreContents, IsStore, IsAsLeft}
 use Rattle.auditor_top.specs.declared.ready.Ready.{Ready}
-use Rattle.auditor_top.specs.declared.ready.Ready.TheVariants.{Init, Serve, Audit, Simulate, Drill, Grow, Explain, Compact}
+use Rattle.auditor_top.specs.declared.ready.Ready.TheVariants.{Init, Serve, Twin, Audit, Simulate, Drill, Grow, Explain, Compact, Restore}
 use Rattle.auditor_top.specs.declared.words.Command.{Command}
 use Rattle.auditor_top.specs.declared.words.Command.TheVariants as command
 use Rattle.auditor_top.specs.declared.status.Which.TheVariants.{Schema, Table, Input}
 use Rattle.auditor_top.specs.declared.status.Status.{Status}
-use Rattle.auditor_top.specs.declared.status.Status.TheVariants.{Done, BadWords, BadSchema, BadTable, SourceFault, BenchFault, AlreadyThere, NothingNew, InputLimit, Disagrees, SpareThere, SpareFault, NoMemory}
+use Rattle.auditor_top.specs.declared.status.Status.TheVariants.{Done, BadWords, BadSchema, BadTable, SourceFault, BenchFault, AlreadyThere, NothingNew, InputLimit, Disagrees, SpareThere, SpareFault, BadSpare, TwinsDiffer, NothingLost, NoMemory}
 use Rattle.auditor_top.specs.Causes.{WordCause, SchemaCause, TableCause, GroupCause, FileCause, FaultCause, counts}
 use Rattle.auditor_top.specs.Commands.{AreFilesOf, AreSoundFilesOf, ArePublicFilesOf, ServesOver, opens_store, reads_files, reads_groups, reads_secrets}
 use Rattle.auditor_top.specs.Stages.{Before, reading_table, opening_journal}
@@ -34,24 +34,28 @@ use Rattle.auditor_top.specs.Stages.{Before, reading_table, opening_journal}
 -- what a command is given before its last step is without fault: its files, and the journal of its store
 abbrev pub IsGiven : Command → List ℕ → List ℕ → List ℕ → Type 0
 IsGiven command.Init schema table file = (base : Database) × AreFilesOf schema table base
-IsGiven (command.Serve batch) schema table file = (base : Database) × (history : List Answered) × ServesOver schema table file base history
+IsGiven (command.Serve batch true) schema table file = (base : Database) × AreSoundFilesOf schema table base
+IsGiven (command.Serve batch false) schema table file = (base : Database) × (history : List Answered) × ServesOver schema table file base history
 IsGiven command.Audit schema table file = (base : Database) × (history : List Answered) × ServesOver schema table file base history
 IsGiven command.Simulate schema table file = (columns : List Column) × (index : IndexView) × ArePublicFilesOf schema table columns index
 IsGiven (command.Drill number) schema table file = Unit {0}
 IsGiven command.Grow schema table file = (base : Database) × AreSoundFilesOf schema table base
 IsGiven command.Explain schema table file = (base : Database) × (history : List Answered) × ServesOver schema table file base history
 IsGiven command.Compact schema table file = (base : Database) × (history : List Answered) × ServesOver schema table file base history
+IsGiven command.Restore schema table file = (base : Database) × AreSoundFilesOf schema table base
 
 -- the command that goes on with this
 abbrev pub command_for : Ready → Command
 command_for (Init shape) = command.Init
-command_for (Serve schema index store batch) = command.Serve batch
+command_for (Serve schema index store batch) = command.Serve batch false
+command_for (Twin schema index secret protected batch) = command.Serve batch true
 command_for (Audit schema store) = command.Audit
 command_for (Simulate schema index) = command.Simulate
 command_for (Drill number) = command.Drill number
 command_for (Grow secret protected) = command.Grow
 command_for (Explain schema index store) = command.Explain
 command_for (Compact store) = command.Compact
+command_for (Restore secret protected) = command.Restore
 
 -- a store that was just opened: the journal's file is as it left it
 pub record IsOpened {B : Type 0} (bench : Ghosts B) (now : B) (store : StoreContents) : Type 0 where
@@ -65,6 +69,9 @@ IsReady bench now (Init shape) = IsShape shape
 IsReady bench now (Serve schema index store batch) =
     IsOpened bench now store × FitsSchema schema.columns index.public × (store.secret.shape ≡ shape_of schema.columns index.public.rows) ×
     (index.protected ≡ store.protected)
+IsReady bench now (Twin schema index secret protected batch) =
+    AreProtected secret.shape protected.items × FitsSchema schema.columns index.public × (secret.shape ≡ shape_of schema.columns index.public.rows) ×
+    (index.protected ≡ protected.items)
 IsReady bench now (Audit schema store) = IsOpened bench now store × (store.secret.shape ≡ shape_of schema.columns store.secret.shape.rows)
 IsReady bench now (Simulate schema index) =
     FitsSchema schema.columns index.public × AreProtected (shape_of schema.columns index.public.rows) index.protected
@@ -74,12 +81,15 @@ IsReady bench now (Explain schema index store) =
     IsOpened bench now store × FitsSchema schema.columns index.public × (store.secret.shape ≡ shape_of schema.columns index.public.rows) ×
     (index.protected ≡ store.protected)
 IsReady bench now (Compact store) = IsOpened bench now store
+IsReady bench now (Restore secret protected) = AreProtected secret.shape protected.items
 
 -- its parts are what the files mean
 abbrev pub IsReadyOver : List ℕ → List ℕ → Ready → Type 0
 IsReadyOver schema_file table_file (Init shape) = (base : Database) × AreFilesOf schema_file table_file base × (shape ≡ base.secret.shape)
 IsReadyOver schema_file table_file (Serve schema index store batch) =
     AreSoundFilesOf schema_file table_file (base_of schema.columns index.public index.protected store.secret)
+IsReadyOver schema_file table_file (Twin schema index secret protected batch) =
+    AreSoundFilesOf schema_file table_file (base_of schema.columns index.public index.protected secret)
 IsReadyOver schema_file table_file (Audit schema store) = (public : PublicView) × AreSoundFilesOf schema_file table_file (base_of schema.columns public store.protected store.secret)
 IsReadyOver schema_file table_file (Simulate schema index) = ArePublicFilesOf schema_file table_file schema.columns index
 IsReadyOver schema_file table_file (Drill number) = Unit {0}
@@ -89,6 +99,8 @@ IsReadyOver schema_file table_file (Explain schema index store) =
     AreSoundFilesOf schema_file table_file (base_of schema.columns index.public index.protected store.secret)
 IsReadyOver schema_file table_file (Compact store) =
     (columns : List Column) × (public : PublicView) × AreSoundFilesOf schema_file table_file (base_of columns public store.protected store.secret)
+IsReadyOver schema_file table_file (Restore secret protected) =
+    (columns : List Column) × (public : PublicView) × AreSoundFilesOf schema_file table_file (base_of columns public protected.items secret)
 
 -- ---- the statuses
 
@@ -103,6 +115,9 @@ EndsEarly InputLimit = ⊥
 EndsEarly (Disagrees line due) = ⊥
 EndsEarly SpareThere = ⊥
 EndsEarly SpareFault = ⊥
+EndsEarly (BadSpare fault) = ⊥
+EndsEarly (TwinsDiffer place) = ⊥
+EndsEarly NothingLost = ⊥
 EndsEarly status = Unit {0}
 
 -- before that a call failed, or memory ran out: that may come whatever is given

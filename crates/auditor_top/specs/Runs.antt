@@ -1,5 +1,5 @@
 -- What a run of each command does, by its status, and by the objects that it is handed: as they were and as they are left.
-use Rattle.std.specs.Prelude.{◌≡◌, ◌≢◌, ◌≤◌, ◌+◌, List, [], ℕ, length}
+use Rattle.std.specs.Prelude.{◌≡◌, ◌≢◌, ◌≤◌, ◌+◌, ◌⊎◌, List, [], ℕ, true, false, length}
 use Rattle.std.specs.List.{concat}
 use Rattle.audit_types.specs.declared.records.Answered.{Answered}
 use Rattle.audit_types.specs.History.{IsLegal, IsUndisclosed}
@@ -23,13 +23,17 @@ use Rattle.certificate_lines.specs.Explained.{AreExplained}
 use Rattle.transcript_sim.specs.Ends.{SimulatesMeanwhile}
 use Rattle.transcript_sim.specs.Verdicts.{AreVerdicts, exchanges}
 use Rattle.auditor_top.specs.declared.words.Command.{Command}
-use Rattle.auditor_top.specs.declared.words.Command.TheVariants.{Init, Serve, Audit, Simulate, Drill, Grow, Explain, Compact}
+use Rattle.auditor_top.specs.declared.words.Command.TheVariants.{Init, Serve, Audit, Simulate, Drill, Grow, Explain, Compact, Restore}
 use Rattle.auditor_top.specs.declared.status.Status.{Status}
-use Rattle.auditor_top.specs.declared.status.Status.TheVariants.{Done, BenchFault, NoMemory}
+use Rattle.auditor_top.specs.declared.status.Status.TheVariants.{Done, BenchFault, SpareFault, NoMemory}
 use Rattle.bench_core.specs.Causes.{Rose}
 use Rattle.auditor_top.specs.Compactions.{CompactEnds, DecideAlike, IsUnmadeOrKept, SendsCounts}
-use Rattle.auditor_top.specs.Causes.{FaultCounts, counts, NothingFailed, IsDoneOrWants}
-use Rattle.auditor_top.specs.Commands.{AreFilesOf, ArePublicFilesOf, GrowsOver, ServesOver}
+use Rattle.journal_compact.specs.Whole.{IsUnmadeOrWhole}
+use Rattle.twin_journal.specs.Restoring.{CanRestore, IsLostOf, Restored, StandForTheSame}
+use Rattle.auditor_top.specs.Stages.{Before, opening_journal}
+use Rattle.auditor_top.specs.Twins.{CatchesUpOrStops, LeavesTwins, SpareCatchesUpOrStops, TwinEnds}
+use Rattle.auditor_top.specs.Causes.{BothCause, FaultCounts, counts, NothingFailed, IsDoneOrWants}
+use Rattle.auditor_top.specs.Commands.{AreFilesOf, ArePublicFilesOf, AreSoundFilesOf, GrowsOver, ServesOver, TwinsOver}
 use Rattle.auditor_top.specs.Drills.{DrillEnds}
 use Rattle.auditor_top.specs.Ends.{AuditEnds, GrowEnds, LeavesFile, ServeEnds, SimulateEnds, SendsLines, ExplainEnds, audit_over, outside, public_part}
 
@@ -206,6 +210,7 @@ pub record Compacting {P I B : Type 0} (files : source.Ghosts P) (lines : source
       ServesOver (files.left old.schema) (files.left old.table) (bench.file old.bench) base history →
       LeavesOnly bench old.spare new.spare (IsUnmadeOrKept base.secret.shape history (bench.sent old.spare))
   pub stable : bench.told → status ≡ Done → IsQuiet bench new.spare
+  pub unsent_yet : status ≡ SpareFault → bench.sent new.bench ≡ bench.sent old.bench
   -- so every journal that a crash at any moment leaves there is legal for the table, and decides every question as the history does
   pub alike : files.told → bench.told → (IsMade (bench.file old.spare) → ⊥) → IsQuiet bench old.spare → (base : Database) (history : List Answered) →
       ServesOver (files.left old.schema) (files.left old.table) (bench.file old.bench) base history →
@@ -236,13 +241,91 @@ pub record Compacting {P I B : Type 0} (files : source.Ghosts P) (lines : source
       NothingFailed (faults_of files lines bench old) (faults_of files lines bench new) →
       (Rose (bench.faults old.spare) (bench.faults new.spare) → ⊥) → IsDoneOrWants status
 
+-- a run of `serve` with two journals
+pub record TwinServing {P I B : Type 0} (files : source.Ghosts P) (lines : source.Ghosts I) (bench : Ghosts B) (batch : ℕ) (status : Status)
+    (old new : Objects P I B) : Type 0 where
+  -- over the files of a table and two journals that stand for histories of it of which one begins the other: which lines were answered
+  -- after the longer one, what was sent and what both files stand for, at each end
+  pub twins_served : files.told → lines.told → bench.told → (base : Database) (main other whole : List Answered) →
+      TwinsOver (files.left old.schema) (files.left old.table) (bench.file old.bench) (bench.file old.spare) base main other whole →
+      TwinEnds batch status base whole (outside lines bench old.input old.bench) (outside lines bench new.input new.bench) (bench.file new.spare)
+  -- at every moment each file is brought up to the longer history, or is at a stop of the answers after it
+  pub twin_moment : files.told → lines.told → bench.told → IsQuiet bench old.bench → (base : Database) (main other whole : List Answered) →
+      TwinsOver (files.left old.schema) (files.left old.table) (bench.file old.bench) (bench.file old.spare) base main other whole →
+      LeavesOnly bench old.bench new.bench (CatchesUpOrStops base batch main whole (counted_lines (lines.left old.input)) (bench.sent old.bench))
+  pub spare_moment : files.told → lines.told → bench.told → IsQuiet bench old.spare → (base : Database) (main other whole : List Answered) →
+      TwinsOver (files.left old.schema) (files.left old.table) (bench.file old.bench) (bench.file old.spare) base main other whole →
+      LeavesOnly bench old.spare new.spare (SpareCatchesUpOrStops base batch other whole (counted_lines (lines.left old.input)) (bench.sent old.spare))
+  -- if a call of one of them failed, each has, whatever crash comes then, the record of every reply of which a byte was sent; at every other
+  -- end both stand for one history, and a crash leaves that
+  pub twins_left : files.told → lines.told → bench.told → IsQuiet bench old.bench → IsQuiet bench old.spare → (status ≡ BenchFault) ⊎ (status ≡ SpareFault) → (base : Database) (main other whole : List Answered) →
+      TwinsOver (files.left old.schema) (files.left old.table) (bench.file old.bench) (bench.file old.spare) base main other whole →
+      (image spare : List ℕ) → bench.leaves new.bench image → bench.leaves new.spare spare →
+      LeavesTwins base batch main other whole (counted_lines (lines.left old.input)) (bench.sent old.bench) (bench.sent new.bench) image spare
+  -- over any other files both stay, at every moment, and nothing is sent
+  pub apart : files.told → bench.told → IsQuiet bench old.bench → ((base : Database) (main other whole : List Answered) →
+      TwinsOver (files.left old.schema) (files.left old.table) (bench.file old.bench) (bench.file old.spare) base main other whole → ⊥) →
+      LeavesOnly bench old.bench new.bench (IsUntouched (bench.file old.bench) (bench.sent old.bench))
+  pub spare_apart : files.told → bench.told → IsQuiet bench old.spare → ((base : Database) (main other whole : List Answered) →
+      TwinsOver (files.left old.schema) (files.left old.table) (bench.file old.bench) (bench.file old.spare) base main other whole → ⊥) →
+      LeavesOnly bench old.spare new.spare (IsUntouched (bench.file old.spare) (bench.sent old.spare))
+  -- each refusal has its cause in both files
+  pub cause : files.told → bench.told → (base : Database) → AreSoundFilesOf (files.left old.schema) (files.left old.table) base →
+      BothCause status (Serve batch true) (bench.file old.bench) (bench.file old.spare) (table_in base)
+  pub spare_quiet : bench.told → IsQuiet bench old.spare → status ≢ SpareFault → IsQuiet bench new.spare
+  pub spare_unsent : bench.sent new.spare ≡ bench.sent old.spare
+  -- if nothing is wrong and nothing fails, it is done
+  pub twins_complete : files.told → lines.told → bench.told → (base : Database) (main other whole : List Answered) →
+      TwinsOver (files.left old.schema) (files.left old.table) (bench.file old.bench) (bench.file old.spare) base main other whole →
+      length (lines.left old.input) ≤ most_input → NothingFailed (faults_of files lines bench old) (faults_of files lines bench new) →
+      (Rose (bench.faults old.spare) (bench.faults new.spare) → ⊥) → IsDoneOrWants status
+
+-- a run of `restore`
+pub record Restoring {P I B : Type 0} (files : source.Ghosts P) (lines : source.Ghosts I) (bench : Ghosts B) (status : Status) (old new : Objects P I B) : Type 0 where
+  -- over the files of a table, one lost file and one that stands for a legal history of it: then both stand for that history, the one that
+  -- wasn't lost is as it was, and neither stands for anything that the other doesn't
+  pub restored : files.told → bench.told → status ≡ Done → (base : Database) → AreSoundFilesOf (files.left old.schema) (files.left old.table) base →
+      (history : List Answered) × (Restored (table_in base) (bench.file old.spare) (bench.file old.bench) (bench.file new.spare) (bench.file new.bench) history
+      ⊎ Restored (table_in base) (bench.file old.bench) (bench.file old.spare) (bench.file new.bench) (bench.file new.spare) history)
+  pub same : bench.told → status ≡ Done → StandForTheSame (bench.file new.bench) (bench.file new.spare)
+  -- each refusal has its cause in both files
+  pub cause : files.told → bench.told → (base : Database) → AreSoundFilesOf (files.left old.schema) (files.left old.table) base →
+      BothCause status Restore (bench.file old.bench) (bench.file old.spare) (table_in base)
+  -- at every moment a lost file isn't made, or stands for what the other does, and a made one stays
+  pub restoring : files.told → bench.told → IsQuiet bench old.bench → (base : Database) (history : List Answered) →
+      AreSoundFilesOf (files.left old.schema) (files.left old.table) base → IsLostOf (table_in base) (bench.file old.bench) (bench.file old.spare) history →
+      LeavesOnly bench old.bench new.bench (IsUnmadeOrWhole base.secret.shape history (bench.sent old.bench))
+  pub spare_restoring : files.told → bench.told → IsQuiet bench old.spare → (base : Database) (history : List Answered) →
+      AreSoundFilesOf (files.left old.schema) (files.left old.table) base → IsLostOf (table_in base) (bench.file old.spare) (bench.file old.bench) history →
+      LeavesOnly bench old.spare new.spare (IsUnmadeOrWhole base.secret.shape history (bench.sent old.spare))
+  pub kept : bench.told → IsQuiet bench old.bench → IsMade (bench.file old.bench) →
+      LeavesOnly bench old.bench new.bench (IsUntouched (bench.file old.bench) (bench.sent old.bench))
+  pub spare_kept : bench.told → IsQuiet bench old.spare → IsMade (bench.file old.spare) →
+      LeavesOnly bench old.spare new.spare (IsUntouched (bench.file old.spare) (bench.sent old.spare))
+  -- over any other files both stay at every moment
+  pub untouched : files.told → bench.told → IsQuiet bench old.bench → ((base : Database) → AreSoundFilesOf (files.left old.schema) (files.left old.table) base →
+      CanRestore (table_in base) (bench.file old.bench) (bench.file old.spare) → ⊥) →
+      LeavesOnly bench old.bench new.bench (IsUntouched (bench.file old.bench) (bench.sent old.bench))
+  pub spare_untouched : files.told → bench.told → IsQuiet bench old.spare → ((base : Database) → AreSoundFilesOf (files.left old.schema) (files.left old.table) base →
+      CanRestore (table_in base) (bench.file old.bench) (bench.file old.spare) → ⊥) →
+      LeavesOnly bench old.spare new.spare (IsUntouched (bench.file old.spare) (bench.sent old.spare))
+  pub spare_quiet : bench.told → IsQuiet bench old.spare → status ≢ SpareFault → IsQuiet bench new.spare
+  pub unsent : (bench.sent new.bench ≡ bench.sent old.bench) × (bench.sent new.spare ≡ bench.sent old.spare)
+  pub uncalled : Before opening_journal status (new.spare ≡ old.spare)
+  -- if nothing is wrong and nothing fails, it is done
+  pub restores : files.told → bench.told → (base : Database) → AreSoundFilesOf (files.left old.schema) (files.left old.table) base →
+      CanRestore (table_in base) (bench.file old.bench) (bench.file old.spare) → NothingFailed (faults_of files lines bench old) (faults_of files lines bench new) →
+      (Rose (bench.faults old.spare) (bench.faults new.spare) → ⊥) → IsDoneOrWants status
+
 -- what a run of a command does
 abbrev pub Does : {P I B : Type 0} → source.Ghosts P → source.Ghosts I → Ghosts B → Command → Status → Objects P I B → Objects P I B → Type 0
 Does files lines bench Init status old new = Making files lines bench status old new
-Does files lines bench (Serve batch) status old new = Serving files lines bench batch status old new
+Does files lines bench (Serve batch false) status old new = Serving files lines bench batch status old new
+Does files lines bench (Serve batch true) status old new = TwinServing files lines bench batch status old new
 Does files lines bench Audit status old new = Auditing files lines bench status old new
 Does files lines bench Simulate status old new = Simulating files lines bench status old new
 Does files lines bench (Drill number) status old new = Drilling files lines bench number status old new
 Does files lines bench Grow status old new = Growing files lines bench status old new
 Does files lines bench Explain status old new = Explaining files lines bench status old new
 Does files lines bench Compact status old new = Compacting files lines bench status old new
+Does files lines bench Restore status old new = Restoring files lines bench status old new

@@ -5,6 +5,12 @@ use Rattle.answer_journal.specs.declared.make.MakeFault.{MakeFault}
 use Rattle.answer_journal.specs.declared.make.MakeFault.TheVariants as make
 use Rattle.audit_session.specs.declared.serving.EndFault.{EndFault}
 use Rattle.audit_session.specs.declared.serving.EndFault.TheVariants as end
+use Rattle.audit_session.specs.declared.session.TwinEnd.{TwinEnd}
+use Rattle.audit_session.specs.declared.session.TwinEnd.TheVariants as session
+use Rattle.twin_journal.specs.declared.starting.TwinFault.{TwinFault}
+use Rattle.twin_journal.specs.declared.starting.TwinFault.TheVariants as twin
+use Rattle.twin_journal.specs.declared.restoring.RestoreFault.{RestoreFault}
+use Rattle.twin_journal.specs.declared.restoring.RestoreFault.TheVariants as restore
 use Rattle.audit_store.specs.declared.growing.GrowFault.{GrowFault}
 use Rattle.audit_store.specs.declared.growing.GrowFault.TheVariants as grow
 use Rattle.audit_store.specs.declared.starting.StartFault.{StartFault}
@@ -31,7 +37,7 @@ use Rattle.auditor_top.specs.declared.starting.NotStarted.{NotStarted}
 use Rattle.auditor_top.specs.declared.starting.NotStarted.TheVariants as starting
 use Rattle.auditor_top.specs.declared.status.Which.TheVariants.{Schema, Table, Input}
 use Rattle.auditor_top.specs.declared.status.Status.{Status}
-use Rattle.auditor_top.specs.declared.status.Status.TheVariants.{Done, BadWords, BadSchema, BadTable, SourceFault, BenchFault, NotMade, AlreadyThere, Damaged, OtherShape, NothingNew, Untrue, Illegal, InputLimit, Disagrees, BadGroup, SpareThere, SpareFault, NoMemory}
+use Rattle.auditor_top.specs.declared.status.Status.TheVariants.{Done, BadWords, BadSchema, BadTable, SourceFault, BenchFault, NotMade, AlreadyThere, Damaged, OtherShape, NothingNew, Untrue, Illegal, InputLimit, Disagrees, BadGroup, SpareThere, SpareFault, BadSpare, TwinsDiffer, NothingLost, NoMemory}
 
 -- the exit status of the program
 abbrev pub status_code : Status → ℕ
@@ -54,6 +60,9 @@ status_code (BadGroup place) = 16
 status_code (NothingNew rows) = 17
 status_code SpareThere = 18
 status_code SpareFault = 19
+status_code (BadSpare fault) = 20
+status_code (TwinsDiffer place) = 21
+status_code NothingLost = 22
 
 -- the place of a fault in a line
 abbrev pub at_line : ℕ → List ℕ
@@ -78,7 +87,7 @@ place_text fault.NoMemory = codes ""
 -- the words of a status that tells no number, none if it is done or tells one
 abbrev pub words_of : Status → List ℕ
 words_of Done = codes ""
-words_of BadWords = codes "usage: auditor init, serve [--batch N], audit, simulate, drill N, grow, explain, compact"
+words_of BadWords = codes "usage: auditor init, serve [--batch N] [--twin], audit, simulate, drill N, grow, explain, compact, restore"
 words_of (BadSchema fault) = codes ""
 words_of (BadTable fault) = codes ""
 words_of (SourceFault Schema) = codes "cannot read schema"
@@ -97,21 +106,25 @@ words_of (Disagrees line due) = codes ""
 words_of (BadGroup place) = codes ""
 words_of SpareThere = codes "spare is already there"
 words_of SpareFault = codes "spare failed"
+words_of (BadSpare fault) = codes ""
+words_of (TwinsDiffer place) = codes ""
+words_of NothingLost = codes "no journal is lost"
 words_of NoMemory = codes "out of memory"
 
--- what the program tells of it
-abbrev pub status_text : Status → List ℕ
-status_text (BadSchema fault) = codes "schema: fault " ++ decimal (schema.fault_number fault)
-status_text (BadTable fault) = codes "table: fault " ++ decimal (table.fault_number fault) ++ place_text fault
-status_text (Damaged at) = codes "journal damaged at byte " ++ decimal at
-status_text (OtherShape kept now) = codes "journal is of another table: rows " ++ decimal kept.rows ++ codes ", now " ++ decimal now.rows
-status_text (NothingNew rows) = codes "nothing to grow: rows " ++ decimal rows
-status_text (Untrue place kept now) = codes "record " ++ (decimal place ++
+-- what the program tells of a status, but of a spare's fault
+abbrev pub plain_text : Status → List ℕ
+plain_text (BadSchema fault) = codes "schema: fault " ++ decimal (schema.fault_number fault)
+plain_text (BadTable fault) = codes "table: fault " ++ decimal (table.fault_number fault) ++ place_text fault
+plain_text (Damaged at) = codes "journal damaged at byte " ++ decimal at
+plain_text (OtherShape kept now) = codes "journal is of another table: rows " ++ decimal kept.rows ++ codes ", now " ++ decimal now.rows
+plain_text (NothingNew rows) = codes "nothing to grow: rows " ++ decimal rows
+plain_text (Untrue place kept now) = codes "record " ++ (decimal place ++
     (codes " holds " ++ (signed_decimal kept ++ (codes ", table gives " ++ signed_decimal now))))
-status_text (Illegal place) = codes "record " ++ decimal place ++ codes " should not have been released"
-status_text (BadGroup place) = codes "schema: group " ++ (decimal place ++ codes " is bad")
-status_text (Disagrees line due) = codes "line " ++ (decimal line ++ (codes " disagrees, due " ++ word_of due))
-status_text other = words_of other
+plain_text (Illegal place) = codes "record " ++ decimal place ++ codes " should not have been released"
+plain_text (BadGroup place) = codes "schema: group " ++ (decimal place ++ codes " is bad")
+plain_text (Disagrees line due) = codes "line " ++ (decimal line ++ (codes " disagrees, due " ++ word_of due))
+plain_text (TwinsDiffer place) = codes "journals differ at record " ++ decimal place
+plain_text other = words_of other
 
 -- ---- the status that a fault of a step comes to
 
@@ -143,6 +156,11 @@ start_status (start.Untrue place kept now) = Untrue place kept now
 start_status (start.Illegal place) = Illegal place
 start_status start.Failed = BenchFault
 start_status start.NoMemory = NoMemory
+
+-- what the program tells of a status: of a spare's fault what it tells of the same fault of the journal
+abbrev pub status_text : Status → List ℕ
+status_text (BadSpare fault) = codes "spare: " ++ plain_text (start_status fault)
+status_text other = plain_text other
 
 -- of growing a journal
 abbrev pub grow_status : GrowFault → Status
@@ -190,6 +208,33 @@ compact_status compact.Spare = SpareFault
 compact_status compact.Bench = BenchFault
 compact_status compact.NoMemory = NoMemory
 
+-- of opening two journals
+abbrev pub twin_status : TwinFault → Status
+twin_status (twin.Main fault) = start_status fault
+twin_status (twin.Spare fault) = BadSpare fault
+twin_status (twin.Differ place) = TwinsDiffer place
+twin_status twin.MainFailed = BenchFault
+twin_status twin.SpareFailed = SpareFault
+twin_status twin.NoMemory = NoMemory
+
+-- of answering lines over them
+abbrev pub twin_end_status : TwinEnd → Status
+twin_end_status session.Input = SourceFault Input
+twin_end_status session.Bench = BenchFault
+twin_end_status session.Spare = SpareFault
+twin_end_status session.Limit = InputLimit
+twin_end_status session.NoMemory = NoMemory
+
+-- of restoring one
+abbrev pub restore_status : RestoreFault → Status
+restore_status restore.NothingLost = NothingLost
+restore_status restore.BothLost = NotMade
+restore_status (restore.Main fault) = start_status fault
+restore_status (restore.Spare fault) = BadSpare fault
+restore_status restore.MainFailed = BenchFault
+restore_status restore.SpareFailed = SpareFault
+restore_status restore.NoMemory = NoMemory
+
 -- of reading a transcript
 abbrev pub verdict_status : SimulationFault → Status
 verdict_status verdict.Input = SourceFault Input
@@ -227,3 +272,13 @@ simulation_status (Err fault) = verdict_status fault
 abbrev pub compacting_status : {X : Type 0} → Result X CompactFault → Status
 compacting_status (Ok done) = Done
 compacting_status (Err fault) = compact_status fault
+
+-- of answering lines over two journals, by how it ended
+abbrev pub twin_session_status : {X : Type 0} → Result X TwinEnd → Status
+twin_session_status (Ok done) = Done
+twin_session_status (Err fault) = twin_end_status fault
+
+-- of restoring one of them, by how it ended
+abbrev pub restoring_status : {X : Type 0} → Result X RestoreFault → Status
+restoring_status (Ok done) = Done
+restoring_status (Err fault) = restore_status fault

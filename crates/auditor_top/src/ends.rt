@@ -1,15 +1,16 @@
 //! The status of the last step of a command, by how it ended.
 ghost use Rattle.std.specs.Prelude.{◌≡◌};
-ghost use Rattle.auditor_top.specs.Status.{making_status, session_status, audit_status, simulation_status, growing_status, compacting_status, as_session};
+ghost use Rattle.auditor_top.specs.Status.{making_status, session_status, audit_status, simulation_status, growing_status, compacting_status, as_session, twin_session_status, restoring_status};
 
 use crate::compacting::CompactFault;
 use crate::status::Status;
 use answer_journal::MakeFault;
-use audit_session::EndFault;
+use audit_session::{EndFault, TwinEnd};
 use audit_store::GrowFault;
 use certificate_lines::ExplainFault;
 use journal_audit::AuditFault;
 use transcript_sim::SimulationFault;
+use twin_journal::RestoreFault;
 
 /// The status of a making that ended so.
 pub fn made(making: Result<(), MakeFault>) -> Status
@@ -76,6 +77,26 @@ pub fn compacted(compaction: Result<(), CompactFault>) -> Status
     ensures { result ≡ compacting_status compaction }
 {
     match compaction {
+        Ok(()) => Status::Done,
+        Err(fault) => Status::from(fault),
+    }
+}
+
+/// The status of a session over two journals that ended so.
+pub fn twins_answered(session: Result<(), TwinEnd>) -> Status
+    ensures { result ≡ twin_session_status session }
+{
+    match session {
+        Ok(()) => Status::Done,
+        Err(fault) => Status::from(fault),
+    }
+}
+
+/// The status of a journal's restoring that ended so.
+pub fn restored(restoring: Result<(), RestoreFault>) -> Status
+    ensures { result ≡ restoring_status restoring }
+{
+    match restoring {
         Ok(()) => Status::Done,
         Err(fault) => Status::from(fault),
     }

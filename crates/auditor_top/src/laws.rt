@@ -9,7 +9,7 @@ ghost use Rattle.table_load.specs.Database.{Database, table_in};
 ghost use Rattle.audit_session.specs.Stops.{StopsOver, IsBatch};
 ghost use Rattle.auditor_top.specs.Commands.{AreSoundFilesOf};
 ghost use Rattle.auditor_top.specs.Compactions.{DecideAlike, IsUnmadeOrKept};
-ghost use Rattle.auditor_top.specs.declared.words.Command.TheVariants.{Init, Serve, Audit, Simulate, Drill, Grow, Explain, Compact};
+ghost use Rattle.auditor_top.specs.declared.words.Command.TheVariants.{Init, Serve, Audit, Simulate, Drill, Grow, Explain, Compact, Restore};
 ghost use Rattle.auditor_top.specs.Words.{command_of, number_of};
 ghost use Rattle.auditor_top.specs.Promise.{LivesKeepPromise, LivesGoOn, LivesGrow, GrowthsAreTaken, MadeIsTaken, StopsAreTaken, RunsMakeLives};
 ghost use Rattle.auditor_top.specs.Shown.{TwinsAreShownAlike, TwinsHaveOneReport, LivesTellNothingMore};
@@ -95,18 +95,22 @@ pub fn never_refused()
 }
 
 /// The plain spellings of the commands are never refused: each command as one word, and `serve` with every number of 1 to 64
-/// for a batch, in a word of its own or after `=`, and `drill` with every number of 32 bits.
+/// for a batch, in a word of its own or after `=`, with `--twin` or without, and `drill` with every number of 32 bits.
 pub fn plain_words()
     ensures init { command_of (codes "init" ∷ []) ≡ Some Init }
-    ensures serve { command_of (codes "serve" ∷ []) ≡ Some (Serve 1) }
+    ensures serve { command_of (codes "serve" ∷ []) ≡ Some (Serve 1 false) }
+    ensures twin { command_of (codes "serve" ∷ codes "--twin" ∷ []) ≡ Some (Serve 1 true) }
     ensures audit { command_of (codes "audit" ∷ []) ≡ Some Audit }
     ensures simulate { command_of (codes "simulate" ∷ []) ≡ Some Simulate }
     ensures grow { command_of (codes "grow" ∷ []) ≡ Some Grow }
     ensures explain { command_of (codes "explain" ∷ []) ≡ Some Explain }
     ensures compact { command_of (codes "compact" ∷ []) ≡ Some Compact }
+    ensures restore { command_of (codes "restore" ∷ []) ≡ Some Restore }
     ensures batch { (word : List ℕ) (batch : ℕ) → number_of word ≡ Some batch → IsBatch batch
-        → command_of (codes "serve" ∷ codes "--batch" ∷ word ∷ []) ≡ Some (Serve batch) }
+        → command_of (codes "serve" ∷ codes "--batch" ∷ word ∷ []) ≡ Some (Serve batch false) }
     ensures batch_in_one_word { (word : List ℕ) (batch : ℕ) → number_of word ≡ Some batch → IsBatch batch
-        → command_of (codes "serve" ∷ (codes "--batch=" ++ word) ∷ []) ≡ Some (Serve batch) }
+        → command_of (codes "serve" ∷ (codes "--batch=" ++ word) ∷ []) ≡ Some (Serve batch false) }
+    ensures twin_batch { (word : List ℕ) (batch : ℕ) → number_of word ≡ Some batch → IsBatch batch
+        → command_of (codes "serve" ∷ codes "--twin" ∷ (codes "--batch=" ++ word) ∷ []) ≡ Some (Serve batch true) }
     ensures drill { (word : List ℕ) (number : ℕ) → number_of word ≡ Some number → number < 2 ^ 32 → command_of (codes "drill" ∷ word ∷ []) ≡ Some (Drill number) }
 {}

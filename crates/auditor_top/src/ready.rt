@@ -1,14 +1,15 @@
 //! What each command goes on with: its files are read, and its journal is opened.
 ghost use Rattle.std.specs.Prelude.{◌≡◌, ◌≤◌, ◌+◌, true, false, IfOk, IfErr, IsOk, OnOk};
+ghost use Rattle.audit_types.specs.History.{AreProtected};
 ghost use Rattle.bench_core.specs.Calls.{OnlyReads};
 ghost use Rattle.schema_json.specs.SecretShape.{shape_of};
 ghost use Rattle.table_load.specs.Cells.{FitsSchema};
 ghost use Rattle.table_load.specs.Database.{base_of};
-ghost use Rattle.auditor_top.specs.Commands.{AreSoundFilesOf, opens_store, reads_files};
+ghost use Rattle.auditor_top.specs.Commands.{AreSoundFilesOf, opens_journal, opens_store, reads_files};
 ghost use Rattle.auditor_top.specs.Ready.{IsOpened, IsReady, IsReadyOver, Refuses, command_for};
 
-use crate::opening::{Opened, OpenedPublic, open_public, open_table};
-use crate::starting::{Started, entries, start};
+use crate::opening::{OpenedPublic, open_public, open_table};
+use crate::starting::{ReadyTable, Started, make_ready, start};
 use crate::status::Status;
 use crate::words::Command;
 use audit_store::Store;
@@ -29,6 +30,13 @@ pub enum Ready {
         schema: Schema,
         index: Index,
         store: Store,
+        batch: u8,
+    },
+    Twin {
+        schema: Schema,
+        index: Index,
+        secret: Secret,
+        protected: Vec<Protected>,
         batch: u8,
     },
     Audit {
@@ -53,6 +61,10 @@ pub enum Ready {
     },
     Compact {
         store: Store,
+    },
+    Restore {
+        secret: Secret,
+        protected: Vec<Protected>,
     },
 }
 
@@ -85,6 +97,40 @@ fn open_store<P: Source, B: Bench>(
     match open_table(alloc, schema, table) {
         Ok(opened) => match start(alloc, opened, bench) {
             Ok(started) => Ok(started),
+            Err(fault) => Err(Status::from(fault)),
+        },
+        Err(fault) => Err(Status::from(fault)),
+    }
+}
+
+// Reads the files of a command that opens its journals in its last step, and makes the groups ready.
+fn open_groups<P: Source, B: Bench>(
+    alloc: Global,
+    command: Command,
+    schema: &mut P,
+    table: &mut P,
+    bench: &B,
+) -> Result<ReadyTable, Status>
+    requires journal { opens_journal command ≡ true }
+    requires later { opens_store command ≡ false }
+
+    // What is made ready is that of the files.
+    ensures over { P.told → IfOk result (λ made. AreSoundFilesOf (P.left schema.old) (P.left table.old)
+        (base_of made.schema.columns made.index.public made.protected.items made.secret)) }
+    ensures fit { IfOk result (λ made. AreProtected made.secret.shape made.protected.items) }
+    ensures fits { IfOk result (λ made. FitsSchema made.schema.columns made.index.public) }
+    ensures shape { IfOk result (λ made. made.secret.shape ≡ shape_of made.schema.columns made.index.public.rows) }
+    ensures entries { IfOk result (λ made. made.index.protected ≡ made.protected.items) }
+    ensures steady { OnOk result ((P.faults schema.new ≡ P.faults schema.old) × (P.faults table.new ≡ P.faults table.old)) }
+
+    // A refusal has its cause.
+    ensures refusal { IfErr result (λ status. Refuses P.Source B.Bench command status schema.old schema.new table.old table.new bench.now bench.now) }
+    ensures later { (P.faults schema.old ≤ P.faults schema.new) × (P.faults table.old ≤ P.faults table.new) }
+{
+    groups_of_a_schema();
+    match open_table(alloc, schema, table) {
+        Ok(opened) => match make_ready(alloc, opened) {
+            Ok(grouped) => Ok(grouped),
             Err(fault) => Err(Status::from(fault)),
         },
         Err(fault) => Err(Status::from(fault)),
@@ -132,7 +178,7 @@ pub fn open<P: Source, B: Bench>(
             },
             Err(fault) => Err(Status::from(fault)),
         },
-        Command::Serve { batch } => match open_store(alloc, command, schema, table, bench) {
+        Command::Serve { batch, twin: false } => match open_store(alloc, command, schema, table, bench) {
             Ok(
                 Started {
                     schema,
@@ -143,6 +189,23 @@ pub fn open<P: Source, B: Bench>(
                 schema,
                 index,
                 store,
+                batch,
+            }),
+            Err(status) => Err(status),
+        },
+        Command::Serve { batch, twin: true } => match open_groups(alloc, command, schema, table, bench) {
+            Ok(
+                ReadyTable {
+                    schema,
+                    index,
+                    secret,
+                    protected,
+                },
+            ) => Ok(Ready::Twin {
+                schema,
+                index,
+                secret,
+                protected,
                 batch,
             }),
             Err(status) => Err(status),
@@ -169,15 +232,13 @@ pub fn open<P: Source, B: Bench>(
             Ok(Started { store, .. }) => Ok(Ready::Compact { store }),
             Err(status) => Err(status),
         },
-        Command::Grow => match open_table(alloc, schema, table) {
-            Ok(Opened { schema, table }) => match entries(alloc, &schema, table.public) {
-                Ok(protected) => Ok(Ready::Grow {
-                    secret: table.secret,
-                    protected,
-                }),
-                Err(fault) => Err(Status::from(fault)),
-            },
-            Err(fault) => Err(Status::from(fault)),
+        Command::Grow => match open_groups(alloc, command, schema, table, bench) {
+            Ok(ReadyTable { secret, protected, .. }) => Ok(Ready::Grow { secret, protected }),
+            Err(status) => Err(status),
+        },
+        Command::Restore => match open_groups(alloc, command, schema, table, bench) {
+            Ok(ReadyTable { secret, protected, .. }) => Ok(Ready::Restore { secret, protected }),
+            Err(status) => Err(status),
         },
     }
 }

@@ -12,28 +12,31 @@ ghost use Rattle.table_load.specs.Tables.{table_of, public_of};
 ghost use Rattle.journal_form.specs.Journal.{StandsFor};
 ghost use Rattle.audit_session.specs.Lives.{Standing, Run, IsLife, in_force};
 ghost use Rattle.auditor_top.specs.declared.words.Command.{Command};
-ghost use Rattle.auditor_top.specs.declared.words.Command.TheVariants.{Simulate};
+ghost use Rattle.auditor_top.specs.declared.words.Command.TheVariants.{Simulate, Restore};
 ghost use Rattle.auditor_top.specs.Words.{command_of, NamesCommand};
 ghost use Rattle.auditor_top.specs.Commands.{AreFilesOf, AreSoundFilesOf, GoesOnOver, deed_of, opens_journal, reads_files, reads_groups, reads_secrets, reads_lines, writes, calls_spare};
 ghost use Rattle.auditor_top.specs.Causes.{FaultCause, WordCause, SchemaCause, TableCause, GroupCause, FileCause, SpareCause, InputCause, IsReadyFor, NeverFall, counts};
 ghost use Rattle.auditor_top.specs.Promise.{GoesOn};
 ghost use Rattle.auditor_top.specs.Runs.{objects, Does};
-ghost use Rattle.auditor_top.specs.Stages.{Before, reading_table, opening_journal, writing_spare, reading_lines};
+ghost use Rattle.auditor_top.specs.Stages.{Before, reading_table, opening_journal, opening_spare, reading_lines};
+ghost use Rattle.auditor_top.specs.Twins.{Reaches};
 
 use crate::compacting::compact;
 use crate::drilling::drill;
-use crate::ends::{answered, compacted, explained, grown, judged, made, reported};
+use crate::ends::{answered, compacted, explained, grown, judged, made, reported, restored, twins_answered};
 use crate::laws::{compactions, lives, stops_are_legal};
 use crate::ready::{Ready, open};
 use crate::status::{Status, Which};
 use crate::words::{Command, WordFault, read_words};
 use answer_journal::Journal;
+use audit_session::serve_with;
 use audit_store::Store;
 use bench_core::{Bench, Source};
 use schema_json::SchemaFault;
 use std::alloc::Global;
 use table_load::TableFault;
 use transcript_sim::laws::one_verdict;
+use twin_journal::{TwinStore, restore};
 
 /// Does all that the program does: reads the arguments after the program's name, and takes the steps of their command over the
 /// schema, the table, the lines of the input, and the bench, which keeps the journal and takes what is sent. `spare` is the place
@@ -61,7 +64,7 @@ pub fn run<P: Source, I: Source, B: Bench>(
     ensures file { P.told → B.told → (command : Command) → NamesCommand words.now.items command
         → (base : Database) → (files : AreFilesOf (P.left schema.old) (P.left table.old) base)
         → OnTrue (reads_groups command) (AreEntries base.columns base.public files.groups base.protected) → FileCause result command (B.file bench.old) (table_in base) }
-    ensures spare_file { B.told → (command : Command) → NamesCommand words.now.items command → calls_spare command ≡ true → SpareCause result (B.file spare.old) }
+    ensures spare_file { B.told → (command : Command) → NamesCommand words.now.items command → calls_spare command ≡ true → SpareCause result command (B.file spare.old) }
     ensures input { I.told → (command : Command) → NamesCommand words.now.items command → reads_lines command ≡ true → InputCause result (I.left input.old) (I.left input.new) }
 
     // A failed call is reported when it happens: it is the only call that failed, and the last one that was made, of the object
@@ -82,12 +85,13 @@ pub fn run<P: Source, I: Source, B: Bench>(
     ensures table_within { P.told → result ≡ Status.SourceFault Which.Table → length (P.left table.old) ≤ most_table + length (P.left table.new) }
 
     // A life goes on with this run, from where it stands: the life with it is a life, keeps the promise, hides what is guarded, and
-    // decides as over all tables that differ in their secrets alone, whatever moment the run is stopped at.
+    // decides as over all tables that differ in their secrets alone, whatever moment the run is stopped at. With two journals it stands at
+    // the longer one, and goes on from the file once that isn't behind it.
     ensures lives { P.told → B.told → (command : Command) → NamesCommand words.now.items command → (reads_lines command ≡ true → I.told) → IsQuiet B.Bench bench.old
-        → (base : Database) (at : Standing) → GoesOnOver command (P.left schema.old) (P.left table.old) (B.file bench.old) at base
+        → (base : Database) (at : Standing) → GoesOnOver command (P.left schema.old) (P.left table.old) (B.file bench.old) (B.file spare.old) at base
         → (first : Database) (runs : List Run) → IsLife first runs at
         → (image sent : List ℕ) (left : Standing) → left.base ≡ base → B.since bench.new (B.moment bench.old) image (B.sent bench.old ++ sent)
-        → StandsFor image (in_force left).setting.shape left.history
+        → StandsFor image (in_force left).setting.shape left.history → Reaches command at left
         → GoesOn first runs (record { deed = deed_of command (I.left input.old); left = left; sent = sent }) }
 
     // What a run of each command does, by its status: the arguments, how it ends, what is found at every moment, its calls of the
@@ -109,7 +113,7 @@ pub fn run<P: Source, I: Source, B: Bench>(
     ensures before_bench { Before opening_journal result (bench.new ≡ bench.old) }
     ensures before_lines { Before reading_lines result ((input.new ≡ input.old) × (B.sent bench.new ≡ B.sent bench.old)) }
     ensures unwritten { B.told → Before reading_lines result (B.file bench.new ≡ B.file bench.old) }
-    ensures before_spare { Before writing_spare result (spare.new ≡ spare.old) }
+    ensures before_spare { (NamesCommand words.now.items Restore → ⊥) → Before opening_spare result (spare.new ≡ spare.old) }
     ensures unread { command_of (map string_bytes words.now.items) ≡ None → (schema.new ≡ schema.old) × (table.new ≡ table.old) × (input.new ≡ input.old) × (bench.new ≡ bench.old) × (spare.new ≡ spare.old) }
     ensures no_files { (command : Command) → NamesCommand words.now.items command → reads_files command ≡ false → (schema.new ≡ schema.old) × (table.new ≡ table.old) }
     ensures no_lines { (command : Command) → NamesCommand words.now.items command → reads_lines command ≡ false → input.new ≡ input.old }
@@ -140,6 +144,20 @@ pub fn run<P: Source, I: Source, B: Bench>(
         ) => answered(audit_session::serve(
             alloc, &schema, &index, &mut store, input, bench, batch,
         )),
+        Ok(
+            Ready::Twin {
+                schema,
+                index,
+                secret,
+                protected,
+                batch,
+            },
+        ) => match TwinStore::start(alloc, secret, protected, bench, spare) {
+            Ok(mut twin) => twins_answered(serve_with(
+                alloc, &schema, &index, &mut twin, input, bench, spare, batch,
+            )),
+            Err(fault) => Status::from(fault),
+        },
         Ok(Ready::Audit { schema, store }) => {
             reported(journal_audit::audit(alloc, &schema, &store, bench))
         }
@@ -158,5 +176,8 @@ pub fn run<P: Source, I: Source, B: Bench>(
             },
         ) => explained(certificate_lines::explain(alloc, &schema, &index, &store, input, bench)),
         Ok(Ready::Compact { store }) => compacted(compact(alloc, &store, bench, spare)),
+        Ok(Ready::Restore { secret, protected }) => {
+            restored(restore(alloc, secret, protected, bench, spare))
+        }
     }
 }

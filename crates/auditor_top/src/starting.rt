@@ -21,7 +21,7 @@ use bench_core::Bench;
 use schema_json::Schema;
 use set_index::{Index, IndexFault, groups_of_a_schema};
 use std::alloc::Global;
-use table_load::{Public, Table};
+use table_load::{Secret, Table};
 
 /// The schema of a table, its public part, ready to be asked, and the store of its secrets.
 #[derive(Drop)]
@@ -29,6 +29,15 @@ pub struct Started {
     pub schema: Schema,
     pub index: Index,
     pub store: Store,
+}
+
+/// The schema of a table, its public part, ready to be asked, its secrets, and the entries of the groups that are protected of them.
+#[derive(Drop)]
+pub struct ReadyTable {
+    pub schema: Schema,
+    pub index: Index,
+    pub secret: Secret,
+    pub protected: Vec<Protected>,
 }
 
 /// Why no store was started over a table.
@@ -51,19 +60,28 @@ fn copied(alloc: Global, groups: &[Protected]) -> Result<Vec<Protected>, NoMemor
     }
 }
 
-/// The entries of the groups of a schema, over the public part of its table.
-pub fn entries(alloc: Global, schema: &Schema, public: Public) -> Result<Vec<Protected>, IndexFault>
-    requires fits { FitsSchema schema.now.columns public }
-    ensures fit { IfOk result (λ protected. AreProtected (shape_of schema.now.columns public.rows) protected.items) }
-    ensures entries { IfOk result (λ protected. AreEntries schema.now.columns public schema.now.groups protected.items) }
-    ensures bad { (place : ℕ) → result ≡ Err (IndexFault.BadGroup place) → IsFirstBad schema.now.columns schema.now.groups place }
+/// Makes the groups of a table's schema ready.
+pub fn make_ready(alloc: Global, opened: Opened) -> Result<ReadyTable, IndexFault>
+    requires fits { FitsSchema opened.schema.columns opened.table.public }
+    ensures same { IfOk result (λ made. (made.schema ≡ opened.schema) × (made.index.public ≡ opened.table.public) × (made.secret ≡ opened.table.secret)
+        × (made.index.protected ≡ made.protected.items)) }
+    ensures fit { IfOk result (λ made. AreProtected (shape_of opened.schema.columns opened.table.public.rows) made.protected.items) }
+    ensures entries { IfOk result (λ made. AreEntries opened.schema.columns opened.table.public opened.schema.groups made.protected.items) }
+    ensures bad { (place : ℕ) → result ≡ Err (IndexFault.BadGroup place) → IsFirstBad opened.schema.columns opened.schema.groups place }
 {
-    let index = match Index::new(alloc, schema, public) {
+    let Opened { schema, table } = opened;
+    let Table { public, secret } = table;
+    let index = match Index::new(alloc, &schema, public) {
         Ok(index) => index,
         Err(fault) => return Err(fault),
     };
     match copied(alloc, index.protected()) {
-        Ok(protected) => Ok(protected),
+        Ok(protected) => Ok(ReadyTable {
+            schema,
+            index,
+            secret,
+            protected,
+        }),
         Err(_) => Err(IndexFault::NoMemory),
     }
 }
@@ -93,14 +111,14 @@ pub fn start<B: Bench>(alloc: Global, opened: Opened, bench: &mut B) -> Result<S
     ensures fault { TellsFault B.Bench bench.old bench.new (IsErrOf result (NotStarted.Journal StartFault.Failed)) }
 {
     groups_of_a_schema();
-    let Opened { schema, table } = opened;
-    let Table { public, secret } = table;
-    let index = match Index::new(alloc, &schema, public) {
-        Ok(index) => index,
+    let ReadyTable {
+        schema,
+        index,
+        secret,
+        protected,
+    } = match make_ready(alloc, opened) {
+        Ok(grouped) => grouped,
         Err(fault) => return Err(NotStarted::Groups(fault)),
-    };
-    let Ok(protected) = copied(alloc, index.protected()) else {
-        return Err(NotStarted::Groups(IndexFault::NoMemory));
     };
     match Store::start(alloc, secret, protected, bench) {
         Ok(store) => Ok(Started {

@@ -7,7 +7,7 @@ use crate::files::FileFault;
 use crate::opening::OpenFault;
 use crate::starting::NotStarted;
 use answer_journal::MakeFault;
-use audit_session::EndFault;
+use audit_session::{EndFault, TwinEnd};
 use audit_store::{GrowFault, StartFault};
 use audit_types::{NoMemory, Shape};
 use certificate_lines::ExplainFault;
@@ -19,6 +19,7 @@ use std::alloc::Global;
 use std::fmt;
 use table_load::TableFault;
 use transcript_sim::SimulationFault;
+use twin_journal::{RestoreFault, TwinFault};
 
 /// The sources that a run reads.
 #[derive(Clone, Copy, PartialEq, Eq)]
@@ -67,6 +68,12 @@ pub enum Status {
     SpareThere,
     /// A call on the spare failed.
     SpareFault,
+    /// The journal on the spare has this fault, one that a journal may have. It is never a failed call or that memory ran out.
+    BadSpare(StartFault),
+    /// The journal and the one on the spare hold other records from this place on, from 0.
+    TwinsDiffer { place: u32 },
+    /// Both journals are made, so none is to be restored.
+    NothingLost,
     /// Memory ran out.
     NoMemory,
 }
@@ -233,6 +240,60 @@ impl From<ExplainFault> for Status {
     }
 }
 
+impl From<TwinFault> for Status {
+    ghost use Rattle.std.specs.Prelude.{◌≡◌};
+    ghost use Rattle.auditor_top.specs.Status.{twin_status};
+
+    ghost from_gives = { λ fault status. status ≡ twin_status fault };
+
+    fn from(fault: TwinFault) -> Status {
+        match fault {
+            TwinFault::Main(fault) => Status::from(fault),
+            TwinFault::Spare(fault) => Status::BadSpare(fault),
+            TwinFault::Differ { place } => Status::TwinsDiffer { place },
+            TwinFault::MainFailed => Status::BenchFault,
+            TwinFault::SpareFailed => Status::SpareFault,
+            TwinFault::NoMemory => Status::NoMemory,
+        }
+    }
+}
+
+impl From<TwinEnd> for Status {
+    ghost use Rattle.std.specs.Prelude.{◌≡◌};
+    ghost use Rattle.auditor_top.specs.Status.{twin_end_status};
+
+    ghost from_gives = { λ fault status. status ≡ twin_end_status fault };
+
+    fn from(fault: TwinEnd) -> Status {
+        match fault {
+            TwinEnd::Input => Status::SourceFault(Which::Input),
+            TwinEnd::Bench => Status::BenchFault,
+            TwinEnd::Spare => Status::SpareFault,
+            TwinEnd::Limit => Status::InputLimit,
+            TwinEnd::NoMemory => Status::NoMemory,
+        }
+    }
+}
+
+impl From<RestoreFault> for Status {
+    ghost use Rattle.std.specs.Prelude.{◌≡◌};
+    ghost use Rattle.auditor_top.specs.Status.{restore_status};
+
+    ghost from_gives = { λ fault status. status ≡ restore_status fault };
+
+    fn from(fault: RestoreFault) -> Status {
+        match fault {
+            RestoreFault::NothingLost => Status::NothingLost,
+            RestoreFault::BothLost => Status::NotMade,
+            RestoreFault::Main(fault) => Status::from(fault),
+            RestoreFault::Spare(fault) => Status::BadSpare(fault),
+            RestoreFault::MainFailed => Status::BenchFault,
+            RestoreFault::SpareFailed => Status::SpareFault,
+            RestoreFault::NoMemory => Status::NoMemory,
+        }
+    }
+}
+
 impl From<SimulationFault> for Status {
     ghost use Rattle.std.specs.Prelude.{◌≡◌};
     ghost use Rattle.auditor_top.specs.Status.{verdict_status};
@@ -283,7 +344,7 @@ fn words_of(status: &Status) -> &'static str
 {
     match status {
         Status::BadWords => {
-            "usage: auditor init, serve [--batch N], audit, simulate, drill N, grow, explain, compact"
+            "usage: auditor init, serve [--batch N] [--twin], audit, simulate, drill N, grow, explain, compact, restore"
         }
         Status::SourceFault(Which::Schema) => "cannot read schema",
         Status::SourceFault(Which::Table) => "cannot read table",
@@ -294,6 +355,7 @@ fn words_of(status: &Status) -> &'static str
         Status::InputLimit => "input is too long",
         Status::SpareThere => "spare is already there",
         Status::SpareFault => "spare failed",
+        Status::NothingLost => "no journal is lost",
         Status::NoMemory => "out of memory",
         Status::Done
         | Status::BadSchema(_)
@@ -304,18 +366,24 @@ fn words_of(status: &Status) -> &'static str
         | Status::Untrue { .. }
         | Status::Illegal { .. }
         | Status::Disagrees { .. }
-        | Status::BadGroup { .. } => "",
+        | Status::BadGroup { .. }
+        | Status::BadSpare(_)
+        | Status::TwinsDiffer { .. } => "",
     }
 }
 
-impl fmt::Display for Status {
-    ghost use Rattle.std.specs.Prelude.{Some};
-    ghost use Rattle.auditor_top.specs.Status.{status_text};
+// A status as it is told, but of a spare's fault.
+#[derive(Clone, Copy, Drop)]
+struct Plain(Status);
 
-    ghost output = { λ s. Some (status_text s) };
+impl fmt::Display for Plain {
+    ghost use Rattle.std.specs.Prelude.{Some};
+    ghost use Rattle.auditor_top.specs.Status.{plain_text};
+
+    ghost output = { λ s. Some (plain_text s.0) };
 
     fn fmt<W: fmt::Write>(&self, f: &mut fmt::Formatter<W>) -> fmt::Result {
-        match self {
+        match &self.0 {
             Status::BadSchema(fault) => write!(f, "schema: fault {}", fault.number()),
             Status::BadTable(fault) => {
                 write!(f, "table: fault {}{}", fault.number(), Place(*fault))
@@ -335,7 +403,22 @@ impl fmt::Display for Status {
             }
             Status::Disagrees { line, due } => write!(f, "line {line} disagrees, due {due}"),
             Status::BadGroup { place } => write!(f, "schema: group {place} is bad"),
+            Status::TwinsDiffer { place } => write!(f, "journals differ at record {place}"),
             plain => f.write_str(words_of(plain)),
+        }
+    }
+}
+
+impl fmt::Display for Status {
+    ghost use Rattle.std.specs.Prelude.{Some};
+    ghost use Rattle.auditor_top.specs.Status.{status_text};
+
+    ghost output = { λ s. Some (status_text s) };
+
+    fn fmt<W: fmt::Write>(&self, f: &mut fmt::Formatter<W>) -> fmt::Result {
+        match self {
+            Status::BadSpare(fault) => write!(f, "spare: {}", Plain(Status::from(*fault))),
+            plain => Plain(*plain).fmt(f),
         }
     }
 }
@@ -363,6 +446,9 @@ pub fn status_code(status: &Status) -> u8
         Status::NothingNew { .. } => 17,
         Status::SpareThere => 18,
         Status::SpareFault => 19,
+        Status::BadSpare(_) => 20,
+        Status::TwinsDiffer { .. } => 21,
+        Status::NothingLost => 22,
         Status::NoMemory => 15,
     }
 }

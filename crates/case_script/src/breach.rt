@@ -12,6 +12,8 @@ pub enum Breach {
     SpareWritten,
     PartlyMade,
     SentTooSoon,
+    OtherSpare,
+    NotOneHistory,
 }
 
 impl fmt::Display for Breach {
@@ -25,6 +27,8 @@ impl fmt::Display for Breach {
             Breach::SpareWritten => "the spare isn't as it was",
             Breach::PartlyMade => "the spare is made, and isn't whole",
             Breach::SentTooSoon => "a byte was sent, and the spare isn't whole",
+            Breach::OtherSpare => "the spare is none of those that may stand beside the journal",
+            Breach::NotOneHistory => "the run after it doesn't bring both journals to one history",
         })
     }
 }

@@ -40,6 +40,8 @@ pub struct Once {
     pub leaves_spare: bool,
     /// How many calls of the bench are made.
     pub calls: Option<u64>,
+    /// How many calls of the spare are made.
+    pub spare_calls: Option<u64>,
 }
 
 impl Once {
@@ -54,6 +56,7 @@ impl Once {
             spare_left: Vec::new(alloc),
             leaves_spare: false,
             calls: None,
+            spare_calls: None,
         }
     }
 
@@ -67,6 +70,7 @@ impl Once {
             self.failures = Failures::of(fails);
         }
         self.calls = run.count("calls");
+        self.spare_calls = run.count("spare_calls");
         self.exchange.read(rt, run)?;
         self.read_end(run)?;
         self.read_files(rt, run)?;
@@ -125,7 +129,7 @@ fn add_left(rt: &HostRuntime, left: &mut Vec<Left>, over: Over, contents: &Value
 
 // The statuses that come before the first line; the journal's file is then as it was.
 fn ends_before_lines(status: u8) -> bool {
-    matches!(status, 2..=4 | 7..=12)
+    matches!(status, 2..=4 | 7..=12 | 20..=22)
 }
 
 fn status_and_text(values: &[Value]) -> Option<(u8, &str)> {

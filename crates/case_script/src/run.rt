@@ -9,7 +9,7 @@ use anyhow::{Context, Result, bail};
 use std::alloc::Global;
 use toml::Value;
 
-const KEYS: [(&str, ValueKind); 21] = [
+const KEYS: [(&str, ValueKind); 22] = [
     ("shows", ValueKind::Text),
     ("words", ValueKind::List),
     ("schema", ValueKind::Contents),
@@ -29,6 +29,7 @@ const KEYS: [(&str, ValueKind); 21] = [
     ("spare_file", ValueKind::Contents),
     ("spare_crash", ValueKind::Table),
     ("calls", ValueKind::Count),
+    ("spare_calls", ValueKind::Count),
     ("each", ValueKind::Table),
     ("differs", ValueKind::Flag),
 ];

@@ -23,7 +23,14 @@ pub fn is_as_due(
         &Bytes(end.benches.journal.sent()),
     )?;
     met &= leaves_files(rt, name, start, once, &end.benches)?;
-    met &= calls(rt, name, once, end.benches.journal.calls())?;
+    met &= calls(rt, name, "calls", once.calls, end.benches.journal.calls())?;
+    met &= calls(
+        rt,
+        name,
+        "spare's calls",
+        once.spare_calls,
+        end.benches.spare.calls(),
+    )?;
     Ok(met)
 }
 
@@ -35,10 +42,10 @@ fn ends(rt: &HostRuntime, name: Case, once: &Once, status: &Status) -> Result<bo
     Ok(has_code && has_text)
 }
 
-// Whether so many calls of the bench were due.
-fn calls(rt: &HostRuntime, name: Case, once: &Once, came: u64) -> Result<bool> {
-    match once.calls {
-        Some(due) => name.agrees(rt, "calls", &due, &came),
+// Whether so many calls of a bench were due.
+fn calls(rt: &HostRuntime, name: Case, what: &str, due: Option<u64>, came: u64) -> Result<bool> {
+    match due {
+        Some(due) => name.agrees(rt, what, &due, &came),
         None => Ok(true),
     }
 }

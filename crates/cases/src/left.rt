@@ -30,9 +30,14 @@ pub fn left_by(alloc: Global, over: Over, bench: &MemoryBench) -> Result<Vec<u8>
 
 /// Both files that a run leaves.
 pub fn files_left(alloc: Global, over: Over, benches: &Benches) -> Result<Files> {
+    images_left(alloc, over, over, benches)
+}
+
+/// Both files that a run leaves, each as it says.
+pub fn images_left(alloc: Global, journal: Over, spare: Over, benches: &Benches) -> Result<Files> {
     Ok(Files {
-        journal: left_by(alloc, over, &benches.journal)?,
-        spare: left_by(alloc, over, &benches.spare)?,
+        journal: left_by(alloc, journal, &benches.journal)?,
+        spare: left_by(alloc, spare, &benches.spare)?,
     })
 }
 

@@ -1,7 +1,7 @@
 //! The runs of a script, one after another.
 use crate::due::is_as_due;
 use crate::left::start_of;
-use crate::stage::{Benches, Stage};
+use crate::stage::{Benches, EACH, ONCE, Stage};
 use crate::stopping::play_each;
 use crate::tally::Tally;
 use crate::telling::Case;
@@ -27,10 +27,16 @@ fn play_case(
 ) -> Result<bool> {
     let name = Case { script: path, run };
     let start = start_of(rt.alloc(), run, before)?;
-    let stage = Stage { run, start: &start };
+    let start = &start;
     match &run.due {
-        Due::Each(law) => play_each(rt, name, stage, law),
-        Due::Once(once) => play_once(rt, name, stage, once, before),
+        Due::Each(law) => {
+            let most = EACH;
+            play_each(rt, name, Stage { run, start, most }, law)
+        }
+        Due::Once(once) => {
+            let most = ONCE;
+            play_once(rt, name, Stage { run, start, most }, once, before)
+        }
     }
 }
 

@@ -10,16 +10,31 @@ use std::alloc::Global;
 /// How many bytes a run may write, and at how many calls of a run a fault is tried.
 pub const ROOM: u64 = 65_536;
 
-// How many bytes a run may send, and how many calls it may make: a verdict for each answer of a full history, and more.
-const SENT: u64 = 2_097_152;
+/// How many bytes a run may send, and how many calls it may make. A bench takes memory for all of them.
+#[derive(Clone, Copy)]
+pub struct Most {
+    sent: u64,
+    calls: u64,
+}
 
-const CALLS: u64 = 131_072;
+/// Those of a run that is made once: a verdict for each answer of a full history, and more.
+pub const ONCE: Most = Most {
+    sent: 2_097_152,
+    calls: 131_072,
+};
 
-/// A run, and the files at its start.
+/// Those of a run that is made with a fault at each call: there are many of them, and they are short.
+pub const EACH: Most = Most {
+    sent: 65_536,
+    calls: 8_192,
+};
+
+/// A run, the files at its start, and what it may do.
 #[derive(Clone, Copy)]
 pub struct Stage<'a> {
     pub run: &'a Run,
     pub start: &'a Files,
+    pub most: Most,
 }
 
 /// The bench of the journal and of what is sent, and that of the spare.
@@ -45,8 +60,15 @@ impl Stage<'_> {
         exchange: &Exchange,
         failures: Failures,
     ) -> Result<End> {
-        let mut bench = bench_over(alloc, &files.journal, failures.bench, failures.stop)?;
-        let mut spare = bench_over(alloc, &files.spare, failures.spare, failures.spare_stop)?;
+        let (fails, stop) = (failures.bench, failures.stop);
+        let mut bench = bench_over(alloc, &files.journal, self.most, fails, stop)?;
+        // Nothing is sent on it.
+        let most = Most {
+            sent: 0,
+            ..self.most
+        };
+        let (fails, stop) = (failures.spare, failures.spare_stop);
+        let mut spare = bench_over(alloc, &files.spare, most, fails, stop)?;
         let status = run_over(alloc, self.run, exchange, failures, &mut bench, &mut spare);
         let benches = Benches {
             journal: bench,
@@ -82,13 +104,14 @@ fn run_over(
 fn bench_over(
     alloc: Global,
     start: &[u8],
+    most: Most,
     fails: Option<u64>,
     stop: Option<u64>,
 ) -> Result<MemoryBench> {
     let room = Room {
         file: (start.len() as u64).saturating_add(ROOM),
-        sent: SENT,
-        calls: CALLS,
+        sent: most.sent,
+        calls: most.calls,
         written: ROOM,
     };
     let mut failing = Vec::new(alloc);

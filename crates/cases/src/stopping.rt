@@ -1,5 +1,5 @@
 //! One run of which each call of an object fails in turn, and what a crash then leaves.
-use crate::left::{Files, files_left};
+use crate::left::{Files, files_left, images_left};
 use crate::stage::{Benches, End, ROOM, Stage};
 use crate::telling::{Bytes, Case};
 use anyhow::{Result, bail};
@@ -16,11 +16,18 @@ struct Trial<'a> {
     law: &'a Law,
 }
 
+// Which image of the journal's file is left after a crash, and which of the spare's, if not the same.
+#[derive(Clone, Copy)]
+struct Images {
+    journal: Over,
+    spare: Option<Over>,
+}
+
 // What is wrong with a run of which this call failed, and with the files that are left after it.
 #[derive(Clone, Copy)]
 struct Broken {
     call: u64,
-    over: Over,
+    images: Images,
     breach: Breach,
 }
 
@@ -29,7 +36,10 @@ impl Broken {
     fn by_status(call: u64) -> Broken {
         Broken {
             call,
-            over: Over::Left,
+            images: Images {
+                journal: Over::Left,
+                spare: None,
+            },
             breach: Breach::OtherStatus,
         }
     }
@@ -37,8 +47,19 @@ impl Broken {
 
 impl fmt::Display for Broken {
     fn fmt<W: fmt::Write>(&self, f: &mut fmt::Formatter<W>) -> fmt::Result {
-        let Broken { call, over, breach } = self;
-        write!(f, "at call {call}, {}: {breach}", over.name())
+        let Broken {
+            call,
+            images,
+            breach,
+        } = self;
+        let journal = images.journal.name();
+        match images.spare {
+            None => write!(f, "at call {call}, {journal}: {breach}"),
+            Some(spare) => {
+                let spare = spare.name();
+                write!(f, "at call {call}, {journal}, spare's {spare}: {breach}")
+            }
+        }
     }
 }
 
@@ -96,36 +117,89 @@ impl Trial<'_> {
     // Whether nothing is wrong with a run that failed at a call, in any files that it may leave.
     fn is_kept(self, rt: &HostRuntime, call: u64, end: &End) -> Result<bool> {
         let mut kept = true;
-        for over in Over::ALL {
-            if let Some(breach) = self.breach(rt.alloc(), call, end, over)? {
-                self.name.tell(rt, Broken { call, over, breach })?;
-                kept = false;
-            }
+        for journal in Over::ALL {
+            kept &= if self.law.has_twins() {
+                self.is_kept_beside_each(rt, call, end, journal)?
+            } else {
+                let spare = None;
+                self.is_kept_in(rt, call, end, Images { journal, spare })?
+            };
         }
         Ok(kept)
     }
 
+    // The same with this image of the journal, and any of its twin.
+    fn is_kept_beside_each(
+        self,
+        rt: &HostRuntime,
+        call: u64,
+        end: &End,
+        journal: Over,
+    ) -> Result<bool> {
+        let mut kept = true;
+        for spare in Over::ALL {
+            let spare = Some(spare);
+            kept &= self.is_kept_in(rt, call, end, Images { journal, spare })?;
+        }
+        Ok(kept)
+    }
+
+    fn is_kept_in(self, rt: &HostRuntime, call: u64, end: &End, images: Images) -> Result<bool> {
+        let Some(breach) = self.breach(rt.alloc(), call, end, images)? else {
+            return Ok(true);
+        };
+        let broken = Broken {
+            call,
+            images,
+            breach,
+        };
+        self.name.tell(rt, broken)?;
+        Ok(false)
+    }
+
     // What is wrong with a run that failed at a call, in the files that a crash leaves.
-    fn breach(self, alloc: Global, call: u64, end: &End, over: Over) -> Result<Option<Breach>> {
+    fn breach(self, alloc: Global, call: u64, end: &End, images: Images) -> Result<Option<Breach>> {
         let sent = end.benches.journal.sent();
         if !self.law.may_have_sent(alloc, call, sent)? {
             return Ok(Some(Breach::OtherReplies));
         }
-        let left = files_left(alloc, over, &end.benches)?;
+        let spare = images.spare.unwrap_or(images.journal);
+        let left = images_left(alloc, images.journal, spare, &end.benches)?;
         self.breach_of_files(alloc, sent, &left)
     }
 
     // What is wrong with files that are left after this was sent, or with the answers to the lines that are asked over them.
     fn breach_of_files(self, alloc: Global, sent: &[u8], left: &Files) -> Result<Option<Breach>> {
+        let Files { journal, spare } = left;
         let start = &self.stage.start.spare;
-        let breach = self
-            .law
-            .breach_of_file(sent, &left.journal)
-            .or(self.law.breach_of_spare(start, sent, &left.spare));
-        match (breach, self.law.asked_over(&left.journal, &left.spare)) {
-            (None, Some(exchange)) => self.breach_of_answers(alloc, exchange, left),
-            (breach, _) => Ok(breach),
+        if let Some(breach) = self.law.breach_of_files(start, sent, journal, spare) {
+            return Ok(Some(breach));
         }
+        if let Some(exchange) = self.law.asked_over(journal, spare) {
+            if let Some(breach) = self.breach_of_answers(alloc, exchange, left)? {
+                return Ok(Some(breach));
+            }
+        }
+        match self.law.asked_again() {
+            Some(exchange) => self.breach_of_next(alloc, exchange, sent, left),
+            None => Ok(None),
+        }
+    }
+
+    // What is wrong with the next run over the files that are left, or with those that it leaves.
+    fn breach_of_next(
+        self,
+        alloc: Global,
+        asked: &Exchange,
+        sent: &[u8],
+        left: &Files,
+    ) -> Result<Option<Breach>> {
+        let end = self.stage.run(alloc, left, asked, Failures::default())?;
+        if end.status != Status::Done || end.benches.journal.sent() != asked.shown.as_slice() {
+            return Ok(Some(Breach::OtherAnswers));
+        }
+        let after = files_left(alloc, Over::Left, &end.benches)?;
+        Ok(self.law.breach_of_twins(sent, &after.journal, &after.spare))
     }
 
     // What is wrong with the answers to the lines that are asked over the files that are left.

@@ -4,7 +4,9 @@ ghost use Rattle.std.specs.Prelude.{◌≡◌, [], false};
 use crate::counting::{Faults, count_error};
 use crate::journal_file::{Access, JournalFile};
 use crate::opening::TryLock;
+use crate::place::Links;
 use bench_core::{Bench, Failed};
+use std::alloc::Global;
 use std::fs::Files;
 use std::io;
 use std::io::Write;
@@ -19,24 +21,35 @@ pub struct FileBench<'a, R: Files + Print> {
 }
 
 impl<'a, R: Files + Print> FileBench<'a, R> {
-    /// The journal at a path of the program's folder, to be read and written. Nothing is opened yet.
-    pub fn new(rt: &'a R, path: &'static str) -> Self
+    /// The journal of a name in the program's folder, to be read and written. Nothing is opened yet.
+    pub fn new(rt: &'a R, name: &'static str) -> Self
         ensures fresh { (result.faults.count ≡ 0) × (result.faults.last ≡ false) }
     {
         FileBench {
             rt,
-            journal: JournalFile::new(rt, path, Access::Write),
+            journal: JournalFile::new(rt, name, Links::Refused, Access::Write),
             faults: Faults::none(),
         }
     }
 
-    /// The journal at such a path, to be read alone: each write of it fails, and each sync.
-    pub fn to_read(rt: &'a R, path: &'static str) -> Self
+    /// The same, but that a link of this name is followed: then the file is where it leads, and so is the folder that is synced.
+    pub fn following(rt: &'a R, alloc: Global, name: &'static str) -> Self
         ensures fresh { (result.faults.count ≡ 0) × (result.faults.last ≡ false) }
     {
         FileBench {
             rt,
-            journal: JournalFile::new(rt, path, Access::Read),
+            journal: JournalFile::new(rt, name, Links::Followed(alloc), Access::Write),
+            faults: Faults::none(),
+        }
+    }
+
+    /// The journal of such a name, to be read alone: each write of it fails, and each sync.
+    pub fn to_read(rt: &'a R, name: &'static str) -> Self
+        ensures fresh { (result.faults.count ≡ 0) × (result.faults.last ≡ false) }
+    {
+        FileBench {
+            rt,
+            journal: JournalFile::new(rt, name, Links::Refused, Access::Read),
             faults: Faults::none(),
         }
     }

@@ -3,6 +3,7 @@ ghost use Rattle.std.specs.Io.{ReadsAtMost};
 
 use crate::counting::read_on;
 use crate::opening::{TryLock, make, open_to_read, open_to_write, still_named, sync_or_shut};
+use crate::place::{Links, Place};
 use std::fs::{Files, Metadata, OpenFile};
 use std::io;
 use std::io::{ErrorKind, Read, Seek, SeekFrom};
@@ -22,24 +23,42 @@ struct Opened<F: Drop> {
     length: u64,
 }
 
-/// The file of this path.
+/// The file of this name.
 #[derive(Drop)]
 pub(crate) struct JournalFile<'a, R: Files> {
     rt: &'a R,
-    path: &'static str,
+    name: &'static str,
+    links: Links,
     access: Access,
+    // Where it is, from the first call on it.
+    place: Option<Place>,
     opened: Option<Opened<R::File>>,
 }
 
 impl<'a, R: Files> JournalFile<'a, R> {
-    pub(crate) fn new(rt: &'a R, path: &'static str, access: Access) -> Self {
+    pub(crate) fn new(rt: &'a R, name: &'static str, links: Links, access: Access) -> Self {
         JournalFile {
             rt,
-            path,
+            name,
+            links,
             access,
+            place: None,
             opened: None,
         }
     }
+}
+
+// The place of a file, found at the first call.
+fn found_place<'a, R: Files>(
+    rt: &R,
+    name: &'static str,
+    links: Links,
+    place: &'a mut Option<Place>,
+) -> io::Result<&'a Place> {
+    if place.is_none() {
+        *place = Some(Place::find(rt, name, links)?);
+    }
+    place.as_ref().ok_or(io::Error::from(ErrorKind::NotFound))
 }
 
 // Reads until the buffer is full or the file ends.
@@ -73,9 +92,10 @@ where
     // The open file, if there is one.
     fn found(&mut self) -> io::Result<Option<&mut Opened<R::File>>> {
         if self.opened.is_none() {
+            let place = found_place(self.rt, self.name, self.links, &mut self.place)?;
             let opened = match self.access {
-                Access::Read => open_to_read(self.rt, self.path)?,
-                Access::Write => open_to_write(self.rt, self.path)?,
+                Access::Read => open_to_read(self.rt, place)?,
+                Access::Write => open_to_write(self.rt, place)?,
             };
             self.opened = opened.map(|(file, length)| Opened { file, length });
         }
@@ -86,7 +106,8 @@ where
     fn found_or_made(&mut self) -> io::Result<&mut Opened<R::File>> {
         self.may_write()?;
         if self.found()?.is_none() {
-            let (file, length) = make(self.rt, self.path)?;
+            let place = found_place(self.rt, self.name, self.links, &mut self.place)?;
+            let (file, length) = make(self.rt, place)?;
             self.opened = Some(Opened { file, length });
         }
         self.opened
@@ -129,17 +150,17 @@ where
         Ok(())
     }
 
-    /// Leaves nothing to a power cut, if the path still names the file, and it is as long as this run left it. If there is no
+    /// Leaves nothing to a power cut, if its place still names the file, and it is as long as this run left it. If there is no
     /// file, there is nothing to keep.
     pub(crate) fn sync(&mut self) -> io::Result<()> {
         self.may_write()?;
-        let (rt, path) = (self.rt, self.path);
-        match self.found()? {
-            Some(opened) => {
+        self.found()?;
+        match (&self.place, &self.opened) {
+            (Some(place), Some(opened)) => {
                 sync_or_shut(&opened.file)?;
-                is_as_long(&still_named(rt, path, &opened.file)?, opened.length)
+                is_as_long(&still_named(self.rt, place, &opened.file)?, opened.length)
             }
-            None => Ok(()),
+            _ => Ok(()),
         }
     }
 }

@@ -9,6 +9,7 @@ mod bench;
 mod counting;
 mod journal_file;
 mod opening;
+mod place;
 mod sources;
 mod streams;
 

@@ -1,4 +1,5 @@
 //! How the journal is opened: alone, by its own name, and with all of it on the disk.
+use crate::place::Place;
 use std::fs::{File, Files, Metadata, OpenFile, OpenOptions, Permissions};
 use std::io::ErrorKind;
 use std::os::unix::fs::{MetadataExt, OpenOptionsExt, PermissionsExt};
@@ -23,9 +24,6 @@ impl TryLock for File {
     }
 }
 
-// Where the journal stands.
-const FOLDER: &str = ".";
-
 // The owner alone may read a journal that is made, and write it.
 const OWN: u32 = 0o600;
 
@@ -45,10 +43,11 @@ fn named<R: Files>(rt: &R, path: &str) -> io::Result<Option<Metadata>> {
     }
 }
 
-/// What is known of an open file, if the path still names it. What is written to a file without a name is kept by nobody.
-pub(crate) fn still_named<R: Files>(rt: &R, path: &str, file: &R::File) -> io::Result<Metadata> {
+/// What is known of an open file, if its place still names it. What is written to a file without a name is kept by nobody.
+pub(crate) fn still_named<R: Files>(rt: &R, place: &Place, file: &R::File) -> io::Result<Metadata> {
     let open = file.metadata()?;
-    match named(rt, path)? {
+    place.check_link(rt)?;
+    match named(rt, place.path())? {
         Some(named) if named.dev() == open.dev() && named.ino() == open.ino() => Ok(open),
         _ => Err(io::Error::from(ErrorKind::NotFound)),
     }
@@ -65,57 +64,60 @@ pub(crate) fn sync_or_shut<F: OpenFile>(file: &F) -> io::Result<()> {
 }
 
 // Takes an open file for this run alone, as it stands on the disk, and answers its length.
-fn take<R: Files>(rt: &R, path: &str, file: &R::File) -> io::Result<u64>
+fn take<R: Files>(rt: &R, place: &Place, file: &R::File) -> io::Result<u64>
 where
     R::File: TryLock,
 {
     // Before anything is read: who holds the lock may be writing.
     file.try_lock()?;
-    let found = still_named(rt, path, file)?;
+    let found = still_named(rt, place, file)?;
     if found.mode() & WRITABLE == 0 {
         return Err(io::Error::from(ErrorKind::PermissionDenied));
     }
     // A run that was killed may have left what it wrote without a sync.
     sync_or_shut(file)?;
     // That the journal is there at all is written in its folder, which has a sync of its own.
-    fs::open(rt, FOLDER)?.sync_all()?;
+    fs::open(rt, place.folder())?.sync_all()?;
     Ok(found.len())
 }
 
 /// Opens the journal to write it, if there is one, and answers its length too.
-pub(crate) fn open_to_write<R: Files>(rt: &R, path: &str) -> io::Result<Option<(R::File, u64)>>
+pub(crate) fn open_to_write<R: Files>(rt: &R, place: &Place) -> io::Result<Option<(R::File, u64)>>
 where
     R::File: TryLock,
 {
-    if named(rt, path)?.is_none() {
+    if named(rt, place.path())?.is_none() {
         return Ok(None);
     }
-    let file = OpenOptions::new().read(true).write(true).open(rt, path)?;
-    let length = take(rt, path, &file)?;
+    let file = OpenOptions::new()
+        .read(true)
+        .write(true)
+        .open(rt, place.path())?;
+    let length = take(rt, place, &file)?;
     Ok(Some((file, length)))
 }
 
 /// The same to read it alone, for which a copy will do that nobody may write.
-pub(crate) fn open_to_read<R: Files>(rt: &R, path: &str) -> io::Result<Option<(R::File, u64)>>
+pub(crate) fn open_to_read<R: Files>(rt: &R, place: &Place) -> io::Result<Option<(R::File, u64)>>
 where
     R::File: TryLock,
 {
-    if named(rt, path)?.is_none() {
+    if named(rt, place.path())?.is_none() {
         return Ok(None);
     }
-    let file = fs::open(rt, path)?;
+    let file = fs::open(rt, place.path())?;
     match file.try_lock_shared() {
         // Somebody may be writing it.
         Err(error) if error.kind() == ErrorKind::WouldBlock => return Err(error),
         // A file system that is only read may have no locks.
         _ => {}
     }
-    let length = still_named(rt, path, &file)?.len();
+    let length = still_named(rt, place, &file)?.len();
     Ok(Some((file, length)))
 }
 
-/// Makes the journal, if nothing has its name: a link that leads nowhere isn't followed.
-pub(crate) fn make<R: Files>(rt: &R, path: &str) -> io::Result<(R::File, u64)>
+/// Makes the journal, if nothing has its path: a link that leads nowhere isn't followed there.
+pub(crate) fn make<R: Files>(rt: &R, place: &Place) -> io::Result<(R::File, u64)>
 where
     R::File: TryLock,
 {
@@ -124,7 +126,7 @@ where
         .write(true)
         .create_new(true)
         .mode(OWN)
-        .open(rt, path)?;
-    let length = take(rt, path, &file)?;
+        .open(rt, place.path())?;
+    let length = take(rt, place, &file)?;
     Ok((file, length))
 }

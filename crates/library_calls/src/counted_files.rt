@@ -9,13 +9,17 @@ use std::fs::{File, Files, Metadata, OpenFile, OpenOptions, Permissions};
 use std::io;
 use std::io::{ErrorKind, Read, Seek, SeekFrom, Write};
 use std::os::unix::fs::FileExt;
+use std::path::PathBuf;
 
-/// A call of the system. `Name` asks what a path names, and `Look` what is known of an open file.
+/// A call of the system. `Name` asks what a path names, `Link` where a link leads, and `Look` what is known of an open file.
+/// `Folder` is the program's own, and `There` one that a link leads to.
 #[derive(Clone, Copy, PartialEq, Eq)]
 pub(crate) enum Call {
     Name,
+    Link,
     Open,
     OpenFolder,
+    OpenThere,
     Lock,
     LockShared,
     Look,
@@ -24,9 +28,13 @@ pub(crate) enum Call {
     Write,
     Sync,
     SyncFolder,
+    SyncThere,
     Shut,
     Send,
 }
+
+/// A folder that a link may lead to.
+pub(crate) const THERE: &str = "there";
 
 /// The calls that were made, of which the one with this number is refused, and what was sent.
 #[derive(Drop)]
@@ -121,10 +129,10 @@ impl<'a> Files for CountedFiles<'a> {
     type Dir = File;
 
     fn open_file(&self, how: &OpenOptions, path: &str) -> io::Result<CountedFile<'a>> {
-        let (open, sync) = if path == "." {
-            (Call::OpenFolder, Call::SyncFolder)
-        } else {
-            (Call::Open, Call::Sync)
+        let (open, sync) = match path {
+            "." => (Call::OpenFolder, Call::SyncFolder),
+            THERE => (Call::OpenThere, Call::SyncThere),
+            _ => (Call::Open, Call::Sync),
         };
         self.calls.make(open)?;
         Ok(CountedFile {
@@ -145,6 +153,11 @@ impl<'a> Files for CountedFiles<'a> {
     fn symlink_metadata(&self, path: &str) -> io::Result<Metadata> {
         self.calls.make(Call::Name)?;
         self.rt.symlink_metadata(path)
+    }
+
+    fn read_link<B: Allocator>(&self, alloc: B, path: &str) -> io::Result<PathBuf<B>> {
+        self.calls.make(Call::Link)?;
+        self.rt.read_link(alloc, path)
     }
 
     fn copy(&self, _from: &str, _to: &str) -> io::Result<u64> {

@@ -1,8 +1,9 @@
 //! The calls of the system that a bench over a journal's file makes, in order, and with one of them refused.
-use crate::counted_files::{Call, Calls, CountedFiles};
+use crate::counted_files::{Call, Calls, CountedFiles, THERE};
 use bench_core::Bench;
 use file_adapters::FileBench;
-use std::fs;
+use std::os::unix::fs::symlink;
+use std::{fs, io};
 
 // A call of the system, the first of the five calls of the bench that fails if it is refused, and the last one.
 type Step = (Call, usize, usize);
@@ -59,6 +60,67 @@ const FINDING: [Step; 21] = [
     (Call::Send, 4, 4),
 ];
 
+// Over a link that leads to a path in another folder, which names nothing. That folder is the one that is synced.
+const MAKING_THERE: [Step; 27] = [
+    (Call::Name, 0, 0),
+    (Call::Link, 0, 0),
+    (Call::OpenThere, 0, 0),
+    (Call::Name, 0, 0),
+    (Call::Name, 1, 1),
+    (Call::Open, 1, 1),
+    (Call::Lock, 1, 1),
+    (Call::Look, 1, 1),
+    (Call::Link, 1, 1),
+    (Call::Name, 1, 1),
+    (Call::Sync, 1, 3),
+    (Call::OpenThere, 1, 1),
+    (Call::SyncThere, 1, 1),
+    (Call::Look, 1, 1),
+    (Call::Write, 1, 1),
+    (Call::Write, 1, 2),
+    (Call::Sync, 2, 2),
+    (Call::Look, 2, 2),
+    (Call::Link, 2, 2),
+    (Call::Name, 2, 2),
+    (Call::Seek, 3, 3),
+    (Call::Read, 3, 3),
+    (Call::Read, 3, 3),
+    (Call::Read, 3, 3),
+    (Call::Send, 4, 4),
+    (Call::Send, 4, 4),
+    (Call::Send, 4, 4),
+];
+
+// Over a link that leads to a file of three bytes in another folder.
+const FINDING_THERE: [Step; 26] = [
+    (Call::Name, 0, 0),
+    (Call::Link, 0, 0),
+    (Call::OpenThere, 0, 0),
+    (Call::Name, 0, 0),
+    (Call::Open, 0, 0),
+    (Call::Lock, 0, 0),
+    (Call::Look, 0, 0),
+    (Call::Link, 0, 0),
+    (Call::Name, 0, 0),
+    (Call::Sync, 0, 3),
+    (Call::OpenThere, 0, 0),
+    (Call::SyncThere, 0, 0),
+    (Call::Look, 1, 1),
+    (Call::Write, 1, 1),
+    (Call::Write, 1, 1),
+    (Call::Sync, 2, 2),
+    (Call::Look, 2, 2),
+    (Call::Link, 2, 2),
+    (Call::Name, 2, 2),
+    (Call::Seek, 3, 3),
+    (Call::Read, 3, 3),
+    (Call::Read, 3, 3),
+    (Call::Read, 3, 3),
+    (Call::Send, 4, 4),
+    (Call::Send, 4, 4),
+    (Call::Send, 4, 4),
+];
+
 // The calls of a bench that only reads, over the same file: its length, and its bytes. They are done also if the lock is
 // refused, as on a file system that has none.
 const READING: [Call; 9] = [
@@ -94,25 +156,74 @@ fn prepare(rt: &HostRuntime, path: &str, is_there: bool) -> bool {
     !is_there || fs::write(rt, path, b"xyz".as_slice()).is_ok()
 }
 
-fn answers(rt: &HostRuntime, calls: &Calls, is_there: bool) -> [(bool, bool); 5] {
-    if !prepare(rt, "calls.journal", is_there) {
+// A link to a path in another folder, which is there.
+fn put_link(rt: &HostRuntime) -> io::Result<()> {
+    let _ = fs::create_dir(rt, THERE);
+    let _ = fs::remove_file(rt, "calls.spare");
+    symlink(rt, "there/calls.spare", "calls.spare")
+}
+
+// What the bench is over: the journal's name, or a link, and whether there is a file.
+#[derive(Clone, Copy)]
+struct Start {
+    is_linked: bool,
+    is_there: bool,
+}
+
+const NO_FILE: Start = Start {
+    is_linked: false,
+    is_there: false,
+};
+
+const A_FILE: Start = Start {
+    is_linked: false,
+    is_there: true,
+};
+
+const NO_FILE_THERE: Start = Start {
+    is_linked: true,
+    is_there: false,
+};
+
+const A_FILE_THERE: Start = Start {
+    is_linked: true,
+    is_there: true,
+};
+
+impl Start {
+    fn prepare(self, rt: &HostRuntime) -> bool {
+        if self.is_linked {
+            put_link(rt).is_ok() && prepare(rt, "there/calls.spare", self.is_there)
+        } else {
+            prepare(rt, "calls.journal", self.is_there)
+        }
+    }
+}
+
+fn answers(rt: &HostRuntime, calls: &Calls, start: Start) -> [(bool, bool); 5] {
+    if !start.prepare(rt) {
         return [(false, false); 5];
     }
     let files = CountedFiles { rt, calls };
-    five_calls(&mut FileBench::new(&files, "calls.journal"), calls)
+    if start.is_linked {
+        let mut bench = FileBench::following(&files, rt.alloc(), "calls.spare");
+        five_calls(&mut bench, calls)
+    } else {
+        five_calls(&mut FileBench::new(&files, "calls.journal"), calls)
+    }
 }
 
 // Whether these calls of the bench fail, and no others, the first of them at once, if this one of the system's is refused.
-fn fail(rt: &HostRuntime, is_there: bool, refused: usize, first: usize, last: usize) -> bool {
+fn fail(rt: &HostRuntime, start: Start, refused: usize, first: usize, last: usize) -> bool {
     let calls = Calls::new(rt.alloc(), refused);
     let wanted = [0, 1, 2, 3, 4].map(|call| (call < first || last < call, call == first));
-    answers(rt, &calls, is_there) == wanted
+    answers(rt, &calls, start) == wanted
 }
 
 // The first step that doesn't fail as it says, if any.
-fn other_step(rt: &HostRuntime, is_there: bool, steps: &[Step]) -> Option<usize> {
+fn other_step(rt: &HostRuntime, start: Start, steps: &[Step]) -> Option<usize> {
     for (refused, (_, first, last)) in steps.iter().enumerate() {
-        if !fail(rt, is_there, refused, *first, *last) {
+        if !fail(rt, start, refused, *first, *last) {
             return Some(refused);
         }
     }
@@ -121,21 +232,41 @@ fn other_step(rt: &HostRuntime, is_there: bool, steps: &[Step]) -> Option<usize>
 
 #[test]
 fn a_refused_call_fails_at_once(rt: HostRuntime) {
-    assert_eq!(rt; other_step(&rt, false, &MAKING), None);
-    assert_eq!(rt; other_step(&rt, true, &FINDING), None);
+    assert_eq!(rt; other_step(&rt, NO_FILE, &MAKING), None);
+    assert_eq!(rt; other_step(&rt, A_FILE, &FINDING), None);
+    assert_eq!(rt; other_step(&rt, NO_FILE_THERE, &MAKING_THERE), None);
+    assert_eq!(rt; other_step(&rt, A_FILE_THERE, &FINDING_THERE), None);
 }
 
 // Whether these are the calls, in order, and all of the piece is sent.
-fn are_made(rt: &HostRuntime, is_there: bool, made: &[Call]) -> bool {
+fn are_made(rt: &HostRuntime, start: Start, made: &[Call]) -> bool {
     let calls = Calls::new(rt.alloc(), made.len());
-    let are_done = answers(rt, &calls, is_there) == [(true, false); 5];
+    let are_done = answers(rt, &calls, start) == [(true, false); 5];
     are_done && calls.are(made) && calls.have_sent(b"{...}")
 }
 
 #[test]
 fn each_call_is_made_in_order(rt: HostRuntime) {
-    assert!(rt; are_made(&rt, false, &MAKING.map(|(call, _, _)| call)));
-    assert!(rt; are_made(&rt, true, &FINDING.map(|(call, _, _)| call)));
+    assert!(rt; are_made(&rt, NO_FILE, &MAKING.map(|(call, _, _)| call)));
+    assert!(rt; are_made(&rt, A_FILE, &FINDING.map(|(call, _, _)| call)));
+    assert!(rt; are_made(&rt, NO_FILE_THERE, &MAKING_THERE.map(|(call, _, _)| call)));
+    assert!(rt; are_made(&rt, A_FILE_THERE, &FINDING_THERE.map(|(call, _, _)| call)));
+}
+
+// Makes benches over both names, and calls none of them.
+fn make_benches(rt: &HostRuntime, calls: &Calls) {
+    let files = CountedFiles { rt, calls };
+    let _ = FileBench::new(&files, "uncalled.journal");
+    let _ = FileBench::following(&files, rt.alloc(), "uncalled.spare");
+}
+
+#[test]
+fn a_bench_that_is_not_called_opens_nothing(rt: HostRuntime) {
+    let calls = Calls::new(rt.alloc(), 0);
+    make_benches(&rt, &calls);
+    assert!(rt; calls.are(&[]));
+    assert!(rt; fs::metadata(&rt, "uncalled.journal").is_err());
+    assert!(rt; fs::metadata(&rt, "uncalled.spare").is_err());
 }
 
 // Whether a bench that only reads gives what stands in the file, and writes nothing.

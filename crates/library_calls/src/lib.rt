@@ -31,4 +31,6 @@ mod maxima;
 #[cfg(test)]
 mod sets;
 #[cfg(test)]
+mod spare_links;
+#[cfg(test)]
 mod sums;

@@ -1,5 +1,5 @@
 -- Histories of which one begins the other, and journals that are brought up to the longer one.
-use Rattle.std.proofs.Common.{◌≡◌, ◌≢◌, inl, inr, ◌⊎◌, ℕ, zero, suc, ◌+◌, ◌*◌, ◌/◌, ◌<◌, ◌≤◌, List, [], ◌∷◌, ◌++◌, length, take, drop, Some, refl, sym, ap, subst, ◌∙◌, arith, append-nil, append_assoc, length-append, length-take}
+use Rattle.std.proofs.Common.{◌≡◌, ◌≢◌, inl, inr, ◌⊎◌, ℕ, zero, suc, ◌+◌, ◌-◌, ◌*◌, ◌/◌, ◌<◌, ◌≤◌, List, [], ◌∷◌, ◌++◌, length, take, drop, Some, refl, sym, ap, subst, ◌∙◌, arith, append-nil, append_assoc, length-append, length-take, length-drop}
 use Rattle.std.specs.Prelude.{slice_get}
 use Rattle.std.proofs.Math.Seq.{take-length, take-append_seam, drop-append_seam}
 use Rattle.std.proofs.lemmas.List.{take-append-drop, take_all}
@@ -146,3 +146,20 @@ module _ {D : Type 0} (bench : Ghosts D) (shape : Shape) (history whole : List A
           };
         },
       )) found
+
+-- ---- what is missing, as it is cut from the longer history
+
+module _ (main shown other : List Answered) (place : ℕ) (is : shown ≡ main) (same : take place shown ≡ take place other) where
+  pub same_as_main : take place main ≡ take place other
+  same_as_main = ap (λ (l : List Answered). take place l) (sym is) ∙ same
+
+  pub other_lacks : place ≡ length other → main ≡ other ++ take (length shown - place) (drop place shown)
+  other_lacks at =
+      begins_main main other place same_as_main at
+      ∙ ap (λ (l : List Answered). other ++ l)
+      (ap (λ (l : List Answered). drop place l) (sym is) ∙ sym (take_all (length shown - place) (drop place shown) (omega (arith, length-drop place shown))))
+
+  pub main_lacks : place ≡ length main → other ≡ main ++ take (length other - place) (drop place other)
+  main_lacks at =
+      begins_other main other place same_as_main at
+      ∙ ap (λ (l : List Answered). main ++ l) (sym (take_all (length other - place) (drop place other) (omega (arith, length-drop place other))))

@@ -3,12 +3,10 @@ use Rattle.std.proofs.Common.{◌≡◌, ℕ, ◌<◌, inl, inr, ◌⊎◌, List
 use Rattle.std.specs.Prelude.{slice_get}
 use Rattle.std.proofs.lemmas.Bool.{cases_lt}
 use Rattle.std.proofs.lemmas.Option.{same_Some}
-use Rattle.std.proofs.Math.Seq.{take-append_seam}
 use Rattle.audit_types.specs.declared.records.Answered.{Answered}
 use Rattle.audit_types.specs.declared.shapes.Shape.{Shape}
 use Rattle.audit_types.specs.History.{Table, IsLegal}
 use Rattle.journal_form.specs.Journal.{StandsAt, StandsFor}
-use Rattle.audit_store.specs.LegalFronts.{legal_front}
 use Rattle.audit_store.specs.Starting.{StartCause, GivesUp}
 use Rattle.audit_store.specs.declared.starting.StartFault.{StartFault}
 use Rattle.audit_store.specs.declared.starting.StartFault.TheVariants as start
@@ -17,12 +15,6 @@ use Rattle.twin_journal.specs.declared.starting.TwinFault.{TwinFault}
 use Rattle.twin_journal.specs.declared.starting.TwinFault.TheVariants.{Main, Spare, Differ, MainFailed, SpareFailed, NoMemory}
 use Rattle.twin_journal.specs.Twins.{DifferFirst, HoldApart, HoldsLegal, KeepApart, KeepTogether, Meet, TwinCause, TwinGivesUp, fault_of_main, fault_of_spare}
 use Rattle.twin_journal.proofs.CatchingUp.{get_in_whole}
-
--- a front of a legal history is legal
-pub legal_begins : (table : Table) (front whole : List Answered) → IsFront front whole → IsLegal table whole → IsLegal table front
-legal_begins table front whole is legal =
-    subst (λ (h : List Answered). IsLegal table h) (ap (λ (h : List Answered). take (length front) h) is.is ∙ take-append_seam front is.rest)
-    (legal_front table whole (length front) legal)
 
 -- what the file of the journal, or the spare's, gives up with
 pub main_gives_up : (fault : StartFault) → GivesUp fault → TwinGivesUp (fault_of_main fault)
@@ -90,13 +82,14 @@ module _ (file spare : List ℕ) (table : Table) where
   -- ---- it has none
 
   module _ (none : (d : StartFault) → (GivesUp d → ⊥) → StartCause d file table → ⊥) where
+    -- the spare has a fault
     pub spare_cause : (fault : StartFault) → HoldsLegal file table → StartCause fault spare table → TwinCause (fault_of_spare fault) file spare table
     spare_cause start.NotMade holds cause = (holds, λ gives. gives, cause)
     spare_cause (start.Damaged at) holds cause = (holds, λ gives. gives, cause)
     spare_cause (start.OtherShape kept now) holds cause = (holds, λ gives. gives, cause)
     spare_cause (start.Untrue place kept now) holds cause = (holds, λ gives. gives, cause)
     spare_cause (start.Illegal place) holds cause = (holds, λ gives. gives, cause)
-    spare_cause start.Failed holds cause = tt
+    spare_cause start.Failed holds cause = holds
     spare_cause start.NoMemory holds cause = tt
 
     pub spare_due : (fault : StartFault) (due : TwinFault) → ((d : StartFault) → (GivesUp d → ⊥) → StartCause d spare table → (fault ≡ d) ⊎ GivesUp fault)

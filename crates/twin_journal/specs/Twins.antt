@@ -7,6 +7,9 @@ use Rattle.journal_form.specs.Journal.{StandsAt, StandsFor}
 use Rattle.answer_journal.specs.Contents.{JournalContents}
 use Rattle.audit_store.specs.Stores.{StoreContents}
 use Rattle.audit_store.specs.Starting.{StartCause, StandsForOne, GivesUp}
+use Rattle.audit_store.specs.declared.starting.StartFault.{StartFault}
+use Rattle.audit_store.specs.declared.starting.StartFault.TheVariants as start
+use Rattle.audit_store.specs.Twice.{calls_to_bring_up}
 use Rattle.audit_session.specs.Stops.{IsFront}
 use Rattle.twin_journal.specs.declared.starting.TwinFault.{TwinFault}
 use Rattle.twin_journal.specs.declared.starting.TwinFault.TheVariants.{Main, Spare, Differ, MainFailed, SpareFailed, NoMemory}
@@ -69,13 +72,13 @@ abbrev pub HoldApart : List ℕ → List ℕ → Table → ℕ → Type 0
 HoldApart file spare table place =
     StandsForOne file table.setting.shape (λ main. IsLegal table main × StandsForOne spare table.setting.shape (λ other. IsLegal table other × DifferFirst main other place))
 
--- why no twin store was started. A fault of the spare's file counts only if the journal's has none
+-- why no twin store was started. The spare is looked at only if the journal has no fault
 abbrev pub TwinCause : TwinFault → List ℕ → List ℕ → Table → Type 0
 TwinCause (Main fault) file spare table = (GivesUp fault → ⊥) × StartCause fault file table
 TwinCause (Spare fault) file spare table = HoldsLegal file table × (GivesUp fault → ⊥) × StartCause fault spare table
 TwinCause (Differ place) file spare table = HoldApart file spare table place
 TwinCause MainFailed file spare table = Unit {0}
-TwinCause SpareFailed file spare table = Unit {0}
+TwinCause SpareFailed file spare table = HoldsLegal file table
 TwinCause NoMemory file spare table = Unit {0}
 
 -- the fault of the journal, or of the spare, that opening it found

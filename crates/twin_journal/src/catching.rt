@@ -46,6 +46,7 @@ pub(crate) fn catch_up<B: Bench, S: Bench>(
         → LeavesOnly B.Bench bench.old bench.new (CatchesUp store.old.secret.shape store.old.history whole (B.sent bench.old)) }
     ensures spare_moments { (whole : List Answered) → S.told → IsQuiet S.Bench spare.old → Meet store.old.history list.now whole
         → LeavesOnly S.Bench spare.old spare.new (CatchesUp store.old.secret.shape list.now whole (S.sent spare.old)) }
+    ensures reads { (place : ℕ) → result ≡ Err (TwinFault.Differ place) → (bench.new ≡ bench.old) × (spare.new ≡ spare.old) }
     ensures apart { ((whole : List Answered) → Meet store.old.history list.now whole → ⊥) → (bench.new ≡ bench.old) × (spare.new ≡ spare.old) }
     ensures quiet { B.told → IsQuiet B.Bench bench.old → (IsErrOf result TwinFault.MainFailed → ⊥) → IsQuiet B.Bench bench.new }
     ensures spare_quiet { S.told → IsQuiet S.Bench spare.old → (IsErrOf result TwinFault.SpareFailed → ⊥) → IsQuiet S.Bench spare.new }

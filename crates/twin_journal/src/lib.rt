@@ -1,13 +1,16 @@
 //! Two journals of one table's answers: each group is kept on a spare, and then on the bench.
 //!
-//! `TwinStore::start` opens both, and brings the shorter one up to the longer; `TwinStore::ask_all` keeps each group on both before
-//! it gives an answer; `restore` writes a lost journal anew from the other one.
+//! `TwinStore::start` opens both, and brings the shorter one up to the longer; `serve_twin` answers lines over them, by
+//! `TwinStore::ask_all`, which keeps each group on both before it gives an answer; `restore` writes a lost journal anew from the other.
 #![tactic(auto)]
 
 mod catching;
 mod keeping;
 mod restoring;
+mod serving;
 mod starting;
 
+pub use audit_session::TwinEnd;
 pub use restoring::{RestoreFault, restore};
+pub use serving::serve_twin;
 pub use starting::{TwinFault, TwinStop, TwinStore};

@@ -2,7 +2,7 @@
 ghost use Rattle.std.specs.Prelude.{◌≡◌, ◌≢◌, ◌⊎◌, List, ℕ, Err, OnOk, IsErrOf};
 ghost use Rattle.audit_types.specs.declared.records.Answered.{Answered};
 ghost use Rattle.audit_types.specs.History.{AreProtected};
-ghost use Rattle.bench_core.specs.Calls.{IsQuiet, IsUntouched, LeavesOnly, TellsFault};
+ghost use Rattle.bench_core.specs.Calls.{IsQuiet, IsUntouched, LeavesOnly, OnlyReads, TellsFault};
 ghost use Rattle.answer_journal.specs.Moments.{IsMade};
 ghost use Rattle.journal_compact.specs.Whole.{IsUnmadeOrWhole};
 ghost use Rattle.table_load.specs.Database.{secret_table};
@@ -67,6 +67,7 @@ pub fn restore<B: Bench, S: Bench>(
         → LeavesOnly B.Bench bench.old bench.new (IsUntouched (B.file bench.old) (B.sent bench.old)) }
     ensures spare_untouched { B.told → S.told → IsQuiet S.Bench spare.old → (CanRestore (secret_table secret protected.items) (B.file bench.old) (S.file spare.old) → ⊥)
         → LeavesOnly S.Bench spare.old spare.new (IsUntouched (S.file spare.old) (S.sent spare.old)) }
+    ensures reads { (fault : RestoreFault) → B.told → S.told → result ≡ Err fault → (GivesUpRestoring fault → ⊥) → OnlyReads B.Bench bench.old bench.new × OnlyReads S.Bench spare.old spare.new }
     ensures quiet { B.told → IsQuiet B.Bench bench.old → result ≢ Err RestoreFault.MainFailed → IsQuiet B.Bench bench.new }
     ensures spare_quiet { S.told → IsQuiet S.Bench spare.old → result ≢ Err RestoreFault.SpareFailed → IsQuiet S.Bench spare.new }
     ensures sent { B.sent bench.new ≡ B.sent bench.old }

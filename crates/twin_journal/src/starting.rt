@@ -3,7 +3,7 @@ ghost use Rattle.std.specs.Prelude.{◌≡◌, ◌≢◌, ◌≤◌, ◌+◌, �
 ghost use Rattle.audit_types.specs.declared.records.Answered.{Answered};
 ghost use Rattle.audit_types.specs.History.{AreProtected, FitsShape};
 ghost use Rattle.audit_core.specs.Outcomes.{AreOutcomes, records_made};
-ghost use Rattle.bench_core.specs.Calls.{IsQuiet, IsUntouched, LeavesOnly, TellsFault};
+ghost use Rattle.bench_core.specs.Calls.{IsQuiet, IsUntouched, LeavesOnly, OnlyReads, TellsFault};
 ghost use Rattle.answer_journal.specs.Moments.{IsBeforeOrAfter};
 ghost use Rattle.table_load.specs.Database.{secret_table};
 ghost use Rattle.audit_store.specs.Stores.{HasGroup, IsAsLeft, IsStore, Keeps, KeptAhead, calls_for, table_of};
@@ -126,7 +126,8 @@ impl TwinStore {
         ensures sent { B.sent bench.new ≡ B.sent bench.old }
         ensures spare_sent { S.sent spare.new ≡ S.sent spare.old }
 
-        // The spare isn't called if the journal has a fault.
+        // If the files are refused, both were only read; if the journal is, the spare wasn't called.
+        ensures reads { (fault : TwinFault) → result ≡ Err fault → (TwinGivesUp fault → ⊥) → OnlyReads B.Bench bench.old bench.new × OnlyReads S.Bench spare.old spare.new }
         ensures main_first { (fault : StartFault) → result ≡ Err (TwinFault.Main fault) → spare.new ≡ spare.old }
         ensures ticks { (main other whole : List Answered) → B.told → S.told → KeepTogether (secret_table secret protected.items) (B.file bench.old) (S.file spare.old) main other whole
             → OnOk result (B.moment bench.new ≡ B.moment bench.old + calls_to_open main whole) }

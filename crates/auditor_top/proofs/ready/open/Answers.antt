@@ -97,7 +97,7 @@ returns-in-Ok-open_public-clause-refusal g c =
           (subst (λ (k : Command). IsGiven k (g.P.Source.left c.args.schema.now) (g.P.Source.left c.args.table.now) (g.B.Bench.file c.args.bench.now))
           c.in-Simulate.is given)))
 
--- ---- over a store
+-- ---- over a store, or what a store is made of
 
 pub returns-in-Ok-open_store-clause-over : goal.returns-in-Ok-open_store-clause-over
 returns-in-Ok-open_store-clause-over g c =
@@ -115,50 +115,10 @@ returns-in-Ok-open_store-3-clause-over g c =
           subst (λ (l : List Protected). AreSoundFilesOf (g.P.Source.left c.args.schema.now) (g.P.Source.left c.args.table.now)
           (base_of s.schema.columns s.index.public l s.store.secret)) (sym a.entries) (a.over ptold)
 
--- ---- `grow`
-
-pub returns-clause-refusal : goal.returns-clause-refusal
-returns-clause-refusal g c =
-    let e = c.in-Err-open_table.ensures in
-    let fault = c.in-Err-open_table.fault in
-    subst (λ (s : Status). Refuses g.P.Source g.B.Bench c.args.command s c.args.schema.now c.open_table-in-Grow.new.schema c.args.table.now c.open_table-in-Grow.new.table
-          c.args.bench.now c.args.bench.now) (sym c.from-in-Err-open_table.ensures)
-          (files_refused g.P.Source g.B.Bench c.args.command c.args.schema.now c.open_table-in-Grow.new.schema c.args.table.now c.open_table-in-Grow.new.table c.args.bench.now fault
-          (ap reads_files c.in-Grow.is) e.schema_cause (λ is. e.own_schema_fault (ap table_unopened is)) (λ is. e.own_table_fault (ap table_unopened is))
-          (λ ptold is. e.schema_within ptold (ap table_unopened is)) (λ ptold is. e.table_within ptold (ap table_unopened is)) e.faults
-          (λ is. e.schema_last (ap table_unopened is)) (λ is. e.table_last (ap table_unopened is)) e.untouched
-          (λ ptold reads columns is. e.table_cause ptold columns is) (λ ptold is. no_step reads_secrets c.in-Grow.is refl (ap reads_secrets is)) (λ ptold given. gives_up_over fault _ _ _ (subst (λ (k : Command). IsGiven k (g.P.Source.left c.args.schema.now) (g.P.Source.left c.args.table.now) (g.B.Bench.file c.args.bench.now)) c.in-Grow.is given).1.files (e.schema_cause ptold) (e.table_cause ptold)))
-
-pub returns-in-Ok-open_table-clause-refusal : goal.returns-in-Ok-open_table-clause-refusal
-returns-in-Ok-open_table-clause-refusal g c =
-    let e = c.in-Ok-open_table.ensures in
-    let schema = c.in-Ok-open_table.field-0.schema in
-    let meant = table_view c.in-Ok-open_table.field-0.table in
-    let fault = c.in-Err-entries.fault in
-    let bad = λ (place : ℕ) (is : fault ≡ index.BadGroup place). c.in-Err-entries.ensures.bad place (ap entries_refused is) in
-    subst (λ (s : Status). Refuses g.P.Source g.B.Bench c.args.command s c.args.schema.now c.open_table-in-Grow.new.schema c.args.table.now
-          c.open_table-in-Grow.new.table c.args.bench.now c.args.bench.now) (sym c.from-in-Err-entries.ensures)
-          (groups_refused g.P.Source g.B.Bench c.args.command c.args.schema.now c.open_table-in-Grow.new.schema c.args.table.now c.open_table-in-Grow.new.table
-          c.args.bench.now (ap reads_groups c.in-Grow.is) schema e.schema_is e.steady.0 e.steady.1 fault bad
-          (λ ptold reads other is. table_is_ok (λ (cs : List Column). table_of cs (g.P.Source.left c.args.table.now)) _ schema other meant
-          (e.schema_is ptold) (e.table_is ptold) is)
-          (λ ptold simulates. no_step reads_secrets c.in-Grow.is refl (ap reads_secrets simulates))
-          (λ ptold told given. growth_gives_up c.groups_of_a_schema.ensures.entries fault (g.P.Source.left c.args.schema.now) (g.P.Source.left c.args.table.now) schema
-          (e.schema_is ptold) bad
-          (subst (λ (k : Command). IsGiven k (g.P.Source.left c.args.schema.now) (g.P.Source.left c.args.table.now) (g.B.Bench.file c.args.bench.now))
-          c.in-Grow.is given)))
-
-pub returns-in-Ok-entries-clause-over : goal.returns-in-Ok-entries-clause-over
-returns-in-Ok-entries-clause-over g c =
-    let e = c.in-Ok-open_table.ensures in
-    let schema = c.in-Ok-open_table.field-0.schema in
-    let table = c.in-Ok-open_table.field-0.table in
-    let made = c.in-Ok-entries.ensures in
-    λ ptold. (
-        schema.columns,
-        table.public,
-        record {
-          files = record { groups = schema.groups; schema_is = e.schema_is ptold; table_means = read_means _ _ _ (e.table_is ptold) };
-          entries = made.entries;
-        },
-      )
+pub returns-in-Ok-open_groups-clause-over : goal.returns-in-Ok-open_groups-clause-over
+returns-in-Ok-open_groups-clause-over g c =
+    let s = c.in-Ok-open_groups.field-0 in
+    let a = c.in-Ok-open_groups.ensures in
+    λ ptold.
+        subst (λ (l : List Protected). AreSoundFilesOf (g.P.Source.left c.args.schema.now) (g.P.Source.left c.args.table.now)
+        (base_of s.schema.columns s.index.public l s.secret)) (sym a.entries) (a.over ptold)

@@ -13,7 +13,7 @@ use Rattle.auditor_top.specs.Commands.{AreSoundFilesOf}
 use Rattle.auditor_top.specs.Ready.{Refuses}
 use Rattle.auditor_top.proofs.FileRefusals.{files_refused, gives_up_over}
 use Rattle.auditor_top.proofs.StepFaults.{not_both}
-use Rattle.auditor_top.proofs.StoreRefusals.{given_history, not_public, opens_files, not_started}
+use Rattle.auditor_top.proofs.StoreRefusals.{given_history, not_public, opens_files, opens_too, not_started}
 use Rattle.auditor_top.proofs.ready.open_store.Goals as goal
 
 abbrev table_unopened : OpenFault → Result Opened OpenFault
@@ -29,10 +29,10 @@ returns-in-Err-clause-refusal g c =
     subst (λ (s : Status). Refuses g.P.Source g.B.Bench asked s c.args.schema.now c.open_table.new.schema c.args.table.now c.open_table.new.table
     c.args.bench.now c.args.bench.now) (sym c.from-in-Err.ensures)
     (files_refused g.P.Source g.B.Bench asked c.args.schema.now c.open_table.new.schema c.args.table.now c.open_table.new.table c.args.bench.now fault
-    (opens_files asked c.requires) e.schema_cause (λ is. e.own_schema_fault (ap table_unopened is)) (λ is. e.own_table_fault (ap table_unopened is))
+    (opens_files asked (opens_too asked c.requires)) e.schema_cause (λ is. e.own_schema_fault (ap table_unopened is)) (λ is. e.own_table_fault (ap table_unopened is))
     (λ ptold is. e.schema_within ptold (ap table_unopened is)) (λ ptold is. e.table_within ptold (ap table_unopened is)) e.faults
     (λ is. e.schema_last (ap table_unopened is)) (λ is. e.table_last (ap table_unopened is)) e.untouched
-    (λ ptold reads columns is. e.table_cause ptold columns is) (λ ptold simulates. not_public asked c.requires simulates)
+    (λ ptold reads columns is. e.table_cause ptold columns is) (λ ptold simulates. not_public asked (opens_too asked c.requires) simulates)
     (λ ptold given. gives_up_over fault _ _ _ (given_history asked _ _ _ c.requires given).2.files.files (e.schema_cause ptold) (e.table_cause ptold)))
 
 -- ---- the groups weren't made ready, or the journal wasn't opened

@@ -6,6 +6,7 @@ mod Drill
 mod Grow
 mod Explain
 mod Compact
+mod Restore
 use Rattle.std.proofs.Common.{◌≡◌, ◌≤◌, ◌+◌, ℕ, true, false, List, [], length, Option, Some, Result, Ok, Err, IsErr, IsErrOf, OnOk, OnErr, refl, sym, ◌∙◌, ap, subst, inr, map, string_bytes}
 use Rattle.audit_types.specs.declared.records.Answered.{Answered}
 use Rattle.audit_types.specs.declared.shapes.Shape.{Shape}
@@ -42,7 +43,7 @@ use Rattle.auditor_top.specs.Drills.{DrillEnds}
 use Rattle.auditor_top.specs.Ends.{ServeEnds, AuditEnds, SimulateEnds, SendsLines, audit_over, outside}
 use Rattle.auditor_top.specs.Ready.{IsGiven, GivesUp, EndsEarly, IsReady, IsReadyOver, command_for}
 use Rattle.auditor_top.specs.Runs.{objects, faults_of, Making, Serving, Auditing, Simulating, Drilling}
-use Rattle.auditor_top.specs.Stages.{Before, reading_table, opening_journal, writing_spare, reading_lines}
+use Rattle.auditor_top.specs.Stages.{Before, reading_table, opening_journal, opening_spare, reading_lines}
 use Rattle.auditor_top.specs.Status.{making_status, session_status, audit_status, simulation_status}
 use Rattle.auditor_top.proofs.AuditEndings.{untouched_report, report_cause, report_ends, report_faults, report_wants}
 use Rattle.auditor_top.proofs.Calls.{making_done, session_done, report_done, simulation_done}
@@ -64,6 +65,7 @@ use Rattle.auditor_top.proofs.running.run.Answers.Drill.{drill_ends}
 use Rattle.auditor_top.proofs.running.run.Answers.Grow.{grow_ends}
 use Rattle.auditor_top.proofs.running.run.Answers.Explain.{explanation_ends}
 use Rattle.auditor_top.proofs.running.run.Answers.Compact.{compaction_ends}
+use Rattle.auditor_top.proofs.running.run.Answers.Restore.{restoration_ends}
 use Rattle.std.specs.Bool.{OnTrue}
 use Rattle.set_index.specs.Groups.{AreEntries}
 use Rattle.table_load.specs.Database.{table_in}
@@ -100,7 +102,7 @@ returns-in-Err-Bad g c =
       quiet = λ told quiet fine. quiet;
       before_table = refl;
       before_bench = refl;
-      before_spare = refl;
+      before_spare = λ other. refl;
       before_lines = (refl, refl);
       unwritten = λ told. refl;
       unread = λ none. (refl, refl, refl, refl, refl);
@@ -146,14 +148,14 @@ returns-in-Err-NoMemory g c =
       later = never_fall _;
       schema_within = λ ptold is. absurd (no_memory_says.no_schema is);
       table_within = λ ptold is. absurd (no_memory_says.no_table is);
-      lives = λ ptold told command asked itold quiet. goes_on g.P.Source g.I.Source g.B.Bench NoMemory at at c.lives.ensures.longer command
-          (λ batch is. c.read_words.ensures.batch batch (asked ∙ ap (λ (k : Command). Some k) is)) (all command asked) ptold told itold quiet;
+      lives = λ ptold told command asked itold quiet. goes_on g.P.Source g.I.Source g.B.Bench NoMemory at at c.lives.ensures.longer c.one_reading.ensures command
+          (λ batch twin is. c.read_words.ensures.batch batch twin (asked ∙ ap (λ (k : Command). Some k) is)) (all command asked) ptold told itold quiet;
       does = all;
       nothing_began = λ ptold told command asked opens quiet none. reads.untouched quiet;
       quiet = λ told quiet fine. quiet;
       before_table = tt;
       before_bench = tt;
-      before_spare = tt;
+      before_spare = λ other. tt;
       before_lines = tt;
       unwritten = λ told. tt;
       unread = λ none. (refl, refl, refl, refl, refl);
@@ -202,18 +204,18 @@ returns-in-Err g c =
       input_last = λ is. absurd (subst EndsEarly is says.early);
       bench_last = λ is. says.bench_last is;
       spare_last = λ is. absurd (subst EndsEarly is says.early);
-      spare_file = λ told command asked calls. spare_unread status (g.B.Bench.file old.spare) says.early;
+      spare_file = λ told command asked calls. spare_unread status command (g.B.Bench.file old.spare) says.early;
       later = record { schema = c.open.ensures.later.0; table = c.open.ensures.later.1; input = stays _; bench = c.open.ensures.later.2; spare = stays _ };
       schema_within = λ ptold is. says.schema_within ptold is;
       table_within = λ ptold is. says.table_within ptold is;
-      lives = λ ptold told command asked itold quiet. goes_on g.P.Source g.I.Source g.B.Bench status old new c.lives.ensures.longer command
-          (λ batch is. c.read_words.ensures.batch batch (asked ∙ ap (λ (k : Command). Some k) is)) (all command asked) ptold told itold quiet;
+      lives = λ ptold told command asked itold quiet. goes_on g.P.Source g.I.Source g.B.Bench status old new c.lives.ensures.longer c.one_reading.ensures command
+          (λ batch twin is. c.read_words.ensures.batch batch twin (asked ∙ ap (λ (k : Command). Some k) is)) (all command asked) ptold told itold quiet;
       does = all;
       nothing_began = λ ptold told command asked opens quiet none. reads.untouched quiet;
       quiet = λ told quiet fine. as_quiet g.B.Bench old.bench new.bench reads quiet;
       before_table = says.before_table;
       before_bench = says.before_bench;
-      before_spare = always_before writing_spare status refl;
+      before_spare = λ other. always_before opening_spare status refl;
       before_lines = always_before reading_lines status (refl, reads.sent);
       unwritten = λ told. always_before reading_lines status reads.file;
       unread = λ none. none_asked _ _ none is_named;
@@ -249,6 +251,9 @@ returns-in-Ok-Explain g c = explanation_ends g c
 pub returns-in-Ok-Compact : goal.returns-in-Ok-Compact
 returns-in-Ok-Compact g c = compaction_ends g c
 
+pub returns-in-Ok-Restore : goal.returns-in-Ok-Restore
+returns-in-Ok-Restore g c = restoration_ends g c
+
 -- ---- what the last steps want
 
 pub make-requires : goal.make-requires
@@ -264,7 +269,7 @@ serve-requires g c =
       shape = ready.2;
       entries = ready.3;
       stands = ready.0.left;
-      batch = c.read_words.ensures.batch n (asked_for _ _ _ _ c.in-Ok.ensures.command c.in-Ok-Serve.field-0-is c.in-Ok-Serve.ensures.asked);
+      batch = c.read_words.ensures.batch n false (asked_for _ _ _ _ c.in-Ok.ensures.command c.in-Ok-Serve.field-0-is c.in-Ok-Serve.ensures.asked);
     }
 
 pub explain-requires : goal.explain-requires

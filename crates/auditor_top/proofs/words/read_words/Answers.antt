@@ -7,10 +7,10 @@ use Rattle.auditor_top.proofs.Parses.{parsed_is, failed_is, same_fault, command_
 use Rattle.auditor_top.proofs.words.read_words.Goals as goal
 
 pub returns-in_err-line-clause-batch : goal.returns-in_err-line-clause-batch
-returns-in_err-line-clause-batch c = λ batch asked. is_batch _ batch asked
+returns-in_err-line-clause-batch c = λ batch twin asked. is_batch _ batch twin asked
 
 pub returns-in_err-matches-clause-batch : goal.returns-in_err-matches-clause-batch
-returns-in_err-matches-clause-batch c = λ batch asked. is_batch _ batch asked
+returns-in_err-matches-clause-batch c = λ batch twin asked. is_batch _ batch twin asked
 
 pub returns-in_err-matches-clause-bad : goal.returns-in_err-matches-clause-bad
 returns-in_err-matches-clause-bad c = λ is.
@@ -29,7 +29,7 @@ returns-clause-command c =
     command_given c.command_in.result _ c.ok_or.result c.ok_or.ensures.ok_part (ap command_of (sym same) ∙ (asked ∙ sym c.command_in.ensures))
 
 pub returns-clause-batch : goal.returns-clause-batch
-returns-clause-batch c = λ batch asked. is_batch _ batch asked
+returns-clause-batch c = λ batch twin asked. is_batch _ batch twin asked
 
 pub returns-clause-bad : goal.returns-clause-bad
 returns-clause-bad c = λ is.

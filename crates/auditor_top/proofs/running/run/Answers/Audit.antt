@@ -30,7 +30,7 @@ use Rattle.auditor_top.proofs.OneTable.{one_base, same_given, carried, schema_is
 use Rattle.auditor_top.proofs.Openings.{stays, later_still}
 use Rattle.auditor_top.proofs.Refusals.{as_quiet}
 use Rattle.auditor_top.proofs.StepFaults.{moved}
-use Rattle.auditor_top.specs.Stages.{writing_spare}
+use Rattle.auditor_top.specs.Stages.{opening_spare}
 use Rattle.auditor_top.proofs.StepStatuses.{at_lines, EndsLastStep, schema_read, table_read, past_table, past_journal, no_schema_fault, no_table_fault, schema_was_read, table_was_read, report_last, report_words, report_bench, report_no_input, report_at_lines, always_before}
 use Rattle.std.specs.Bool.{OnTrue}
 use Rattle.set_index.specs.Groups.{AreEntries}
@@ -177,7 +177,7 @@ audit_ends g c =
       };
       schema_within = λ ptold. schema_was_read status last;
       table_within = λ ptold. table_was_read status last;
-      lives = λ ptold told command asked itold quiet base at goes. never_goes_on _ command _ _ _ _ at base is_named asked (λ none. none) goes;
+      lives = λ ptold told command asked itold quiet base at goes. never_goes_on _ command _ _ _ _ _ at base is_named asked (λ none. none) goes;
       does = λ command asked. does_so g.P.Source g.I.Source g.B.Bench status _ _ _ _ command is_named asked (reporting g c);
       nothing_began = λ ptold told command asked opens quiet none.
           absurd (none _ (are ptold).1 (subst (λ (k : Command). IsReadyFor k file (secret_table store.secret store.protected))
@@ -186,7 +186,7 @@ audit_ends g c =
           as_quiet g.B.Bench _ _ reads quiet image (c.audit.ensures.crash image left) ∙ sym c.audit.ensures.file;
       before_table = past_table _ status last;
       before_bench = past_journal _ status last;
-      before_spare = always_before writing_spare status refl;
+      before_spare = λ other. always_before opening_spare status refl;
       before_lines = at_lines _ _ _ c.reported.ensures (report_at_lines _ c.audit.result);
       unwritten = λ told. at_lines _ _ _ c.reported.ensures (report_at_lines _ c.audit.result);
       unread = λ none. none_asked _ _ none is_named;

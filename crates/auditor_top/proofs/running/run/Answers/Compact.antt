@@ -25,7 +25,7 @@ use Rattle.auditor_top.specs.Ready.{IsReady, IsReadyOver}
 use Rattle.auditor_top.specs.Runs.{objects, faults_of, Compacting}
 use Rattle.auditor_top.specs.Stages.{reading_lines}
 use Rattle.auditor_top.specs.Status.{compacting_status}
-use Rattle.auditor_top.proofs.CompactEndings.{compact_last, compact_words, compact_file, compact_spare, bench_failed, spare_failed, memory_wanted, compact_no_input, compact_faults, compact_ends, compact_wants, compact_at_lines, compact_done, unsent_so, at_spare}
+use Rattle.auditor_top.proofs.CompactEndings.{compact_last, compact_words, compact_file, compact_spare, bench_failed, spare_failed, memory_wanted, compact_no_input, compact_faults, compact_ends, compact_wants, compact_at_lines, compact_done, spare_unsent, unsent_so, at_spare}
 use Rattle.auditor_top.proofs.OneCommand.{one_command, same_command, asked_for, not_asked, none_asked, takes_step, lacks_step}
 use Rattle.auditor_top.proofs.OneRunMore.{does_so, never_goes_on}
 use Rattle.auditor_top.proofs.OneTable.{one_base, same_given, carried, schema_is_ok, table_is_ok, groups_are_sound}
@@ -99,6 +99,7 @@ compacting g c =
           (unsent_so c.compact.result (λ is. ap g.B.Bench.sent is ∙ reads.sent) does.unsent));
       compacting = moments;
       stable = λ told done. compact_done c.compact.result done (does.quiet told);
+      unsent_yet = λ failed. ap g.B.Bench.sent (spare_unsent c.compact.result failed does.unsent) ∙ reads.sent;
       alike = λ ptold told unmade quiet base records over image bytes found was made stands.
           c.compactions.ensures _ _ _ image bytes base records found over.files over.legal ((moments ptold told unmade quiet base records over).each image bytes was) made stands;
       sending = λ ptold told quiet base records over.
@@ -185,8 +186,9 @@ compaction_ends g c =
       bench_last = λ is. does.fault.last_call (bench_failed c.compact.result (sym c.compacted.ensures ∙ is));
       spare_last = λ is. does.spare_fault.last_call (spare_failed c.compact.result (sym c.compacted.ensures ∙ is));
       spare_file = λ told command asked calls.
-          subst (λ (s : Status). SpareCause s (g.B.Bench.file c.args.spare.now)) (sym c.compacted.ensures)
-          (compact_spare c.compact.result (g.B.Bench.file c.args.spare.now) (does.already told) (λ made. (does.refused told made).0));
+          subst (λ (k : Command). SpareCause status k (g.B.Bench.file c.args.spare.now)) (one_command _ _ command is_named asked)
+          (subst (λ (s : Status). SpareCause s command.Compact (g.B.Bench.file c.args.spare.now)) (sym c.compacted.ensures)
+          (compact_spare c.compact.result (g.B.Bench.file c.args.spare.now) (does.already told) (λ made. (does.refused told made).0)));
       later = record {
         schema = c.open.ensures.later.0;
         table = c.open.ensures.later.1;
@@ -196,7 +198,7 @@ compaction_ends g c =
       };
       schema_within = λ ptold. schema_was_read status last;
       table_within = λ ptold. table_was_read status last;
-      lives = λ ptold told command asked itold quiet base at goes. never_goes_on _ command _ _ _ _ at base is_named asked (λ none. none) goes;
+      lives = λ ptold told command asked itold quiet base at goes. never_goes_on _ command _ _ _ _ _ at base is_named asked (λ none. none) goes;
       does = λ command asked. does_so g.P.Source g.I.Source g.B.Bench status _ _ _ _ command is_named asked (compacting g c);
       nothing_began = λ ptold told command asked opens quiet none.
           absurd (none _ (are ptold).2 (subst (λ (k : Command). IsReadyFor k file (secret_table store.secret store.protected))
@@ -206,7 +208,7 @@ compaction_ends g c =
           as_quiet g.B.Bench _ _ reads quiet image (does.crash image left) ∙ sym does.file;
       before_table = past_table _ status last;
       before_bench = past_journal _ status last;
-      before_spare = at_spare _ status c.compact.result c.compacted.ensures;
+      before_spare = λ other. at_spare _ status c.compact.result c.compacted.ensures;
       before_lines = at_lines _ _ _ c.compacted.ensures
           (before_so reading_lines (compacting_status c.compact.result) (λ is. (refl, ap g.B.Bench.sent is ∙ reads.sent)) (compact_at_lines _ c.compact.result does.unsent));
       unwritten = λ told. always_before reading_lines status (does.file ∙ reads.file);

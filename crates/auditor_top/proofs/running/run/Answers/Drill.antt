@@ -90,13 +90,13 @@ drill_ends g c =
       };
       schema_within = λ ptold is. absurd (c.drill.ensures.no_source _ is);
       table_within = λ ptold is. absurd (c.drill.ensures.no_source _ is);
-      lives = λ ptold told command asked itold quiet base at goes. never_goes_on _ command _ _ _ _ at base is_named asked (λ none. none) goes;
+      lives = λ ptold told command asked itold quiet base at goes. never_goes_on _ command _ _ _ _ _ at base is_named asked (λ none. none) goes;
       does = λ command asked. does_so g.P.Source g.I.Source g.B.Bench status _ _ _ _ command is_named asked (drilling g c);
       nothing_began = λ ptold told command asked opens. lacks_step opens_journal _ _ command is_named asked refl opens;
       quiet = λ told quiet fine. c.drill.ensures.quiet (as_quiet g.B.Bench _ _ c.open.ensures.reads quiet);
       before_table = always_before reading_table status unread.1;
       before_bench = before_so opening_journal status (λ is. is ∙ unopened) c.drill.ensures.before_bench;
-      before_spare = always_before writing_spare status refl;
+      before_spare = λ other. always_before opening_spare status refl;
       before_lines = before_so reading_lines status (λ sent. (refl, sent ∙ c.open.ensures.reads.sent)) c.drill.ensures.before_lines;
       unwritten = λ told. always_before reading_lines status (c.drill.ensures.file ∙ c.open.ensures.reads.file);
       unread = λ none. none_asked _ _ none is_named;

@@ -22,7 +22,7 @@ use Rattle.auditor_top.specs.Causes.{WordCause, FileCause, InputCause, FaultCaus
 use Rattle.auditor_top.specs.Ends.{ExplainEnds, LeavesFile, SendsLines, public_part}
 use Rattle.auditor_top.specs.Ready.{IsReady, IsReadyOver}
 use Rattle.auditor_top.specs.Runs.{objects, faults_of, Explaining}
-use Rattle.auditor_top.specs.Stages.{writing_spare}
+use Rattle.auditor_top.specs.Stages.{opening_spare}
 use Rattle.auditor_top.specs.Status.{as_session, session_status}
 use Rattle.auditor_top.proofs.ExplainEndings.{explain_done, explain_ends, explain_reads, explain_sends, failed_bench, failed_input, untouched_lines}
 use Rattle.auditor_top.proofs.OneRunMore.{does_so, never_goes_on}
@@ -197,7 +197,7 @@ explanation_ends g c =
       };
       schema_within = λ ptold. schema_was_read status last;
       table_within = λ ptold. table_was_read status last;
-      lives = λ ptold told command asked itold quiet base at goes. never_goes_on _ command _ _ _ _ at base is_named asked (λ none. none) goes;
+      lives = λ ptold told command asked itold quiet base at goes. never_goes_on _ command _ _ _ _ _ at base is_named asked (λ none. none) goes;
       does = λ command asked. does_so g.P.Source g.I.Source g.B.Bench status _ _ _ _ command is_named asked (explaining g c);
       nothing_began = λ ptold told command asked opens quiet none.
           absurd (none _ (are g c ptold) (subst (λ (k : Command). IsReadyFor k file (secret_table store.secret c.in-Ok-Explain.index.protected))
@@ -205,7 +205,7 @@ explanation_ends g c =
       quiet = λ told quiet fine image left. as_quiet g.B.Bench _ _ reads quiet image (does.crash image left) ∙ sym does.file;
       before_table = past_table _ status last;
       before_bench = past_journal _ status last;
-      before_spare = always_before writing_spare status refl;
+      before_spare = λ other. always_before opening_spare status refl;
       before_lines = at_lines _ _ _ c.explained.ensures (session_at_lines _ ended);
       unwritten = λ told. at_lines _ _ _ c.explained.ensures (session_at_lines _ ended);
       unread = λ none. none_asked _ _ none is_named;

@@ -179,8 +179,8 @@ grow_ends g c =
       table_within = λ ptold. table_was_read status last;
       lives = λ ptold told command asked itold quiet. goes_on g.P.Source g.I.Source g.B.Bench status
           (objects c.args.schema.now c.args.table.now c.args.input.now c.args.bench.now c.args.spare.now)
-          (objects c.open.new.schema c.open.new.table c.args.input.now later c.args.spare.now) c.lives.ensures.longer command
-          (λ batch is. c.read_words.ensures.batch batch (asked ∙ ap (λ (k : Command). Some k) is))
+          (objects c.open.new.schema c.open.new.table c.args.input.now later c.args.spare.now) c.lives.ensures.longer c.one_reading.ensures command
+          (λ batch twin is. c.read_words.ensures.batch batch twin (asked ∙ ap (λ (k : Command). Some k) is))
           (does_so g.P.Source g.I.Source g.B.Bench status _ _ _ _ command is_named asked (grew g c)) ptold told itold quiet;
       does = λ command asked. does_so g.P.Source g.I.Source g.B.Bench status _ _ _ _ command is_named asked (grew g c);
       nothing_began = λ ptold told command asked opens quiet none.
@@ -192,7 +192,7 @@ grow_ends g c =
       quiet = λ told quiet fine. c.grow.ensures.quiet told (quiet_then quiet) (λ is. fine (c.grown.ensures ∙ ap growing_status is));
       before_table = past_table _ status last;
       before_bench = past_journal _ status last;
-      before_spare = always_before writing_spare status refl;
+      before_spare = λ other. always_before opening_spare status refl;
       before_lines = always_before reading_lines status (refl, c.grow.ensures.sent ∙ reads.sent);
       unwritten = λ told. at_lines _ _ _ c.grown.ensures (growth_at_lines c.grow.result (λ is. is ∙ reads.file) c.grow.ensures.kept);
       unread = λ none. none_asked _ _ none is_named;

@@ -142,7 +142,7 @@ init_ends g c =
       };
       schema_within = λ ptold. schema_was_read status last;
       table_within = λ ptold. table_was_read status last;
-      lives = λ ptold told command asked itold quiet base at goes. never_goes_on _ command _ _ _ _ at base is_named asked (λ none. none) goes;
+      lives = λ ptold told command asked itold quiet base at goes. never_goes_on _ command _ _ _ _ _ at base is_named asked (λ none. none) goes;
       does = λ command asked. does_so g.P.Source g.I.Source g.B.Bench status _ _ _ _ command is_named asked (making_it g c);
       nothing_began = λ ptold told command asked opens. lacks_step opens_journal _ _ command is_named asked refl opens;
       quiet = λ told quiet fine.
@@ -155,7 +155,7 @@ init_ends g c =
           (g.B.Bench.moment c.open.new.bench) image moments.later left)).1 ∙ sym already.1);
       before_table = past_table _ status last;
       before_bench = past_journal _ status last;
-      before_spare = always_before writing_spare status refl;
+      before_spare = λ other. always_before opening_spare status refl;
       before_lines = always_before reading_lines status (refl, c.make.ensures.sent ∙ reads.sent);
       unwritten = λ told. at_lines _ _ _ c.made.ensures
           (making_at_lines c.make.result (λ there. (c.make.ensures.already told there).1 ∙ reads.file));

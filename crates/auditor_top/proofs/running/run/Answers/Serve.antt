@@ -1,5 +1,5 @@
 -- What `run` says of `serve`.
-use Rattle.std.proofs.Common.{◌≡◌, ℕ, List, Option, Some, refl, sym, ◌∙◌, ap, subst, map, string_bytes}
+use Rattle.std.proofs.Common.{◌≡◌, ℕ, false, List, Option, Some, refl, sym, ◌∙◌, ap, subst, map, string_bytes}
 use Rattle.audit_types.specs.declared.records.Answered.{Answered}
 use Rattle.bench_core.specs.Causes.{Rose}
 use Rattle.bench_core.specs.Calls.{LeavesOnly}
@@ -29,7 +29,7 @@ use Rattle.auditor_top.proofs.Openings.{later_still, stays}
 use Rattle.auditor_top.proofs.Refusals.{as_quiet}
 use Rattle.auditor_top.proofs.Sessions.{ends_so, stops_so, harmless_so, calls_so}
 use Rattle.auditor_top.proofs.StepFaults.{moved, session_cause, session_ends, session_faults, session_reads, session_wants}
-use Rattle.auditor_top.specs.Stages.{writing_spare}
+use Rattle.auditor_top.specs.Stages.{opening_spare}
 use Rattle.auditor_top.proofs.StepStatuses.{at_lines, EndsLastStep, schema_read, table_read, past_table, past_journal, no_schema_fault, no_table_fault, schema_was_read, table_was_read, session_last, session_words, session_bench, session_input, session_at_lines, always_before}
 use Rattle.std.specs.Bool.{OnTrue}
 use Rattle.audit_types.specs.declared.records.Protected.{Protected}
@@ -69,7 +69,7 @@ serving g c =
     let kept = store.history in
     let n = c.in-Ok-Serve.batch in
     let seen = base_of c.in-Ok-Serve.schema.columns c.in-Ok-Serve.index.public c.in-Ok-Serve.index.protected store.secret in
-    let same : c.in-Ok.command ≡ command.Serve n = same_command _ _ _ c.in-Ok-Serve.field-0-is c.in-Ok-Serve.ensures.asked in
+    let same : c.in-Ok.command ≡ command.Serve n false = same_command _ _ _ c.in-Ok-Serve.field-0-is c.in-Ok-Serve.ensures.asked in
     let ready = subst (IsReady g.B.Bench opened) c.in-Ok-Serve.field-0-is c.in-Ok-Serve.ensures.ready in
     let given : (g.P.Source.told → g.B.Bench.told → (base : Database) (history : List Answered) →
     ServesOver (g.P.Source.left old.schema) (g.P.Source.left old.table) (g.B.Bench.file at) base history → (seen ≡ base) × (kept ≡ history)) =
@@ -105,7 +105,7 @@ served_words : (g : Over) (c : goal.After-drop-schema-inside-in-Ok-Serve g) → 
 served_words g c =
     subst (λ (asked : Option Command). WordCause c.answered.result asked)
     (sym (asked_for _ _ _ _ c.in-Ok.ensures.command c.in-Ok-Serve.field-0-is c.in-Ok-Serve.ensures.asked))
-    (subst (λ (s : Status). WordCause s (Some (command.Serve c.in-Ok-Serve.batch))) (sym c.answered.ensures) (session_words c.serve.result (command.Serve c.in-Ok-Serve.batch) refl))
+    (subst (λ (s : Status). WordCause s (Some (command.Serve c.in-Ok-Serve.batch false))) (sym c.answered.ensures) (session_words c.serve.result (command.Serve c.in-Ok-Serve.batch false) refl))
 
 served_file : (g : Over) (c : goal.After-drop-schema-inside-in-Ok-Serve g) → g.P.Source.told → g.B.Bench.told → (asked : Command) → NamesCommand c.args.words.now.items asked → (base : Database) →
     (files : AreFilesOf (g.P.Source.left c.args.schema.now) (g.P.Source.left c.args.table.now) base) →
@@ -126,11 +126,11 @@ served_file g c = λ ptold told other asked base files sound.
     subst (λ (p : List Protected). IsLegal (secret_table store.secret p) store.history) (sym ready.3) ready.0.is.legal in
     let holds : (g.B.Bench.told → HoldsLegal file (secret_table store.secret c.in-Ok-Serve.index.protected)) = λ told.
     (store.history, (store.journal.gate, subst (λ (bytes : List ℕ). IsAsLeft bytes store) reads.file (ready.0.left told)), legal) in
-    let is_named : command_of (map string_bytes c.args.words.now.items) ≡ Some (command.Serve n) =
+    let is_named : command_of (map string_bytes c.args.words.now.items) ≡ Some (command.Serve n false) =
     asked_for _ _ _ _ c.in-Ok.ensures.command c.in-Ok-Serve.field-0-is c.in-Ok-Serve.ensures.asked in
     subst (λ (k : Command). FileCause status k file (table_in base)) (one_command _ _ other is_named asked)
-    (subst (λ (s : Status). FileCause s (command.Serve n) file (table_in base)) (sym c.answered.ensures)
-    (session_cause c.serve.result (command.Serve n) file (table_in base)
+    (subst (λ (s : Status). FileCause s (command.Serve n false) file (table_in base)) (sym c.answered.ensures)
+    (session_cause c.serve.result (command.Serve n false) file (table_in base)
     (subst (λ (b : Database). HoldsLegal file (table_in b)) (one_base c.groups_of_a_schema.ensures.entries _ _ _ base (are ptold)
     (record {
       files = files;
@@ -163,7 +163,7 @@ serve_ends g c =
     subst (λ (p : List Protected). IsLegal (secret_table store.secret p) store.history) (sym ready.3) ready.0.is.legal in
     let holds : (g.B.Bench.told → HoldsLegal file (secret_table store.secret c.in-Ok-Serve.index.protected)) = λ told.
     (store.history, (store.journal.gate, subst (λ (bytes : List ℕ). IsAsLeft bytes store) reads.file (ready.0.left told)), legal) in
-    let is_named : command_of (map string_bytes c.args.words.now.items) ≡ Some (command.Serve n) =
+    let is_named : command_of (map string_bytes c.args.words.now.items) ≡ Some (command.Serve n false) =
     asked_for _ _ _ _ c.in-Ok.ensures.command c.in-Ok-Serve.field-0-is c.in-Ok-Serve.ensures.asked in
     let last = subst EndsLastStep (sym c.answered.ensures) (session_last c.serve.result) in
     record {
@@ -194,8 +194,8 @@ serve_ends g c =
       };
       schema_within = λ ptold. schema_was_read status last;
       table_within = λ ptold. table_was_read status last;
-      lives = λ ptold told command asked itold quiet. goes_on g.P.Source g.I.Source g.B.Bench status _ _ c.lives.ensures.longer command
-          (λ batch is. c.read_words.ensures.batch batch (asked ∙ ap (λ (k : Command). Some k) is)) (does_so g.P.Source g.I.Source g.B.Bench status _ _ _ _ command is_named asked (serving g c))
+      lives = λ ptold told command asked itold quiet. goes_on g.P.Source g.I.Source g.B.Bench status _ _ c.lives.ensures.longer c.one_reading.ensures command
+          (λ batch twin is. c.read_words.ensures.batch batch twin (asked ∙ ap (λ (k : Command). Some k) is)) (does_so g.P.Source g.I.Source g.B.Bench status _ _ _ _ command is_named asked (serving g c))
           ptold told itold quiet;
       does = λ command asked. does_so g.P.Source g.I.Source g.B.Bench status _ _ _ _ command is_named asked (serving g c);
       nothing_began = λ ptold told command asked opens quiet none.
@@ -204,7 +204,7 @@ serve_ends g c =
       quiet = λ told quiet fine. c.serve.ensures.quiet told (as_quiet g.B.Bench _ _ reads quiet) (λ is. fine (c.answered.ensures ∙ ap session_status is));
       before_table = past_table _ status last;
       before_bench = past_journal _ status last;
-      before_spare = always_before writing_spare status refl;
+      before_spare = λ other. always_before opening_spare status refl;
       before_lines = at_lines _ _ _ c.answered.ensures (session_at_lines _ c.serve.result);
       unwritten = λ told. at_lines _ _ _ c.answered.ensures (session_at_lines _ c.serve.result);
       unread = λ none. none_asked _ _ none is_named;

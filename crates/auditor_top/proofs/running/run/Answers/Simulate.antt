@@ -27,7 +27,7 @@ use Rattle.auditor_top.proofs.Openings.{later_still, stays}
 use Rattle.auditor_top.proofs.Refusals.{as_quiet}
 use Rattle.auditor_top.proofs.SimulationEndings.{carried_public, simulation_ends, simulation_sends, simulation_reads, simulation_faults, simulation_wants}
 use Rattle.auditor_top.proofs.StepFaults.{moved}
-use Rattle.auditor_top.specs.Stages.{writing_spare}
+use Rattle.auditor_top.specs.Stages.{opening_spare}
 use Rattle.auditor_top.proofs.StepStatuses.{at_lines, EndsLastStep, schema_read, table_read, past_table, past_journal, no_schema_fault, no_table_fault, schema_was_read, table_was_read, simulation_last, simulation_words, simulation_bench, simulation_input, simulation_file, simulation_at_lines, always_before}
 use Rattle.std.specs.Bool.{OnTrue}
 use Rattle.set_index.specs.Groups.{AreEntries}
@@ -157,14 +157,14 @@ simulate_ends g c =
       };
       schema_within = λ ptold. schema_was_read status last;
       table_within = λ ptold. table_was_read status last;
-      lives = λ ptold told command asked itold quiet base at goes. never_goes_on _ command _ _ _ _ at base is_named asked (λ none. none) goes;
+      lives = λ ptold told command asked itold quiet base at goes. never_goes_on _ command _ _ _ _ _ at base is_named asked (λ none. none) goes;
       does = λ command asked. does_so g.P.Source g.I.Source g.B.Bench status _ _ _ _ command is_named asked (judging g c);
       nothing_began = λ ptold told command asked opens. lacks_step opens_journal _ _ command is_named asked refl opens;
       quiet = λ told quiet fine image was.
           as_quiet g.B.Bench _ _ reads quiet image (c.simulate.ensures.crash image was) ∙ sym c.simulate.ensures.file;
       before_table = past_table _ status last;
       before_bench = past_journal _ status last;
-      before_spare = always_before writing_spare status refl;
+      before_spare = λ other. always_before opening_spare status refl;
       before_lines = at_lines _ _ _ c.judged.ensures (simulation_at_lines _ c.simulate.result);
       unwritten = λ told. at_lines _ _ _ c.judged.ensures (simulation_at_lines _ c.simulate.result);
       unread = λ none. none_asked _ _ none is_named;

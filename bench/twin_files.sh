@@ -1,0 +1,12 @@
+#!/bin/sh
+# Gives random pairs of journals, whole, shorter, grouped otherwise, grown, exchanged and damaged, to the built program and to the plain
+# one of plain/, at `serve --twin` and at `restore`, and compares what each sent, said and ended with, and both files that it left, byte
+# for byte. Ends with 1 if anything differs, and names the seed. Build the program first: demo/run.sh does. The plain one is built here,
+# with cargo.
+#
+#   bench/twin_files.sh [ROUNDS [SEED]]        500 rounds if none is given
+# A sync is free in a folder that is kept in memory.
+[ -d /dev/shm ] && export TMPDIR=/dev/shm
+. "$(dirname "$0")/setup.sh"
+cargo build --quiet --release --offline --manifest-path "$here/plain/Cargo.toml" || exit 1
+python3 "$here/twin_files.py" "$program" "${CARGO_TARGET_DIR:-$here/plain/target}/release/plain" "${1:-500}" "${2:-1}"

@@ -1,0 +1,120 @@
+-- What the end of the last step of `restore` comes to, by cases on it.
+use Rattle.std.proofs.Common.{rules, ◌≡◌, ◌≢◌, ℕ, List, Some, Result, Ok, Err, IsErrOf, OnOk, ap, refl, sym, ◌∙◌, subst, inl, inr}
+use Rattle.audit_types.specs.History.{Table as Guarded}
+use Rattle.bench_core.specs.Causes.{Rose}
+use Rattle.audit_store.specs.Starting.{StartCause, GivesUp}
+use Rattle.audit_store.specs.declared.starting.StartFault.{StartFault}
+use Rattle.audit_store.specs.declared.starting.StartFault.TheVariants as start
+use Rattle.twin_journal.specs.Restoring.{GivesUpRestoring, RestoreCause, RestoredUnlessGivenUp}
+use Rattle.twin_journal.specs.declared.restoring.RestoreFault.{RestoreFault}
+use Rattle.twin_journal.specs.declared.restoring.RestoreFault.TheVariants as restore
+use Rattle.auditor_top.specs.declared.words.Command.{Command}
+use Rattle.auditor_top.specs.declared.words.Command.TheVariants.{Restore}
+use Rattle.auditor_top.specs.declared.status.Which.TheVariants.{Input}
+use Rattle.auditor_top.specs.declared.status.Status.{Status}
+use Rattle.auditor_top.specs.declared.status.Status.TheVariants.{Done, SourceFault, BenchFault, SpareFault}
+use Rattle.auditor_top.specs.Causes.{BothCause, FaultCounts, FaultCause, WordCause, FileCause, SpareCause, NothingFailed, IsDoneOrWants}
+use Rattle.auditor_top.specs.Stages.{Before, opening_journal, reading_lines}
+use Rattle.auditor_top.specs.Status.{restoring_status, start_status}
+use Rattle.auditor_top.proofs.CompactEndings.{both_same}
+use Rattle.auditor_top.proofs.StartEndings.{never_bench, never_done, never_input, never_spare, own_steady, start_at_journal, start_at_lines, start_file, start_last, start_spare}
+use Rattle.auditor_top.proofs.StepStatuses.{EndsLastStep}
+use Rattle.auditor_top.proofs.StoreRefusals.{start_words}
+
+-- a fault of the journal is its own
+abbrev pub IsOwn : {X : Type 0} → Result X RestoreFault → Type 0
+IsOwn ended = (fault : StartFault) → GivesUp fault → (ended ≢ Err (restore.Main fault)) × (ended ≢ Err (restore.Spare fault))
+
+pub restore_last : {X : Type 0} (ended : Result X RestoreFault) → EndsLastStep (restoring_status ended)
+restore_last (Err (restore.Main fault)) = start_last fault
+restore_last ended = tt
+
+pub restore_words : {X : Type 0} (ended : Result X RestoreFault) → WordCause (restoring_status ended) (Some Restore)
+restore_words (Ok done) = refl
+restore_words (Err (restore.Main fault)) = start_words fault Restore refl
+restore_words (Err restore.MainFailed) = tt
+restore_words (Err restore.NoMemory) = tt
+restore_words ended = refl
+
+-- each refusal has its cause in the journal's file, and in both
+pub restore_file : {X : Type 0} (ended : Result X RestoreFault) (file spare : List ℕ) (table : Guarded) →
+    ((fault : RestoreFault) → ended ≡ Err fault → RestoreCause fault file spare table) → FileCause (restoring_status ended) Restore file table
+restore_file (Ok done) file spare table cause = tt
+restore_file (Err restore.BothLost) file spare table cause = (cause restore.BothLost refl).0
+restore_file (Err (restore.Main fault)) file spare table cause = start_file fault Restore file table (cause (restore.Main fault) refl).3
+restore_file (Err fault) file spare table cause = tt
+
+pub restore_cause : {X : Type 0} (ended : Result X RestoreFault) (file spare : List ℕ) (table : Guarded) → IsOwn ended →
+    ((fault : RestoreFault) → ended ≡ Err fault → RestoreCause fault file spare table) → BothCause (restoring_status ended) Restore file spare table
+restore_cause (Ok done) file spare table own cause = tt
+restore_cause (Err restore.NothingLost) file spare table own cause = cause restore.NothingLost refl
+restore_cause (Err restore.BothLost) file spare table own cause = cause restore.BothLost refl
+restore_cause (Err (restore.Main fault)) file spare table own cause = of_main fault (cause (restore.Main fault) refl)
+  where
+    of_main : (fault : StartFault) → RestoreCause (restore.Main fault) file spare table → BothCause (start_status fault) Restore file spare table
+    of_main start.NotMade main = absurd (main.3 main.1)
+    of_main fault main = tt
+restore_cause (Err (restore.Spare fault)) file spare table own cause = cause (restore.Spare fault) refl
+restore_cause (Err fault) file spare table own cause = tt
+
+-- which object failed, and that the input isn't read
+pub restore_bench : {X : Type 0} (ended : Result X RestoreFault) → IsOwn ended → restoring_status ended ≡ BenchFault → IsErrOf ended restore.MainFailed
+restore_bench (Err (restore.Main fault)) own is = absurd (never_bench fault (λ gave. (own fault gave).0 refl) is)
+restore_bench (Err restore.MainFailed) own is = refl
+restore_bench ended own is = cc
+
+pub restore_spare : {X : Type 0} (ended : Result X RestoreFault) → restoring_status ended ≡ SpareFault → IsErrOf ended restore.SpareFailed
+restore_spare (Err (restore.Main fault)) is = absurd (never_spare fault is)
+restore_spare (Err restore.SpareFailed) is = refl
+restore_spare ended is = cc
+
+pub restore_no_input : {X : Type 0} (ended : Result X RestoreFault) → restoring_status ended ≢ SourceFault Input
+restore_no_input (Err (restore.Main fault)) is = never_input fault is
+restore_no_input ended is = cc
+
+-- the count of the object that failed rose, and no other count changed
+pub restore_faults : {X : Type 0} (ended : Result X RestoreFault) (before : FaultCounts) (bench spare : ℕ) → IsOwn ended →
+    (IsErrOf ended restore.MainFailed → Rose before.bench bench) → ((IsErrOf ended restore.MainFailed → ⊥) → bench ≡ before.bench) →
+    (IsErrOf ended restore.SpareFailed → Rose before.spare spare) → ((IsErrOf ended restore.SpareFailed → ⊥) → spare ≡ before.spare) →
+    FaultCause (restoring_status ended) before (record before { bench = bench; spare = spare })
+restore_faults (Err restore.MainFailed) before bench spare own rose same spare_rose spare_same =
+    (rose refl, ap (λ (n : ℕ). record before { bench = bench; spare = n }) (spare_same (search rules)))
+restore_faults (Err restore.SpareFailed) before bench spare own rose same spare_rose spare_same =
+    (spare_rose refl, ap (λ (n : ℕ). record before { bench = n; spare = spare }) (same (search rules)))
+restore_faults (Err (restore.Main fault)) before bench spare own rose same spare_rose spare_same =
+    subst (λ (after : FaultCounts). FaultCause (start_status fault) before after) (sym (both_same before bench spare (same (search rules)) (spare_same (search rules))))
+    (own_steady fault before (λ gave. (own fault gave).0 refl))
+restore_faults ended before bench spare own rose same spare_rose spare_same = both_same before bench spare (same (search rules)) (spare_same (search rules))
+
+-- if one can be restored and nothing failed, it is done, or there was no memory
+pub restore_wants : {X : Type 0} (ended : Result X RestoreFault) (before after : FaultCounts) →
+    ((fault : RestoreFault) → ended ≡ Err fault → RestoredUnlessGivenUp (Err fault)) → FaultCause (restoring_status ended) before after →
+    NothingFailed before after → (Rose before.spare after.spare → ⊥) → IsDoneOrWants (restoring_status ended)
+restore_wants (Ok done) before after gave rose none fine = inl refl
+restore_wants (Err restore.MainFailed) before after gave rose none fine = absurd (none.bench rose.0)
+restore_wants (Err restore.SpareFailed) before after gave rose none fine = absurd (fine rose.0)
+restore_wants (Err restore.NoMemory) before after gave rose none fine = inr refl
+restore_wants (Err fault) before after gave rose none fine = absurd (gave fault refl)
+
+-- before the lines what was only read is as it was
+pub restore_at_lines : {X : Type 0} (P : Type 0) (ended : Result X RestoreFault) →
+    ((fault : RestoreFault) → ended ≡ Err fault → (GivesUpRestoring fault → ⊥) → P) → Before reading_lines (restoring_status ended) P
+restore_at_lines P (Err restore.NothingLost) holds = holds restore.NothingLost refl (λ gave. gave)
+restore_at_lines P (Err restore.BothLost) holds = holds restore.BothLost refl (λ gave. gave)
+restore_at_lines P (Err (restore.Main fault)) holds = start_at_lines P fault (holds (restore.Main fault) refl (λ gave. gave))
+restore_at_lines P (Err (restore.Spare fault)) holds = holds (restore.Spare fault) refl (λ gave. gave)
+restore_at_lines P ended holds = tt
+
+pub restore_at_journal : {X : Type 0} (P : Type 0) (ended : Result X RestoreFault) → Before opening_journal (restoring_status ended) P
+restore_at_journal P (Err (restore.Main fault)) = start_at_journal P fault
+restore_at_journal P ended = tt
+
+-- it takes any spare
+pub restore_takes_spare : {X : Type 0} (ended : Result X RestoreFault) (file : List ℕ) → SpareCause (restoring_status ended) Restore file
+restore_takes_spare (Err (restore.Main fault)) file = start_spare fault Restore file
+restore_takes_spare ended file = tt
+
+pub restore_done : {X P : Type 0} (ended : Result X RestoreFault) → restoring_status ended ≡ Done → OnOk ended P → P
+restore_done (Ok done) is holds = holds
+restore_done (Err (restore.Main fault)) is holds = absurd (never_done fault is)
+restore_done (Err fault) is holds = cc

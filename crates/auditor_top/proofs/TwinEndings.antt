@@ -1,0 +1,279 @@
+-- What it comes to that two journals weren't opened, and how a session over them ended, by cases on each.
+use Rattle.std.proofs.Common.{rules, ◌≡◌, ◌≢◌, ◌⊎◌, ◌+◌, ◌<◌, ◌≤◌, ℕ, List, [], ◌++◌, length, take, true, Some, Result, Ok, Err, IsErrOf, OnOk, ap, refl, sym, ◌∙◌, subst, inl, inr, arith}
+use Rattle.std.proofs.lemmas.List.{take_all, take-append-le}
+use Rattle.audit_types.specs.declared.records.Answered.{Answered}
+use Rattle.audit_types.specs.History.{Table as Guarded, IsLegal}
+use Rattle.bench_core.specs.Causes.{Rose}
+use Rattle.table_load.specs.Database.{Database}
+use Rattle.audit_store.specs.LegalFronts.{legal_front}
+use Rattle.audit_store.specs.Starting.{GivesUp}
+use Rattle.audit_store.specs.declared.starting.StartFault.{StartFault}
+use Rattle.audit_store.specs.declared.starting.StartFault.TheVariants as start
+use Rattle.line_wire.specs.Lines.{counted_lines, most_input}
+use Rattle.audit_session.specs.Ends.{Serves, ServesWhole, ServesSome, limited}
+use Rattle.audit_session.specs.Stops.{IsFront, stands_over}
+use Rattle.audit_session.specs.declared.session.TwinEnd.{TwinEnd}
+use Rattle.audit_session.specs.declared.session.TwinEnd.TheVariants as end
+use Rattle.twin_journal.specs.Twins.{KeepWhole, TwinCause, TwinGivesUp}
+use Rattle.twin_journal.specs.declared.starting.TwinFault.{TwinFault}
+use Rattle.twin_journal.specs.declared.starting.TwinFault.TheVariants as twin
+use Rattle.auditor_top.specs.declared.words.Command.TheVariants.{Serve}
+use Rattle.auditor_top.specs.declared.status.Which.TheVariants.{Input}
+use Rattle.auditor_top.specs.declared.status.Status.{Status}
+use Rattle.auditor_top.specs.declared.status.Status.TheVariants.{Done, SourceFault, BenchFault, SpareFault}
+use Rattle.auditor_top.specs.Causes.{BothCause, FaultCounts, FaultCause, WordCause, FileCause, HoldsLegal, InputCause, SpareCause, NothingFailed, IsDoneOrWants}
+use Rattle.auditor_top.specs.Ends.{Outside}
+use Rattle.auditor_top.specs.Stages.{Before, opening_spare, reading_lines}
+use Rattle.auditor_top.specs.Status.{start_status, twin_session_status, twin_status}
+use Rattle.auditor_top.specs.Twins.{TwinEnds}
+use Rattle.auditor_top.proofs.CompactEndings.{both_same}
+use Rattle.auditor_top.proofs.StartEndings.{never_bench, never_input, never_spare, own_steady, start_at_lines, start_file, start_last, start_spare}
+use Rattle.auditor_top.proofs.StepFaults.{not_both}
+use Rattle.auditor_top.proofs.StepStatuses.{EndsLastStep}
+use Rattle.auditor_top.proofs.StoreRefusals.{start_words}
+
+-- ---- they weren't opened
+
+-- a fault of the journal or of the spare's is its own
+abbrev pub IsOwn : TwinFault → Type 0
+IsOwn (twin.Main fault) = GivesUp fault → ⊥
+IsOwn fault = Unit {0}
+
+abbrev pub refusal : {X : Type 0} → TwinFault → Result X TwinFault
+refusal fault = Err fault
+
+pub own_fault : {X : Type 0} (fault : TwinFault) → ((f : StartFault) → GivesUp f → ◌≢◌ {A = Result X TwinFault} (Err fault) (Err (twin.Main f)) ×
+    ◌≢◌ {A = Result X TwinFault} (Err fault) (Err (twin.Spare f))) → IsOwn fault
+own_fault (twin.Main fault) own = λ gave. (own fault gave).0 refl
+own_fault fault own = tt
+
+-- the status that a refusal to open them makes
+abbrev pub refused_status : {X : Type 0} → Result X TwinFault → Status
+refused_status (Ok done) = Done
+refused_status (Err fault) = twin_status fault
+
+pub twin_last : (fault : TwinFault) → EndsLastStep (twin_status fault)
+twin_last (twin.Main fault) = start_last fault
+twin_last fault = tt
+
+pub twin_words : (fault : TwinFault) (batch : ℕ) → WordCause (twin_status fault) (Some (Serve batch true))
+twin_words (twin.Main fault) batch = start_words fault (Serve batch true) refl
+twin_words (twin.Spare fault) batch = refl
+twin_words (twin.Differ place) batch = (batch, refl)
+twin_words twin.MainFailed batch = tt
+twin_words twin.SpareFailed batch = refl
+twin_words twin.NoMemory batch = tt
+
+-- the cause of each stands in the journal's file, and in both
+pub twin_file : (fault : TwinFault) (batch : ℕ) (file spare : List ℕ) (table : Guarded) → TwinCause fault file spare table →
+    FileCause (twin_status fault) (Serve batch true) file table
+twin_file (twin.Main fault) batch file spare table cause = start_file fault (Serve batch true) file table cause.1
+twin_file (twin.Spare fault) batch file spare table cause = cause.0
+twin_file (twin.Differ place) batch file spare table cause = (cause.0, cause.1, cause.2)
+twin_file twin.MainFailed batch file spare table cause = tt
+twin_file twin.SpareFailed batch file spare table cause = cause
+twin_file twin.NoMemory batch file spare table cause = tt
+
+pub twin_cause : (fault : TwinFault) (batch : ℕ) (file spare : List ℕ) (table : Guarded) → TwinCause fault file spare table →
+    BothCause (twin_status fault) (Serve batch true) file spare table
+twin_cause (twin.Main fault) batch file spare table cause = of_main fault
+  where
+    of_main : (fault : StartFault) → BothCause (start_status fault) (Serve batch true) file spare table
+    of_main start.NotMade = tt
+    of_main fault = tt
+twin_cause (twin.Spare fault) batch file spare table cause = cause
+twin_cause (twin.Differ place) batch file spare table cause = cause
+twin_cause fault batch file spare table cause = tt
+
+-- which object failed, and that the input isn't read
+pub twin_bench : {X : Type 0} (fault : TwinFault) → IsOwn fault → twin_status fault ≡ BenchFault → IsErrOf {T = X} (Err fault) twin.MainFailed
+twin_bench (twin.Main fault) own is = absurd (never_bench fault own is)
+twin_bench twin.MainFailed own is = refl
+twin_bench fault own is = cc
+
+pub twin_spare : {X : Type 0} (fault : TwinFault) → twin_status fault ≡ SpareFault → IsErrOf {T = X} (Err fault) twin.SpareFailed
+twin_spare (twin.Main fault) is = absurd (never_spare fault is)
+twin_spare twin.SpareFailed is = refl
+twin_spare fault is = cc
+
+pub twin_no_input : (fault : TwinFault) → twin_status fault ≢ SourceFault Input
+twin_no_input (twin.Main fault) is = never_input fault is
+twin_no_input fault is = cc
+
+-- the count of the object that failed rose, and no other count changed
+pub twin_faults : {X : Type 0} (fault : TwinFault) (before : FaultCounts) (bench spare : ℕ) → IsOwn fault →
+    (IsErrOf {T = X} (Err fault) twin.MainFailed → Rose before.bench bench) → ((IsErrOf {T = X} (Err fault) twin.MainFailed → ⊥) → bench ≡ before.bench) →
+    (IsErrOf {T = X} (Err fault) twin.SpareFailed → Rose before.spare spare) → ((IsErrOf {T = X} (Err fault) twin.SpareFailed → ⊥) → spare ≡ before.spare) →
+    FaultCause (twin_status fault) before (record before { bench = bench; spare = spare })
+twin_faults twin.MainFailed before bench spare own rose same spare_rose spare_same =
+    (rose refl, ap (λ (n : ℕ). record before { bench = bench; spare = n }) (spare_same (λ is. cc)))
+twin_faults twin.SpareFailed before bench spare own rose same spare_rose spare_same =
+    (spare_rose refl, ap (λ (n : ℕ). record before { bench = n; spare = spare }) (same (λ is. cc)))
+twin_faults (twin.Main fault) before bench spare own rose same spare_rose spare_same =
+    subst (λ (after : FaultCounts). FaultCause (start_status fault) before after) (sym (both_same before bench spare (same (λ is. cc)) (spare_same (λ is. cc))))
+    (own_steady fault before own)
+twin_faults fault before bench spare own rose same spare_rose spare_same = both_same before bench spare (same (λ is. cc)) (spare_same (λ is. cc))
+
+-- if the files keep together, a call failed or memory ran out, and nothing was sent
+pub twin_gave_up : (fault : TwinFault) (batch : ℕ) (base : Database) (whole : List Answered) (before after : Outside) (spare : List ℕ) → TwinGivesUp fault →
+    after.sent ≡ before.sent → TwinEnds batch (twin_status fault) base whole before after spare
+twin_gave_up (twin.Main fault) batch base whole before after spare gave same = absurd gave
+twin_gave_up (twin.Spare fault) batch base whole before after spare gave same = absurd gave
+twin_gave_up (twin.Differ place) batch base whole before after spare gave same = absurd gave
+twin_gave_up twin.MainFailed batch base whole before after spare gave same = tt
+twin_gave_up twin.SpareFailed batch base whole before after spare gave same = tt
+twin_gave_up twin.NoMemory batch base whole before after spare gave same = inl same
+
+pub twin_wants : (fault : TwinFault) (before after : FaultCounts) → TwinGivesUp fault → FaultCause (twin_status fault) before after → NothingFailed before after →
+    (Rose before.spare after.spare → ⊥) → IsDoneOrWants (twin_status fault)
+twin_wants twin.MainFailed before after gave rose none fine = absurd (none.bench rose.0)
+twin_wants twin.SpareFailed before after gave rose none fine = absurd (fine rose.0)
+twin_wants twin.NoMemory before after gave rose none fine = inr refl
+twin_wants fault before after gave rose none fine = absurd gave
+
+-- before the lines what was only read is as it was, and the spare isn't called before the journal was found sound
+pub twin_at_lines : (P : Type 0) (fault : TwinFault) → ((TwinGivesUp fault → ⊥) → P) → Before reading_lines (twin_status fault) P
+twin_at_lines P (twin.Main fault) holds = start_at_lines P fault (holds (λ gave. gave))
+twin_at_lines P (twin.Spare fault) holds = holds (λ gave. gave)
+twin_at_lines P (twin.Differ place) holds = holds (λ gave. gave)
+twin_at_lines P fault holds = tt
+
+pub twin_at_spare : (P : Type 0) (fault : TwinFault) → ((f : StartFault) → fault ≡ twin.Main f → P) → Before opening_spare (twin_status fault) P
+twin_at_spare P (twin.Main fault) first = of_main fault (first fault refl)
+  where
+    of_main : (f : StartFault) → P → Before opening_spare (start_status f) P
+    of_main start.Failed holds = tt
+    of_main start.NoMemory holds = tt
+    of_main f holds = holds
+twin_at_spare P fault first = tt
+
+pub twin_takes_spare : (fault : TwinFault) (batch : ℕ) (file : List ℕ) → SpareCause (twin_status fault) (Serve batch true) file
+twin_takes_spare (twin.Main fault) batch file = start_spare fault (Serve batch true) file
+twin_takes_spare fault batch file = tt
+
+pub twin_input : (fault : TwinFault) (bytes : List ℕ) → InputCause (twin_status fault) bytes bytes
+twin_input (twin.Main fault) bytes = of_main fault
+  where
+    of_main : (f : StartFault) → InputCause (start_status f) bytes bytes
+    of_main start.Failed = tt
+    of_main start.NoMemory = tt
+    of_main f = refl
+twin_input (twin.Spare fault) bytes = refl
+twin_input (twin.Differ place) bytes = refl
+twin_input fault bytes = tt
+
+-- ---- the lines were answered
+
+-- the journal stands for a legal history, since it begins one
+pub front_is_legal : (table : Guarded) (file spare : List ℕ) (whole : List Answered) → KeepWhole table file spare whole → HoldsLegal file table
+front_is_legal table file spare whole keeps =
+    let main = keeps.0 in
+    let all = keeps.2 in
+    (main, all.main_stands, subst (λ (h : List Answered). IsLegal table h)
+    (ap (λ (h : List Answered). take (length main) h) all.main_front.is ∙ take-append-le (length main) main all.main_front.rest (omega arith) ∙ take_all (length main) main (omega arith))
+    (legal_front table whole (length main) all.legal))
+
+pub twins_last : {X : Type 0} (ended : Result X TwinEnd) → EndsLastStep (twin_session_status ended)
+twins_last (Ok done) = tt
+twins_last ended = tt
+
+pub twins_words : {X : Type 0} (ended : Result X TwinEnd) (batch : ℕ) → WordCause (twin_session_status ended) (Some (Serve batch true))
+twins_words (Err end.Bench) batch = tt
+twins_words (Err end.NoMemory) batch = tt
+twins_words ended batch = refl
+
+pub twins_file : {X : Type 0} (ended : Result X TwinEnd) (batch : ℕ) (file : List ℕ) (table : Guarded) → HoldsLegal file table →
+    FileCause (twin_session_status ended) (Serve batch true) file table
+twins_file (Err end.Bench) batch file table legal = tt
+twins_file (Err end.NoMemory) batch file table legal = tt
+twins_file ended batch file table legal = legal
+
+pub twins_cause : {X : Type 0} (ended : Result X TwinEnd) (batch : ℕ) (file spare : List ℕ) (table : Guarded) →
+    BothCause (twin_session_status ended) (Serve batch true) file spare table
+twins_cause (Ok done) batch file spare table = tt
+twins_cause ended batch file spare table = tt
+
+pub twins_bench : {X : Type 0} (ended : Result X TwinEnd) → twin_session_status ended ≡ BenchFault → ended ≡ Err end.Bench
+twins_bench (Err end.Bench) is = refl
+twins_bench ended is = cc
+
+pub twins_spare : {X : Type 0} (ended : Result X TwinEnd) → twin_session_status ended ≡ SpareFault → ended ≡ Err end.Spare
+twins_spare (Err end.Spare) is = refl
+twins_spare ended is = cc
+
+pub failed_so : {X : Type 0} (ended : Result X TwinEnd) → (twin_session_status ended ≡ BenchFault) ⊎ (twin_session_status ended ≡ SpareFault) →
+    (ended ≡ Err end.Bench) ⊎ (ended ≡ Err end.Spare)
+failed_so ended (inl is) = inl (twins_bench ended is)
+failed_so ended (inr is) = inr (twins_spare ended is)
+
+pub twins_input : {X : Type 0} (ended : Result X TwinEnd) → twin_session_status ended ≡ SourceFault Input → ended ≡ Err end.Input
+twins_input (Err end.Input) is = refl
+twins_input ended is = cc
+
+-- three counts that are as they were
+all_same : (before : FaultCounts) (input bench spare : ℕ) → input ≡ before.input → bench ≡ before.bench → spare ≡ before.spare →
+    record before { input = input; bench = bench; spare = spare } ≡ before
+all_same before input bench spare is also then =
+    ap (λ (n : ℕ). record before { input = n; bench = bench; spare = spare }) is ∙ both_same before bench spare also then
+
+pub twins_faults : {X : Type 0} (ended : Result X TwinEnd) (before : FaultCounts) (input bench spare : ℕ) →
+    (ended ≡ Err end.Input → Rose before.input input) → (ended ≢ Err end.Input → input ≡ before.input) →
+    (ended ≡ Err end.Bench → Rose before.bench bench) → (ended ≢ Err end.Bench → bench ≡ before.bench) →
+    (ended ≡ Err end.Spare → Rose before.spare spare) → (ended ≢ Err end.Spare → spare ≡ before.spare) →
+    FaultCause (twin_session_status ended) before (record before { input = input; bench = bench; spare = spare })
+twins_faults (Err end.Input) before input bench spare input_rose input_same bench_rose bench_same spare_rose spare_same =
+    (input_rose refl, ap (λ (n : ℕ). record before { input = input; bench = n; spare = spare }) (bench_same (λ is. cc))
+    ∙ ap (λ (n : ℕ). record before { input = input; spare = n }) (spare_same (λ is. cc)))
+twins_faults (Err end.Bench) before input bench spare input_rose input_same bench_rose bench_same spare_rose spare_same =
+    (bench_rose refl, ap (λ (n : ℕ). record before { input = n; bench = bench; spare = spare }) (input_same (λ is. cc))
+    ∙ ap (λ (n : ℕ). record before { bench = bench; spare = n }) (spare_same (λ is. cc)))
+twins_faults (Err end.Spare) before input bench spare input_rose input_same bench_rose bench_same spare_rose spare_same =
+    (spare_rose refl, ap (λ (n : ℕ). record before { input = n; bench = bench; spare = spare }) (input_same (λ is. cc))
+    ∙ ap (λ (n : ℕ). record before { bench = n; spare = spare }) (bench_same (λ is. cc)))
+twins_faults ended before input bench spare input_rose input_same bench_rose bench_same spare_rose spare_same =
+    all_same before input bench spare (input_same (λ is. cc)) (bench_same (λ is. cc)) (spare_same (λ is. cc))
+
+-- which lines were answered, and that both files stand for their records
+pub twins_end : {X : Type 0} (ended : Result X TwinEnd) (base : Database) (batch : ℕ) (whole now : List Answered) (before after : Outside) (spare : List ℕ) →
+    OnOk ended (Serves base whole (counted_lines before.input) now before.sent after.sent) →
+    (ended ≡ Err end.Input → ServesWhole base whole batch before.input after.input now before.sent after.sent) →
+    (ended ≡ Err end.Limit → ServesWhole base whole batch (limited before.input) [] now before.sent after.sent) →
+    (ended ≡ Err end.NoMemory → ServesSome base whole batch (counted_lines before.input) now before.sent after.sent) →
+    (ended ≢ Err end.Bench → ended ≢ Err end.Spare → stands_over base after.file now × stands_over base spare now) →
+    TwinEnds batch (twin_session_status ended) base whole before after spare
+twins_end (Ok done) base batch whole now before after spare all read below some stands = let both = stands (not_both done end.Bench) (not_both done end.Spare) in (now, all, both.0, both.1)
+twins_end (Err end.Input) base batch whole now before after spare all read below some stands = let both = stands (λ is. cc) (λ is. cc) in (now, read refl, both.0, both.1)
+twins_end (Err end.Limit) base batch whole now before after spare all read below some stands = let both = stands (λ is. cc) (λ is. cc) in (now, below refl, both.0, both.1)
+twins_end (Err end.NoMemory) base batch whole now before after spare all read below some stands =
+    let both = stands (λ is. cc) (λ is. cc) in inr (now, some refl, both.0, both.1)
+twins_end ended base batch whole now before after spare all read below some stands = tt
+
+pub twins_reads : {X : Type 0} (ended : Result X TwinEnd) (before after : List ℕ) → OnOk ended (after ≡ []) → OnOk ended (length before ≤ most_input) →
+    (ended ≡ Err end.Input → length before ≤ most_input + length after) → (ended ≡ Err end.Limit → most_input + length after < length before) →
+    InputCause (twin_session_status ended) before after
+twins_reads (Ok done) before after read within failed limit = (read, within)
+twins_reads (Err end.Input) before after read within failed limit = failed refl
+twins_reads (Err end.Limit) before after read within failed limit = limit refl
+twins_reads ended before after read within failed limit = tt
+
+pub twins_want : {X : Type 0} (ended : Result X TwinEnd) (before after : FaultCounts) (input left : List ℕ) → FaultCause (twin_session_status ended) before after →
+    NothingFailed before after → (Rose before.spare after.spare → ⊥) → InputCause (twin_session_status ended) input left → length input ≤ most_input →
+    IsDoneOrWants (twin_session_status ended)
+twins_want (Ok done) before after input left rose none fine cause within = inl refl
+twins_want (Err end.Input) before after input left rose none fine cause within = absurd (none.input rose.0)
+twins_want (Err end.Bench) before after input left rose none fine cause within = absurd (none.bench rose.0)
+twins_want (Err end.Spare) before after input left rose none fine cause within = absurd (fine rose.0)
+twins_want (Err end.Limit) before after input left rose none fine cause within = absurd (omega (arith, cause, within))
+twins_want (Err end.NoMemory) before after input left rose none fine cause within = inr refl
+
+pub twins_at_lines : {X : Type 0} (P : Type 0) (ended : Result X TwinEnd) → Before reading_lines (twin_session_status ended) P
+twins_at_lines P (Ok done) = tt
+twins_at_lines P ended = tt
+
+pub twins_at_spare : {X : Type 0} (P : Type 0) (ended : Result X TwinEnd) → Before opening_spare (twin_session_status ended) P
+twins_at_spare P (Ok done) = tt
+twins_at_spare P ended = tt
+
+pub twins_take_spare : {X : Type 0} (ended : Result X TwinEnd) (batch : ℕ) (file : List ℕ) → SpareCause (twin_session_status ended) (Serve batch true) file
+twins_take_spare (Ok done) batch file = tt
+twins_take_spare ended batch file = tt
