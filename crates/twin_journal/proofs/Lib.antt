@@ -1,2 +1,3 @@
 pub mod CatchingUp
 pub mod TwinCauses
+pub mod TwinMoments

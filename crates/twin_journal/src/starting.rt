@@ -16,6 +16,7 @@ use answer_journal::Journal;
 use audit_store::{KeepFault, Outcome, StartFault, Store};
 use audit_types::{Answered, Asked, Protected};
 use bench_core::Bench;
+use journal_form::laws::one_reading;
 use std::alloc::Global;
 use std::marker::Model;
 use table_load::Secret;
@@ -136,6 +137,7 @@ impl TwinStore {
         ensures fault { TellsFault B.Bench bench.old bench.new (IsErrOf result TwinFault.MainFailed) }
         ensures spare_fault { TellsFault S.Bench spare.old spare.new (IsErrOf result TwinFault.SpareFailed) }
     {
+        one_reading();
         let mut store = match Store::start(alloc, secret, protected, bench) {
             Ok(store) => store,
             Err(fault) => return Err(main_fault(fault)),
@@ -144,11 +146,13 @@ impl TwinStore {
             Ok(found) => found,
             Err(fault) => return Err(spare_fault(fault)),
         };
-        catch_up(&mut store, bench, &mut journal, spare, &list)?;
-        Ok(TwinStore {
-            store,
-            spare: journal,
-        })
+        match catch_up(&mut store, bench, &mut journal, spare, &list) {
+            Ok(()) => Ok(TwinStore {
+                store,
+                spare: journal,
+            }),
+            Err(fault) => Err(fault),
+        }
     }
 
     /// Decides up to 64 questions in order, as `Store::ask_all` does, and keeps the records of the answers as one group on the spare
