@@ -13,7 +13,7 @@ use Rattle.audit_store.specs.Starting.{GivesUp, StartCause}
 use Rattle.audit_store.specs.Stores.{table_of}
 use Rattle.audit_store.specs.declared.starting.StartFault.{StartFault}
 use Rattle.twin_journal.specs.declared.starting.TwinFault.{TwinFault}
-use Rattle.twin_journal.specs.declared.starting.TwinFault.TheVariants.{Differ}
+use Rattle.twin_journal.specs.declared.starting.TwinFault.TheVariants.{Differ, SpareFailed}
 use Rattle.twin_journal.specs.Fronts.{main_is_legal, spare_is_legal}
 use Rattle.twin_journal.specs.Twins.{CatchesUp, HoldsLegal, Meet, TwinCause, TwinGivesUp}
 use Rattle.twin_journal.proofs.CatchingUp.{still_there}
@@ -263,6 +263,15 @@ returns-in-Err-catch_up-clause-spare_untouched g c = λ told spare_told quiet ap
     let same = (c.catch_up.ensures.apart (apart_never_meet c.one_reading.ensures table file spare main other stands spare_stands legal other_legal apart)).1 in
     subst (λ (s : g.row.S.Denot). LeavesOnly g.S.Bench c.args.spare.now s (IsUntouched spare (g.S.Bench.sent c.args.spare.now))) (sym same) (c.open_other.ensures.reads.untouched quiet)
 
+abbrev refused : {X : Type 0} → TwinFault → Result X TwinFault
+refused fault = Err fault
+
+pub returns-in-Err-catch_up-clause-spare_quiet : goal.returns-in-Err-catch_up-clause-spare_quiet
+returns-in-Err-catch_up-clause-spare_quiet g c = λ told quiet other.
+    c.in-Err-catch_up.ensures.spare_quiet told (still_quiet g.S.Bench c.args.spare.now c.open_other.new.spare c.open_other.ensures.reads quiet)
+    (λ is. let same : c.in-Err-catch_up.fault ≡ SpareFailed = cc in
+    other (ap (λ (f : TwinFault). refused f) same))
+
 -- ---- it was
 
 pub returns-in-Ok-catch_up-clause-together : goal.returns-in-Ok-catch_up-clause-together
@@ -336,11 +345,11 @@ returns-in-Ok-catch_up-clause-due g c = λ due told spare_told some cause.
 
 pub returns-in-Ok-catch_up-clause-quiet : goal.returns-in-Ok-catch_up-clause-quiet
 returns-in-Ok-catch_up-clause-quiet g c = λ told quiet done.
-    c.catch_up.ensures.quiet told (still_quiet g.B.Bench c.args.bench.now c.start.new.bench c.start.ensures.reads quiet) (λ is. no_refusal _ _ is)
+    c.in-Ok-catch_up.ensures.quiet told (still_quiet g.B.Bench c.args.bench.now c.start.new.bench c.start.ensures.reads quiet) (λ is. no_refusal _ _ is)
 
 pub returns-in-Ok-catch_up-clause-spare_quiet : goal.returns-in-Ok-catch_up-clause-spare_quiet
 returns-in-Ok-catch_up-clause-spare_quiet g c = λ told quiet done.
-    c.catch_up.ensures.spare_quiet told (still_quiet g.S.Bench c.args.spare.now c.open_other.new.spare c.open_other.ensures.reads quiet) (λ is. no_refusal _ _ is)
+    c.in-Ok-catch_up.ensures.spare_quiet told (still_quiet g.S.Bench c.args.spare.now c.open_other.new.spare c.open_other.ensures.reads quiet) (λ is. no_refusal _ _ is)
 
 pub returns-in-Ok-catch_up-clause-ticks : goal.returns-in-Ok-catch_up-clause-ticks
 returns-in-Ok-catch_up-clause-ticks g c = λ m o whole told spare_told keep.
