@@ -1,5 +1,5 @@
 //! Serving over one journal, with no spare.
-ghost use Rattle.std.specs.Prelude.{◌≡◌, ◌≢◌, ◌<◌, ◌≤◌, ◌+◌, [], true, false, length, OnOk, Err};
+ghost use Rattle.std.specs.Prelude.{◌≡◌, ◌≢◌, ◌<◌, ◌≤◌, ◌+◌, ◌-◌, ◌^◌, [], true, false, length, OnOk, Err};
 ghost use Rattle.schema_json.specs.SecretShape.{shape_of};
 ghost use Rattle.table_load.specs.Cells.{FitsSchema};
 ghost use Rattle.table_load.specs.Database.{base_of};
@@ -48,7 +48,7 @@ impl Bench for NoSpare {
 
     ghost since = { λ _ _ _ _. ⊥ };
 
-    ghost faults = { λ _. 18446744073709551615 };
+    ghost faults = { λ _. 2 ^ 64 - 1 };
 
     ghost last_failed = { λ _. true };
 
