@@ -6,16 +6,18 @@ use Rattle.audit_types.specs.declared.shapes.Shape.{Shape}
 use Rattle.audit_types.specs.History.{Table, IsLegal}
 use Rattle.bench_core.specs.declared.bench.Bench.{Ghosts}
 use Rattle.bench_core.specs.Calls.{IsQuiet, IsUntouched, LeavesOnly, OnlyReads}
-use Rattle.bench_core.specs.Moments.{joins, still_quiet, weakens}
+use Rattle.bench_core.specs.Moments.{joins, still_quiet, then_reads, weakens}
 use Rattle.journal_form.specs.Journal.{texts, StandsAt, StandsFor}
 use Rattle.answer_journal.specs.Moments.{IsMade}
 use Rattle.journal_compact.specs.Whole.{IsUnmadeOrWhole}
 use Rattle.audit_store.specs.Starting.{StartCause, GivesUp}
 use Rattle.audit_store.specs.declared.starting.StartFault.{StartFault}
+use Rattle.audit_store.specs.declared.starting.StartFault.TheVariants as start
 use Rattle.twin_journal.specs.declared.copying.CopyFault.{CopyFault}
 use Rattle.twin_journal.specs.declared.copying.CopyFault.TheVariants.{Kept, AlreadyThere, KeptFailed, LostFailed, NoMemory}
 use Rattle.twin_journal.specs.declared.restoring.RestoreFault.{RestoreFault}
-use Rattle.twin_journal.specs.Copying.{IsKeptFor}
+use Rattle.twin_journal.specs.declared.restoring.RestoreFault.TheVariants.{Main, Spare}
+use Rattle.twin_journal.specs.Copying.{GivesUpCopying, IsKeptFor, fault_of_kept}
 use Rattle.twin_journal.specs.Restoring.{GivesUpRestoring, IsLost, IsLostOf, RestoreCause, StandForTheSame, fault_from_main, fault_from_spare}
 use Rattle.twin_journal.proofs.TwinCauses.{OneHistory}
 
@@ -101,10 +103,106 @@ module _ (table : Table) (file spare : List ℕ) (given : CopyFault) (never : Is
       says LostFailed never cause = tt
       says NoMemory never cause = tt
 
--- what isn't given up with is a fault of the kept one
-pub kept_or_given_up : (given : CopyFault) → (IsErrOf {T = Unit {0}} (err given) AlreadyThere → ⊥) → (GivesUpRestoring (fault_from_main given) → ⊥) → (fault : StartFault) × (given ≡ Kept fault)
-kept_or_given_up (Kept fault) never some = (fault, refl)
-kept_or_given_up AlreadyThere never some = absurd (never cc)
-kept_or_given_up KeptFailed never some = absurd (some tt)
-kept_or_given_up LostFailed never some = absurd (some tt)
-kept_or_given_up NoMemory never some = absurd (some tt)
+-- the lost file was only read unless a call failed or memory ran out
+module _ {D : Type 0} (bench : Ghosts D) (old mid new : D) (reads : OnlyReads bench old mid) where
+  written_or_given_up : (given : CopyFault) → (IsErrOf {T = Unit {0}} (err given) AlreadyThere → OnlyReads bench mid new) → ((fault : StartFault) → given ≡ Kept fault → new ≡ mid)
+      → (GivesUpCopying given → ⊥) → OnlyReads bench old new
+  written_or_given_up (Kept fault) already kept some = subst (λ (b : D). OnlyReads bench old b) (sym (kept fault refl)) reads
+  written_or_given_up AlreadyThere already kept some = then_reads bench old mid new reads (already cc)
+  written_or_given_up KeptFailed already kept some = absurd (some tt)
+  written_or_given_up LostFailed already kept some = absurd (some tt)
+  written_or_given_up NoMemory already kept some = absurd (some tt)
+
+  pub spare_only_read : (given : CopyFault) → (IsErrOf {T = Unit {0}} (err given) AlreadyThere → OnlyReads bench mid new) → ((fault : StartFault) → given ≡ Kept fault → new ≡ mid)
+      → (GivesUpRestoring (fault_from_main given) → ⊥) → OnlyReads bench old new
+  spare_only_read given already kept some = written_or_given_up given already kept (λ gives. some (same given gives))
+    where
+      same : (given : CopyFault) → GivesUpCopying given → GivesUpRestoring (fault_from_main given)
+      same (Kept fault) gives = gives
+      same AlreadyThere gives = gives
+      same KeptFailed gives = tt
+      same LostFailed gives = tt
+      same NoMemory gives = tt
+
+  pub journal_only_read : (given : CopyFault) → (IsErrOf {T = Unit {0}} (err given) AlreadyThere → OnlyReads bench mid new) → ((fault : StartFault) → given ≡ Kept fault → new ≡ mid)
+      → (GivesUpRestoring (fault_from_spare given) → ⊥) → OnlyReads bench old new
+  journal_only_read given already kept some = written_or_given_up given already kept (λ gives. some (same given gives))
+    where
+      same : (given : CopyFault) → GivesUpCopying given → GivesUpRestoring (fault_from_spare given)
+      same (Kept fault) gives = gives
+      same AlreadyThere gives = gives
+      same KeptFailed gives = tt
+      same LostFailed gives = tt
+      same NoMemory gives = tt
+
+-- a fault of a file isn't one that may come whatever the file is
+abbrev pub IsOwnCopy : CopyFault → Type 0
+IsOwnCopy (Kept fault) = GivesUp fault → ⊥
+IsOwnCopy AlreadyThere = Unit {0}
+IsOwnCopy KeptFailed = Unit {0}
+IsOwnCopy LostFailed = Unit {0}
+IsOwnCopy NoMemory = Unit {0}
+
+own_of_kept : (fault : StartFault) → IsOwnCopy (fault_of_kept fault)
+own_of_kept start.NotMade = λ gives. gives
+own_of_kept (start.Damaged at) = λ gives. gives
+own_of_kept (start.OtherShape kept now) = λ gives. gives
+own_of_kept (start.Untrue place kept now) = λ gives. gives
+own_of_kept (start.Illegal place) = λ gives. gives
+own_of_kept start.Failed = tt
+own_of_kept start.NoMemory = tt
+
+pub never_copied : {X : Type 0} (answer : CopyFault) (given : StartFault) → answer ≡ fault_of_kept given → (fault : StartFault) → GivesUp fault → err {X} answer ≡ err (Kept fault) → ⊥
+never_copied answer given is fault gives same =
+    let kept : answer ≡ Kept fault = cc in
+    let own : IsOwnCopy (Kept fault) = subst (λ (f : CopyFault). IsOwnCopy f) (sym is ∙ kept) (own_of_kept given) in
+    own gives
+
+-- a refusal with this fault
+abbrev pub unrestored : {X : Type 0} → RestoreFault → Result X RestoreFault
+unrestored fault = Err fault
+
+module _ {X : Type 0} (given : CopyFault) (own : (fault : StartFault) → GivesUp fault → given ≡ Kept fault → ⊥) (answer : RestoreFault) (fault : StartFault) (gives : GivesUp fault) where
+  pub never_from_main : answer ≡ fault_from_main given → (unrestored {X} answer ≡ unrestored (Main fault) → ⊥) × (unrestored {X} answer ≡ unrestored (Spare fault) → ⊥)
+  never_from_main is = (
+    λ same. let here : answer ≡ Main fault = cc in
+        of_kept given own (sym is ∙ here),
+    λ same. let here : answer ≡ Spare fault = cc in
+        of_none given (sym is ∙ here),
+  )
+    where
+      of_kept : (given : CopyFault) → ((fault : StartFault) → GivesUp fault → given ≡ Kept fault → ⊥) → fault_from_main given ≡ Main fault → ⊥
+      of_kept (Kept f) own same = let kept : f ≡ fault = cc in
+          own fault gives (ap (λ (x : StartFault). Kept x) kept)
+      of_kept AlreadyThere own same = let none : ⊥ = cc in none
+      of_kept KeptFailed own same = let none : ⊥ = cc in none
+      of_kept LostFailed own same = let none : ⊥ = cc in none
+      of_kept NoMemory own same = let none : ⊥ = cc in none
+      of_none : (given : CopyFault) → fault_from_main given ≡ Spare fault → ⊥
+      of_none (Kept f) same = let none : ⊥ = cc in none
+      of_none AlreadyThere same = let none : ⊥ = cc in none
+      of_none KeptFailed same = let none : ⊥ = cc in none
+      of_none LostFailed same = let none : ⊥ = cc in none
+      of_none NoMemory same = let none : ⊥ = cc in none
+
+  pub never_from_spare : answer ≡ fault_from_spare given → (unrestored {X} answer ≡ unrestored (Main fault) → ⊥) × (unrestored {X} answer ≡ unrestored (Spare fault) → ⊥)
+  never_from_spare is = (
+    λ same. let here : answer ≡ Main fault = cc in
+        of_none given (sym is ∙ here),
+    λ same. let here : answer ≡ Spare fault = cc in
+        of_kept given own (sym is ∙ here),
+  )
+    where
+      of_kept : (given : CopyFault) → ((fault : StartFault) → GivesUp fault → given ≡ Kept fault → ⊥) → fault_from_spare given ≡ Spare fault → ⊥
+      of_kept (Kept f) own same = let kept : f ≡ fault = cc in
+          own fault gives (ap (λ (x : StartFault). Kept x) kept)
+      of_kept AlreadyThere own same = let none : ⊥ = cc in none
+      of_kept KeptFailed own same = let none : ⊥ = cc in none
+      of_kept LostFailed own same = let none : ⊥ = cc in none
+      of_kept NoMemory own same = let none : ⊥ = cc in none
+      of_none : (given : CopyFault) → fault_from_spare given ≡ Main fault → ⊥
+      of_none (Kept f) same = let none : ⊥ = cc in none
+      of_none AlreadyThere same = let none : ⊥ = cc in none
+      of_none KeptFailed same = let none : ⊥ = cc in none
+      of_none LostFailed same = let none : ⊥ = cc in none
+      of_none NoMemory same = let none : ⊥ = cc in none

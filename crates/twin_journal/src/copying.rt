@@ -1,5 +1,5 @@
 //! Writing a journal whole from another one.
-ghost use Rattle.std.specs.Prelude.{◌≡◌, ◌+◌, ℕ, List, Err, OnOk, IsErrOf};
+ghost use Rattle.std.specs.Prelude.{◌≡◌, ◌≢◌, ◌+◌, ℕ, List, Err, OnOk, IsErrOf};
 ghost use Rattle.audit_types.specs.declared.records.Answered.{Answered};
 ghost use Rattle.audit_types.specs.History.{AreProtected, IsLegal};
 ghost use Rattle.bench_core.specs.Calls.{IsQuiet, IsUntouched, LeavesOnly, OnlyReads, TellsFault};
@@ -66,6 +66,7 @@ pub fn copy_journal<K: Bench, L: Bench>(
     ensures cause { (fault : StartFault) → K.told → result ≡ Err (CopyFault.Kept fault) → (GivesUp fault → ⊥) × StartCause fault (K.file kept.old) (secret_table secret protected.items) }
     ensures due { (fault : StartFault) → K.told → L.told → (GivesUp fault → ⊥) → StartCause fault (K.file kept.old) (secret_table secret protected.items) → NotCopiedUnlessGivenUp fault result }
     ensures copies { (history : List Answered) → K.told → L.told → IsKeptFor (secret_table secret protected.items) (K.file kept.old) history → CopiedUnlessGivenUp result }
+    ensures own { (fault : StartFault) → GivesUp fault → result ≢ Err (CopyFault.Kept fault) }
     ensures already { L.told → IsErrOf result CopyFault.AlreadyThere → ⊥ }
 
     // At every moment the lost file isn't made, or stands for the kept history; if none is kept it isn't called.
@@ -73,6 +74,7 @@ pub fn copy_journal<K: Bench, L: Bench>(
         → LeavesOnly L.Bench lost.old lost.new (IsUnmadeOrWhole secret.shape history (L.sent lost.old)) }
     ensures apart { K.told → ((history : List Answered) → IsKeptFor (secret_table secret protected.items) (K.file kept.old) history → ⊥) → lost.new ≡ lost.old }
     ensures refused { (fault : StartFault) → result ≡ Err (CopyFault.Kept fault) → lost.new ≡ lost.old }
+    ensures already_reads { IsErrOf result CopyFault.AlreadyThere → OnlyReads L.Bench lost.old lost.new }
     ensures quiet { L.told → IsQuiet L.Bench lost.old → (IsErrOf result CopyFault.LostFailed → ⊥) → IsQuiet L.Bench lost.new }
     ensures sent { L.sent lost.new ≡ L.sent lost.old }
     ensures kept_ticks { K.told → OnOk result (K.moment kept.new ≡ K.moment kept.old + 2) }

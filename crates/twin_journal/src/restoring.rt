@@ -7,6 +7,8 @@ ghost use Rattle.bench_core.specs.Calls.{IsQuiet, IsUntouched, LeavesOnly, OnlyR
 ghost use Rattle.answer_journal.specs.Moments.{IsMade};
 ghost use Rattle.journal_compact.specs.Whole.{IsUnmadeOrWhole};
 ghost use Rattle.table_load.specs.Database.{secret_table};
+ghost use Rattle.audit_store.specs.Starting.{GivesUp};
+ghost use Rattle.audit_store.specs.declared.starting.StartFault.{StartFault};
 ghost use Rattle.twin_journal.specs.declared.restoring.RestoreFault.{RestoreFault};
 ghost use Rattle.twin_journal.specs.Restoring.{CanRestore, GivesUpRestoring, IsLost, IsLostOf, NotRestoredUnlessGivenUp, RestoreCause, Restored, RestoredUnlessGivenUp, StandForTheSame, TakeCalls, calls_to_look, fault_from_main, fault_from_spare};
 
@@ -100,6 +102,8 @@ pub fn restore<B: Bench, S: Bench>(
     ensures due { (fault : RestoreFault) → B.told → S.told → (GivesUpRestoring fault → ⊥) → RestoreCause fault (B.file bench.old) (S.file spare.old) (secret_table secret protected.items) → NotRestoredUnlessGivenUp fault result }
     ensures restores { B.told → S.told → CanRestore (secret_table secret protected.items) (B.file bench.old) (S.file spare.old) → RestoredUnlessGivenUp result }
 
+    ensures own { (fault : StartFault) → GivesUp fault → (result ≢ Err (RestoreFault.Main fault)) × (result ≢ Err (RestoreFault.Spare fault)) }
+
     // At every moment the lost file isn't made, or stands for the kept history. A made one stays, and so do both if none can be
     // restored.
     ensures main_moments { (history : List Answered) → B.told → S.told → IsQuiet B.Bench bench.old → IsLostOf (secret_table secret protected.items) (B.file bench.old) (S.file spare.old) history
@@ -112,7 +116,7 @@ pub fn restore<B: Bench, S: Bench>(
         → LeavesOnly B.Bench bench.old bench.new (IsUntouched (B.file bench.old) (B.sent bench.old)) }
     ensures spare_untouched { B.told → S.told → IsQuiet S.Bench spare.old → (CanRestore (secret_table secret protected.items) (B.file bench.old) (S.file spare.old) → ⊥)
         → LeavesOnly S.Bench spare.old spare.new (IsUntouched (S.file spare.old) (S.sent spare.old)) }
-    ensures reads { (fault : RestoreFault) → B.told → S.told → result ≡ Err fault → (GivesUpRestoring fault → ⊥) → OnlyReads B.Bench bench.old bench.new × OnlyReads S.Bench spare.old spare.new }
+    ensures reads { (fault : RestoreFault) → result ≡ Err fault → (GivesUpRestoring fault → ⊥) → OnlyReads B.Bench bench.old bench.new × OnlyReads S.Bench spare.old spare.new }
     ensures quiet { B.told → IsQuiet B.Bench bench.old → result ≢ Err RestoreFault.MainFailed → IsQuiet B.Bench bench.new }
     ensures spare_quiet { S.told → IsQuiet S.Bench spare.old → result ≢ Err RestoreFault.SpareFailed → IsQuiet S.Bench spare.new }
     ensures sent { B.sent bench.new ≡ B.sent bench.old }

@@ -7,6 +7,7 @@ ghost use Rattle.bench_core.specs.Calls.{IsQuiet, IsUntouched, LeavesOnly, OnlyR
 ghost use Rattle.answer_journal.specs.Moments.{IsBeforeOrAfter};
 ghost use Rattle.table_load.specs.Database.{secret_table};
 ghost use Rattle.audit_store.specs.Stores.{HasGroup, IsAsLeft, IsStore, Keeps, KeptAhead, calls_for, table_of};
+ghost use Rattle.audit_store.specs.Starting.{GivesUp};
 ghost use Rattle.audit_store.specs.declared.starting.StartFault.{StartFault};
 ghost use Rattle.twin_journal.specs.declared.starting.TwinFault.{TwinFault};
 ghost use Rattle.twin_journal.specs.Twins.{CatchesUp, IsSpareAsLeft, IsTwin, KeepApart, KeepTogether, KeepWhole, RefusedUnlessGivenUp, StartsUnlessGivenUp, TwinCause, TwinGivesUp, calls_to_open, fault_of_main, fault_of_spare};
@@ -111,6 +112,7 @@ impl TwinStore {
         // Each refusal has its cause in the files, and each cause has its refusal; files that keep together are never refused.
         ensures cause { (fault : TwinFault) → B.told → S.told → result ≡ Err fault → TwinCause fault (B.file bench.old) (S.file spare.old) (secret_table secret protected.items) }
         ensures due { (fault : TwinFault) → B.told → S.told → (TwinGivesUp fault → ⊥) → TwinCause fault (B.file bench.old) (S.file spare.old) (secret_table secret protected.items) → RefusedUnlessGivenUp fault result }
+        ensures own { (fault : StartFault) → GivesUp fault → (result ≢ Err (TwinFault.Main fault)) × (result ≢ Err (TwinFault.Spare fault)) }
         ensures opens { (main other whole : List Answered) → B.told → S.told → KeepTogether (secret_table secret protected.items) (B.file bench.old) (S.file spare.old) main other whole → StartsUnlessGivenUp result }
 
         // At every moment each file stands for a history between its own and the whole. Files that don't keep together are only read.

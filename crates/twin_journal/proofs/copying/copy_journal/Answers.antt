@@ -9,7 +9,7 @@ use Rattle.table_load.specs.Cells.{SecretView}
 use Rattle.table_load.specs.Database.{secret_table}
 use Rattle.audit_store.specs.LegalFronts.{legal_fits}
 use Rattle.audit_store.specs.Stores.{table_of}
-use Rattle.twin_journal.proofs.Copies.{kept_for_one}
+use Rattle.twin_journal.proofs.Copies.{kept_for_one, never_copied}
 use Rattle.twin_journal.proofs.copying.copy_journal.Goals as goal
 
 pub write_whole-requires-clause-fit : goal.write_whole-requires-clause-fit
@@ -61,3 +61,6 @@ returns-clause-moments g c = λ history told lost_told quiet kept.
     let found = c.write_whole.ensures.any_moment lost_told (c.requires.lost lost_told) quiet in
     subst (λ (h : List Answered). LeavesOnly g.L.Bench c.args.lost.now c.write_whole.new.bench (IsUnmadeOrWhole c.args.secret.shape h (g.L.Bench.sent c.args.lost.now))) list
     (subst (λ (s : Shape). LeavesOnly g.L.Bench c.args.lost.now c.write_whole.new.bench (IsUnmadeOrWhole s c.history.result.now (g.L.Bench.sent c.args.lost.now))) shape found)
+
+pub returns-in-Err-clause-own : goal.returns-in-Err-clause-own
+returns-in-Err-clause-own g c = never_copied c.from.result c.in-Err.fault c.from.ensures

@@ -13,8 +13,8 @@ use Rattle.twin_journal.specs.declared.copying.CopyFault.{CopyFault}
 use Rattle.twin_journal.specs.declared.copying.CopyFault.TheVariants.{Kept}
 use Rattle.twin_journal.specs.declared.restoring.RestoreFault.{RestoreFault}
 use Rattle.twin_journal.specs.Copying.{IsKeptFor}
-use Rattle.twin_journal.specs.Restoring.{GivesUpRestoring, IsLost, RestoreCause}
-use Rattle.twin_journal.proofs.Copies.{err, is_kept, is_lost_of, kept_or_given_up, main_refused, read_and_write, read_lost, spare_refused, stand_alike, stands_is_made}
+use Rattle.twin_journal.specs.Restoring.{GivesUpRestoring, IsLost, RestoreCause, fault_from_main, fault_from_spare}
+use Rattle.twin_journal.proofs.Copies.{err, is_kept, is_lost_of, journal_only_read, main_refused, never_from_main, never_from_spare, read_and_write, read_lost, spare_only_read, spare_refused, stand_alike, stands_is_made}
 use Rattle.twin_journal.proofs.restoring.restore.Goals as goal
 
 -- ---- it wasn't found whether the spare is made
@@ -115,17 +115,6 @@ returns-in-Err-copy_journal-clause-spare_untouched g c = λ told spare_told quie
     none (history, inl (is_lost_of table spare file (g.B.Bench.file c.is_made.new.bench) history c.is_made.ensures.reads.file unmade kept))) in
     subst (λ (b : g.row.S.Denot). LeavesOnly g.S.Bench c.args.spare.now b (IsUntouched spare (g.S.Bench.sent c.args.spare.now))) (sym same) (c.is_made-2.ensures.reads.untouched quiet)
 
-pub returns-in-Err-copy_journal-clause-reads : goal.returns-in-Err-copy_journal-clause-reads
-returns-in-Err-copy_journal-clause-reads g c = λ fault told spare_told refused some.
-    let given = c.in-Err-copy_journal.fault in
-    let answered : c.from_main.result ≡ fault = cc in
-    let kept = kept_or_given_up given (c.in-Err-copy_journal.ensures.already spare_told)
-    (λ gives. some (subst (λ (f : RestoreFault). GivesUpRestoring f) (sym c.from_main.ensures ∙ answered) gives)) in
-    let same = c.in-Err-copy_journal.ensures.refused kept.0 (ap (λ (x : CopyFault). err x) kept.1) in (
-      then_reads g.B.Bench c.args.bench.now c.is_made.new.bench c.copy_journal.new.kept c.is_made.ensures.reads c.copy_journal.ensures.reads,
-      subst (λ (b : g.row.S.Denot). OnlyReads g.S.Bench c.args.spare.now b) (sym same) c.is_made-2.ensures.reads,
-    )
-
 -- ---- the spare is kept, and the journal lost
 
 pub returns-in-Ok-copy_journal-2-clause-done : goal.returns-in-Ok-copy_journal-2-clause-done
@@ -203,3 +192,33 @@ returns-in-Err-copy_journal-2-clause-untouched g c = λ told spare_told quiet no
     let same = c.copy_journal-2.ensures.apart spare_told (λ history kept.
     none (history, inr (is_lost_of table file spare (g.S.Bench.file c.is_made-2.new.bench) history c.is_made-2.ensures.reads.file unmade kept))) in
     subst (λ (b : g.row.B.Denot). LeavesOnly g.B.Bench c.args.bench.now b (IsUntouched file (g.B.Bench.sent c.args.bench.now))) (sym same) (c.is_made.ensures.reads.untouched quiet)
+
+-- ---- what a refusal says whatever the files tell
+
+pub returns-in-Err-copy_journal-clause-reads : goal.returns-in-Err-copy_journal-clause-reads
+returns-in-Err-copy_journal-clause-reads g c = λ fault refused some.
+    let given = c.in-Err-copy_journal.fault in
+    let answered : c.from_main.result ≡ fault = cc in
+    let only : GivesUpRestoring (fault_from_main given) → ⊥ = λ gives. some (subst (λ (f : RestoreFault). GivesUpRestoring f) (sym c.from_main.ensures ∙ answered) gives) in (
+      (then_reads g.B.Bench c.args.bench.now c.is_made.new.bench c.copy_journal.new.kept c.is_made.ensures.reads c.copy_journal.ensures.reads),
+      (spare_only_read g.S.Bench c.args.spare.now c.is_made-2.new.bench c.copy_journal.new.lost c.is_made-2.ensures.reads given c.in-Err-copy_journal.ensures.already_reads
+      (λ f is. c.in-Err-copy_journal.ensures.refused f (ap (λ (x : CopyFault). err x) is)) only),
+    )
+
+pub returns-in-Err-copy_journal-clause-own : goal.returns-in-Err-copy_journal-clause-own
+returns-in-Err-copy_journal-clause-own g c = λ fault gives.
+    never_from_main c.in-Err-copy_journal.fault (λ f up is. c.in-Err-copy_journal.ensures.own f up (ap (λ (x : CopyFault). err x) is)) c.from_main.result fault gives c.from_main.ensures
+
+pub returns-in-Err-copy_journal-2-clause-reads : goal.returns-in-Err-copy_journal-2-clause-reads
+returns-in-Err-copy_journal-2-clause-reads g c = λ fault refused some.
+    let given = c.in-Err-copy_journal-2.fault in
+    let answered : c.from_spare.result ≡ fault = cc in
+    let only : GivesUpRestoring (fault_from_spare given) → ⊥ = λ gives. some (subst (λ (f : RestoreFault). GivesUpRestoring f) (sym c.from_spare.ensures ∙ answered) gives) in (
+      (journal_only_read g.B.Bench c.args.bench.now c.is_made.new.bench c.copy_journal-2.new.lost c.is_made.ensures.reads given c.in-Err-copy_journal-2.ensures.already_reads
+      (λ f is. c.in-Err-copy_journal-2.ensures.refused f (ap (λ (x : CopyFault). err x) is)) only),
+      (then_reads g.S.Bench c.args.spare.now c.is_made-2.new.bench c.copy_journal-2.new.kept c.is_made-2.ensures.reads c.copy_journal-2.ensures.reads),
+    )
+
+pub returns-in-Err-copy_journal-2-clause-own : goal.returns-in-Err-copy_journal-2-clause-own
+returns-in-Err-copy_journal-2-clause-own g c = λ fault gives.
+    never_from_spare c.in-Err-copy_journal-2.fault (λ f up is. c.in-Err-copy_journal-2.ensures.own f up (ap (λ (x : CopyFault). err x) is)) c.from_spare.result fault gives c.from_spare.ensures

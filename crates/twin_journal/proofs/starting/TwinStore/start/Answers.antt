@@ -17,7 +17,7 @@ use Rattle.twin_journal.specs.declared.starting.TwinFault.TheVariants.{Differ, S
 use Rattle.twin_journal.specs.Fronts.{main_is_legal, spare_is_legal}
 use Rattle.twin_journal.specs.Twins.{CatchesUp, HoldsLegal, Meet, TwinCause, TwinGivesUp}
 use Rattle.twin_journal.proofs.CatchingUp.{still_there}
-use Rattle.twin_journal.proofs.TwinCauses.{main_gives_up, spare_cause, spare_due, spare_gives_up}
+use Rattle.twin_journal.proofs.TwinCauses.{IsOwn, main_gives_up, never_given_up, own_of_main, own_of_refused, own_of_spare, refused, spare_cause, spare_due, spare_gives_up}
 use Rattle.twin_journal.proofs.TwinMoments.{apart_never_meet, caught_due, caught_longer, caught_together, main_calls, main_catches, refused_cause, refused_due, refused_opens, spare_calls, spare_catches, while_read}
 use Rattle.twin_journal.proofs.starting.TwinStore.start.Goals as goal
 
@@ -263,9 +263,6 @@ returns-in-Err-catch_up-clause-spare_untouched g c = λ told spare_told quiet ap
     let same = (c.catch_up.ensures.apart (apart_never_meet c.one_reading.ensures table file spare main other stands spare_stands legal other_legal apart)).1 in
     subst (λ (s : g.row.S.Denot). LeavesOnly g.S.Bench c.args.spare.now s (IsUntouched spare (g.S.Bench.sent c.args.spare.now))) (sym same) (c.open_other.ensures.reads.untouched quiet)
 
-abbrev refused : {X : Type 0} → TwinFault → Result X TwinFault
-refused fault = Err fault
-
 pub returns-in-Err-catch_up-clause-spare_quiet : goal.returns-in-Err-catch_up-clause-spare_quiet
 returns-in-Err-catch_up-clause-spare_quiet g c = λ told quiet other.
     c.in-Err-catch_up.ensures.spare_quiet told (still_quiet g.S.Bench c.args.spare.now c.open_other.new.spare c.open_other.ensures.reads quiet)
@@ -482,3 +479,16 @@ returns-in-Ok-catch_up-clause-spare_untouched g c = λ told spare_told quiet apa
     (subst (λ (h : List Answered). StandsAt spare store.secret.shape h found.0.gate) listed (c.in-Ok-open_other.ensures.stands spare_told))) in
     let same = (c.catch_up.ensures.apart (apart_never_meet c.one_reading.ensures table file spare main other stands spare_stands legal other_legal apart)).1 in
     subst (λ (s : g.row.S.Denot). LeavesOnly g.S.Bench c.args.spare.now s (IsUntouched spare (g.S.Bench.sent c.args.spare.now))) (sym same) (c.open_other.ensures.reads.untouched quiet)
+
+-- ---- no fault of a file is one that may come whatever it is
+
+pub returns-in-Err-clause-own : goal.returns-in-Err-clause-own
+returns-in-Err-clause-own g c =
+    never_given_up c.main_fault.result (subst (λ (f : TwinFault). IsOwn f) (sym c.main_fault.ensures) (own_of_main c.in-Err.fault))
+
+pub returns-in-Err-open_other-clause-own : goal.returns-in-Err-open_other-clause-own
+returns-in-Err-open_other-clause-own g c =
+    never_given_up c.spare_fault.result (subst (λ (f : TwinFault). IsOwn f) (sym c.spare_fault.ensures) (own_of_spare c.in-Err-open_other.fault))
+
+pub returns-in-Err-catch_up-clause-own : goal.returns-in-Err-catch_up-clause-own
+returns-in-Err-catch_up-clause-own g c = never_given_up c.in-Err-catch_up.fault (own_of_refused c.in-Err-catch_up.fault c.in-Err-catch_up.ensures.cause)
