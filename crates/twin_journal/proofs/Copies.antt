@@ -152,7 +152,7 @@ own_of_kept (start.Illegal place) = λ gives. gives
 own_of_kept start.Failed = tt
 own_of_kept start.NoMemory = tt
 
-pub never_copied : {X : Type 0} (answer : CopyFault) (given : StartFault) → answer ≡ fault_of_kept given → (fault : StartFault) → GivesUp fault → err {X} answer ≡ err (Kept fault) → ⊥
+pub never_copied : {X : Type 0} (answer : CopyFault) (given : StartFault) → answer ≡ fault_of_kept given → (fault : StartFault) → GivesUp fault → err {X = X} answer ≡ err (Kept fault) → ⊥
 never_copied answer given is fault gives same =
     let kept : answer ≡ Kept fault = cc in
     let own : IsOwnCopy (Kept fault) = subst (λ (f : CopyFault). IsOwnCopy f) (sym is ∙ kept) (own_of_kept given) in
@@ -163,7 +163,7 @@ abbrev pub unrestored : {X : Type 0} → RestoreFault → Result X RestoreFault
 unrestored fault = Err fault
 
 module _ {X : Type 0} (given : CopyFault) (own : (fault : StartFault) → GivesUp fault → given ≡ Kept fault → ⊥) (answer : RestoreFault) (fault : StartFault) (gives : GivesUp fault) where
-  pub never_from_main : answer ≡ fault_from_main given → (unrestored {X} answer ≡ unrestored (Main fault) → ⊥) × (unrestored {X} answer ≡ unrestored (Spare fault) → ⊥)
+  pub never_from_main : answer ≡ fault_from_main given → (unrestored {X = X} answer ≡ unrestored (Main fault) → ⊥) × (unrestored {X = X} answer ≡ unrestored (Spare fault) → ⊥)
   never_from_main is = (
     λ same. let here : answer ≡ Main fault = cc in
         of_kept given own (sym is ∙ here),
@@ -185,7 +185,7 @@ module _ {X : Type 0} (given : CopyFault) (own : (fault : StartFault) → GivesU
       of_none LostFailed same = let none : ⊥ = cc in none
       of_none NoMemory same = let none : ⊥ = cc in none
 
-  pub never_from_spare : answer ≡ fault_from_spare given → (unrestored {X} answer ≡ unrestored (Main fault) → ⊥) × (unrestored {X} answer ≡ unrestored (Spare fault) → ⊥)
+  pub never_from_spare : answer ≡ fault_from_spare given → (unrestored {X = X} answer ≡ unrestored (Main fault) → ⊥) × (unrestored {X = X} answer ≡ unrestored (Spare fault) → ⊥)
   never_from_spare is = (
     λ same. let here : answer ≡ Main fault = cc in
         of_none given (sym is ∙ here),

@@ -98,7 +98,7 @@ abbrev pub refused : {X : Type 0} → TwinFault → Result X TwinFault
 refused fault = Err fault
 
 pub never_given_up : {X : Type 0} (answer : TwinFault) → IsOwn answer → (fault : StartFault) → GivesUp fault →
-    (refused {X} answer ≡ refused (Main fault) → ⊥) × (refused {X} answer ≡ refused (Spare fault) → ⊥)
+    (refused {X = X} answer ≡ refused (Main fault) → ⊥) × (refused {X = X} answer ≡ refused (Spare fault) → ⊥)
 never_given_up answer own fault gives = (
   λ is. let same : answer ≡ Main fault = cc in
       let at : IsOwn (Main fault) = subst (λ (f : TwinFault). IsOwn f) same own in
