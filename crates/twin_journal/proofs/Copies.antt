@@ -1,13 +1,13 @@
 -- A lost journal that is written from a kept one: what a crash leaves, and why it isn't written.
-use Rattle.std.proofs.Common.{◌≡◌, inl, inr, ◌⊎◌, ℕ, List, ◌++◌, get_or, length, Result, Err, refl, sym, ap, subst, ◌∙◌, arith, length-append}
+use Rattle.std.proofs.Common.{◌≡◌, inl, ℕ, List, ◌++◌, get_or, length, Result, Err, refl, sym, ap, subst, ◌∙◌, arith, length-append}
 use Rattle.std.specs.Prelude.{IsErrOf}
 use Rattle.audit_types.specs.declared.records.Answered.{Answered}
 use Rattle.audit_types.specs.declared.shapes.Shape.{Shape}
-use Rattle.audit_types.specs.History.{Table, IsLegal}
+use Rattle.audit_types.specs.History.{Table}
 use Rattle.bench_core.specs.declared.bench.Bench.{Ghosts}
 use Rattle.bench_core.specs.Calls.{IsQuiet, IsUntouched, LeavesOnly, OnlyReads}
 use Rattle.bench_core.specs.Moments.{joins, still_quiet, then_reads, weakens}
-use Rattle.journal_form.specs.Journal.{texts, StandsAt, StandsFor}
+use Rattle.journal_form.specs.Journal.{texts, StandsFor}
 use Rattle.answer_journal.specs.Moments.{IsMade}
 use Rattle.journal_compact.specs.Whole.{IsUnmadeOrWhole}
 use Rattle.audit_store.specs.Starting.{StartCause, GivesUp}
@@ -178,6 +178,7 @@ module _ {X : Type 0} (given : CopyFault) (own : (fault : StartFault) → GivesU
       of_kept KeptFailed own same = let none : ⊥ = cc in none
       of_kept LostFailed own same = let none : ⊥ = cc in none
       of_kept NoMemory own same = let none : ⊥ = cc in none
+
       of_none : (given : CopyFault) → fault_from_main given ≡ Spare fault → ⊥
       of_none (Kept f) same = let none : ⊥ = cc in none
       of_none AlreadyThere same = let none : ⊥ = cc in none
@@ -200,6 +201,7 @@ module _ {X : Type 0} (given : CopyFault) (own : (fault : StartFault) → GivesU
       of_kept KeptFailed own same = let none : ⊥ = cc in none
       of_kept LostFailed own same = let none : ⊥ = cc in none
       of_kept NoMemory own same = let none : ⊥ = cc in none
+
       of_none : (given : CopyFault) → fault_from_spare given ≡ Main fault → ⊥
       of_none (Kept f) same = let none : ⊥ = cc in none
       of_none AlreadyThere same = let none : ⊥ = cc in none

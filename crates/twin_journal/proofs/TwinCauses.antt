@@ -1,6 +1,5 @@
 -- Why two journals aren't opened: one cause at most holds, and none of files that keep together.
-use Rattle.std.proofs.Common.{◌≡◌, ℕ, ◌<◌, inl, inr, ◌⊎◌, List, Some, Result, Ok, Err, refl, sym, ap, subst, ◌∙◌, arith, length, take}
-use Rattle.std.specs.Prelude.{slice_get}
+use Rattle.std.proofs.Common.{◌≡◌, ℕ, ◌<◌, inl, inr, ◌⊎◌, List, Result, Err, refl, sym, ap, subst, ◌∙◌, arith}
 use Rattle.std.proofs.lemmas.Bool.{cases_lt}
 use Rattle.std.proofs.lemmas.Option.{same_Some}
 use Rattle.audit_types.specs.declared.records.Answered.{Answered}
@@ -13,7 +12,7 @@ use Rattle.audit_store.specs.declared.starting.StartFault.TheVariants as start
 use Rattle.audit_session.specs.Stops.{IsFront}
 use Rattle.twin_journal.specs.declared.starting.TwinFault.{TwinFault}
 use Rattle.twin_journal.specs.declared.starting.TwinFault.TheVariants.{Main, Spare, Differ, MainFailed, SpareFailed, NoMemory}
-use Rattle.twin_journal.specs.Twins.{DifferFirst, HoldApart, HoldsLegal, KeepApart, KeepTogether, Meet, TwinCause, TwinGivesUp, fault_of_main, fault_of_spare}
+use Rattle.twin_journal.specs.Twins.{DifferFirst, HoldApart, HoldsLegal, KeepTogether, Meet, TwinCause, TwinGivesUp, fault_of_main, fault_of_spare}
 use Rattle.twin_journal.proofs.CatchingUp.{get_in_whole}
 
 -- what the file of the journal, or the spare's, gives up with

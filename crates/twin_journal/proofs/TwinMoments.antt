@@ -1,20 +1,19 @@
 -- Two journals that were read back, and what a crash leaves of each while one of them is brought up.
-use Rattle.std.proofs.Common.{◌≡◌, inl, inr, ◌⊎◌, ℕ, ◌+◌, List, Result, Ok, Err, refl, sym, ap, subst, ◌∙◌, arith}
-use Rattle.std.specs.Prelude.{IsErrOf}
+use Rattle.std.proofs.Common.{◌≡◌, inl, inr, ◌⊎◌, ℕ, ◌+◌, List, sym, ap, subst, ◌∙◌, arith}
 use Rattle.audit_types.specs.declared.records.Answered.{Answered}
 use Rattle.audit_types.specs.declared.shapes.Shape.{Shape}
 use Rattle.audit_types.specs.History.{Table, IsLegal}
 use Rattle.bench_core.specs.declared.bench.Bench.{Ghosts}
 use Rattle.bench_core.specs.Calls.{IsQuiet, IsUntouched, LeavesOnly, OnlyReads}
 use Rattle.bench_core.specs.Moments.{joins, still_quiet, weakens}
-use Rattle.journal_form.specs.Journal.{StandsAt, StandsFor}
+use Rattle.journal_form.specs.Journal.{StandsFor}
 use Rattle.audit_store.specs.Starting.{StartCause, GivesUp}
 use Rattle.audit_store.specs.Twice.{calls_to_bring_up}
 use Rattle.audit_store.specs.declared.starting.StartFault.{StartFault}
 use Rattle.audit_session.specs.Stops.{IsFront}
 use Rattle.twin_journal.specs.declared.starting.TwinFault.{TwinFault}
 use Rattle.twin_journal.specs.declared.starting.TwinFault.TheVariants.{Main, Spare, Differ, MainFailed, SpareFailed, NoMemory}
-use Rattle.twin_journal.specs.Twins.{CatchesUp, DifferFirst, HoldApart, HoldsLegal, KeepApart, KeepTogether, KeepWhole, Meet, TwinCause, TwinGivesUp, calls_to_open, missing}
+use Rattle.twin_journal.specs.Twins.{CatchesUp, DifferFirst, HoldApart, KeepApart, KeepTogether, KeepWhole, Meet, TwinCause, TwinGivesUp, calls_to_open, missing}
 use Rattle.twin_journal.proofs.CatchingUp.{fronts_of_each_other, own_front}
 use Rattle.twin_journal.proofs.TwinCauses.{OneHistory, differ_once, left_due, meet_or_differ, meet_together, same_main, same_other, same_place, together_meet}
 

@@ -208,7 +208,9 @@ impl TwinStore {
         ensures spare_ticks { S.told → IfOk result (λ v. S.moment spare.new ≡ S.moment spare.old + calls_for (records_made asked.now v.items)) }
         ensures unasked { IfOk result (λ v. records_made asked.now v.items ≡ [] → (bench.new ≡ bench.old) × (spare.new ≡ spare.old)) }
     {
-        let decided = self.store.ask_all_twice(&mut self.spare, bench, spare, asked);
+        let decided = self
+            .store
+            .ask_all_twice(&mut self.spare, bench, spare, asked);
         match decided {
             Ok(outcomes) => Ok(outcomes),
             Err(KeepFault::Bench) => Err(TwinStop::MainFailed),

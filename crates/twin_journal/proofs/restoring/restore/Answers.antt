@@ -1,18 +1,15 @@
-use Rattle.std.proofs.Common.{◌≡◌, inl, inr, ℕ, List, Bool, true, refl, sym, ap, subst, ◌∙◌}
+use Rattle.std.proofs.Common.{◌≡◌, inl, inr, ℕ, List, sym, ap, subst, ◌∙◌}
 use Rattle.std.proofs.lemmas.Bool.{true≢false}
-use Rattle.audit_types.specs.declared.records.Answered.{Answered}
-use Rattle.bench_core.specs.Calls.{IsUntouched, LeavesOnly, OnlyReads}
+use Rattle.bench_core.specs.Calls.{IsUntouched, LeavesOnly}
 use Rattle.bench_core.specs.Moments.{then_reads}
 use Rattle.journal_form.specs.Journal.{StandsFor}
 use Rattle.answer_journal.specs.Moments.{IsMade}
-use Rattle.journal_compact.specs.Whole.{IsUnmadeOrWhole}
 use Rattle.table_load.specs.Database.{secret_table}
 use Rattle.audit_store.specs.Starting.{GivesUp, StartCause}
 use Rattle.audit_store.specs.declared.starting.StartFault.{StartFault}
 use Rattle.twin_journal.specs.declared.copying.CopyFault.{CopyFault}
 use Rattle.twin_journal.specs.declared.copying.CopyFault.TheVariants.{Kept}
 use Rattle.twin_journal.specs.declared.restoring.RestoreFault.{RestoreFault}
-use Rattle.twin_journal.specs.Copying.{IsKeptFor}
 use Rattle.twin_journal.specs.Restoring.{GivesUpRestoring, IsLost, RestoreCause, fault_from_main, fault_from_spare}
 use Rattle.twin_journal.proofs.Copies.{err, is_kept, is_lost_of, journal_only_read, main_refused, never_from_main, never_from_spare, read_and_write, read_lost, spare_only_read, spare_refused, stand_alike, stands_is_made}
 use Rattle.twin_journal.proofs.restoring.restore.Goals as goal
@@ -202,7 +199,7 @@ returns-in-Err-copy_journal-clause-reads g c = λ fault refused some.
     let only : GivesUpRestoring (fault_from_main given) → ⊥ = λ gives. some (subst (λ (f : RestoreFault). GivesUpRestoring f) (sym c.from_main.ensures ∙ answered) gives) in (
       (then_reads g.B.Bench c.args.bench.now c.is_made.new.bench c.copy_journal.new.kept c.is_made.ensures.reads c.copy_journal.ensures.reads),
       (spare_only_read g.S.Bench c.args.spare.now c.is_made-2.new.bench c.copy_journal.new.lost c.is_made-2.ensures.reads given c.in-Err-copy_journal.ensures.already_reads
-      (λ f is. c.in-Err-copy_journal.ensures.refused f (ap (λ (x : CopyFault). err x) is)) only),
+          (λ f is. c.in-Err-copy_journal.ensures.refused f (ap (λ (x : CopyFault). err x) is)) only),
     )
 
 pub returns-in-Err-copy_journal-clause-own : goal.returns-in-Err-copy_journal-clause-own
@@ -215,7 +212,7 @@ returns-in-Err-copy_journal-2-clause-reads g c = λ fault refused some.
     let answered : c.from_spare.result ≡ fault = cc in
     let only : GivesUpRestoring (fault_from_spare given) → ⊥ = λ gives. some (subst (λ (f : RestoreFault). GivesUpRestoring f) (sym c.from_spare.ensures ∙ answered) gives) in (
       (journal_only_read g.B.Bench c.args.bench.now c.is_made.new.bench c.copy_journal-2.new.lost c.is_made.ensures.reads given c.in-Err-copy_journal-2.ensures.already_reads
-      (λ f is. c.in-Err-copy_journal-2.ensures.refused f (ap (λ (x : CopyFault). err x) is)) only),
+          (λ f is. c.in-Err-copy_journal-2.ensures.refused f (ap (λ (x : CopyFault). err x) is)) only),
       (then_reads g.S.Bench c.args.spare.now c.is_made-2.new.bench c.copy_journal-2.new.kept c.is_made-2.ensures.reads c.copy_journal-2.ensures.reads),
     )
 

@@ -15,7 +15,7 @@ use Rattle.audit_store.specs.declared.starting.StartFault.{StartFault}
 use Rattle.twin_journal.specs.declared.starting.TwinFault.{TwinFault}
 use Rattle.twin_journal.specs.declared.starting.TwinFault.TheVariants.{Differ, SpareFailed}
 use Rattle.twin_journal.specs.Fronts.{main_is_legal, spare_is_legal}
-use Rattle.twin_journal.specs.Twins.{CatchesUp, HoldsLegal, Meet, TwinCause, TwinGivesUp}
+use Rattle.twin_journal.specs.Twins.{CatchesUp, Meet, TwinCause, TwinGivesUp}
 use Rattle.twin_journal.proofs.CatchingUp.{still_there}
 use Rattle.twin_journal.proofs.TwinCauses.{IsOwn, main_gives_up, never_given_up, own_of_main, own_of_refused, own_of_spare, refused, spare_cause, spare_due, spare_gives_up}
 use Rattle.twin_journal.proofs.TwinMoments.{apart_never_meet, caught_due, caught_longer, caught_together, main_calls, main_catches, refused_cause, refused_due, refused_opens, spare_calls, spare_catches, while_read}
@@ -120,8 +120,11 @@ returns-in-Err-catch_up-clause-cause g c = λ fault told spare_told refused.
     let other = c.deref.result.now in
     let listed : found.1.items ≡ other = sym c.deref.ensures.value in
     let other_legal : IsLegal table other = subst (λ (t : Table). IsLegal t other) same_table (subst (λ (h : List Answered). IsLegal (table_of store) h) listed c.in-Ok-open_other.ensures.legal) in
-    let spare_stands : StandsFor spare c.args.secret.shape other = (found.0.gate, subst (λ (s : Shape). StandsAt spare s other found.0.gate) same_shape
-    (subst (λ (h : List Answered). StandsAt spare store.secret.shape h found.0.gate) listed (c.in-Ok-open_other.ensures.stands spare_told))) in
+    let spare_stands : StandsFor spare c.args.secret.shape other = (
+      found.0.gate,
+      subst (λ (s : Shape). StandsAt spare s other found.0.gate) same_shape
+          (subst (λ (h : List Answered). StandsAt spare store.secret.shape h found.0.gate) listed (c.in-Ok-open_other.ensures.stands spare_told)),
+    ) in
     let given = c.in-Err-catch_up.fault in
     let why = c.in-Err-catch_up.ensures.cause in
     let differ = λ (place : ℕ). λ (is : given ≡ Differ place). c.in-Err-catch_up.ensures.differ place (ap (λ (f : TwinFault). err f) is) in
@@ -144,8 +147,11 @@ returns-in-Err-catch_up-clause-due g c = λ due told spare_told some cause.
     let other = c.deref.result.now in
     let listed : found.1.items ≡ other = sym c.deref.ensures.value in
     let other_legal : IsLegal table other = subst (λ (t : Table). IsLegal t other) same_table (subst (λ (h : List Answered). IsLegal (table_of store) h) listed c.in-Ok-open_other.ensures.legal) in
-    let spare_stands : StandsFor spare c.args.secret.shape other = (found.0.gate, subst (λ (s : Shape). StandsAt spare s other found.0.gate) same_shape
-    (subst (λ (h : List Answered). StandsAt spare store.secret.shape h found.0.gate) listed (c.in-Ok-open_other.ensures.stands spare_told))) in
+    let spare_stands : StandsFor spare c.args.secret.shape other = (
+      found.0.gate,
+      subst (λ (s : Shape). StandsAt spare s other found.0.gate) same_shape
+          (subst (λ (h : List Answered). StandsAt spare store.secret.shape h found.0.gate) listed (c.in-Ok-open_other.ensures.stands spare_told)),
+    ) in
     let given = c.in-Err-catch_up.fault in
     let why = c.in-Err-catch_up.ensures.cause in
     let differ = λ (place : ℕ). λ (is : given ≡ Differ place). c.in-Err-catch_up.ensures.differ place (ap (λ (f : TwinFault). err f) is) in
@@ -170,8 +176,11 @@ returns-in-Err-catch_up-clause-opens g c = λ m o whole told spare_told keep.
     let other = c.deref.result.now in
     let listed : found.1.items ≡ other = sym c.deref.ensures.value in
     let other_legal : IsLegal table other = subst (λ (t : Table). IsLegal t other) same_table (subst (λ (h : List Answered). IsLegal (table_of store) h) listed c.in-Ok-open_other.ensures.legal) in
-    let spare_stands : StandsFor spare c.args.secret.shape other = (found.0.gate, subst (λ (s : Shape). StandsAt spare s other found.0.gate) same_shape
-    (subst (λ (h : List Answered). StandsAt spare store.secret.shape h found.0.gate) listed (c.in-Ok-open_other.ensures.stands spare_told))) in
+    let spare_stands : StandsFor spare c.args.secret.shape other = (
+      found.0.gate,
+      subst (λ (s : Shape). StandsAt spare s other found.0.gate) same_shape
+          (subst (λ (h : List Answered). StandsAt spare store.secret.shape h found.0.gate) listed (c.in-Ok-open_other.ensures.stands spare_told)),
+    ) in
     let given = c.in-Err-catch_up.fault in
     let why = c.in-Err-catch_up.ensures.cause in
     let differ = λ (place : ℕ). λ (is : given ≡ Differ place). c.in-Err-catch_up.ensures.differ place (ap (λ (f : TwinFault). err f) is) in
@@ -193,8 +202,11 @@ returns-in-Err-catch_up-clause-main_moments g c = λ m o whole told spare_told q
     let other = c.deref.result.now in
     let listed : found.1.items ≡ other = sym c.deref.ensures.value in
     let other_legal : IsLegal table other = subst (λ (t : Table). IsLegal t other) same_table (subst (λ (h : List Answered). IsLegal (table_of store) h) listed c.in-Ok-open_other.ensures.legal) in
-    let spare_stands : StandsFor spare c.args.secret.shape other = (found.0.gate, subst (λ (s : Shape). StandsAt spare s other found.0.gate) same_shape
-    (subst (λ (h : List Answered). StandsAt spare store.secret.shape h found.0.gate) listed (c.in-Ok-open_other.ensures.stands spare_told))) in
+    let spare_stands : StandsFor spare c.args.secret.shape other = (
+      found.0.gate,
+      subst (λ (s : Shape). StandsAt spare s other found.0.gate) same_shape
+          (subst (λ (h : List Answered). StandsAt spare store.secret.shape h found.0.gate) listed (c.in-Ok-open_other.ensures.stands spare_told)),
+    ) in
     main_catches c.one_reading.ensures table file spare main other stands spare_stands legal other_legal g.B.Bench c.args.bench.now c.start.new.bench c.catch_up.new.bench refl c.start.ensures.reads quiet
     (λ w still meet. subst (λ (s : Shape). LeavesOnly g.B.Bench c.start.new.bench c.catch_up.new.bench (CatchesUp s main w (g.B.Bench.sent c.start.new.bench))) same_shape
     (c.catch_up.ensures.moments w told still meet)) m o whole keep
@@ -215,8 +227,11 @@ returns-in-Err-catch_up-clause-spare_moments g c = λ m o whole told spare_told 
     let other = c.deref.result.now in
     let listed : found.1.items ≡ other = sym c.deref.ensures.value in
     let other_legal : IsLegal table other = subst (λ (t : Table). IsLegal t other) same_table (subst (λ (h : List Answered). IsLegal (table_of store) h) listed c.in-Ok-open_other.ensures.legal) in
-    let spare_stands : StandsFor spare c.args.secret.shape other = (found.0.gate, subst (λ (s : Shape). StandsAt spare s other found.0.gate) same_shape
-    (subst (λ (h : List Answered). StandsAt spare store.secret.shape h found.0.gate) listed (c.in-Ok-open_other.ensures.stands spare_told))) in
+    let spare_stands : StandsFor spare c.args.secret.shape other = (
+      found.0.gate,
+      subst (λ (s : Shape). StandsAt spare s other found.0.gate) same_shape
+          (subst (λ (h : List Answered). StandsAt spare store.secret.shape h found.0.gate) listed (c.in-Ok-open_other.ensures.stands spare_told)),
+    ) in
     spare_catches c.one_reading.ensures table file spare main other stands spare_stands legal other_legal g.S.Bench c.args.spare.now c.open_other.new.spare c.catch_up.new.spare refl c.open_other.ensures.reads quiet
     (λ w still meet. subst (λ (s : Shape). LeavesOnly g.S.Bench c.open_other.new.spare c.catch_up.new.spare (CatchesUp s other w (g.S.Bench.sent c.open_other.new.spare))) same_shape
     (c.catch_up.ensures.spare_moments w spare_told still meet)) m o whole keep
@@ -237,8 +252,11 @@ returns-in-Err-catch_up-clause-untouched g c = λ told spare_told quiet apart.
     let other = c.deref.result.now in
     let listed : found.1.items ≡ other = sym c.deref.ensures.value in
     let other_legal : IsLegal table other = subst (λ (t : Table). IsLegal t other) same_table (subst (λ (h : List Answered). IsLegal (table_of store) h) listed c.in-Ok-open_other.ensures.legal) in
-    let spare_stands : StandsFor spare c.args.secret.shape other = (found.0.gate, subst (λ (s : Shape). StandsAt spare s other found.0.gate) same_shape
-    (subst (λ (h : List Answered). StandsAt spare store.secret.shape h found.0.gate) listed (c.in-Ok-open_other.ensures.stands spare_told))) in
+    let spare_stands : StandsFor spare c.args.secret.shape other = (
+      found.0.gate,
+      subst (λ (s : Shape). StandsAt spare s other found.0.gate) same_shape
+          (subst (λ (h : List Answered). StandsAt spare store.secret.shape h found.0.gate) listed (c.in-Ok-open_other.ensures.stands spare_told)),
+    ) in
     let same = (c.catch_up.ensures.apart (apart_never_meet c.one_reading.ensures table file spare main other stands spare_stands legal other_legal apart)).0 in
     subst (λ (b : g.row.B.Denot). LeavesOnly g.B.Bench c.args.bench.now b (IsUntouched file (g.B.Bench.sent c.args.bench.now))) (sym same) (c.start.ensures.reads.untouched quiet)
 
@@ -258,8 +276,11 @@ returns-in-Err-catch_up-clause-spare_untouched g c = λ told spare_told quiet ap
     let other = c.deref.result.now in
     let listed : found.1.items ≡ other = sym c.deref.ensures.value in
     let other_legal : IsLegal table other = subst (λ (t : Table). IsLegal t other) same_table (subst (λ (h : List Answered). IsLegal (table_of store) h) listed c.in-Ok-open_other.ensures.legal) in
-    let spare_stands : StandsFor spare c.args.secret.shape other = (found.0.gate, subst (λ (s : Shape). StandsAt spare s other found.0.gate) same_shape
-    (subst (λ (h : List Answered). StandsAt spare store.secret.shape h found.0.gate) listed (c.in-Ok-open_other.ensures.stands spare_told))) in
+    let spare_stands : StandsFor spare c.args.secret.shape other = (
+      found.0.gate,
+      subst (λ (s : Shape). StandsAt spare s other found.0.gate) same_shape
+          (subst (λ (h : List Answered). StandsAt spare store.secret.shape h found.0.gate) listed (c.in-Ok-open_other.ensures.stands spare_told)),
+    ) in
     let same = (c.catch_up.ensures.apart (apart_never_meet c.one_reading.ensures table file spare main other stands spare_stands legal other_legal apart)).1 in
     subst (λ (s : g.row.S.Denot). LeavesOnly g.S.Bench c.args.spare.now s (IsUntouched spare (g.S.Bench.sent c.args.spare.now))) (sym same) (c.open_other.ensures.reads.untouched quiet)
 
@@ -287,8 +308,11 @@ returns-in-Ok-catch_up-clause-together g c = λ told spare_told.
     let other = c.deref.result.now in
     let listed : found.1.items ≡ other = sym c.deref.ensures.value in
     let other_legal : IsLegal table other = subst (λ (t : Table). IsLegal t other) same_table (subst (λ (h : List Answered). IsLegal (table_of store) h) listed c.in-Ok-open_other.ensures.legal) in
-    let spare_stands : StandsFor spare c.args.secret.shape other = (found.0.gate, subst (λ (s : Shape). StandsAt spare s other found.0.gate) same_shape
-    (subst (λ (h : List Answered). StandsAt spare store.secret.shape h found.0.gate) listed (c.in-Ok-open_other.ensures.stands spare_told))) in
+    let spare_stands : StandsFor spare c.args.secret.shape other = (
+      found.0.gate,
+      subst (λ (s : Shape). StandsAt spare s other found.0.gate) same_shape
+          (subst (λ (h : List Answered). StandsAt spare store.secret.shape h found.0.gate) listed (c.in-Ok-open_other.ensures.stands spare_told)),
+    ) in
     let now = c.catch_up.new.store.history in
     let meet : Meet main other now = c.in-Ok-catch_up.ensures.meet in
     caught_together c.one_reading.ensures table file spare main other stands spare_stands legal other_legal now meet
@@ -309,8 +333,11 @@ returns-in-Ok-catch_up-clause-longer g c = λ m o whole told spare_told keep.
     let other = c.deref.result.now in
     let listed : found.1.items ≡ other = sym c.deref.ensures.value in
     let other_legal : IsLegal table other = subst (λ (t : Table). IsLegal t other) same_table (subst (λ (h : List Answered). IsLegal (table_of store) h) listed c.in-Ok-open_other.ensures.legal) in
-    let spare_stands : StandsFor spare c.args.secret.shape other = (found.0.gate, subst (λ (s : Shape). StandsAt spare s other found.0.gate) same_shape
-    (subst (λ (h : List Answered). StandsAt spare store.secret.shape h found.0.gate) listed (c.in-Ok-open_other.ensures.stands spare_told))) in
+    let spare_stands : StandsFor spare c.args.secret.shape other = (
+      found.0.gate,
+      subst (λ (s : Shape). StandsAt spare s other found.0.gate) same_shape
+          (subst (λ (h : List Answered). StandsAt spare store.secret.shape h found.0.gate) listed (c.in-Ok-open_other.ensures.stands spare_told)),
+    ) in
     let now = c.catch_up.new.store.history in
     let meet : Meet main other now = c.in-Ok-catch_up.ensures.meet in
     caught_longer c.one_reading.ensures table file spare main other stands spare_stands legal other_legal now meet m o whole keep
@@ -331,8 +358,11 @@ returns-in-Ok-catch_up-clause-due g c = λ due told spare_told some cause.
     let other = c.deref.result.now in
     let listed : found.1.items ≡ other = sym c.deref.ensures.value in
     let other_legal : IsLegal table other = subst (λ (t : Table). IsLegal t other) same_table (subst (λ (h : List Answered). IsLegal (table_of store) h) listed c.in-Ok-open_other.ensures.legal) in
-    let spare_stands : StandsFor spare c.args.secret.shape other = (found.0.gate, subst (λ (s : Shape). StandsAt spare s other found.0.gate) same_shape
-    (subst (λ (h : List Answered). StandsAt spare store.secret.shape h found.0.gate) listed (c.in-Ok-open_other.ensures.stands spare_told))) in
+    let spare_stands : StandsFor spare c.args.secret.shape other = (
+      found.0.gate,
+      subst (λ (s : Shape). StandsAt spare s other found.0.gate) same_shape
+          (subst (λ (h : List Answered). StandsAt spare store.secret.shape h found.0.gate) listed (c.in-Ok-open_other.ensures.stands spare_told)),
+    ) in
     let now = c.catch_up.new.store.history in
     let meet : Meet main other now = c.in-Ok-catch_up.ensures.meet in
     let none : (d : StartFault) → (GivesUp d → ⊥) → StartCause d file table → ⊥ = λ d some cause. c.in-Ok.ensures.due d told some cause in
@@ -364,8 +394,11 @@ returns-in-Ok-catch_up-clause-ticks g c = λ m o whole told spare_told keep.
     let other = c.deref.result.now in
     let listed : found.1.items ≡ other = sym c.deref.ensures.value in
     let other_legal : IsLegal table other = subst (λ (t : Table). IsLegal t other) same_table (subst (λ (h : List Answered). IsLegal (table_of store) h) listed c.in-Ok-open_other.ensures.legal) in
-    let spare_stands : StandsFor spare c.args.secret.shape other = (found.0.gate, subst (λ (s : Shape). StandsAt spare s other found.0.gate) same_shape
-    (subst (λ (h : List Answered). StandsAt spare store.secret.shape h found.0.gate) listed (c.in-Ok-open_other.ensures.stands spare_told))) in
+    let spare_stands : StandsFor spare c.args.secret.shape other = (
+      found.0.gate,
+      subst (λ (s : Shape). StandsAt spare s other found.0.gate) same_shape
+          (subst (λ (h : List Answered). StandsAt spare store.secret.shape h found.0.gate) listed (c.in-Ok-open_other.ensures.stands spare_told)),
+    ) in
     let now = c.catch_up.new.store.history in
     let meet : Meet main other now = c.in-Ok-catch_up.ensures.meet in
     main_calls c.one_reading.ensures table file spare main other stands spare_stands legal other_legal now meet (g.B.Bench.moment c.args.bench.now) (g.B.Bench.moment c.start.new.bench) (g.B.Bench.moment c.catch_up.new.bench)
@@ -387,8 +420,11 @@ returns-in-Ok-catch_up-clause-spare_ticks g c = λ m o whole told spare_told kee
     let other = c.deref.result.now in
     let listed : found.1.items ≡ other = sym c.deref.ensures.value in
     let other_legal : IsLegal table other = subst (λ (t : Table). IsLegal t other) same_table (subst (λ (h : List Answered). IsLegal (table_of store) h) listed c.in-Ok-open_other.ensures.legal) in
-    let spare_stands : StandsFor spare c.args.secret.shape other = (found.0.gate, subst (λ (s : Shape). StandsAt spare s other found.0.gate) same_shape
-    (subst (λ (h : List Answered). StandsAt spare store.secret.shape h found.0.gate) listed (c.in-Ok-open_other.ensures.stands spare_told))) in
+    let spare_stands : StandsFor spare c.args.secret.shape other = (
+      found.0.gate,
+      subst (λ (s : Shape). StandsAt spare s other found.0.gate) same_shape
+          (subst (λ (h : List Answered). StandsAt spare store.secret.shape h found.0.gate) listed (c.in-Ok-open_other.ensures.stands spare_told)),
+    ) in
     let now = c.catch_up.new.store.history in
     let meet : Meet main other now = c.in-Ok-catch_up.ensures.meet in
     spare_calls c.one_reading.ensures table file spare main other stands spare_stands legal other_legal now meet (g.S.Bench.moment c.args.spare.now) (g.S.Bench.moment c.open_other.new.spare) (g.S.Bench.moment c.catch_up.new.spare)
@@ -410,8 +446,11 @@ returns-in-Ok-catch_up-clause-main_moments g c = λ m o whole told spare_told qu
     let other = c.deref.result.now in
     let listed : found.1.items ≡ other = sym c.deref.ensures.value in
     let other_legal : IsLegal table other = subst (λ (t : Table). IsLegal t other) same_table (subst (λ (h : List Answered). IsLegal (table_of store) h) listed c.in-Ok-open_other.ensures.legal) in
-    let spare_stands : StandsFor spare c.args.secret.shape other = (found.0.gate, subst (λ (s : Shape). StandsAt spare s other found.0.gate) same_shape
-    (subst (λ (h : List Answered). StandsAt spare store.secret.shape h found.0.gate) listed (c.in-Ok-open_other.ensures.stands spare_told))) in
+    let spare_stands : StandsFor spare c.args.secret.shape other = (
+      found.0.gate,
+      subst (λ (s : Shape). StandsAt spare s other found.0.gate) same_shape
+          (subst (λ (h : List Answered). StandsAt spare store.secret.shape h found.0.gate) listed (c.in-Ok-open_other.ensures.stands spare_told)),
+    ) in
     main_catches c.one_reading.ensures table file spare main other stands spare_stands legal other_legal g.B.Bench c.args.bench.now c.start.new.bench c.catch_up.new.bench refl c.start.ensures.reads quiet
     (λ w still meet. subst (λ (s : Shape). LeavesOnly g.B.Bench c.start.new.bench c.catch_up.new.bench (CatchesUp s main w (g.B.Bench.sent c.start.new.bench))) same_shape
     (c.catch_up.ensures.moments w told still meet)) m o whole keep
@@ -432,8 +471,11 @@ returns-in-Ok-catch_up-clause-spare_moments g c = λ m o whole told spare_told q
     let other = c.deref.result.now in
     let listed : found.1.items ≡ other = sym c.deref.ensures.value in
     let other_legal : IsLegal table other = subst (λ (t : Table). IsLegal t other) same_table (subst (λ (h : List Answered). IsLegal (table_of store) h) listed c.in-Ok-open_other.ensures.legal) in
-    let spare_stands : StandsFor spare c.args.secret.shape other = (found.0.gate, subst (λ (s : Shape). StandsAt spare s other found.0.gate) same_shape
-    (subst (λ (h : List Answered). StandsAt spare store.secret.shape h found.0.gate) listed (c.in-Ok-open_other.ensures.stands spare_told))) in
+    let spare_stands : StandsFor spare c.args.secret.shape other = (
+      found.0.gate,
+      subst (λ (s : Shape). StandsAt spare s other found.0.gate) same_shape
+          (subst (λ (h : List Answered). StandsAt spare store.secret.shape h found.0.gate) listed (c.in-Ok-open_other.ensures.stands spare_told)),
+    ) in
     spare_catches c.one_reading.ensures table file spare main other stands spare_stands legal other_legal g.S.Bench c.args.spare.now c.open_other.new.spare c.catch_up.new.spare refl c.open_other.ensures.reads quiet
     (λ w still meet. subst (λ (s : Shape). LeavesOnly g.S.Bench c.open_other.new.spare c.catch_up.new.spare (CatchesUp s other w (g.S.Bench.sent c.open_other.new.spare))) same_shape
     (c.catch_up.ensures.spare_moments w spare_told still meet)) m o whole keep
@@ -454,8 +496,11 @@ returns-in-Ok-catch_up-clause-untouched g c = λ told spare_told quiet apart.
     let other = c.deref.result.now in
     let listed : found.1.items ≡ other = sym c.deref.ensures.value in
     let other_legal : IsLegal table other = subst (λ (t : Table). IsLegal t other) same_table (subst (λ (h : List Answered). IsLegal (table_of store) h) listed c.in-Ok-open_other.ensures.legal) in
-    let spare_stands : StandsFor spare c.args.secret.shape other = (found.0.gate, subst (λ (s : Shape). StandsAt spare s other found.0.gate) same_shape
-    (subst (λ (h : List Answered). StandsAt spare store.secret.shape h found.0.gate) listed (c.in-Ok-open_other.ensures.stands spare_told))) in
+    let spare_stands : StandsFor spare c.args.secret.shape other = (
+      found.0.gate,
+      subst (λ (s : Shape). StandsAt spare s other found.0.gate) same_shape
+          (subst (λ (h : List Answered). StandsAt spare store.secret.shape h found.0.gate) listed (c.in-Ok-open_other.ensures.stands spare_told)),
+    ) in
     let same = (c.catch_up.ensures.apart (apart_never_meet c.one_reading.ensures table file spare main other stands spare_stands legal other_legal apart)).0 in
     subst (λ (b : g.row.B.Denot). LeavesOnly g.B.Bench c.args.bench.now b (IsUntouched file (g.B.Bench.sent c.args.bench.now))) (sym same) (c.start.ensures.reads.untouched quiet)
 
@@ -475,8 +520,11 @@ returns-in-Ok-catch_up-clause-spare_untouched g c = λ told spare_told quiet apa
     let other = c.deref.result.now in
     let listed : found.1.items ≡ other = sym c.deref.ensures.value in
     let other_legal : IsLegal table other = subst (λ (t : Table). IsLegal t other) same_table (subst (λ (h : List Answered). IsLegal (table_of store) h) listed c.in-Ok-open_other.ensures.legal) in
-    let spare_stands : StandsFor spare c.args.secret.shape other = (found.0.gate, subst (λ (s : Shape). StandsAt spare s other found.0.gate) same_shape
-    (subst (λ (h : List Answered). StandsAt spare store.secret.shape h found.0.gate) listed (c.in-Ok-open_other.ensures.stands spare_told))) in
+    let spare_stands : StandsFor spare c.args.secret.shape other = (
+      found.0.gate,
+      subst (λ (s : Shape). StandsAt spare s other found.0.gate) same_shape
+          (subst (λ (h : List Answered). StandsAt spare store.secret.shape h found.0.gate) listed (c.in-Ok-open_other.ensures.stands spare_told)),
+    ) in
     let same = (c.catch_up.ensures.apart (apart_never_meet c.one_reading.ensures table file spare main other stands spare_stands legal other_legal apart)).1 in
     subst (λ (s : g.row.S.Denot). LeavesOnly g.S.Bench c.args.spare.now s (IsUntouched spare (g.S.Bench.sent c.args.spare.now))) (sym same) (c.open_other.ensures.reads.untouched quiet)
 
