@@ -73,10 +73,10 @@ def make_history(program, sets, kinds, wanted):
 
 
 def unsafe_questions(plain, sets, kinds, count):
-    """So many questions that have a certificate, if as many come up, in the order of their columns."""
+    """So many questions that have a certificate, if as many come up: of the first column, or of eight in their order."""
     found = []
     for seed in range(20):
-        lines = questions(sets, kinds, random.Random(seed), 2000)
+        lines = questions(sets, kinds if sets == "columns" else kinds[:1], random.Random(seed), 2000)
         said, _, _ = send(plain, "explain", lines)
         found += [line for line, reply in zip(lines, said) if '"asked"' in reply and "proof" not in reply]
         if len(found) >= count:

@@ -67,7 +67,7 @@ auditor_max <- function(url, column, where = "all") auditor_ask(url, "max", colu
 
 # What auditor explain says of a question, as a list: verdict, and of a denial as unsafe a certificate, or proof = "wide". Nothing is asked.
 # Numbers of more than 15 digits come as text. The line itself is attr(x, "line"), for demo/check_certificate.py.
-auditor_why <- function(url, ask, column, where = "all") {
+auditor_why <- function(url, ask, column = NULL, where = "all") {
   response <- auditor_send(url, "why", auditor_question(ask, column, where))
   reply <- tryCatch(jsonlite::fromJSON(response$text, bigint_as_char = TRUE), error = function(fault) list())
   if (response$status != 200) {

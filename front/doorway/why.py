@@ -50,6 +50,7 @@ class Whys:
                 await self._say()
         finally:
             self.work = None
+            self._turn_away("no certificate could be made")         # whatever went wrong: nobody waits without end
 
     async def _say(self):
         """Tells those whose lines are taken what a run says of them."""
@@ -88,8 +89,13 @@ class Whys:
     def stop(self):
         if self.work:
             self.work.cancel()
-        for those in (self.taken, self.waiting):
-            fail(those, "the door is closing")
+        self._turn_away("the door is closing")
+
+    def _turn_away(self, text):
+        """Tells all who wait that nothing comes."""
+        fail(self.taken, text)
+        fail(self.waiting, text)
+        self.waiting = {}
 
 
 def fail(those, text):

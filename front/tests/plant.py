@@ -172,7 +172,7 @@ PLANTS = [
      "test_why.Odd.test_answers_go_on_while_a_certificate_takes_long"),
     ("whatever explain says is handed on", "why.py", " or not all(map(is_explained, lines))", "",
      "test_why.Odd.test_a_run_that_ends_or_says_something_else_is_told_of"),
-    ("who waits for a certificate isn't told of the end", "why.py", '            fail(those, "the door is closing")\n', "            pass\n",
+    ("who waits for a certificate isn't told of the end", "why.py", "        fail(self.taken, text)\n", "",
      "test_why.Odd.test_a_door_that_ends_tells_those_who_wait"),
     ("a door without explain tries it", "runs.py", '        return self.paths["explain"] is not None\n', "        return True\n",
      "test_why.Without.test_a_door_without_the_program_says_so"),

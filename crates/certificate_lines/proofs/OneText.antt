@@ -1,10 +1,9 @@
 -- The text of an input is one: a line comes to one plan, its question to one decision, and a denial to one proof.
-use Rattle.std.proofs.Common.{◌≡◌, ◌<◌, ◌≤◌, ℕ, zero, suc, List, [], ◌∷◌, length, take, refl, sym, ap, ◌∙◌, subst, arith, inl, inr, ◌⊎◌}
+use Rattle.std.proofs.Common.{◌≡◌, ℕ, zero, suc, List, [], ◌∷◌, take, refl, sym, ap, ◌∙◌, subst, arith, inl, inr}
 use Rattle.audit_types.specs.declared.records.Answered.{Answered}
 use Rattle.audit_types.specs.declared.records.Asked.{Asked}
 use Rattle.audit_types.specs.declared.records.Verdict.{Verdict}
 use Rattle.audit_types.specs.declared.records.Verdict.TheVariants.{Released, DeniedUnsafe, DeniedWide}
-use Rattle.audit_types.specs.Limits.{most_records}
 use Rattle.audit_types.specs.History.{Setting, FitsShape, AreProtected, IsDecisionAfter, setting_of}
 use Rattle.denial_proof.specs.declared.proof_parts.Proof.{Proof}
 use Rattle.denial_proof.specs.Denied.{IsLegalIn}

@@ -25,7 +25,7 @@ use Rattle.question_plan.specs.Planned.{IsUnplanned}
 use Rattle.certificate_lines.specs.declared.explaining.ExplainFault.{ExplainFault}
 use Rattle.certificate_lines.specs.declared.explaining.ExplainFault.TheVariants as fault
 use Rattle.certificate_lines.specs.Explained.{IsExplained, AreExplained}
-use Rattle.certificate_lines.specs.Ends.{AreFirst, AreRead, AreWithin, EndLines, EndReads, EndSends, ExplainsMeanwhile, Explains, stop_end}
+use Rattle.certificate_lines.specs.Ends.{AreFirst, EndLines, EndReads, EndSends, ExplainsMeanwhile, Explains, stop_end}
 
 -- the bytes of one more line
 pub bytes-push : (lines : List (List ℕ)) (line : List ℕ) → concat (lines ++ line ∷ []) ≡ concat lines ++ line

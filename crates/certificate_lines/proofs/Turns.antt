@@ -1,5 +1,5 @@
 -- The turns of explaining: a line of the input is planned, and what is due to it is written and sent.
-use Rattle.std.proofs.Common.{◌≡◌, ◌+◌, ◌≤◌, true, List, ℕ, ◌++◌, ◌∷◌, [], Result, Ok, Err}
+use Rattle.std.proofs.Common.{◌≡◌, ◌+◌, ◌≤◌, true, List, ℕ, ◌++◌, ◌∷◌, [], Ok, Err}
 use Rattle.audit_types.specs.declared.records.Answered.{Answered}
 use Rattle.audit_types.specs.History.{setting_of}
 use Rattle.bench_core.specs.declared.bench.Bench.{Ghosts}

@@ -12,6 +12,7 @@ ghost use Rattle.certificate_lines.specs.Ends.{EndLines, EndReads, EndSends, Exp
 ghost use Rattle.certificate_lines.specs.declared.explaining.ExplainFault.TheVariants as fault;
 
 use crate::deciding::write_line;
+use crate::provers::Provers;
 use audit_core::Core;
 use audit_store::Store;
 use audit_types::NoMemory;
@@ -80,10 +81,10 @@ fn explain_lines<P: Source, B: Bench>(
     ensures { Explains P.Source B.Bench schema.now.columns index.now core.now.history source.old source.new bench.old bench.new result }
 {
     lines_in_turn();
-    let mut kept = None;
+    let mut provers = Provers::new();
     let mut line = Vec::new(alloc);
     while let Some(plan) = planner.next(alloc, schema, index, source)? {
-        write_line(alloc, core, &plan, &mut kept, &mut line)?;
+        write_line(alloc, core, &plan, &mut provers, &mut line)?;
         bench.send(&line)?;
     }
     Ok(())

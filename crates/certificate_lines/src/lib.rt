@@ -8,6 +8,7 @@
 mod deciding;
 mod explaining;
 pub mod laws;
+mod provers;
 mod texts;
 
 pub use explaining::{ExplainFault, explain};

@@ -80,7 +80,7 @@ left_count : (n : ℕ) (f : ℕ → ℤ) (p : ℕ) (rows : List (ℕ → ℤ)) �
 left_count n f p [] = refl
 left_count n f p (g ∷ rows) = ap suc (left_count n f p rows)
 
--- where the cleared rows come to nothing at the other columns, they do at each
+-- if the cleared rows come to nothing at the other columns, they do at each
 all_columns : (n p : ℕ) (h : ℕ → ℤ) → p < suc n → h p ≡ pos 0 → ((j : ℕ) → j < n → h (moved n p j) ≡ pos 0) → (i : ℕ) → i < suc n → h i ≡ pos 0
 all_columns n p h below here others i l = elim (cases_eq i p) [
   | inl same ↦ ap h same ∙ here

@@ -123,7 +123,7 @@ module _ (n : ℕ) (answers : List Answer) (rows : List ℕ) (list : List ℤ) (
         ];
   }
 
-  -- and where none does, none is bad
+  -- and if none does, none is bad
   pub none_found : NoneBefore (length list) → ¬ (HasBadCandidate (known_max n answers) rows)
   none_found none bad =
       let found = (are.each bad.answer).1 bad.candidate in

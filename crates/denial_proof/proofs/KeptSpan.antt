@@ -44,7 +44,7 @@ module _ (decided : SpannedOrMoved) (n column : ℕ) (history : List Answered) (
       all-map (λ (a : Answer). a.rows) (AreRows n) (answers_of column (take i history))
       (all-map answer_in (λ a. AreRows n a.rows) _ (all-filter (λ (r : Answered). AreRows n r.rows.list) (λ r. r.column == column) (take i history) (all-take (λ (r : Answered). AreRows n r.rows.list) i history fit)))
 
-  -- the set of a record of the column, where all sets before it lie in the span
+  -- the set of a record of the column, if all sets before it lie in the span
   own_spanned : (i : ℕ) (r : Answered) → IsOwnRecord history column i r → AreRows n r.rows.list →
       AllByRecursion (InSpan (map (set_row n) (map (rows_at history) places))) (map (set_row n) (sets_before column history i)) →
       (b : Bool) → has_row places i ≡ b → InSpan (map (set_row n) (map (rows_at history) places)) (set_row n r.rows.list)

@@ -41,9 +41,9 @@ module _ (n : ℕ) (answers : List Answer) (rows : List ℕ) (outlook : Outlook)
     | inl none ↦ let least = near.low in omega (arith, ints)
     | inr (a, one, held, value) ↦ by_lt_z x a.value
         (λ less.
-            let lost = higher_loses answers rows x a one less in
-            let found = some_row (outside rows (extremes answers a)) (subst (λ (l : List ℕ). 0 < length l) lost (some_extreme a (one_of_front answers (asked answers rows x) a one))) in
-            absurd (held found.0 found.1))
+        let lost = higher_loses answers rows x a one less in
+        let found = some_row (outside rows (extremes answers a)) (subst (λ (l : List ℕ). 0 < length l) lost (some_extreme a (one_of_front answers (asked answers rows x) a one))) in
+        absurd (held found.0 found.1))
         (λ more. omega (arith, ints))
   ]
 
@@ -60,14 +60,14 @@ module _ (n : ℕ) (answers : List Answer) (rows : List ℕ) (outlook : Outlook)
   of_earlier : (a : Answer) → IsOneOf a answers → extremes (with_asked answers rows x) a ≡ leaves.row ∷ [] → IsTrue outlook.is_lone ⊎ ((x <ℤ outlook.holding.stranded) ⊎ (outlook.reach.next <ℤ x))
   of_earlier a one only = by_lt_z x a.value
       (λ less.
-          let left : outside rows (extremes answers a) ≡ leaves.row ∷ [] = sym (higher_loses answers rows x a one less) ∙ only in
-          elim (all_at (λ (b : Answer). HasTwoOutside answers rows b ⊎ (b.value ≤ℤ outlook.holding.stranded)) answers a is.holding.others one) [
-            | inl two ↦
-                let first = only_row leaves.row two.one (subst (λ (l : List ℕ). has_row l two.one ≡ true) left two.has_one) in
-                let second = only_row leaves.row two.other (subst (λ (l : List ℕ). has_row l two.other ≡ true) left two.has_other) in
-                absurd (two.apart (sym first ∙ second))
-            | inr most ↦ inr (inl (omega (arith, ints)))
-          ])
+      let left : outside rows (extremes answers a) ≡ leaves.row ∷ [] = sym (higher_loses answers rows x a one less) ∙ only in
+      elim (all_at (λ (b : Answer). HasTwoOutside answers rows b ⊎ (b.value ≤ℤ outlook.holding.stranded)) answers a is.holding.others one) [
+        | inl two ↦
+            let first = only_row leaves.row two.one (subst (λ (l : List ℕ). has_row l two.one ≡ true) left two.has_one) in
+            let second = only_row leaves.row two.other (subst (λ (l : List ℕ). has_row l two.other ≡ true) left two.has_other) in
+            absurd (two.apart (sym first ∙ second))
+        | inr most ↦ inr (inl (omega (arith, ints)))
+      ])
       (λ more. inl (is.lone leaves.row (a, one, sym (lower_keeps answers rows x a one (omega (arith, ints))) ∙ only)))
 
   -- the new one because no two rows of the set reach it
@@ -79,8 +79,8 @@ module _ (n : ℕ) (answers : List Answer) (rows : List ℕ) (outlook : Outlook)
         | inr two ↦
             let at : (r : ℕ) → has_row rows r ≡ true → outlook.reach.next ≤ℤ reach_of (upper_bound answers r) → leaves.row ≡ r
             = λ r there high.
-                only_row leaves.row r (subst (λ (l : List ℕ). has_row l r ≡ true) only
-                (asked_has answers rows x r there (reach_down x (upper_bound answers r) (omega (arith, ints))))) in
+            only_row leaves.row r (subst (λ (l : List ℕ). has_row l r ≡ true) only
+            (asked_has answers rows x r there (reach_down x (upper_bound answers r) (omega (arith, ints))))) in
             absurd (two.apart (sym (at two.one two.has_one two.one_reaches) ∙ at two.other two.has_other two.other_reaches))
       ])
 

@@ -12,7 +12,7 @@ use Rattle.audit_types.specs.ListLaws.{all-set}
 use Rattle.denial_proof.specs.Kept.{marked_row}
 use Rattle.denial_proof.proofs.MarkedRows.{at_column, at_own_mark, at_other_mark}
 
--- the bit of a column: 1 at the set's rows, 0 behind the table
+-- the bit of a column: 1 at the set's rows, 0 past the table
 abbrev pub bit_of : ℕ → List ℕ → ℕ → ℕ
 bit_of n rows j = cond (nat_lt j n && has_row rows j) 1 0
 

@@ -117,7 +117,7 @@ marked_with_asked unique n history places rows old new same_n marked same narrow
       narrow = subst (λ all. ¬ (HasWideFront (n + m) all)) (sym whole) (narrow_push unique (n + m) front row new.rows marked.narrow over_n narrow);
     }
 
--- or without it, where the form isn't narrow
+-- or without it, if the form isn't narrow
 pub wide_with_asked : (n : ℕ) (history : List Answered) (places : List ℕ) (rows : Rows) (old : Echelon) → rows.n ≡ n → IsMarked n (length places + 1) (map (rows_at history) places) old →
     MarksNext old rows (length places) (HasWideFormOf old.n) → HasWideFront (n + (length places + 1)) (marked_rows n (length places + 1) 0 (kept_sets history places rows.list))
 wide_with_asked n history places rows old same_n marked next =

@@ -163,7 +163,7 @@ module _ (n : ℕ) (history : List Answered) (protected : List Protected) (asked
         };
       }
 
--- which records are kept is told by the history
+-- which records are kept follows from the history
 same_kept : (n column : ℕ) (history : List Answered) (places others : List ℕ) → AreKept n column history places → AreKept n column history others → places ≡ others
 same_kept n column history places others first second =
     ascending_same 0 (length history) (length history) places others first.ascending second.ascending (λ place. same_test (has_row places place) (has_row others place)
@@ -243,7 +243,7 @@ not_too_wide n history protected asked places form marks independent (Sum target
     wide.large (same_numbers IsSmall n history protected asked target times wide.times terms wide.terms own wide.own canonical other
     (subst (λ (list : List ℕ). AreIndependent n (kept_sets history list asked.rows.list)) same independent) (shows.small_times, (shows.small_own, small_terms history asked.column terms shows.are_terms)))
 
--- so where a proof was given
+-- so what was given a proof is not too wide
 pub none_too_wide : (n : ℕ) (history : List Answered) (protected : List Protected) (asked : Asked) (places : List ℕ) (form : Echelon) → AreMarks n history asked places form →
     AreIndependent n (kept_sets history places asked.rows.list) → (result : Result Proof ProveFault) → IfOk result (IsSumProof n history protected asked) →
     IfOk result (λ proof. ¬ (IsSumTooWide n history protected asked))

@@ -148,7 +148,7 @@ holding_step answers rows seen x left old new one is after before = by_left left
       others = others (let equal = ap (λ (h : Holding). h.stranded) same in omega (arith, ints)) (inl two);
     }
 
--- a lone row is told
+-- whether a row is lone shows in the least one
 pub lone_told : (answers : List Answer) (least : Option ℕ) → IsLeastLone answers least → (r : ℕ) → IsLone answers r → is_some least ≡ true
 lone_told answers None none r lone = absurd (none r lone)
 lone_told answers (Some q) is r lone = refl

@@ -16,14 +16,14 @@ use Rattle.denial_proof.proofs.KeptSoFar.{spanned_by_form, spanned_by_sets}
 use Rattle.denial_proof.proofs.ProofsShowDanger.{group_there}
 
 module _ (by_form : PinnedByForm) (n : ℕ) (protected : List Protected) (column : ℕ) (sets : List (List ℕ)) (form : List (List ℤ)) (are : AllByRecursion (AreRows n) sets) (reduced : Reduced n sets form) where
-  -- a row is pinned where its unit row lies in the span
+  -- a row is pinned if its unit row lies in the span
   pinned_from : (row : ℕ) → SpansUnit (record { n = n; rows = form }) row → IsPinned n sets row
   pinned_from row spans = (by_form n sets form row are reduced spans.0).1 spans.1
 
   spans_from : (row : ℕ) → IsPinned n sets row → SpansUnit (record { n = n; rows = form }) row
   spans_from row pinned = (pinned.below, (by_form n sets form row are reduced pinned.below).0 pinned)
 
-  -- and a group is spanned by the sets where it is by the form
+  -- and a group is spanned by the sets if it is by the form
   group_from : (place : ℕ) → SpansGroup (record { n = n; rows = form }) protected column place → IsSpannedGroup n protected column sets place
   group_from place spans = record { entry = spans.entry; there = spans.there; own = spans.own; spanned = spanned_by_sets n sets form (set_row n spans.entry.rows.list) reduced spans.spanned }
 

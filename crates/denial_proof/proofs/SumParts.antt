@@ -89,7 +89,7 @@ module _ (by_form : PinnedByForm) (n : ℕ) (history : List Answered) (protected
             (target_spanned by_form n protected asked.column (sets_with_asked history asked) basis.rows all_rows form_is target over_n);
       }
 
-  -- and there is one, where the sets are dangerous
+  -- and there is one if the sets are dangerous
   pub target_there : PinSomeRow n (sets_with_asked history asked) ⊎ ((place : ℕ) × IsSpannedGroup n protected asked.column (sets_with_asked history asked) place) →
       ¬ (SpansNothing basis protected asked.column)
   target_there dangerous nothing =

@@ -109,7 +109,7 @@ module _ (n : ℕ) (history : List Answered) (protected : List Protected) (asked
           both terms named.1 all.1,
         )
 
-    -- where the numbers are small it passes the check
+    -- if the numbers are small it passes the check
     pub shows : n ≤ 1024 → AllByRecursion IsSmall (times ∷ numbers) →
         IsCanonicalSum n history protected asked target times (terms_of places numbers) (number_at numbers (length places))
         × ShowsTotal n history protected asked target times (terms_of places numbers) (number_at numbers (length places))
@@ -126,7 +126,7 @@ module _ (n : ℕ) (history : List Answered) (protected : List Protected) (asked
       },
     )
 
--- where some number isn't small, the target is a group whose canonical numbers are too wide
+-- if some number isn't small, the target is a group whose canonical numbers are too wide
 pub too_wide : (n : ℕ) (history : List Answered) (protected : List Protected) (asked : Asked) (places : List ℕ) (form : Echelon) (target : Target) (marks : AreMarks n history asked places form)
     (independent : AreIndependent n (kept_sets history places asked.rows.list)) → IsFirstTarget n protected asked.column (sets_with_asked history asked) target →
     InSpan (map (set_row n) (kept_sets history places asked.rows.list)) (set_row n (rows_of protected target)) → IsNarrow form.rows → (times : ℤ) (numbers : List ℤ) →

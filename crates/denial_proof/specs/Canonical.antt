@@ -30,7 +30,7 @@ use Rattle.denial_proof.specs.Kept.{AreKept, kept_sets, HasWideMarks}
 
 -- ---- sums
 
--- the column's sets, and behind them the asked one
+-- the column's sets, and after them the asked one
 abbrev pub sets_with_asked : List Answered → Asked → List (List ℕ)
 sets_with_asked history asked = map (λ a. a.rows) (answers_of asked.column history) ++ asked.rows.list ∷ []
 
@@ -41,7 +41,7 @@ pub record IsSpannedGroup (n : ℕ) (protected : List Protected) (column : ℕ) 
   pub own : entry.column ≡ column
   pub spanned : InSpan (map (set_row n) sets) (set_row n entry.rows.list)
 
--- the least row that the sets pin, and where they pin none, the first protected entry whose row lies in their span
+-- the least row that the sets pin, and if they pin none, the first protected entry whose row lies in their span
 abbrev pub IsFirstTarget : ℕ → List Protected → ℕ → List (List ℕ) → Target → Type 0
 IsFirstTarget n protected column sets (Row row) = IsLeast (IsPinned n sets) (Some row)
 IsFirstTarget n protected column sets (Group place) = ¬ (PinSomeRow n sets) × IsLeast (IsSpannedGroup n protected column sets) (Some place)
@@ -75,7 +75,7 @@ IsLoneAt history asked answer row place = (r : Answered) × IsOwnRecord history 
 abbrev pub IsOnlyAt : List Answered → ℕ → List ℤ → ℕ → ℕ → Type 0
 IsOnlyAt history column numbers row place = (r : Answered) × IsOwnRecord history column place r × IsOnly numbers r.rows.list r.answer row
 
--- the first record for which the row is lone, and the asked set where there is none
+-- the first record for which the row is lone, and the asked set if there is none
 abbrev pub IsFirstPair : List Answered → Asked → ℤ → ℕ → Option ℕ → Type 0
 IsFirstPair history asked answer row place = IsLeast (IsLoneAt history asked answer row) place
 

@@ -19,7 +19,7 @@ pub record SpansNothing (form : Echelon) (protected : List Protected) (column : 
   pub no_row : ¬ (HasUnitRow form)
   pub no_group : (place : ℕ) → ¬ (SpansGroup form protected column place)
 
--- the least row whose unit row lies in the span, and where there is none, the first such entry
+-- the least row whose unit row lies in the span, and if there is none, the first such entry
 abbrev pub IsSpannedTarget : Echelon → List Protected → ℕ → Target → Type 0
 IsSpannedTarget form protected column (Row row) = IsLeastUnit form (Some row)
 IsSpannedTarget form protected column (Group place) = ¬ (HasUnitRow form) × IsLeast (SpansGroup form protected column) (Some place)

@@ -18,7 +18,7 @@ abbrev pub sum_at : List Weight → ℕ → ℤ
 sum_at [] row = pos 0
 sum_at (w ∷ weights) row = adds w.rows w.times row +ℤ sum_at weights row
 
--- the rows of the record at a place, none where there is no record
+-- the rows of the record at a place, none if there is no record
 abbrev pub rows_at : List Answered → ℕ → List ℕ
 rows_at history place = slice_index_or (map (λ r. r.rows.list) history) place []
 

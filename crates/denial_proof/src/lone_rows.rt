@@ -16,7 +16,7 @@ struct Pair {
     value: i128,
 }
 
-// The pair at this place: a record of the column, or the asked set with its answer where there is no place.
+// The pair at this place: a record of the column, or the asked set with its answer if there is no place.
 fn pair_at(
     n: u16,
     history: &[Answered],
@@ -64,7 +64,7 @@ fn holds_below(rows: &RowSet, answer: i128, value: i128, row: u16) -> bool
     answer < value && rows.has(row)
 }
 
-// Whether a record of the column does so.
+// Whether a record is of the column, and its answer such a one.
 fn record_holds_below(answered: &Answered, column: u8, value: i128, row: u16) -> bool
     requires within { row < answered.now.rows.n }
     ensures { IsTrue result ↔ RecordHoldsBelow column value row answered.now }

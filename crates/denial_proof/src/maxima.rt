@@ -85,7 +85,7 @@ fn least(answer: i128, bound: Option<i64>) -> i128
     }
 }
 
-// The bound of a row once the question has this answer, and 0 where it has none.
+// The bound of a row once the question has this answer, and 0 if it has none.
 fn height(bounds: &Bounds, rows: &RowSet, answer: i128, row: u16) -> i128
     requires same_n { rows.now.n ≡ bounds.now.n }
     requires row { row < bounds.now.n }
@@ -125,7 +125,7 @@ fn is_at(heights: &[i128], rows: &RowSet, height: i128, row: u16) -> bool
     rows.has(row) && heights[row as usize] == height
 }
 
-// Whether it is the only one.
+// Whether it is the only such row.
 fn is_only(heights: &[i128], rows: &RowSet, height: i128, row: u16) -> bool
     requires within { rows.now.n ≤ length heights.now }
     requires row { row < rows.now.n }

@@ -10,6 +10,7 @@ use max_bounds::{AnsweredMax, Bounds};
 
 // A number above all candidates, and one below them.
 const ABOVE_ALL: i128 = 1 << 64;
+
 const BELOW_ALL: i128 = -(1 << 64);
 
 // How many extreme rows of an answer are outside a set, as far as it matters.

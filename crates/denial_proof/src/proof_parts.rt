@@ -62,7 +62,7 @@ pub enum Proof {
         asked: i128,
     },
     /// After this answer the row is the only one of the pair's set that can reach the pair's answer: the record at this place,
-    /// or the asked set where it is none. `high` gives all answers, so the answer is possible.
+    /// or the asked set if there is none. `high` gives all answers, so the answer is possible.
     Max {
         answer: i128,
         row: u16,
@@ -74,7 +74,7 @@ pub enum Proof {
 /// Why no proof was given.
 #[derive(Clone, Copy, Debug, PartialEq, Eq)]
 pub enum ProveFault {
-    /// The marked sets aren't narrow, or a number for a group is too large.
+    /// The marked sets aren't narrow, or a number for a group is above 2^112.
     Wide,
     NoMemory,
 }

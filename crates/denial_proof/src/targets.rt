@@ -41,7 +41,7 @@ fn first_group(basis: &Basis, protected: &[Protected], column: u8) -> Option<Tar
     None
 }
 
-/// The least row whose unit row lies in the span, and where there is none, the first protected entry of the column whose row
+/// The least row whose unit row lies in the span, and if there is none, the first protected entry of the column whose row
 /// does.
 pub(crate) fn first_target(basis: &Basis, protected: &[Protected], column: u8) -> Option<Target>
     requires same_n { AllByRecursion (λ p. p.rows.n ≡ basis.now.n) protected.now }

@@ -101,15 +101,6 @@ impl Divisor {
         }
     }
 
-    /// What the number is a multiple by. None if it isn't one, or if that isn't found at once.
-    pub fn exact(&self, number: i128) -> Option<i128>
-        requires { unsigned_abs number ≤ 2 ^ 126 }
-        ensures { IfSome result (λ q. number ≡ pos self.now *ℤ q) }
-    {
-        let q = self.guess(number.unsigned_abs())?;
-        Some(signed(q, number < 0))
-    }
-
     /// What a multiple of it is a multiple by.
     pub fn quotient(&self, multiple: i128) -> i128
         requires divides { self.now ∣ unsigned_abs multiple }

@@ -20,14 +20,13 @@ pub fn value_from(entries: &[FreeEntry], k: usize, place: u16) -> i128
     }
 }
 
-/// `by * x - times * y`.
-pub fn difference(by: i128, x: i128, times: i128, y: i128) -> i128
+// `by * x - times * y`.
+fn difference(by: i128, x: i128, times: i128, y: i128) -> i128
     requires by { unsigned_abs by ≤ 2 ^ 56 }
     requires x { unsigned_abs x ≤ 2 ^ 56 }
     requires times { unsigned_abs times ≤ 2 ^ 56 }
     requires y { unsigned_abs y ≤ 2 ^ 56 }
-    ensures exact { result ≡ by *ℤ x -ℤ times *ℤ y }
-    ensures small { unsigned_abs result ≤ 2 ^ 113 }
+    ensures { result ≡ by *ℤ x -ℤ times *ℤ y }
 {
     product(by, x) - product(times, y)
 }

@@ -56,6 +56,9 @@ fn less(x: i128, times: i128, y: i128) -> i128
     requires y { unsigned_abs y ≤ 2 ^ 56 }
     ensures { result ≡ x -ℤ times *ℤ y }
 {
+    if times == 1 {
+        return x - y;
+    }
     x - product(times, y)
 }
 

@@ -1,7 +1,7 @@
-use Rattle.std.proofs.Common.{rules, tests, ◌<◌, ◌≡◌, List, ℕ, length, OnOk, Result, Ok, Err, subst, sym, inr}
+use Rattle.std.proofs.Common.{rules, tests, ◌<◌, length, OnOk, Result, Ok, Err, subst, sym, inr}
 use Rattle.audit_types.specs.Limits.{most_records}
 use Rattle.question_plan.specs.declared.planning.Plan.{Plan}
-use Rattle.certificate_lines.specs.Explained.{IsLineFor, IsLineOf}
+use Rattle.certificate_lines.specs.Explained.{IsLineOf}
 use Rattle.certificate_lines.proofs.deciding.write_line.Goals as goal
 
 on_ok : {E P Q : Type 0} (r : Result (Unit {0}) E) → (P → Q) → OnOk r P → OnOk r Q

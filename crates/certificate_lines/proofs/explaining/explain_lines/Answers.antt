@@ -1,14 +1,14 @@
-use Rattle.std.proofs.Common.{rules, ◌≡◌, List, ℕ, [], Option, Some, None, Result, Ok, Err, refl, sym, subst}
+use Rattle.std.proofs.Common.{rules, ◌≡◌, List, ℕ, [], Option, Result, Err, sym, subst}
 use Rattle.audit_types.specs.History.{Setting}
 use Rattle.question_plan.specs.declared.planning.Plan.{Plan}
 use Rattle.question_plan.specs.declared.planner.PlanStop.{PlanStop}
-use Rattle.question_plan.specs.Planned.{GivesPlan, PlansNext}
+use Rattle.question_plan.specs.Planned.{PlansNext}
 use Rattle.certificate_lines.specs.declared.explaining.ExplainFault.{ExplainFault}
 use Rattle.certificate_lines.specs.declared.explaining.ExplainFault.TheVariants as fault
-use Rattle.certificate_lines.specs.Explained.{IsExplained, IsLineOf}
+use Rattle.certificate_lines.specs.Explained.{IsLineOf}
 use Rattle.certificate_lines.specs.Ends.{Explains, stop_end}
 use Rattle.certificate_lines.proofs.SoFar.{nothing_yet}
-use Rattle.certificate_lines.proofs.Turns.{Turn, went_on, unsent, unwritten, unplanned, none_left}
+use Rattle.certificate_lines.proofs.Turns.{went_on, unsent, unwritten, unplanned, none_left}
 use Rattle.certificate_lines.proofs.explaining.explain_lines.Goals as goal
 
 abbrev ended_by : ExplainFault → Result (Unit {0}) ExplainFault
@@ -23,7 +23,7 @@ loop-line-init g c = record {
         nothing_yet g.P.Source g.B.Bench c.args.schema.now.columns c.args.index.now c.args.core.now.history c.args.source.now c.args.bench.now
         c.lines_in_turn.ensures.none c.args.planner.now c.requires.fresh (λ image bytes was. g.met.B.Bench.only_now c.args.bench.now image bytes was);
   };
-  kept = tt;
+  provers = c.new-provers.ensures c.args.core.now.setting c.args.core.now.history;
 }
 
 pub returns-in_err-plan : goal.returns-in_err-plan
@@ -73,7 +73,7 @@ loop-line-preserved g c =
           went_on g.P.Source g.B.Bench c.args.schema.now.columns c.args.index.now c.args.core.now.history c.args.source.now c.args.bench.now
           c.lines_in_turn.ensures.more c.loop-line.planner c.loop-line.source c.loop-line.bench c.loop-line.invariant.turn c.next.new.self c.next.new.source
           c.in_ok-plan.ensures.cuts c.in-Some.plan plan line line_of c.send.new.self said.file said.crash said.time said.all said.ticks said.cause.steady;
-      kept = c.in_ok-write_line.ensures.kept;
+      provers = c.in_ok-write_line.ensures.provers;
     }
 
 pub returns-in_err-send : goal.returns-in_err-send

@@ -1,12 +1,12 @@
-use Rattle.std.proofs.Common.{◌+◌, ◌-◌, ◌^◌, length, IfSome}
-use Rattle.denial_proof.specs.Provers.{IsProverOf}
+use Rattle.std.proofs.Common.{◌+◌, ◌-◌, ◌^◌, length}
+use Rattle.certificate_lines.specs.Provers.{AreProversOf}
 use Rattle.certificate_lines.proofs.Turns.{Turn}
 use Rattle.certificate_lines.proofs.explaining.explain_lines.Given as goal
 
 abbrev pub invariant-loop-line : goal.invariant-loop-line
 invariant-loop-line g l = record {
   turn : Turn g.P.Source g.B.Bench l.schema.columns l.index l.core.history l.fn.source l.fn.bench l.planner l.source l.bench;
-  kept : IfSome l.kept (IsProverOf l.core.setting l.core.history);
+  provers : AreProversOf l.core.setting l.core.history l.provers;
 }
 
 abbrev pub decreases-loop-line : goal.decreases-loop-line

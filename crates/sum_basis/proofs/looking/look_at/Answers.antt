@@ -1,8 +1,6 @@
-use Rattle.std.proofs.Common.{◌≡◌, ℕ, ◌+◌, ◌*◌, ◌≤◌, ◌^◌, pos, get_or, refl, sym, ◌∙◌, IsTrue, subst, arith}
-use Rattle.std.specs.Prelude.{unsigned_abs}
+use Rattle.std.proofs.Common.{ℕ, ◌+◌, ◌*◌, ◌≤◌, ◌^◌, refl, sym, ◌∙◌, IsTrue, subst, arith}
 use Rattle.std.proofs.Math.Nat.{mul-le-mul_right}
 use Rattle.std.proofs.lemmas.Bool.{eqb-true, eq-eqb}
-use Rattle.sum_basis.proofs.ListContents.{none}
 use Rattle.sum_basis.proofs.BoundedRows.{by_length}
 use Rattle.sum_basis.proofs.looking.look_at.Goals as goal
 

@@ -8,9 +8,50 @@ use Rattle.sum_basis.specs.declared.sparse.FreeEntry.{FreeEntry}
 use Rattle.sum_basis.specs.Sparse.{entry_at, scaled}
 use Rattle.sum_basis.proofs.ListContents.{none, value_small}
 use Rattle.sum_basis.proofs.Merges.{out_room, first_merged, second_merged, both_merged, whole_listed, whole_is, part_length, whole_length, end_is, appended}
-use Rattle.sum_basis.proofs.MergedNumbers.{passed, of_value, of_values, some_by, negated, minus_is, minus_small, end_small}
 use Rattle.sum_basis.proofs.merging.combine_into.Goals.{then-loop-i-test+else-j-second, else-loop-i-test}
 use Rattle.sum_basis.proofs.merging.combine_into.Goals as goal
+
+-- a number as the code passes it
+passed : (x y : ℤ) → FitsSigned w128 x → x ≡ y → to_z w128 (of_z w128 x) ≡ y
+passed x y fits e = to_z-of_z w128 x fits ∙ e
+
+-- a product or difference of values as the code passes them
+of_value : (by x : ℤ) → FitsSigned w128 x → by *ℤ to_z w128 (of_z w128 x) ≡ by *ℤ x
+of_value by x fits = ap (λ z. by *ℤ z) (to_z-of_z w128 x fits)
+
+of_values : (by x times y : ℤ) → FitsSigned w128 x → FitsSigned w128 y →
+    by *ℤ to_z w128 (of_z w128 x) -ℤ times *ℤ to_z w128 (of_z w128 y) ≡ by *ℤ x -ℤ times *ℤ y
+of_values by x times y p q = ap (λ z. z -ℤ times *ℤ to_z w128 (of_z w128 y)) (of_value by x p) ∙ ap (λ z. by *ℤ x -ℤ z) (of_value times y q)
+
+some_by : (z : ℤ) → FitsSigned w128 z → z ≢ pos 0 → to_z w128 (of_z w128 z) ≢ pos 0
+some_by z fits n e = n (sym (to_z-of_z w128 z fits) ∙ e)
+
+-- no number within the limit passes the least number when its sign is turned
+negated : (z : ℤ) → unsigned_abs z ≤ 2 ^ 56 → FitsSigned w128 (pos 0 -ℤ z)
+negated z h = fits_signed_from_abs w128 (pos 0 -ℤ z) (omega (arith, ints))
+
+minus_is : (z : ℤ) → FitsSigned w128 z → unsigned_abs z ≤ 2 ^ 56 → to_z w128 (of_z w128 (pos 0 -ℤ to_z w128 (of_z w128 z))) ≡ neg_ℤ (to_z w128 (of_z w128 z))
+minus_is z fits small = rw (to_z-of_z w128 z fits) (to_z-of_z w128 (pos 0 -ℤ z) (negated z small) ∙ minus z)
+  where
+    minus : (x : ℤ) → pos 0 -ℤ x ≡ neg_ℤ x
+    minus x = omega (arith, ints)
+
+minus_small : (z : ℤ) → FitsSigned w128 z → unsigned_abs z ≤ 2 ^ 56 → unsigned_abs (to_z w128 (of_z w128 (pos 0 -ℤ to_z w128 (of_z w128 z)))) ≤ 2 ^ 56
+minus_small z fits small = rw (minus_is z fits small, to_z-of_z w128 z fits) (turned z small)
+  where
+    turned : (x : ℤ) → unsigned_abs x ≤ 2 ^ 56 → unsigned_abs (neg_ℤ x) ≤ 2 ^ 56
+    turned x h = omega (arith, ints)
+
+-- the end of a list of small values
+end_small : (es : List FreeEntry) (k : ℕ) → AllByRecursion (λ (e : FreeEntry). unsigned_abs e.value ≤ 2 ^ 56) es →
+    AllByRecursion (λ (e : FreeEntry). unsigned_abs e.value ≤ 2 ^ 56) (take (length es - k) (drop k es))
+end_small es k all = rw (end_is es k) (later es k all)
+  where
+    later : (xs : List FreeEntry) (i : ℕ) → AllByRecursion (λ (e : FreeEntry). unsigned_abs e.value ≤ 2 ^ 56) xs →
+        AllByRecursion (λ (e : FreeEntry). unsigned_abs e.value ≤ 2 ^ 56) (drop i xs)
+    later xs zero h = h
+    later [] (suc i) h = h
+    later (x ∷ xs) (suc i) h = later xs i h.1
 
 pub product-requires-clause-x : goal.product-requires-clause-x
 product-requires-clause-x c = rw (to_z-of_z w128 c.args.by c.ranges.by) c.requires.by
@@ -128,7 +169,7 @@ loop-i-preserved c =
       merging =
           rw c.put-else-other-one.ensures.items
           (both_merged c.args.columns _ c.args.first.now _ c.args.second.now c.loop-i.out.items c.loop-i.i c.loop-i.j c.loop-i.invariant.merging
-          c.loop-i-test.true c.if-j-second.true _ (omega arith) (passed _ _ v (c.difference.ensures.exact ∙ of_values _ _ _ _ x y)));
+          c.loop-i-test.true c.if-j-second.true _ (omega arith) (passed _ _ v (c.difference.ensures ∙ of_values _ _ _ _ x y)));
       capacity = c.put-else-other-one.ensures.capacity ∙ c.loop-i.invariant.capacity;
     }
 
