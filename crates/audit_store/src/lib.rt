@@ -2,7 +2,8 @@
 //!
 //! `Store::start` opens a journal and tests that it is that of the table; `Store::ask_all` decides questions and keeps
 //! what it answers. A store's history is legal, so it discloses no secret, and no total of a protected group. `Store::grow` takes
-//! the journal of a table to the rows that came at its end.
+//! the journal of a table to the rows that came at its end. `Store::open_other`, `bring_up` and `Store::ask_all_twice` do for a table
+//! with a second journal what the others do for one.
 #![tactic(auto)]
 
 mod agreeing;
@@ -15,11 +16,10 @@ mod starting;
 mod store;
 
 pub use agreeing::agreement;
-pub use asking::decide_all;
 pub use audit_core::Outcome;
 pub use bringing::bring_up;
 pub use growing::GrowFault;
 pub use keeper::{KeepFault, Keeper};
 pub use outcome::StoreFault;
-pub use starting::{StartFault, recover};
+pub use starting::StartFault;
 pub use store::Store;

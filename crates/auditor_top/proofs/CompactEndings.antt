@@ -81,7 +81,7 @@ compact_no_input (Err compact.Bench) is = cc
 compact_no_input (Err compact.NoMemory) is = cc
 
 -- counts of the bench and of the spare that are as they were
-both_same : (before : FaultCounts) (bench spare : ℕ) → bench ≡ before.bench → spare ≡ before.spare → record before { bench = bench; spare = spare } ≡ before
+pub both_same : (before : FaultCounts) (bench spare : ℕ) → bench ≡ before.bench → spare ≡ before.spare → record before { bench = bench; spare = spare } ≡ before
 both_same before bench spare is also =
     ap (λ (n : ℕ). record before { bench = n; spare = spare }) is ∙ ap (λ (n : ℕ). record before { spare = n }) also
 

@@ -1,5 +1,5 @@
 -- A life with one run more.
-use Rattle.std.proofs.Common.{◌≡◌, ℕ, inl, List, [], ◌∷◌, ◌++◌, Bool, true, false, Option, Some, refl, sym, ◌∙◌, ap, subst, append_assoc, arith}
+use Rattle.std.proofs.Common.{◌≡◌, ℕ, inl, inr, List, [], ◌∷◌, ◌++◌, Bool, true, false, Option, Some, refl, sym, ◌∙◌, ap, subst, append_assoc, arith}
 use Rattle.std.proofs.lemmas.List.{append_cancel_left, append-nil}
 use Rattle.audit_types.specs.declared.shapes.Shape.{Shape}
 use Rattle.audit_types.specs.declared.records.Answered.{Answered}
@@ -29,7 +29,7 @@ use Rattle.auditor_top.proofs.OneTable.{OneReading, untouched_stops}
 pub nothing_is_legal : (table : Table) → IsLegal table []
 nothing_is_legal table = record { few = omega arith; each = λ i r is. cc }
 
-pub -- what begins each other is the same
+-- what begins each other is the same
 pub fronts_meet : (a b : List Answered) → IsFront a b → IsFront b a → a ≡ b
 fronts_meet a b first second =
     let whole : a ≡ a ++ (first.rest ++ second.rest) =
@@ -41,7 +41,7 @@ fronts_meet a b first second =
     none_first [] y is = refl
     none_first (r ∷ x) y is = cc
 
-lead_push : (at : Standing) (runs : List Run) (mid : Standing) (run : Run) → Lead at runs mid → GoesFrom mid run → Lead at (runs ++ run ∷ []) run.left
+pub lead_push : (at : Standing) (runs : List Run) (mid : Standing) (run : Run) → Lead at runs mid → GoesFrom mid run → Lead at (runs ++ run ∷ []) run.left
 lead_push at [] mid run lead goes = (subst (λ (s : Standing). GoesFrom s run) lead goes, refl)
 lead_push at (before ∷ runs) mid run lead goes = (lead.0, lead_push before.left runs mid run lead.1 goes)
 
@@ -84,7 +84,7 @@ module _ {P I B : Type 0} (files : source.Ghosts P) (lines : source.Ghosts I) (b
   twins_on batch is one serving ptold itold told goes reaches =
       let text = counted_lines (lines.left old.input) in
       stops_on batch is goes.2.files goes.3 (
-        elim (serving.twin_moment ptold itold told quiet left.base goes.0 goes.1 at.history goes.2).each image (before ++ sent) was [
+        elim ((serving.twin_moment ptold itold told quiet left.base goes.0 goes.1 at.history goes.2).each image (before ++ sent) was) [
           | inl catches ↦
               let same : catches.1.now ≡ left.history = (one image left.base.secret.shape (in_force left).setting.shape catches.1.now left.history catches.1.stands.0 stands.0
               catches.1.stands.1 stands.1).1 in

@@ -1,5 +1,5 @@
 -- What `clap` reads of the arguments is the command that they are.
-use Rattle.std.proofs.Common.{◌≡◌, ◌⊎◌, ℕ, true, false, List, [], ◌∷◌, Option, Some, None, Result, Ok, Err, IfOk, refl, sym, ap, subst, codes, ◌∙◌, inl, inr}
+use Rattle.std.proofs.Common.{◌≡◌, ◌⊎◌, ℕ, true, false, List, [], ◌∷◌, Option, Some, None, option_and_then, Result, Ok, Err, IfOk, refl, sym, ap, subst, codes, ◌∙◌, inl, inr}
 use Rattle.std.specs.Result.{result_ok}
 use Rattle.clap.specs.Words.{App, Rule, AddsArg, app_of, rule_of, with_rule, Kinds, HasMatchesOf, HasKind, IsAmong, kind_of, is_simple, is_simple_and_free, fault_of, matches_of, found_of, rows_of, first_of, first_value}
 use Rattle.std.specs.declared.alloc.AllocError.{AllocError}
@@ -15,7 +15,7 @@ use Rattle.clap.proofs.OnLiterals.{clap_on_literals}
 use Rattle.auditor_top.specs.declared.words.Command.{Command}
 use Rattle.auditor_top.specs.declared.words.WordFault.{WordFault}
 use Rattle.auditor_top.specs.declared.words.WordFault.TheVariants.{Bad, NoMemory}
-use Rattle.auditor_top.specs.Words.{auditor, command_from, command_in, unless_refused, command_of, word_fault}
+use Rattle.auditor_top.specs.Words.{auditor, command_with, command_in, plain_command, twinned_if, unless_refused, command_of, word_fault}
 
 -- ---- the command line
 
@@ -34,19 +34,31 @@ last_added old argument (Err e) app rule adds local was is = tt
 
 -- ---- the values of a parse
 
-pub values_are : (found : Found) (word number batch flag : Option (List ℕ)) → word ≡ first_value found (codes "command")
-    → number ≡ first_value found (codes "number") → batch ≡ first_value found (codes "batch") → flag ≡ first_value found (codes "twin")
-    → command_from word number batch flag ≡ command_in (rows_of found)
-values_are found word number batch flag word_is number_is batch_is flag_is =
+-- the command of three values
+abbrev command_from : Option (List ℕ) → Option (List ℕ) → Option (List ℕ) → Option Command
+command_from word number batch = option_and_then (λ name. command_with name number batch) word
+
+pub values_are : (found : Found) (word number batch : Option (List ℕ)) → word ≡ first_value found (codes "command")
+    → number ≡ first_value found (codes "number") → batch ≡ first_value found (codes "batch")
+    → command_from word number batch ≡ plain_command (rows_of found)
+values_are found word number batch word_is number_is batch_is =
     let rows = rows_of found in
     let first = word_is ∙ first_value-rows found (codes "command") in
     let second = number_is ∙ first_value-rows found (codes "number") in
     let third = batch_is ∙ first_value-rows found (codes "batch") in
-    let fourth = flag_is ∙ first_value-rows found (codes "twin") in
-    ap (λ (w : Option (List ℕ)). command_from w number batch flag) first
-    ∙ (ap (λ (n : Option (List ℕ)). command_from (first_of (codes "command") rows) n batch flag) second
-    ∙ (ap (λ (b : Option (List ℕ)). command_from (first_of (codes "command") rows) (first_of (codes "number") rows) b flag) third
-    ∙ ap (λ (f : Option (List ℕ)). command_from (first_of (codes "command") rows) (first_of (codes "number") rows) (first_of (codes "batch") rows) f) fourth))
+    ap (λ (w : Option (List ℕ)). command_from w number batch) first
+    ∙ (ap (λ (n : Option (List ℕ)). command_from (first_of (codes "command") rows) n batch) second
+    ∙ ap (λ (b : Option (List ℕ)). command_from (first_of (codes "command") rows) (first_of (codes "number") rows) b) third)
+
+-- and of these with the flag
+pub flag_is : (found : Found) (flag : Option (List ℕ)) (command : Command) → flag ≡ first_value found (codes "twin") →
+    Some command ≡ plain_command (rows_of found) → twinned_if flag command ≡ command_in (rows_of found)
+flag_is found flag command first plain =
+    ap (λ (f : Option (List ℕ)). twinned_if f command) (first ∙ first_value-rows found (codes "twin"))
+    ∙ ap (λ (k : Option Command). option_and_then (twinned_if (first_of (codes "twin") (rows_of found))) k) plain
+
+pub no_flag : (found : Found) → None ≡ plain_command (rows_of found) → None ≡ command_in (rows_of found)
+no_flag found plain = ap (λ (k : Option Command). option_and_then (twinned_if (first_of (codes "twin") (rows_of found))) k) plain
 
 -- ---- a parse
 

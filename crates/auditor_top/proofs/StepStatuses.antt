@@ -123,7 +123,7 @@ reads_nothing Done bytes early = absurd early
 reads_nothing (SourceFault Input) bytes early = absurd early
 reads_nothing InputLimit bytes early = absurd early
 reads_nothing (Disagrees line due) bytes early = absurd early
-reads_nothing status bytes early = always_before reading_lines status refl
+reads_nothing status bytes early = always_before {P = bytes ≡ bytes} reading_lines status refl
 
 -- ---- the last step of a command
 

@@ -1,5 +1,5 @@
 -- What a command goes on with once its files are read and its journal is opened, and with which statuses that may end.
-use Rattle.std.specs.Prelude.{◌≡◌, ◌≢◌, ◌≤◌, ◌+◌, List, ℕ, true, length, Some, Ok}
+use Rattle.std.specs.Prelude.{◌≡◌, ◌≢◌, ◌≤◌, ◌+◌, List, ℕ, true, false, length, Some, Ok}
 use Rattle.audit_types.specs.declared.records.Answered.{Answered}
 use Rattle.audit_types.specs.Shapes.{IsShape}
 use Rattle.bench_core.specs.declared.bench.Bench.{Ghosts}

@@ -12,7 +12,7 @@ ghost use Rattle.table_load.specs.Tables.{table_of, public_of};
 ghost use Rattle.journal_form.specs.Journal.{StandsFor};
 ghost use Rattle.audit_session.specs.Lives.{Standing, Run, IsLife, in_force};
 ghost use Rattle.auditor_top.specs.declared.words.Command.{Command};
-ghost use Rattle.auditor_top.specs.declared.words.Command.TheVariants.{Simulate, Restore};
+ghost use Rattle.auditor_top.specs.declared.words.Command.TheVariants.{Serve, Simulate, Restore};
 ghost use Rattle.auditor_top.specs.Words.{command_of, NamesCommand};
 ghost use Rattle.auditor_top.specs.Commands.{AreFilesOf, AreSoundFilesOf, GoesOnOver, deed_of, opens_journal, reads_files, reads_groups, reads_secrets, reads_lines, writes, calls_spare};
 ghost use Rattle.auditor_top.specs.Causes.{FaultCause, WordCause, SchemaCause, TableCause, GroupCause, FileCause, SpareCause, InputCause, IsReadyFor, NeverFall, counts};
@@ -29,14 +29,13 @@ use crate::ready::{Ready, open};
 use crate::status::{Status, Which};
 use crate::words::{Command, WordFault, read_words};
 use answer_journal::Journal;
-use audit_session::serve_with;
 use audit_store::Store;
 use bench_core::{Bench, Source};
 use schema_json::SchemaFault;
 use std::alloc::Global;
 use table_load::TableFault;
 use transcript_sim::laws::one_verdict;
-use twin_journal::{TwinStore, restore};
+use twin_journal::{TwinStore, restore, serve_twin};
 
 /// Does all that the program does: reads the arguments after the program's name, and takes the steps of their command over the
 /// schema, the table, the lines of the input, and the bench, which keeps the journal and takes what is sent. `spare` is the place
@@ -104,8 +103,10 @@ pub fn run<P: Source, I: Source, B: Bench>(
         → ((base : Database) → AreSoundFilesOf (P.left schema.old) (P.left table.old) base → IsReadyFor command (B.file bench.old) (table_in base) → ⊥)
         → LeavesOnly B.Bench bench.old bench.new (IsUntouched (B.file bench.old) (B.sent bench.old)) }
 
-    // If it ends without a failed call, a crash leaves the file that reads.
-    ensures quiet { B.told → IsQuiet B.Bench bench.old → result ≢ Status.BenchFault → IsQuiet B.Bench bench.new }
+    // If it ends without a failed call, a crash leaves the file that reads; so it does if the spare failed, but for `serve` with two
+    // journals, whose record says what then is left of both.
+    ensures quiet { B.told → IsQuiet B.Bench bench.old → result ≢ Status.BenchFault
+        → ((batch : ℕ) → NamesCommand words.now.items (Serve batch true) → result ≢ Status.SpareFault) → IsQuiet B.Bench bench.new }
 
     // What it doesn't come to, it doesn't call, and before the lines nothing is written or sent. A step that isn't one of the
     // command's leaves its object alone.
@@ -153,7 +154,7 @@ pub fn run<P: Source, I: Source, B: Bench>(
                 batch,
             },
         ) => match TwinStore::start(alloc, secret, protected, bench, spare) {
-            Ok(mut twin) => twins_answered(serve_with(
+            Ok(mut twin) => twins_answered(serve_twin(
                 alloc, &schema, &index, &mut twin, input, bench, spare, batch,
             )),
             Err(fault) => Status::from(fault),

@@ -138,6 +138,7 @@ pub fn write_whole<B: Bench>(
     ensures already { B.told → IsErrOf result WholeFault.AlreadyThere → IsMade (B.file bench.old) }
     ensures refused { B.told → IsMade (B.file bench.old) → IsErr result × (B.file bench.new ≡ B.file bench.old) }
     ensures untouched { B.told → IsMade (B.file bench.old) → IsQuiet B.Bench bench.old → LeavesOnly B.Bench bench.old bench.new (IsUntouched (B.file bench.old) (B.sent bench.old)) }
+    ensures reads { IsErrOf result WholeFault.AlreadyThere → OnlyReads B.Bench bench.old bench.new }
     ensures no_memory { IsErrOf result WholeFault.NoMemory → bench.new ≡ bench.old }
 
     // A crash at any moment leaves a file that isn't made, or the whole journal.

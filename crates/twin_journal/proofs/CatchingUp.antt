@@ -1,15 +1,15 @@
 -- Histories of which one begins the other, and journals that are brought up to the longer one.
-use Rattle.std.proofs.Common.{◌≡◌, ◌≢◌, inl, inr, ◌⊎◌, ℕ, zero, suc, ◌+◌, ◌-◌, ◌*◌, ◌/◌, ◌<◌, ◌≤◌, List, [], ◌∷◌, ◌++◌, length, take, drop, Some, refl, sym, ap, subst, ◌∙◌, arith, append-nil, append_assoc, length-append, length-take, length-drop}
+use Rattle.std.proofs.Common.{◌≡◌, ◌≢◌, inl, inr, ℕ, zero, suc, ◌-◌, ◌<◌, ◌≤◌, List, [], ◌∷◌, ◌++◌, length, take, drop, Some, refl, sym, ap, subst, ◌∙◌, arith, append-nil, append_assoc, length-append, length-drop}
 use Rattle.std.specs.Prelude.{slice_get}
-use Rattle.std.proofs.Math.Seq.{take-length, take-append_seam, drop-append_seam}
+use Rattle.std.proofs.Math.Seq.{take-length}
 use Rattle.std.proofs.lemmas.List.{take-append-drop, take_all}
-use Rattle.std.proofs.lemmas.Option.{slice_get_within, none-some}
+use Rattle.std.proofs.lemmas.Option.{none-some}
 use Rattle.audit_types.specs.declared.shapes.Shape.{Shape}
 use Rattle.audit_types.specs.declared.records.Answered.{Answered}
 use Rattle.bench_core.specs.declared.bench.Bench.{Ghosts}
 use Rattle.bench_core.specs.Calls.{IsQuiet, LeavesOnly}
 use Rattle.bench_core.specs.Moments.{started, weakens}
-use Rattle.journal_form.specs.Journal.{StandsAt, StandsFor}
+use Rattle.journal_form.specs.Journal.{StandsAt}
 use Rattle.audit_store.specs.Twice.{IsBroughtUp, calls_to_bring_up}
 use Rattle.audit_session.specs.Stops.{IsFront}
 use Rattle.twin_journal.specs.Twins.{CatchesUp, DifferFirst, Meet, missing}

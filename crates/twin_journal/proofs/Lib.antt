@@ -1,2 +1,4 @@
 pub mod CatchingUp
 pub mod TwinCauses
+pub mod TwinMoments
+pub mod Copies

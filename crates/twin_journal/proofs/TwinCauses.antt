@@ -1,6 +1,5 @@
 -- Why two journals aren't opened: one cause at most holds, and none of files that keep together.
-use Rattle.std.proofs.Common.{◌≡◌, ℕ, ◌<◌, inl, inr, ◌⊎◌, List, Some, Result, Ok, Err, refl, sym, ap, subst, ◌∙◌, arith, length, take}
-use Rattle.std.specs.Prelude.{slice_get}
+use Rattle.std.proofs.Common.{◌≡◌, ℕ, ◌<◌, inl, inr, ◌⊎◌, List, Result, Err, refl, sym, ap, subst, ◌∙◌, arith}
 use Rattle.std.proofs.lemmas.Bool.{cases_lt}
 use Rattle.std.proofs.lemmas.Option.{same_Some}
 use Rattle.audit_types.specs.declared.records.Answered.{Answered}
@@ -13,7 +12,7 @@ use Rattle.audit_store.specs.declared.starting.StartFault.TheVariants as start
 use Rattle.audit_session.specs.Stops.{IsFront}
 use Rattle.twin_journal.specs.declared.starting.TwinFault.{TwinFault}
 use Rattle.twin_journal.specs.declared.starting.TwinFault.TheVariants.{Main, Spare, Differ, MainFailed, SpareFailed, NoMemory}
-use Rattle.twin_journal.specs.Twins.{DifferFirst, HoldApart, HoldsLegal, KeepApart, KeepTogether, Meet, TwinCause, TwinGivesUp, fault_of_main, fault_of_spare}
+use Rattle.twin_journal.specs.Twins.{DifferFirst, HoldApart, HoldsLegal, KeepTogether, Meet, TwinCause, TwinGivesUp, fault_of_main, fault_of_spare}
 use Rattle.twin_journal.proofs.CatchingUp.{get_in_whole}
 
 -- what the file of the journal, or the spare's, gives up with
@@ -53,6 +52,60 @@ spare_fault_stays (start.Untrue place kept now) some = refl
 spare_fault_stays (start.Illegal place) some = refl
 spare_fault_stays start.Failed some = absurd (some tt)
 spare_fault_stays start.NoMemory some = absurd (some tt)
+
+-- a fault of a file isn't one that may come whatever the file is
+abbrev pub IsOwn : TwinFault → Type 0
+IsOwn (Main fault) = GivesUp fault → ⊥
+IsOwn (Spare fault) = GivesUp fault → ⊥
+IsOwn (Differ place) = Unit {0}
+IsOwn MainFailed = Unit {0}
+IsOwn SpareFailed = Unit {0}
+IsOwn NoMemory = Unit {0}
+
+pub own_of_main : (fault : StartFault) → IsOwn (fault_of_main fault)
+own_of_main start.NotMade = λ gives. gives
+own_of_main (start.Damaged at) = λ gives. gives
+own_of_main (start.OtherShape kept now) = λ gives. gives
+own_of_main (start.Untrue place kept now) = λ gives. gives
+own_of_main (start.Illegal place) = λ gives. gives
+own_of_main start.Failed = tt
+own_of_main start.NoMemory = tt
+
+pub own_of_spare : (fault : StartFault) → IsOwn (fault_of_spare fault)
+own_of_spare start.NotMade = λ gives. gives
+own_of_spare (start.Damaged at) = λ gives. gives
+own_of_spare (start.OtherShape kept now) = λ gives. gives
+own_of_spare (start.Untrue place kept now) = λ gives. gives
+own_of_spare (start.Illegal place) = λ gives. gives
+own_of_spare start.Failed = tt
+own_of_spare start.NoMemory = tt
+
+pub own_of_refused : (fault : TwinFault) → TwinGivesUp fault ⊎ ((place : ℕ) × (fault ≡ Differ place)) → IsOwn fault
+own_of_refused fault (inl gives) = given_up fault gives
+  where
+    given_up : (fault : TwinFault) → TwinGivesUp fault → IsOwn fault
+    given_up (Main fault) gives = absurd gives
+    given_up (Spare fault) gives = absurd gives
+    given_up (Differ place) gives = absurd gives
+    given_up MainFailed gives = tt
+    given_up SpareFailed gives = tt
+    given_up NoMemory gives = tt
+own_of_refused fault (inr (place, is)) = subst (λ (f : TwinFault). IsOwn f) (sym is) tt
+
+-- a refusal with this fault
+abbrev pub refused : {X : Type 0} → TwinFault → Result X TwinFault
+refused fault = Err fault
+
+pub never_given_up : {X : Type 0} (answer : TwinFault) → IsOwn answer → (fault : StartFault) → GivesUp fault →
+    (refused {X = X} answer ≡ refused (Main fault) → ⊥) × (refused {X = X} answer ≡ refused (Spare fault) → ⊥)
+never_given_up answer own fault gives = (
+  λ is. let same : answer ≡ Main fault = cc in
+      let at : IsOwn (Main fault) = subst (λ (f : TwinFault). IsOwn f) same own in
+      at gives,
+  λ is. let same : answer ≡ Spare fault = cc in
+      let at : IsOwn (Spare fault) = subst (λ (f : TwinFault). IsOwn f) same own in
+      at gives,
+)
 
 module _ (file spare : List ℕ) (table : Table) where
   -- ---- the journal has a fault

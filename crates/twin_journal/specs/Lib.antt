@@ -1,3 +1,4 @@
 pub mod Twins
+pub mod Copying
 pub mod Restoring
 pub mod Fronts

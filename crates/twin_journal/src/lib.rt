@@ -5,6 +5,7 @@
 #![tactic(auto)]
 
 mod catching;
+mod copying;
 mod keeping;
 mod restoring;
 mod serving;

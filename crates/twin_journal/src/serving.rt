@@ -10,7 +10,7 @@ ghost use Rattle.audit_store.specs.Stores.{IsAsLeft, IsStore, table_of};
 ghost use Rattle.line_wire.specs.Lines.{counted_lines, most_input};
 ghost use Rattle.audit_session.specs.Stops.{IsBatch, IsHarmless, LeavesBoth, SpareStops, StopsOver};
 ghost use Rattle.audit_session.specs.Ends.{Serves, ServesWhole, ServesSome, TakesCalls, limited};
-ghost use Rattle.twin_journal.specs.Twins.{IsSpareAsLeft, IsTwin};
+ghost use Rattle.twin_journal.specs.Twins.{IsSpareAsLeft};
 
 use crate::starting::TwinStore;
 use audit_session::{TwinEnd, serve_with};
@@ -64,7 +64,7 @@ pub fn serve_twin<P: Source, B: Bench, S: Bench>(
     // discloses nothing.
     ensures legal { B.told → IsQuiet B.Bench bench.old → LeavesOnly B.Bench bench.old bench.new (λ image sent. IsHarmless (table_of twin.old.store) image) }
     ensures table { (twin.new.store.secret ≡ twin.old.store.secret) × (twin.new.store.protected ≡ twin.old.store.protected) }
-    ensures is { IsStore twin.new.store × IsTwin twin.new }
+    ensures is { IsStore twin.new.store }
 
     // How much of the input there was.
     ensures read { P.told → OnOk result (P.left source.new ≡ []) }

@@ -7,6 +7,7 @@ ghost use Rattle.bench_core.specs.Calls.{IsQuiet, IsUntouched, LeavesOnly, OnlyR
 ghost use Rattle.answer_journal.specs.Moments.{IsBeforeOrAfter};
 ghost use Rattle.table_load.specs.Database.{secret_table};
 ghost use Rattle.audit_store.specs.Stores.{HasGroup, IsAsLeft, IsStore, Keeps, KeptAhead, calls_for, table_of};
+ghost use Rattle.audit_store.specs.Starting.{GivesUp};
 ghost use Rattle.audit_store.specs.declared.starting.StartFault.{StartFault};
 ghost use Rattle.twin_journal.specs.declared.starting.TwinFault.{TwinFault};
 ghost use Rattle.twin_journal.specs.Twins.{CatchesUp, IsSpareAsLeft, IsTwin, KeepApart, KeepTogether, KeepWhole, RefusedUnlessGivenUp, StartsUnlessGivenUp, TwinCause, TwinGivesUp, calls_to_open, fault_of_main, fault_of_spare};
@@ -16,6 +17,7 @@ use answer_journal::Journal;
 use audit_store::{KeepFault, Outcome, StartFault, Store};
 use audit_types::{Answered, Asked, Protected};
 use bench_core::Bench;
+use journal_form::laws::one_reading;
 use std::alloc::Global;
 use std::marker::Model;
 use table_load::Secret;
@@ -110,6 +112,7 @@ impl TwinStore {
         // Each refusal has its cause in the files, and each cause has its refusal; files that keep together are never refused.
         ensures cause { (fault : TwinFault) → B.told → S.told → result ≡ Err fault → TwinCause fault (B.file bench.old) (S.file spare.old) (secret_table secret protected.items) }
         ensures due { (fault : TwinFault) → B.told → S.told → (TwinGivesUp fault → ⊥) → TwinCause fault (B.file bench.old) (S.file spare.old) (secret_table secret protected.items) → RefusedUnlessGivenUp fault result }
+        ensures own { (fault : StartFault) → GivesUp fault → (result ≢ Err (TwinFault.Main fault)) × (result ≢ Err (TwinFault.Spare fault)) }
         ensures opens { (main other whole : List Answered) → B.told → S.told → KeepTogether (secret_table secret protected.items) (B.file bench.old) (S.file spare.old) main other whole → StartsUnlessGivenUp result }
 
         // At every moment each file stands for a history between its own and the whole. Files that don't keep together are only read.
@@ -136,6 +139,7 @@ impl TwinStore {
         ensures fault { TellsFault B.Bench bench.old bench.new (IsErrOf result TwinFault.MainFailed) }
         ensures spare_fault { TellsFault S.Bench spare.old spare.new (IsErrOf result TwinFault.SpareFailed) }
     {
+        one_reading();
         let mut store = match Store::start(alloc, secret, protected, bench) {
             Ok(store) => store,
             Err(fault) => return Err(main_fault(fault)),
@@ -144,11 +148,13 @@ impl TwinStore {
             Ok(found) => found,
             Err(fault) => return Err(spare_fault(fault)),
         };
-        catch_up(&mut store, bench, &mut journal, spare, &list)?;
-        Ok(TwinStore {
-            store,
-            spare: journal,
-        })
+        match catch_up(&mut store, bench, &mut journal, spare, &list) {
+            Ok(()) => Ok(TwinStore {
+                store,
+                spare: journal,
+            }),
+            Err(fault) => Err(fault),
+        }
     }
 
     /// Decides up to 64 questions in order, as `Store::ask_all` does, and keeps the records of the answers as one group on the spare
@@ -202,7 +208,9 @@ impl TwinStore {
         ensures spare_ticks { S.told → IfOk result (λ v. S.moment spare.new ≡ S.moment spare.old + calls_for (records_made asked.now v.items)) }
         ensures unasked { IfOk result (λ v. records_made asked.now v.items ≡ [] → (bench.new ≡ bench.old) × (spare.new ≡ spare.old)) }
     {
-        let decided = self.store.ask_all_twice(&mut self.spare, bench, spare, asked);
+        let decided = self
+            .store
+            .ask_all_twice(&mut self.spare, bench, spare, asked);
         match decided {
             Ok(outcomes) => Ok(outcomes),
             Err(KeepFault::Bench) => Err(TwinStop::MainFailed),

@@ -1,4 +1,4 @@
-use Rattle.std.proofs.Common.{◌≡◌, rules, length, take, sym, ap, subst, refl, List, ◌∙◌}
+use Rattle.std.proofs.Common.{◌≡◌, rules, take, sym, ap, subst, List, ◌∙◌}
 use Rattle.std.proofs.Math.Seq.{take-length}
 use Rattle.audit_types.specs.declared.records.Answered.{Answered}
 use Rattle.audit_types.specs.declared.records.Protected.{Protected}

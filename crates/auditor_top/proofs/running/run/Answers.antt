@@ -99,7 +99,7 @@ returns-in-Err-Bad g c =
       lives = λ ptold told command asked. none_asked _ _ none asked;
       does = λ command asked. none_asked _ _ none asked;
       nothing_began = λ ptold told command asked. none_asked _ _ none asked;
-      quiet = λ told quiet fine. quiet;
+      quiet = λ told quiet fine other. quiet;
       before_table = refl;
       before_bench = refl;
       before_spare = λ other. refl;
@@ -152,7 +152,7 @@ returns-in-Err-NoMemory g c =
           (λ batch twin is. c.read_words.ensures.batch batch twin (asked ∙ ap (λ (k : Command). Some k) is)) (all command asked) ptold told itold quiet;
       does = all;
       nothing_began = λ ptold told command asked opens quiet none. reads.untouched quiet;
-      quiet = λ told quiet fine. quiet;
+      quiet = λ told quiet fine other. quiet;
       before_table = tt;
       before_bench = tt;
       before_spare = λ other. tt;
@@ -212,7 +212,7 @@ returns-in-Err g c =
           (λ batch twin is. c.read_words.ensures.batch batch twin (asked ∙ ap (λ (k : Command). Some k) is)) (all command asked) ptold told itold quiet;
       does = all;
       nothing_began = λ ptold told command asked opens quiet none. reads.untouched quiet;
-      quiet = λ told quiet fine. as_quiet g.B.Bench old.bench new.bench reads quiet;
+      quiet = λ told quiet fine other. as_quiet g.B.Bench old.bench new.bench reads quiet;
       before_table = says.before_table;
       before_bench = says.before_bench;
       before_spare = λ other. always_before opening_spare status refl;

@@ -2,6 +2,7 @@ use Rattle.std.proofs.Common.{◌≡◌, List, Result, Err, refl, sym, ◌∙◌
 use Rattle.audit_types.specs.declared.records.Answered.{Answered}
 use Rattle.audit_types.specs.declared.records.Protected.{Protected}
 use Rattle.audit_types.specs.History.{IsLegal}
+use Rattle.table_load.specs.Cells.{SecretView}
 use Rattle.table_load.specs.Database.{secret_table}
 use Rattle.journal_form.specs.Journal.{StandsFor}
 use Rattle.audit_store.specs.Starting.{StartCause, GivesUp}
@@ -20,16 +21,21 @@ one_fault a b is = cc
 pub returns-in-Err-start-clause-cause : goal.returns-in-Err-start-clause-cause
 returns-in-Err-start-clause-cause g c = λ fault is.
     let opened = c.args.opened in
-    let entries : List Protected = c.in-Ok-copied.protected.items in
+    let made = c.in-Ok.ensures in
+    let entries : List Protected = c.in-Ok.grouped.protected.items in
     let found = c.in-Err-start.fault in
     subst (λ (f : StartFault). (protected : List Protected) × AreEntries opened.schema.columns opened.table.public opened.schema.groups protected ×
     (g.B.Bench.told → StartCause f (g.B.Bench.file c.args.bench.now) (secret_table opened.table.secret protected) ×
     ((history : List Answered) → StandsFor (g.B.Bench.file c.args.bench.now) opened.table.secret.shape history →
     IsLegal (secret_table opened.table.secret protected) history → GivesUp f))) (one_fault found fault is) (
       entries,
-      subst (λ (l : List Protected). AreEntries opened.schema.columns opened.table.public opened.schema.groups l) (sym (c.in-Ok-copied.ensures ∙ c.protected.ensures))
-          c.in-Ok.ensures.entries,
-      λ told. (c.in-Err-start.ensures.cause found told refl, λ history stands legal. c.in-Err-start.ensures.opens history told stands legal),
+      c.in-Ok.ensures.entries,
+      λ told. (
+        subst (λ (s : SecretView). StartCause found (g.B.Bench.file c.args.bench.now) (secret_table s entries)) made.same.2 (c.in-Err-start.ensures.cause found told refl),
+        λ history stands legal. c.in-Err-start.ensures.opens history told
+            (subst (λ (s : SecretView). StandsFor (g.B.Bench.file c.args.bench.now) s.shape history) (sym made.same.2) stands)
+            (subst (λ (s : SecretView). IsLegal (secret_table s entries) history) (sym made.same.2) legal),
+      ),
     )
 
 pub returns-in-Err-start-clause-fault : goal.returns-in-Err-start-clause-fault

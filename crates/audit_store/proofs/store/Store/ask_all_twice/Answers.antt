@@ -1,9 +1,8 @@
-use Rattle.std.proofs.Common.{◌≡◌, true, List, ℕ, ◌-◌, refl, ◌++◌, length, take, drop, sym, ap, subst, ◌∙◌}
+use Rattle.std.proofs.Common.{◌≡◌, true, List, ℕ, refl, ◌++◌, length, take, sym, ap, subst, ◌∙◌}
 use Rattle.audit_types.specs.declared.records.Answered.{Answered}
-use Rattle.audit_types.specs.declared.shapes.Shape.{Shape}
 use Rattle.journal_form.specs.Journal.{StandsAt}
 use Rattle.audit_core.specs.Outcomes.{AreOutcomes, records_made}
-use Rattle.audit_store.specs.Stores.{StoreContents, IsAsLeft, table_of}
+use Rattle.audit_store.specs.Stores.{StoreContents, table_of}
 use Rattle.audit_store.specs.StoreLaws.{table_by, core_is_history, taken_since, more_released, kept_store}
 use Rattle.audit_store.specs.Twice.{group_of}
 use Rattle.audit_store.proofs.KeptTwice.{over_own_shape, stands_after, keeps_group, kept_ahead}

@@ -182,7 +182,7 @@ audit_ends g c =
       nothing_began = λ ptold told command asked opens quiet none.
           absurd (none _ (are ptold).1 (subst (λ (k : Command). IsReadyFor k file (secret_table store.secret store.protected))
           (one_command _ _ command is_named asked) (holds told)));
-      quiet = λ told quiet fine image left.
+      quiet = λ told quiet fine other image left.
           as_quiet g.B.Bench _ _ reads quiet image (c.audit.ensures.crash image left) ∙ sym c.audit.ensures.file;
       before_table = past_table _ status last;
       before_bench = past_journal _ status last;

@@ -185,8 +185,8 @@ compaction_ends g c =
       input_last = λ is. absurd (compact_no_input c.compact.result (sym c.compacted.ensures ∙ is));
       bench_last = λ is. does.fault.last_call (bench_failed c.compact.result (sym c.compacted.ensures ∙ is));
       spare_last = λ is. does.spare_fault.last_call (spare_failed c.compact.result (sym c.compacted.ensures ∙ is));
-      spare_file = λ told command asked calls.
-          subst (λ (k : Command). SpareCause status k (g.B.Bench.file c.args.spare.now)) (one_command _ _ command is_named asked)
+      spare_file = λ told named asked calls.
+          subst (λ (k : Command). SpareCause status k (g.B.Bench.file c.args.spare.now)) (one_command _ _ named is_named asked)
           (subst (λ (s : Status). SpareCause s command.Compact (g.B.Bench.file c.args.spare.now)) (sym c.compacted.ensures)
           (compact_spare c.compact.result (g.B.Bench.file c.args.spare.now) (does.already told) (λ made. (does.refused told made).0)));
       later = record {
@@ -204,7 +204,7 @@ compaction_ends g c =
           absurd (none _ (are ptold).2 (subst (λ (k : Command). IsReadyFor k file (secret_table store.secret store.protected))
           (one_command _ _ command is_named asked)
           (store.history, (store.journal.gate, subst (λ (bytes : List ℕ). IsAsLeft bytes store) reads.file (ready.left told)), ready.is.legal)));
-      quiet = λ told quiet fine image left.
+      quiet = λ told quiet fine other image left.
           as_quiet g.B.Bench _ _ reads quiet image (does.crash image left) ∙ sym does.file;
       before_table = past_table _ status last;
       before_bench = past_journal _ status last;

@@ -9,7 +9,7 @@ use Rattle.auditor_top.specs.Commands.{opens_journal, opens_store, reads_files, 
 use Rattle.auditor_top.specs.Causes.{WordCause, FileCause, FaultCause, counts}
 use Rattle.auditor_top.specs.Drills.{DrillEnds}
 use Rattle.auditor_top.specs.Runs.{objects, Drilling}
-use Rattle.auditor_top.specs.Stages.{reading_table, opening_journal, reading_lines, writing_spare}
+use Rattle.auditor_top.specs.Stages.{reading_table, opening_journal, reading_lines, opening_spare}
 use Rattle.auditor_top.proofs.OneCommand.{one_command, same_command, asked_for, not_asked, none_asked, lacks_step, spare_called}
 use Rattle.auditor_top.proofs.Openings.{stays, later_still}
 use Rattle.auditor_top.proofs.Refusals.{as_quiet}
@@ -93,7 +93,7 @@ drill_ends g c =
       lives = λ ptold told command asked itold quiet base at goes. never_goes_on _ command _ _ _ _ _ at base is_named asked (λ none. none) goes;
       does = λ command asked. does_so g.P.Source g.I.Source g.B.Bench status _ _ _ _ command is_named asked (drilling g c);
       nothing_began = λ ptold told command asked opens. lacks_step opens_journal _ _ command is_named asked refl opens;
-      quiet = λ told quiet fine. c.drill.ensures.quiet (as_quiet g.B.Bench _ _ c.open.ensures.reads quiet);
+      quiet = λ told quiet fine other. c.drill.ensures.quiet (as_quiet g.B.Bench _ _ c.open.ensures.reads quiet);
       before_table = always_before reading_table status unread.1;
       before_bench = before_so opening_journal status (λ is. is ∙ unopened) c.drill.ensures.before_bench;
       before_spare = λ other. always_before opening_spare status refl;

@@ -202,7 +202,7 @@ explanation_ends g c =
       nothing_began = λ ptold told command asked opens quiet none.
           absurd (none _ (are g c ptold) (subst (λ (k : Command). IsReadyFor k file (secret_table store.secret c.in-Ok-Explain.index.protected))
           (one_command _ _ command is_named asked) (holds g c told)));
-      quiet = λ told quiet fine image left. as_quiet g.B.Bench _ _ reads quiet image (does.crash image left) ∙ sym does.file;
+      quiet = λ told quiet fine other image left. as_quiet g.B.Bench _ _ reads quiet image (does.crash image left) ∙ sym does.file;
       before_table = past_table _ status last;
       before_bench = past_journal _ status last;
       before_spare = λ other. always_before opening_spare status refl;

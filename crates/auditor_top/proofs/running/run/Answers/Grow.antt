@@ -22,7 +22,7 @@ use Rattle.auditor_top.specs.Causes.{WordCause, FileCause, FaultCause, IsReadyFo
 use Rattle.auditor_top.specs.Ends.{GrowEnds}
 use Rattle.auditor_top.specs.Ready.{IsReadyOver}
 use Rattle.auditor_top.specs.Runs.{objects, faults_of, Growing}
-use Rattle.auditor_top.specs.Stages.{reading_lines, writing_spare}
+use Rattle.auditor_top.specs.Stages.{reading_lines, opening_spare}
 use Rattle.auditor_top.specs.Status.{growing_status}
 use Rattle.auditor_top.proofs.GrowthEndings.{growth_last, growth_words, growth_file, growth_bench, growth_no_input, growth_faults, growth_ends, growth_wants, growth_kept, growth_at_lines, growth_done, done_so}
 use Rattle.auditor_top.proofs.OneCommand.{one_command, same_command, asked_for, not_asked, none_asked, takes_step, lacks_step, spare_called}
@@ -189,7 +189,7 @@ grow_ends g c =
           (subst (λ (k : Command). IsReadyFor k (g.B.Bench.file c.args.bench.now) (secret_table c.in-Ok-Grow.secret c.in-Ok-Grow.protected.items))
           (one_command _ _ command is_named asked)
           (subst (λ (f : List ℕ). CanGrow f (secret_table c.in-Ok-Grow.secret c.in-Ok-Grow.protected.items)) (ap g.B.Bench.file same) can))));
-      quiet = λ told quiet fine. c.grow.ensures.quiet told (quiet_then quiet) (λ is. fine (c.grown.ensures ∙ ap growing_status is));
+      quiet = λ told quiet fine other. c.grow.ensures.quiet told (quiet_then quiet) (λ is. fine (c.grown.ensures ∙ ap growing_status is));
       before_table = past_table _ status last;
       before_bench = past_journal _ status last;
       before_spare = λ other. always_before opening_spare status refl;

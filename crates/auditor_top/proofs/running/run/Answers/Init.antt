@@ -20,7 +20,7 @@ use Rattle.auditor_top.specs.Commands.{AreFilesOf, opens_journal, opens_store, r
 use Rattle.auditor_top.specs.Causes.{WordCause, FileCause, FaultCause, counts}
 use Rattle.auditor_top.specs.Ready.{IsReadyOver}
 use Rattle.auditor_top.specs.Runs.{objects, faults_of, Making}
-use Rattle.auditor_top.specs.Stages.{reading_lines, writing_spare}
+use Rattle.auditor_top.specs.Stages.{reading_lines, opening_spare}
 use Rattle.auditor_top.proofs.Calls.{making_done}
 use Rattle.auditor_top.proofs.OneCommand.{one_command, same_command, asked_for, not_asked, none_asked, takes_step, lacks_step, spare_called}
 use Rattle.auditor_top.proofs.OneRunMore.{does_so, never_goes_on}
@@ -145,7 +145,7 @@ init_ends g c =
       lives = λ ptold told command asked itold quiet base at goes. never_goes_on _ command _ _ _ _ _ at base is_named asked (λ none. none) goes;
       does = λ command asked. does_so g.P.Source g.I.Source g.B.Bench status _ _ _ _ command is_named asked (making_it g c);
       nothing_began = λ ptold told command asked opens. lacks_step opens_journal _ _ command is_named asked refl opens;
-      quiet = λ told quiet fine.
+      quiet = λ told quiet fine other.
           made_or_there c.make.result (λ is. fine (c.made.ensures ∙ is)) (c.make.ensures.quiet told)
           (λ there image left.
           let still = as_quiet g.B.Bench _ _ reads quiet in

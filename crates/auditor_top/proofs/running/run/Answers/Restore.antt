@@ -192,8 +192,8 @@ restoration_ends g c =
       input_last = λ is. absurd (restore_no_input ended (sym c.restored.ensures ∙ is));
       bench_last = λ is. does.fault.last_call (restore_bench ended does.own (sym c.restored.ensures ∙ is));
       spare_last = λ is. does.spare_fault.last_call (restore_spare ended (sym c.restored.ensures ∙ is));
-      spare_file = λ told command asked calls.
-          subst (λ (k : Command). SpareCause status k (g.B.Bench.file c.args.spare.now)) (one_command _ _ command is_named asked)
+      spare_file = λ told named asked calls.
+          subst (λ (k : Command). SpareCause status k (g.B.Bench.file c.args.spare.now)) (one_command _ _ named is_named asked)
           (subst (λ (s : Status). SpareCause s command.Restore (g.B.Bench.file c.args.spare.now)) (sym c.restored.ensures) (restore_takes_spare ended _));
       later = record {
         schema = c.open.ensures.later.0;
@@ -208,7 +208,7 @@ restoration_ends g c =
       does = λ command asked. does_so g.P.Source g.I.Source g.B.Bench status _ _ _ _ command is_named asked (restoring g c);
       nothing_began = λ ptold told command asked opens quiet none. absurd (none (seen g c ptold) (are_of g c ptold)
           (subst (λ (k : Command). IsReadyFor k (g.B.Bench.file c.args.bench.now) (table_in (seen g c ptold))) (one_command _ _ command is_named asked) tt));
-      quiet = λ told quiet fine. does.quiet told (subst (λ b. IsQuiet g.B.Bench b) (sym same) quiet) (λ is. fine (c.restored.ensures ∙ ap restoring_status is));
+      quiet = λ told quiet fine other. does.quiet told (subst (λ b. IsQuiet g.B.Bench b) (sym same) quiet) (λ is. fine (c.restored.ensures ∙ ap restoring_status is));
       before_table = past_table _ status last;
       before_bench = past_journal _ status last;
       before_spare = λ other. absurd (other is_named);

@@ -201,7 +201,7 @@ serve_ends g c =
       nothing_began = λ ptold told command asked opens quiet none.
           absurd (none _ (are ptold) (subst (λ (k : Command). IsReadyFor k file (secret_table store.secret c.in-Ok-Serve.index.protected))
           (one_command _ _ command is_named asked) (holds told)));
-      quiet = λ told quiet fine. c.serve.ensures.quiet told (as_quiet g.B.Bench _ _ reads quiet) (λ is. fine (c.answered.ensures ∙ ap session_status is));
+      quiet = λ told quiet fine other. c.serve.ensures.quiet told (as_quiet g.B.Bench _ _ reads quiet) (λ is. fine (c.answered.ensures ∙ ap session_status is));
       before_table = past_table _ status last;
       before_bench = past_journal _ status last;
       before_spare = λ other. always_before opening_spare status refl;

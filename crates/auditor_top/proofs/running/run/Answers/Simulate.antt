@@ -160,7 +160,7 @@ simulate_ends g c =
       lives = λ ptold told command asked itold quiet base at goes. never_goes_on _ command _ _ _ _ _ at base is_named asked (λ none. none) goes;
       does = λ command asked. does_so g.P.Source g.I.Source g.B.Bench status _ _ _ _ command is_named asked (judging g c);
       nothing_began = λ ptold told command asked opens. lacks_step opens_journal _ _ command is_named asked refl opens;
-      quiet = λ told quiet fine image was.
+      quiet = λ told quiet fine other image was.
           as_quiet g.B.Bench _ _ reads quiet image (c.simulate.ensures.crash image was) ∙ sym c.simulate.ensures.file;
       before_table = past_table _ status last;
       before_bench = past_journal _ status last;

@@ -1,0 +1,149 @@
+-- Two journals that were read back, and what a crash leaves of each while one of them is brought up.
+use Rattle.std.proofs.Common.{◌≡◌, inl, inr, ◌⊎◌, ℕ, ◌+◌, List, sym, ap, subst, ◌∙◌, arith}
+use Rattle.audit_types.specs.declared.records.Answered.{Answered}
+use Rattle.audit_types.specs.declared.shapes.Shape.{Shape}
+use Rattle.audit_types.specs.History.{Table, IsLegal}
+use Rattle.bench_core.specs.declared.bench.Bench.{Ghosts}
+use Rattle.bench_core.specs.Calls.{IsQuiet, IsUntouched, LeavesOnly, OnlyReads}
+use Rattle.bench_core.specs.Moments.{joins, still_quiet, weakens}
+use Rattle.journal_form.specs.Journal.{StandsFor}
+use Rattle.audit_store.specs.Starting.{StartCause, GivesUp}
+use Rattle.audit_store.specs.Twice.{calls_to_bring_up}
+use Rattle.audit_store.specs.declared.starting.StartFault.{StartFault}
+use Rattle.audit_session.specs.Stops.{IsFront}
+use Rattle.twin_journal.specs.declared.starting.TwinFault.{TwinFault}
+use Rattle.twin_journal.specs.declared.starting.TwinFault.TheVariants.{Main, Spare, Differ, MainFailed, SpareFailed, NoMemory}
+use Rattle.twin_journal.specs.Twins.{CatchesUp, DifferFirst, HoldApart, KeepApart, KeepTogether, KeepWhole, Meet, TwinCause, TwinGivesUp, calls_to_open, missing}
+use Rattle.twin_journal.proofs.CatchingUp.{fronts_of_each_other, own_front}
+use Rattle.twin_journal.proofs.TwinCauses.{OneHistory, differ_once, left_due, meet_or_differ, meet_together, same_main, same_other, same_place, together_meet}
+
+-- while a file is only read it stands for its own history
+pub while_read : {D : Type 0} (bench : Ghosts D) (old new : D) (shape : Shape) (history whole : List Answered) → OnlyReads bench old new → IsQuiet bench old
+    → StandsFor (bench.file old) shape history → IsFront history whole → LeavesOnly bench old new (CatchesUp shape history whole (bench.sent old))
+while_read bench old new shape history whole reads quiet stands front =
+    weakens bench old new (IsUntouched (bench.file old) (bench.sent old)) (CatchesUp shape history whole (bench.sent old)) (λ image sent is. (
+      is.0,
+      record { now = history; stands = subst (λ (f : List ℕ). StandsFor f shape history) (sym is.1) stands; from = own_front history; to = front },
+    )) (reads.untouched quiet)
+
+-- two wholes of the same histories are one
+pub meet_once : (main other one two : List Answered) → Meet main other one → Meet main other two → one ≡ two
+meet_once main other one two first second = elim first.longer [
+  | inl is ↦ elim second.longer [
+    | inl are ↦ sym is ∙ are
+    | inr are ↦
+        sym is ∙ fronts_of_each_other main other (subst (λ (h : List Answered). IsFront main h) (sym are) second.main_front)
+        (subst (λ (h : List Answered). IsFront other h) (sym is) first.other_front) ∙ are
+  ]
+  | inr is ↦ elim second.longer [
+    | inr are ↦ sym is ∙ are
+    | inl are ↦
+        sym is ∙ fronts_of_each_other other main (subst (λ (h : List Answered). IsFront other h) (sym are) second.other_front)
+        (subst (λ (h : List Answered). IsFront main h) (sym is) first.main_front) ∙ are
+  ]
+]
+
+-- one of the files is brought up to the other
+pub read_and_catch : {D : Type 0} (bench : Ghosts D) (old mid new : D) (shape : Shape) (history whole : List Answered) → OnlyReads bench old mid → IsQuiet bench old
+    → StandsFor (bench.file old) shape history → IsFront history whole → LeavesOnly bench mid new (CatchesUp shape history whole (bench.sent mid))
+    → LeavesOnly bench old new (CatchesUp shape history whole (bench.sent old))
+read_and_catch bench old mid new shape history whole reads quiet stands front rest =
+    joins bench old mid new (CatchesUp shape history whole (bench.sent old)) (while_read bench old mid shape history whole reads quiet stands front)
+    (subst (λ (sent : List ℕ). LeavesOnly bench mid new (CatchesUp shape history whole sent)) reads.sent rest)
+
+module _ (once : OneHistory) (table : Table) (file spare : List ℕ) (main other : List Answered)
+    (stands : StandsFor file table.setting.shape main) (spare_stands : StandsFor spare table.setting.shape other)
+    (legal : IsLegal table main) (other_legal : IsLegal table other) where
+  -- ---- what each of the files goes through
+
+  pub main_catches : {D : Type 0} (bench : Ghosts D) (old mid new : D) → bench.file old ≡ file → OnlyReads bench old mid → IsQuiet bench old
+      → ((whole : List Answered) → IsQuiet bench mid → Meet main other whole → LeavesOnly bench mid new (CatchesUp table.setting.shape main whole (bench.sent mid)))
+      → (m o whole : List Answered) → KeepTogether table file spare m o whole → LeavesOnly bench old new (CatchesUp table.setting.shape m whole (bench.sent old))
+  main_catches bench old mid new same reads quiet rest m o whole keep =
+      let meet = together_meet once table file spare main other stands spare_stands m o whole keep in
+      subst (λ (h : List Answered). LeavesOnly bench old new (CatchesUp table.setting.shape h whole (bench.sent old)))
+      (sym (same_main once table file spare main other stands spare_stands m keep.main_stands))
+      (read_and_catch bench old mid new table.setting.shape main whole reads quiet (subst (λ (f : List ℕ). StandsFor f table.setting.shape main) (sym same) stands)
+      meet.main_front (rest whole (still_quiet bench old mid reads quiet) meet))
+
+  pub spare_catches : {D : Type 0} (bench : Ghosts D) (old mid new : D) → bench.file old ≡ spare → OnlyReads bench old mid → IsQuiet bench old
+      → ((whole : List Answered) → IsQuiet bench mid → Meet main other whole → LeavesOnly bench mid new (CatchesUp table.setting.shape other whole (bench.sent mid)))
+      → (m o whole : List Answered) → KeepTogether table file spare m o whole → LeavesOnly bench old new (CatchesUp table.setting.shape o whole (bench.sent old))
+  spare_catches bench old mid new same reads quiet rest m o whole keep =
+      let meet = together_meet once table file spare main other stands spare_stands m o whole keep in
+      subst (λ (h : List Answered). LeavesOnly bench old new (CatchesUp table.setting.shape h whole (bench.sent old)))
+      (sym (same_other once table file spare main other stands spare_stands o keep.spare_stands))
+      (read_and_catch bench old mid new table.setting.shape other whole reads quiet (subst (λ (f : List ℕ). StandsFor f table.setting.shape other) (sym same) spare_stands)
+      meet.other_front (rest whole (still_quiet bench old mid reads quiet) meet))
+
+  -- if the files don't keep together, no history has both as fronts
+  pub apart_never_meet : KeepApart table file spare → (whole : List Answered) → Meet main other whole → ⊥
+  apart_never_meet apart whole meet = apart main other whole (meet_together once table file spare main other stands spare_stands legal other_legal whole meet)
+
+  -- ---- the end that is due
+
+  -- if the catching up is refused, it gave up, or they differ
+  pub refused_cause : (fault : TwinFault) → TwinGivesUp fault ⊎ ((place : ℕ) × (fault ≡ Differ place)) → ((place : ℕ) → fault ≡ Differ place → DifferFirst main other place)
+      → TwinCause fault file spare table
+  refused_cause fault why differ = elim why [
+    | inl gives ↦ given_up fault gives
+    | inr (place, is) ↦ subst (λ (f : TwinFault). TwinCause f file spare table) (sym is)
+        (let apart : HoldApart file spare table place = (main, stands, (legal, (other, spare_stands, (other_legal, differ place is)))) in apart)
+  ]
+    where
+      given_up : (fault : TwinFault) → TwinGivesUp fault → TwinCause fault file spare table
+      given_up (Main fault) gives = absurd gives
+      given_up (Spare fault) gives = absurd gives
+      given_up (Differ place) gives = absurd gives
+      given_up MainFailed gives = tt
+      given_up SpareFailed gives = (main, stands, legal)
+      given_up NoMemory gives = tt
+
+  pub refused_due : (fault due : TwinFault) → TwinGivesUp fault ⊎ ((place : ℕ) × (fault ≡ Differ place)) → ((place : ℕ) → fault ≡ Differ place → DifferFirst main other place)
+      → ((d : StartFault) → (GivesUp d → ⊥) → StartCause d file table → ⊥) → ((d : StartFault) → (GivesUp d → ⊥) → StartCause d spare table → ⊥)
+      → (TwinGivesUp due → ⊥) → TwinCause due file spare table → (fault ≡ due) ⊎ TwinGivesUp fault
+  refused_due fault due why differ none spare_none some cause = elim why [
+    | inl gives ↦ inr gives
+    | inr (place, is) ↦
+        let left = left_due file spare table none spare_none due some cause in
+        let same : place ≡ left.0 = differ_once main other place left.0 (differ place is)
+        (same_place once table file spare main other stands spare_stands left.0 left.2) in
+        inl (is ∙ ap (λ (n : ℕ). Differ n) same ∙ sym left.1)
+  ]
+
+  pub refused_opens : (fault : TwinFault) → TwinGivesUp fault ⊎ ((place : ℕ) × (fault ≡ Differ place)) → ((place : ℕ) → fault ≡ Differ place → DifferFirst main other place)
+      → (m o whole : List Answered) → KeepTogether table file spare m o whole → TwinGivesUp fault
+  refused_opens fault why differ m o whole keep = elim why [
+    | inl gives ↦ gives
+    | inr (place, is) ↦
+        absurd (meet_or_differ main other whole place (together_meet once table file spare main other stands spare_stands m o whole keep) (differ place is))
+  ]
+
+  module _ (now : List Answered) (meet : Meet main other now) where
+    -- if it isn't, the files keep together, with the history that both then stand for
+    pub caught_together : KeepWhole table file spare now
+    caught_together = (main, other, meet_together once table file spare main other stands spare_stands legal other_legal now meet)
+
+    pub caught_longer : (m o whole : List Answered) → KeepTogether table file spare m o whole → now ≡ whole
+    caught_longer m o whole keep = meet_once main other now whole meet (together_meet once table file spare main other stands spare_stands m o whole keep)
+
+    pub caught_due : ((d : StartFault) → (GivesUp d → ⊥) → StartCause d file table → ⊥) → ((d : StartFault) → (GivesUp d → ⊥) → StartCause d spare table → ⊥)
+        → (due : TwinFault) → (TwinGivesUp due → ⊥) → TwinCause due file spare table → ⊥
+    caught_due none spare_none due some cause =
+        let left = left_due file spare table none spare_none due some cause in
+        meet_or_differ main other now left.0 meet (same_place once table file spare main other stands spare_stands left.0 left.2)
+
+    -- and so many calls were made
+    pub main_calls : (before mid after : ℕ) → mid ≡ before + 2 → after ≡ mid + calls_to_bring_up (missing main now) → (m o whole : List Answered) → KeepTogether table file spare m o whole
+        → after ≡ before + calls_to_open m whole
+    main_calls before mid after read caught m o whole keep =
+        omega (arith, read, caught)
+        ∙ ap (λ (h : List Answered). before + calls_to_open h now) (sym (same_main once table file spare main other stands spare_stands m keep.main_stands))
+        ∙ ap (λ (h : List Answered). before + calls_to_open m h) (caught_longer m o whole keep)
+
+    pub spare_calls : (before mid after : ℕ) → mid ≡ before + 2 → after ≡ mid + calls_to_bring_up (missing other now) → (m o whole : List Answered) → KeepTogether table file spare m o whole
+        → after ≡ before + calls_to_open o whole
+    spare_calls before mid after read caught m o whole keep =
+        omega (arith, read, caught)
+        ∙ ap (λ (h : List Answered). before + calls_to_open h now) (sym (same_other once table file spare main other stands spare_stands o keep.spare_stands))
+        ∙ ap (λ (h : List Answered). before + calls_to_open o h) (caught_longer m o whole keep)
