@@ -15,5 +15,3 @@ mod people;
 mod reports;
 #[cfg(test)]
 mod staff;
-#[cfg(test)]
-mod twins;
