@@ -15,3 +15,5 @@ mod people;
 mod reports;
 #[cfg(test)]
 mod staff;
+#[cfg(test)]
+mod twins;
