@@ -24,7 +24,7 @@ CRATES = {
     "lines and conditions": ("line_wire", "predicate_lang", "set_index", "question_plan"),
     "formats of files": ("schema_json", "table_load"),
     "journal and crash": ("bench_core", "journal_form", "answer_journal", "audit_store"),
-    "lives": ("audit_types", "audit_core", "audit_session", "auditor_top"),
+    "lives": ("audit_types", "audit_core", "audit_session", "twin_journal", "auditor_top"),
 }
 MOST = {
     "disclosure": 70,
@@ -32,7 +32,7 @@ MOST = {
     "lines and conditions": 380,
     "formats of files": 195,
     "journal and crash": 95,
-    "lives": 232,
+    "lives": 240,
     "the promise": 1080,
 }
 

@@ -1,5 +1,5 @@
 -- A life with one run more.
-use Rattle.std.proofs.Common.{◌≡◌, ℕ, inl, inr, List, [], ◌∷◌, ◌++◌, Bool, true, false, Option, Some, refl, sym, ◌∙◌, ap, subst, append_assoc, arith}
+use Rattle.std.proofs.Common.{◌≡◌, ◌≢◌, ℕ, inl, inr, List, [], ◌∷◌, ◌++◌, Bool, true, false, Option, Some, refl, sym, ◌∙◌, ap, subst, append_assoc, arith}
 use Rattle.std.proofs.lemmas.List.{append_cancel_left, append-nil}
 use Rattle.audit_types.specs.declared.shapes.Shape.{Shape}
 use Rattle.audit_types.specs.declared.records.Answered.{Answered}
@@ -18,10 +18,9 @@ use Rattle.audit_session.specs.Lives.{Standing, serves, grows, Run, GoesFrom, Le
 use Rattle.auditor_top.specs.declared.status.Status.{Status}
 use Rattle.auditor_top.specs.declared.words.Command.{Command}
 use Rattle.auditor_top.specs.declared.words.Command.TheVariants.{Serve, Grow}
-use Rattle.auditor_top.specs.Commands.{AreSoundFilesOf, GoesOnOver, deed_of, reads_lines}
+use Rattle.auditor_top.specs.Commands.{AreSoundFilesOf, GoesOnOver, deed_of}
 use Rattle.auditor_top.specs.Promise.{GoesOn, RunsMakeLives}
 use Rattle.auditor_top.specs.Runs.{Objects, Does, Serving, TwinServing, Growing}
-use Rattle.auditor_top.specs.Twins.{Reaches}
 use Rattle.auditor_top.proofs.OneCommand.{one_command}
 use Rattle.auditor_top.proofs.OneTable.{OneReading, untouched_stops}
 
@@ -83,8 +82,8 @@ module _ {P I B : Type 0} (files : source.Ghosts P) (lines : source.Ghosts I) (b
       IsFront at.history left.history → GoesOn first runs (record { deed = serves batch (lines.left old.input); left = left; sent = sent })
   twins_on batch is one serving ptold itold told goes reaches =
       let text = counted_lines (lines.left old.input) in
-      stops_on batch is goes.2.files goes.3 (
-        elim ((serving.twin_moment ptold itold told quiet left.base goes.0 goes.1 at.history goes.2).each image (before ++ sent) was) [
+      stops_on batch is goes.2 goes.4 (
+        elim ((serving.twin_moment ptold itold told quiet left.base goes.0 goes.1 at.history (record { files = goes.2; together = goes.3 })).each image (before ++ sent) was) [
           | inl catches ↦
               let same : catches.1.now ≡ left.history = (one image left.base.secret.shape (in_force left).setting.shape catches.1.now left.history catches.1.stands.0 stands.0
               catches.1.stands.1 stands.1).1 in
@@ -110,22 +109,26 @@ module _ {P I B : Type 0} (files : source.Ghosts P) (lines : source.Ghosts I) (b
         makes = (append_cancel_left before sent [] (found.0 ∙ sym (append-nil before)), found.1);
       })
 
+-- `serve` isn't `grow`, which reads no lines
+serves_lines : (batch : ℕ) (twin : Bool) → Serve batch twin ≢ Grow
+serves_lines batch twin is = cc
+
 -- whatever moment a run of a command is stopped at, the life goes on with it
 pub goes_on : {P I B : Type 0} (files : source.Ghosts P) (lines : source.Ghosts I) (bench : Ghosts B) (status : Status) (old new : Objects P I B) →
     RunsMakeLives → OneReading → (command : Command) → ((batch : ℕ) (twin : Bool) → command ≡ Serve batch twin → IsBatch batch) →
-    Does files lines bench command status old new → files.told → bench.told → (reads_lines command ≡ true → lines.told) →
+    Does files lines bench command status old new → files.told → bench.told → (command ≢ Grow → lines.told) →
     IsQuiet bench old.bench → (base : Database) (at : Standing) →
     GoesOnOver command (files.left old.schema) (files.left old.table) (bench.file old.bench) (bench.file old.spare) at base → (first : Database) (runs : List Run) →
     IsLife first runs at → (image sent : List ℕ) (left : Standing) → left.base ≡ base →
     bench.since new.bench (bench.moment old.bench) image (bench.sent old.bench ++ sent) → StandsFor image (in_force left).setting.shape left.history →
-    Reaches command at left → GoesOn first runs (record { deed = deed_of command (lines.left old.input); left = left; sent = sent })
+    ((batch : ℕ) → command ≡ Serve batch true → IsFront at.history left.history) → GoesOn first runs (record { deed = deed_of command (lines.left old.input); left = left; sent = sent })
 goes_on files lines bench status old new longer one (Serve batch false) batches does ptold told itold quiet base at goes first runs life image sent left is was stands reaches =
-    serves_on files lines bench status old new longer quiet at first runs life image sent left was stands batch (batches batch false refl) does ptold (itold refl) told
+    serves_on files lines bench status old new longer quiet at first runs life image sent left was stands batch (batches batch false refl) does ptold (itold (serves_lines batch false)) told
     (subst (λ (b : Database). GoesOnOver (Serve batch false) (files.left old.schema) (files.left old.table) (bench.file old.bench) (bench.file old.spare) at b) (sym is) goes)
 goes_on files lines bench status old new longer one (Serve batch true) batches does ptold told itold quiet base at goes first runs life image sent left is was stands reaches =
-    twins_on files lines bench status old new longer quiet at first runs life image sent left was stands batch (batches batch true refl) one does ptold (itold refl) told
+    twins_on files lines bench status old new longer quiet at first runs life image sent left was stands batch (batches batch true refl) one does ptold (itold (serves_lines batch true)) told
     (subst (λ (b : Database). GoesOnOver (Serve batch true) (files.left old.schema) (files.left old.table) (bench.file old.bench) (bench.file old.spare) at b) (sym is) goes)
-    reaches
+    (reaches batch refl)
 goes_on files lines bench status old new longer one Grow batches does ptold told itold quiet base at goes first runs life image sent left is was stands reaches =
     grows_on files lines bench status old new longer quiet at first runs life image sent left was stands does ptold told
     (subst (λ (b : Database). GoesOnOver Grow (files.left old.schema) (files.left old.table) (bench.file old.bench) (bench.file old.spare) at b) (sym is) goes)

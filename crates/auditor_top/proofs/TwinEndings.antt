@@ -69,7 +69,7 @@ pub twin_file : (fault : TwinFault) (batch : ℕ) (file spare : List ℕ) (table
     FileCause (twin_status fault) (Serve batch true) file table
 twin_file (twin.Main fault) batch file spare table cause = start_file fault (Serve batch true) file table cause.1
 twin_file (twin.Spare fault) batch file spare table cause = cause.0
-twin_file (twin.Differ place) batch file spare table cause = (cause.0, cause.1, cause.2)
+twin_file (twin.Differ place) batch file spare table cause = (cause.0, cause.1, cause.2.0)
 twin_file twin.MainFailed batch file spare table cause = tt
 twin_file twin.SpareFailed batch file spare table cause = cause
 twin_file twin.NoMemory batch file spare table cause = tt
@@ -174,7 +174,7 @@ front_is_legal table file spare whole keeps =
     (legal_front table whole (length main) all.legal))
 
 pub twins_last : {X : Type 0} (ended : Result X TwinEnd) → EndsLastStep (twin_session_status ended)
-twins_last (Ok done) = tt
+twins_last (Err end.Bench) = tt
 twins_last ended = tt
 
 pub twins_words : {X : Type 0} (ended : Result X TwinEnd) (batch : ℕ) → WordCause (twin_session_status ended) (Some (Serve batch true))
@@ -190,7 +190,7 @@ twins_file ended batch file table legal = legal
 
 pub twins_cause : {X : Type 0} (ended : Result X TwinEnd) (batch : ℕ) (file spare : List ℕ) (table : Guarded) →
     BothCause (twin_session_status ended) (Serve batch true) file spare table
-twins_cause (Ok done) batch file spare table = tt
+twins_cause (Err end.Bench) batch file spare table = tt
 twins_cause ended batch file spare table = tt
 
 pub twins_bench : {X : Type 0} (ended : Result X TwinEnd) → twin_session_status ended ≡ BenchFault → ended ≡ Err end.Bench
@@ -267,13 +267,13 @@ twins_want (Err end.Limit) before after input left rose none fine cause within =
 twins_want (Err end.NoMemory) before after input left rose none fine cause within = inr refl
 
 pub twins_at_lines : {X : Type 0} (P : Type 0) (ended : Result X TwinEnd) → Before reading_lines (twin_session_status ended) P
-twins_at_lines P (Ok done) = tt
+twins_at_lines P (Err end.Bench) = tt
 twins_at_lines P ended = tt
 
 pub twins_at_spare : {X : Type 0} (P : Type 0) (ended : Result X TwinEnd) → Before opening_spare (twin_session_status ended) P
-twins_at_spare P (Ok done) = tt
+twins_at_spare P (Err end.Bench) = tt
 twins_at_spare P ended = tt
 
 pub twins_take_spare : {X : Type 0} (ended : Result X TwinEnd) (batch : ℕ) (file : List ℕ) → SpareCause (twin_session_status ended) (Serve batch true) file
-twins_take_spare (Ok done) batch file = tt
+twins_take_spare (Err end.Bench) batch file = tt
 twins_take_spare ended batch file = tt

@@ -258,7 +258,8 @@ pub record TwinServing {P I B : Type 0} (files : source.Ghosts P) (lines : sourc
       LeavesOnly bench old.spare new.spare (SpareCatchesUpOrStops base batch other whole (counted_lines (lines.left old.input)) (bench.sent old.spare))
   -- if a call of one of them failed, each has, whatever crash comes then, the record of every reply of which a byte was sent; at every other
   -- end both stand for one history, and a crash leaves that
-  pub twins_left : files.told → lines.told → bench.told → IsQuiet bench old.bench → IsQuiet bench old.spare → (status ≡ BenchFault) ⊎ (status ≡ SpareFault) → (base : Database) (main other whole : List Answered) →
+  pub twins_left : files.told → lines.told → bench.told → IsQuiet bench old.bench → IsQuiet bench old.spare →
+      (status ≡ BenchFault) ⊎ (status ≡ SpareFault) → (base : Database) (main other whole : List Answered) →
       TwinsOver (files.left old.schema) (files.left old.table) (bench.file old.bench) (bench.file old.spare) base main other whole →
       (image spare : List ℕ) → bench.leaves new.bench image → bench.leaves new.spare spare →
       LeavesTwins base batch main other whole (counted_lines (lines.left old.input)) (bench.sent old.bench) (bench.sent new.bench) image spare

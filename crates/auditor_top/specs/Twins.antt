@@ -4,11 +4,8 @@ use Rattle.audit_types.specs.declared.records.Answered.{Answered}
 use Rattle.table_load.specs.Database.{Database}
 use Rattle.line_wire.specs.Lines.{CountedLine, counted_lines}
 use Rattle.audit_session.specs.Ends.{Serves, ServesWhole, ServesSome, limited}
-use Rattle.audit_session.specs.Stops.{IsFront, LeavesBoth, SpareStops, StopsOver, stands_over}
-use Rattle.audit_session.specs.Lives.{Standing}
+use Rattle.audit_session.specs.Stops.{LeavesBoth, SpareStops, StopsOver, stands_over}
 use Rattle.twin_journal.specs.Twins.{CatchesUp, StandsBetween}
-use Rattle.auditor_top.specs.declared.words.Command.{Command}
-use Rattle.auditor_top.specs.declared.words.Command.TheVariants.{Serve}
 use Rattle.auditor_top.specs.declared.status.Which.TheVariants.{Schema, Table, Input}
 use Rattle.auditor_top.specs.declared.status.Status.{Status}
 use Rattle.auditor_top.specs.declared.status.Status.TheVariants.{Done, SourceFault, BenchFault, InputLimit, SpareFault, NoMemory}
@@ -51,8 +48,3 @@ abbrev pub LeavesTwins : Database → ℕ → List Answered → List Answered �
 LeavesTwins base batch main other whole lines before sent image spare =
     ((sent ≡ before) × StandsBetween base.secret.shape main whole image × StandsBetween base.secret.shape other whole spare)
     ⊎ LeavesBoth base batch whole lines before sent image spare
-
--- a life goes on from what a run left: with two journals, from a file that isn't behind the longer one
-abbrev pub Reaches : Command → Standing → Standing → Type 0
-Reaches (Serve batch true) at left = IsFront at.history left.history
-Reaches command at left = Unit {0}

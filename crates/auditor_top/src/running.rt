@@ -11,15 +11,15 @@ ghost use Rattle.std.specs.Bool.{OnTrue};
 ghost use Rattle.table_load.specs.Tables.{table_of, public_of};
 ghost use Rattle.journal_form.specs.Journal.{StandsFor};
 ghost use Rattle.audit_session.specs.Lives.{Standing, Run, IsLife, in_force};
+ghost use Rattle.audit_session.specs.Stops.{IsFront};
 ghost use Rattle.auditor_top.specs.declared.words.Command.{Command};
-ghost use Rattle.auditor_top.specs.declared.words.Command.TheVariants.{Serve, Simulate, Restore};
+ghost use Rattle.auditor_top.specs.declared.words.Command.TheVariants.{Serve, Simulate, Grow, Restore};
 ghost use Rattle.auditor_top.specs.Words.{command_of, NamesCommand};
 ghost use Rattle.auditor_top.specs.Commands.{AreFilesOf, AreSoundFilesOf, GoesOnOver, deed_of, opens_journal, reads_files, reads_groups, reads_secrets, reads_lines, writes, calls_spare};
 ghost use Rattle.auditor_top.specs.Causes.{FaultCause, WordCause, SchemaCause, TableCause, GroupCause, FileCause, SpareCause, InputCause, IsReadyFor, NeverFall, counts};
 ghost use Rattle.auditor_top.specs.Promise.{GoesOn};
 ghost use Rattle.auditor_top.specs.Runs.{objects, Does};
 ghost use Rattle.auditor_top.specs.Stages.{Before, reading_table, opening_journal, opening_spare, reading_lines};
-ghost use Rattle.auditor_top.specs.Twins.{Reaches};
 
 use crate::compacting::compact;
 use crate::drilling::drill;
@@ -86,11 +86,11 @@ pub fn run<P: Source, I: Source, B: Bench>(
     // A life goes on with this run, from where it stands: the life with it is a life, keeps the promise, hides what is guarded, and
     // decides as over all tables that differ in their secrets alone, whatever moment the run is stopped at. With two journals it stands at
     // the longer one, and goes on from the file once that isn't behind it.
-    ensures lives { P.told → B.told → (command : Command) → NamesCommand words.now.items command → (reads_lines command ≡ true → I.told) → IsQuiet B.Bench bench.old
+    ensures lives { P.told → B.told → (command : Command) → NamesCommand words.now.items command → (command ≢ Grow → I.told) → IsQuiet B.Bench bench.old
         → (base : Database) (at : Standing) → GoesOnOver command (P.left schema.old) (P.left table.old) (B.file bench.old) (B.file spare.old) at base
         → (first : Database) (runs : List Run) → IsLife first runs at
         → (image sent : List ℕ) (left : Standing) → left.base ≡ base → B.since bench.new (B.moment bench.old) image (B.sent bench.old ++ sent)
-        → StandsFor image (in_force left).setting.shape left.history → Reaches command at left
+        → StandsFor image (in_force left).setting.shape left.history → ((batch : ℕ) → command ≡ Serve batch true → IsFront at.history left.history)
         → GoesOn first runs (record { deed = deed_of command (I.left input.old); left = left; sent = sent }) }
 
     // What a run of each command does, by its status: the arguments, how it ends, what is found at every moment, its calls of the

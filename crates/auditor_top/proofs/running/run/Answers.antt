@@ -7,6 +7,8 @@ mod Grow
 mod Explain
 mod Compact
 mod Restore
+mod TwinRefused
+mod Twin
 use Rattle.std.proofs.Common.{◌≡◌, ◌≤◌, ◌+◌, ℕ, true, false, List, [], length, Option, Some, Result, Ok, Err, IsErr, IsErrOf, OnOk, OnErr, refl, sym, ◌∙◌, ap, subst, inr, map, string_bytes}
 use Rattle.audit_types.specs.declared.records.Answered.{Answered}
 use Rattle.audit_types.specs.declared.shapes.Shape.{Shape}
@@ -66,6 +68,8 @@ use Rattle.auditor_top.proofs.running.run.Answers.Grow.{grow_ends}
 use Rattle.auditor_top.proofs.running.run.Answers.Explain.{explanation_ends}
 use Rattle.auditor_top.proofs.running.run.Answers.Compact.{compaction_ends}
 use Rattle.auditor_top.proofs.running.run.Answers.Restore.{restoration_ends}
+use Rattle.auditor_top.proofs.running.run.Answers.TwinRefused.{twin_refused}
+use Rattle.auditor_top.proofs.running.run.Answers.Twin.{twin_ends}
 use Rattle.std.specs.Bool.{OnTrue}
 use Rattle.set_index.specs.Groups.{AreEntries}
 use Rattle.table_load.specs.Database.{table_in}
@@ -251,8 +255,14 @@ returns-in-Ok-Explain g c = explanation_ends g c
 pub returns-in-Ok-Compact : goal.returns-in-Ok-Compact
 returns-in-Ok-Compact g c = compaction_ends g c
 
-pub returns-in-Ok-Restore : goal.returns-in-Ok-Restore
-returns-in-Ok-Restore g c = restoration_ends g c
+pub returns : goal.returns
+returns g c = restoration_ends g c
+
+pub returns-in-Ok-Twin : goal.returns-in-Ok-Twin
+returns-in-Ok-Twin g c = twin_refused g c
+
+pub returns-in-Ok-start : goal.returns-in-Ok-start
+returns-in-Ok-start g c = twin_ends g c
 
 -- ---- what the last steps want
 

@@ -20,7 +20,7 @@ use Rattle.auditor_top.specs.declared.words.Command.TheVariants as command
 use Rattle.auditor_top.specs.declared.status.Status.{Status}
 use Rattle.auditor_top.specs.Words.{command_of, NamesCommand}
 use Rattle.auditor_top.specs.Commands.{AreFilesOf, AreSoundFilesOf, calls_spare, opens_store, reads_files, reads_groups, reads_lines, writes}
-use Rattle.auditor_top.specs.Causes.{BothCause, WordCause, FileCause, FaultCause, SpareCause, counts}
+use Rattle.auditor_top.specs.Causes.{BothCause, WordCause, FileCause, FaultCause, SpareCause, IsReadyFor, counts}
 use Rattle.auditor_top.specs.Ready.{IsReady, IsReadyOver}
 use Rattle.auditor_top.specs.Runs.{objects, faults_of, Restoring}
 use Rattle.auditor_top.specs.Stages.{reading_lines}
@@ -36,7 +36,7 @@ use Rattle.auditor_top.proofs.running.run.Given.{Over}
 use Rattle.auditor_top.proofs.running.run.Goals as goal
 
 -- the table that the files mean
-seen : (g : Over) (c : goal.After-restored g) → g.P.Source.told → Database
+abbrev seen : (g : Over) (c : goal.After-restored g) → g.P.Source.told → Database
 seen g c ptold =
     let are = subst (IsReadyOver (g.P.Source.left c.args.schema.now) (g.P.Source.left c.args.table.now)) c.in-Ok-Restore.field-0-is (c.in-Ok-Restore.ensures.over ptold) in
     base_of are.0 are.1 c.in-Ok-Restore.protected.items c.in-Ok-Restore.secret
@@ -163,7 +163,7 @@ restored_file g c = λ ptold told other asked base files sound.
     (subst (λ b. RestoreCause fault (g.B.Bench.file b) spare (secret_table c.in-Ok-Restore.secret c.in-Ok-Restore.protected.items)) (unopened g c)
     (c.restore.ensures.cause fault told told found)))))
 
-pub restoration_ends : goal.returns-in-Ok-Restore
+pub restoration_ends : goal.returns
 restoration_ends g c =
     let status = c.restored.result in
     let ended = c.restore.result in
@@ -181,7 +181,8 @@ restoration_ends g c =
           (table_is_ok (λ (cs : List Column). table_of cs table) _ _ meant _ (are_of g c ptold).files.schema_is (means_read (are_of g c ptold).files.table_means) is);
       public = λ ptold asked. not_asked _ _ _ is_named asked refl;
       groups = λ ptold command asked reads meant is. groups_read status _ _ last
-          (groups_are_sound c.groups_of_a_schema.ensures.entries _ _ _ _ _ meant (are_of g c ptold).files.schema_is (are_of g c ptold).entries is);
+          (groups_are_sound c.groups_of_a_schema.ensures.entries _ _ (seen g c ptold).public _ (seen g c ptold).protected meant
+          (are_of g c ptold).files.schema_is (are_of g c ptold).entries is);
       own_schema_fault = no_schema_fault status last;
       own_table_fault = no_table_fault status last;
       file = restored_file g c;
