@@ -25,8 +25,8 @@ sum_over_both d n rows moved are h =
     sym (product-set_row d n (intersection n rows moved) (AreRows-rows_that both n))
     ∙ total-agree (λ j. number_at (set_row n (intersection n rows moved)) j *ℤ number_at d j) (λ j. number_at (set_row n rows) j *ℤ number_at d j) n
     (λ j l. ap (λ z. z *ℤ number_at d j) (number_at-set_row n (intersection n rows moved) j l ∙ ap (λ b. cond b (pos 1) (pos 0)) (has-rows_that both n j l))
-        ∙ counts_once (has_row rows j) (has_row moved j) (number_at d j) (h j l)
-        ∙ sym (ap (λ z. z *ℤ number_at d j) (number_at-set_row n rows j l)))
+    ∙ counts_once (has_row rows j) (has_row moved j) (number_at d j) (h j l)
+    ∙ sym (ap (λ z. z *ℤ number_at d j) (number_at-set_row n rows j l)))
     ∙ product-set_row d n rows are
 
 -- a list with one row more has it, and those that it had

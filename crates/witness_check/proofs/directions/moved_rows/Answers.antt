@@ -10,11 +10,11 @@ use Rattle.witness_check.proofs.directions.moved_rows.Goals.{then-numbers-row-ne
 pub loop-row-preserved : goal.loop-row-preserved
 loop-row-preserved c = elim c.if-numbers-row-ne0.branch [
   | then-numbers-row-ne0 w ↦ (
-      ap (λ (s : Rows). s.n) w.moved-is ∙ w.add.ensures.n ∙ c.loop-row.invariant.0,
-      marks_more c.args.numbers.now c.args.n c.loop-row.row c.loop-row.moved.list c.if-numbers-row-ne0.moved.list c.loop-row-test.true
-      (ap (λ (s : Rows). s.list) w.moved-is ∙ w.add.ensures.added ∙ ap (λ n. with_row n c.loop-row.moved.list c.loop-row.row) c.loop-row.invariant.0)
-      c.loop-row.invariant.1,
-    )
+    ap (λ (s : Rows). s.n) w.moved-is ∙ w.add.ensures.n ∙ c.loop-row.invariant.0,
+    marks_more c.args.numbers.now c.args.n c.loop-row.row c.loop-row.moved.list c.if-numbers-row-ne0.moved.list c.loop-row-test.true
+        (ap (λ (s : Rows). s.list) w.moved-is ∙ w.add.ensures.added ∙ ap (λ n. with_row n c.loop-row.moved.list c.loop-row.row) c.loop-row.invariant.0)
+        c.loop-row.invariant.1,
+  )
   | else-numbers-row-ne0 w ↦
       let number = get_or c.args.numbers.now c.loop-row.row (pos 0) in
       let fits : FitsSigned w128 number = search rules in
