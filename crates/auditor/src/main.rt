@@ -46,7 +46,7 @@ fn run_on_files(rt: &HostRuntime, words: &Vec<String>) -> Status {
     let mut table = FileSource::new(rt, "table.csv");
     let mut input = InputSource::new(rt.stdin());
     let mut bench = journal(rt, words);
-    // Only `compact` calls it, and a bench that isn't called opens no file.
+    // Only `compact`, `restore` and `serve` with two journals call it, and a bench that isn't called opens no file.
     let mut spare = FileBench::new(rt, "answers.spare");
     run(
         rt.alloc(),
