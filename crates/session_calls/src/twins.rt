@@ -1,8 +1,8 @@
 //! Two journals of a table by hand: kept group by group, brought up, opened again after each failed call, and restored.
-ghost use Rattle.std.specs.Prelude.{◌≡◌, [], true};
+ghost use Rattle.std.specs.Prelude.{◌≡◌};
+ghost use Rattle.audit_types.specs.History.{AreProtected};
 ghost use Rattle.schema_json.specs.SecretShape.{shape_of};
 ghost use Rattle.table_load.specs.Cells.{FitsSchema};
-ghost use Rattle.bench_core.specs.BenchContents.{file_of};
 
 use crate::staff::{TABLE, staff};
 use audit_store::StartFault;
@@ -64,6 +64,7 @@ enum End {
     Started(TwinFault),
     Served(TwinEnd),
     Done,
+    NoMemory,
 }
 
 fn serve_lines(
@@ -76,10 +77,13 @@ fn serve_lines(
     spare: &mut MemoryBench,
 ) -> End
     requires fits { FitsSchema schema.now.columns index.now.public }
-    requires none { index.now.protected ≡ [] }
+    requires groups { AreProtected secret.shape index.now.protected }
     requires shape { secret.shape ≡ shape_of schema.now.columns index.now.public.rows }
 {
-    let mut twin = match TwinStore::start(alloc, secret, Vec::new(alloc), bench, spare) {
+    let Ok(protected) = index.protected().to_vec(alloc) else {
+        return End::NoMemory;
+    };
+    let mut twin = match TwinStore::start(alloc, secret, protected, bench, spare) {
         Ok(twin) => twin,
         Err(fault) => return End::Started(fault),
     };
@@ -106,8 +110,12 @@ fn serve(
     spare: &mut MemoryBench,
 ) -> Option<End> {
     let schema = staff(alloc)?;
-    let Table { public, secret } = load(alloc, &schema, TABLE).ok()?;
-    let index = Index::new(alloc, &schema, public).ok()?;
+    let Ok(Table { public, secret }) = load(alloc, &schema, TABLE) else {
+        return None;
+    };
+    let Ok(index) = Index::new(alloc, &schema, public) else {
+        return None;
+    };
     let lines = lines.to_vec(alloc).ok()?;
     Some(serve_lines(alloc, &schema, &index, secret, lines, bench, spare))
 }
@@ -210,9 +218,9 @@ fn survives(
     let sent = !bench.sent().is_empty();
     let mut bench = bench.crashed(pick).ok()?;
     let mut spare = spare.crashed(pick).ok()?;
+    let kept = !sent || (bench.file() == ONE && spare.file() == ONE);
     let again = matches!(serve(alloc, b"", &mut bench, &mut spare)?, End::Done);
-    let same = bench.file() == spare.file();
-    Some((again && same && (!sent || bench.file() == ONE), failed))
+    Some((again && kept, failed))
 }
 
 // Whether that holds of each call of both, until none fails.
