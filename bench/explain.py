@@ -6,8 +6,8 @@
 Works in the folder that it is called in. For each workload it makes a history, draws questions that are denied as unsafe after it, and
 prints the processor seconds that opening the journal takes, those that the first certificate takes besides, the milliseconds of each further
 one, and the peak of memory, of both programs. The exit status is 1 if the lines of both differ, or if the auditor takes more than a second for
-the first certificate, more than 10 ms for a further one, or more than 64 MiB. The last workload asks eight columns, one after the other: each
-time another column's certificates begin, so of it the memory alone is judged."""
+the first certificate, more than 10 ms for a further one, or more than 64 MiB. The questions are of the first column; the last workload asks
+eight columns, one after the other: each time another column's certificates begin, so of it the memory alone is judged."""
 import argparse
 import json
 import os
