@@ -47,10 +47,20 @@ pub restore_is : command_of (codes "restore" ∷ []) ≡ Some Restore
 unfolding command_of clap_on_literals
 restore_is = refl
 
+-- ---- without the flag
+
+-- a command stays what it is
+abbrev again : Option Command → Option Command
+again found = option_and_then (λ (k : Command). Some k) found
+
+same_again : (found : Option Command) → again found ≡ found
+same_again (Some command) = refl
+same_again None = refl
+
 -- ---- `serve` with a batch
 
 -- what follows `=` is the batch
-in_one_word : (word : List ℕ) → command_of (codes "serve" ∷ (codes "--batch=" ++ word) ∷ []) ≡ serve_with (number_of word)
+in_one_word : (word : List ℕ) → command_of (codes "serve" ∷ (codes "--batch=" ++ word) ∷ []) ≡ again (serve_with (number_of word))
 unfolding command_of clap_on_literals
 in_one_word word = refl
 
@@ -102,49 +112,49 @@ each_digit P at_48 at_49 at_50 at_51 at_52 at_53 at_54 at_55 at_56 at_57 x least
     ]
 
 -- a word that begins with a digit is the batch
-at_48 : (xs : List ℕ) → command_of (codes "serve" ∷ codes "--batch" ∷ (48 ∷ xs) ∷ []) ≡ serve_with (number_of (48 ∷ xs))
+at_48 : (xs : List ℕ) → command_of (codes "serve" ∷ codes "--batch" ∷ (48 ∷ xs) ∷ []) ≡ again (serve_with (number_of (48 ∷ xs)))
 unfolding command_of clap_on_literals
 at_48 xs = refl
 
-at_49 : (xs : List ℕ) → command_of (codes "serve" ∷ codes "--batch" ∷ (49 ∷ xs) ∷ []) ≡ serve_with (number_of (49 ∷ xs))
+at_49 : (xs : List ℕ) → command_of (codes "serve" ∷ codes "--batch" ∷ (49 ∷ xs) ∷ []) ≡ again (serve_with (number_of (49 ∷ xs)))
 unfolding command_of clap_on_literals
 at_49 xs = refl
 
-at_50 : (xs : List ℕ) → command_of (codes "serve" ∷ codes "--batch" ∷ (50 ∷ xs) ∷ []) ≡ serve_with (number_of (50 ∷ xs))
+at_50 : (xs : List ℕ) → command_of (codes "serve" ∷ codes "--batch" ∷ (50 ∷ xs) ∷ []) ≡ again (serve_with (number_of (50 ∷ xs)))
 unfolding command_of clap_on_literals
 at_50 xs = refl
 
-at_51 : (xs : List ℕ) → command_of (codes "serve" ∷ codes "--batch" ∷ (51 ∷ xs) ∷ []) ≡ serve_with (number_of (51 ∷ xs))
+at_51 : (xs : List ℕ) → command_of (codes "serve" ∷ codes "--batch" ∷ (51 ∷ xs) ∷ []) ≡ again (serve_with (number_of (51 ∷ xs)))
 unfolding command_of clap_on_literals
 at_51 xs = refl
 
-at_52 : (xs : List ℕ) → command_of (codes "serve" ∷ codes "--batch" ∷ (52 ∷ xs) ∷ []) ≡ serve_with (number_of (52 ∷ xs))
+at_52 : (xs : List ℕ) → command_of (codes "serve" ∷ codes "--batch" ∷ (52 ∷ xs) ∷ []) ≡ again (serve_with (number_of (52 ∷ xs)))
 unfolding command_of clap_on_literals
 at_52 xs = refl
 
-at_53 : (xs : List ℕ) → command_of (codes "serve" ∷ codes "--batch" ∷ (53 ∷ xs) ∷ []) ≡ serve_with (number_of (53 ∷ xs))
+at_53 : (xs : List ℕ) → command_of (codes "serve" ∷ codes "--batch" ∷ (53 ∷ xs) ∷ []) ≡ again (serve_with (number_of (53 ∷ xs)))
 unfolding command_of clap_on_literals
 at_53 xs = refl
 
-at_54 : (xs : List ℕ) → command_of (codes "serve" ∷ codes "--batch" ∷ (54 ∷ xs) ∷ []) ≡ serve_with (number_of (54 ∷ xs))
+at_54 : (xs : List ℕ) → command_of (codes "serve" ∷ codes "--batch" ∷ (54 ∷ xs) ∷ []) ≡ again (serve_with (number_of (54 ∷ xs)))
 unfolding command_of clap_on_literals
 at_54 xs = refl
 
-at_55 : (xs : List ℕ) → command_of (codes "serve" ∷ codes "--batch" ∷ (55 ∷ xs) ∷ []) ≡ serve_with (number_of (55 ∷ xs))
+at_55 : (xs : List ℕ) → command_of (codes "serve" ∷ codes "--batch" ∷ (55 ∷ xs) ∷ []) ≡ again (serve_with (number_of (55 ∷ xs)))
 unfolding command_of clap_on_literals
 at_55 xs = refl
 
-at_56 : (xs : List ℕ) → command_of (codes "serve" ∷ codes "--batch" ∷ (56 ∷ xs) ∷ []) ≡ serve_with (number_of (56 ∷ xs))
+at_56 : (xs : List ℕ) → command_of (codes "serve" ∷ codes "--batch" ∷ (56 ∷ xs) ∷ []) ≡ again (serve_with (number_of (56 ∷ xs)))
 unfolding command_of clap_on_literals
 at_56 xs = refl
 
-at_57 : (xs : List ℕ) → command_of (codes "serve" ∷ codes "--batch" ∷ (57 ∷ xs) ∷ []) ≡ serve_with (number_of (57 ∷ xs))
+at_57 : (xs : List ℕ) → command_of (codes "serve" ∷ codes "--batch" ∷ (57 ∷ xs) ∷ []) ≡ again (serve_with (number_of (57 ∷ xs)))
 unfolding command_of clap_on_literals
 at_57 xs = refl
 
-by_digit : (x : ℕ) (xs : List ℕ) → 48 ≤ x → x ≤ 57 → command_of (codes "serve" ∷ codes "--batch" ∷ (x ∷ xs) ∷ []) ≡ serve_with (number_of (x ∷ xs))
+by_digit : (x : ℕ) (xs : List ℕ) → 48 ≤ x → x ≤ 57 → command_of (codes "serve" ∷ codes "--batch" ∷ (x ∷ xs) ∷ []) ≡ again (serve_with (number_of (x ∷ xs)))
 by_digit x xs =
-    each_digit (λ (k : ℕ). command_of (codes "serve" ∷ codes "--batch" ∷ (k ∷ xs) ∷ []) ≡ serve_with (number_of (k ∷ xs)))
+    each_digit (λ (k : ℕ). command_of (codes "serve" ∷ codes "--batch" ∷ (k ∷ xs) ∷ []) ≡ again (serve_with (number_of (k ∷ xs))))
     (at_48 xs) (at_49 xs) (at_50 xs) (at_51 xs) (at_52 xs) (at_53 xs) (at_54 xs) (at_55 xs) (at_56 xs) (at_57 xs) x
 
 -- if a number is chosen, it is by the test
@@ -160,7 +170,7 @@ first_digit x xs number is =
     (leb-true 48 x digit.0, leb-true x 57 digit.1)
 
 in_next_word : (word : List ℕ) (batch : ℕ) → number_of word ≡ Some batch →
-    command_of (codes "serve" ∷ codes "--batch" ∷ word ∷ []) ≡ serve_with (number_of word)
+    command_of (codes "serve" ∷ codes "--batch" ∷ word ∷ []) ≡ again (serve_with (number_of word))
 in_next_word [] batch is = cc
 in_next_word (x ∷ xs) batch is =
     let digit = first_digit x xs batch is in
@@ -172,11 +182,11 @@ is_served number batch is within = ap serve_with is ∙ cond-true _ _ _ (and_fro
 
 pub batch_is : (word : List ℕ) (batch : ℕ) → number_of word ≡ Some batch → IsBatch batch →
     command_of (codes "serve" ∷ codes "--batch" ∷ word ∷ []) ≡ Some (Serve batch false)
-batch_is word batch is within = in_next_word word batch is ∙ is_served (number_of word) batch is within
+batch_is word batch is within = in_next_word word batch is ∙ same_again _ ∙ is_served (number_of word) batch is within
 
 pub batch_in_one_is : (word : List ℕ) (batch : ℕ) → number_of word ≡ Some batch → IsBatch batch →
     command_of (codes "serve" ∷ (codes "--batch=" ++ word) ∷ []) ≡ Some (Serve batch false)
-batch_in_one_is word batch is within = in_one_word word ∙ is_served (number_of word) batch is within
+batch_in_one_is word batch is within = in_one_word word ∙ same_again _ ∙ is_served (number_of word) batch is within
 
 pub twin_batch_is : (word : List ℕ) (batch : ℕ) → number_of word ≡ Some batch → IsBatch batch →
     command_of (codes "serve" ∷ codes "--twin" ∷ (codes "--batch=" ++ word) ∷ []) ≡ Some (Serve batch true)
@@ -185,52 +195,52 @@ twin_batch_is word batch is within = twin_in_one_word word ∙ ap (λ (k : Optio
 -- ---- `drill` with a number
 
 -- a word that begins with a digit is the number
-drill_48 : (xs : List ℕ) → command_of (codes "drill" ∷ (48 ∷ xs) ∷ []) ≡ drill_with (number_of (48 ∷ xs))
+drill_48 : (xs : List ℕ) → command_of (codes "drill" ∷ (48 ∷ xs) ∷ []) ≡ again (drill_with (number_of (48 ∷ xs)))
 unfolding command_of clap_on_literals
 drill_48 xs = refl
 
-drill_49 : (xs : List ℕ) → command_of (codes "drill" ∷ (49 ∷ xs) ∷ []) ≡ drill_with (number_of (49 ∷ xs))
+drill_49 : (xs : List ℕ) → command_of (codes "drill" ∷ (49 ∷ xs) ∷ []) ≡ again (drill_with (number_of (49 ∷ xs)))
 unfolding command_of clap_on_literals
 drill_49 xs = refl
 
-drill_50 : (xs : List ℕ) → command_of (codes "drill" ∷ (50 ∷ xs) ∷ []) ≡ drill_with (number_of (50 ∷ xs))
+drill_50 : (xs : List ℕ) → command_of (codes "drill" ∷ (50 ∷ xs) ∷ []) ≡ again (drill_with (number_of (50 ∷ xs)))
 unfolding command_of clap_on_literals
 drill_50 xs = refl
 
-drill_51 : (xs : List ℕ) → command_of (codes "drill" ∷ (51 ∷ xs) ∷ []) ≡ drill_with (number_of (51 ∷ xs))
+drill_51 : (xs : List ℕ) → command_of (codes "drill" ∷ (51 ∷ xs) ∷ []) ≡ again (drill_with (number_of (51 ∷ xs)))
 unfolding command_of clap_on_literals
 drill_51 xs = refl
 
-drill_52 : (xs : List ℕ) → command_of (codes "drill" ∷ (52 ∷ xs) ∷ []) ≡ drill_with (number_of (52 ∷ xs))
+drill_52 : (xs : List ℕ) → command_of (codes "drill" ∷ (52 ∷ xs) ∷ []) ≡ again (drill_with (number_of (52 ∷ xs)))
 unfolding command_of clap_on_literals
 drill_52 xs = refl
 
-drill_53 : (xs : List ℕ) → command_of (codes "drill" ∷ (53 ∷ xs) ∷ []) ≡ drill_with (number_of (53 ∷ xs))
+drill_53 : (xs : List ℕ) → command_of (codes "drill" ∷ (53 ∷ xs) ∷ []) ≡ again (drill_with (number_of (53 ∷ xs)))
 unfolding command_of clap_on_literals
 drill_53 xs = refl
 
-drill_54 : (xs : List ℕ) → command_of (codes "drill" ∷ (54 ∷ xs) ∷ []) ≡ drill_with (number_of (54 ∷ xs))
+drill_54 : (xs : List ℕ) → command_of (codes "drill" ∷ (54 ∷ xs) ∷ []) ≡ again (drill_with (number_of (54 ∷ xs)))
 unfolding command_of clap_on_literals
 drill_54 xs = refl
 
-drill_55 : (xs : List ℕ) → command_of (codes "drill" ∷ (55 ∷ xs) ∷ []) ≡ drill_with (number_of (55 ∷ xs))
+drill_55 : (xs : List ℕ) → command_of (codes "drill" ∷ (55 ∷ xs) ∷ []) ≡ again (drill_with (number_of (55 ∷ xs)))
 unfolding command_of clap_on_literals
 drill_55 xs = refl
 
-drill_56 : (xs : List ℕ) → command_of (codes "drill" ∷ (56 ∷ xs) ∷ []) ≡ drill_with (number_of (56 ∷ xs))
+drill_56 : (xs : List ℕ) → command_of (codes "drill" ∷ (56 ∷ xs) ∷ []) ≡ again (drill_with (number_of (56 ∷ xs)))
 unfolding command_of clap_on_literals
 drill_56 xs = refl
 
-drill_57 : (xs : List ℕ) → command_of (codes "drill" ∷ (57 ∷ xs) ∷ []) ≡ drill_with (number_of (57 ∷ xs))
+drill_57 : (xs : List ℕ) → command_of (codes "drill" ∷ (57 ∷ xs) ∷ []) ≡ again (drill_with (number_of (57 ∷ xs)))
 unfolding command_of clap_on_literals
 drill_57 xs = refl
 
 -- a number begins with a digit
-with_number : (word : List ℕ) (number : ℕ) → number_of word ≡ Some number → command_of (codes "drill" ∷ word ∷ []) ≡ drill_with (number_of word)
+with_number : (word : List ℕ) (number : ℕ) → number_of word ≡ Some number → command_of (codes "drill" ∷ word ∷ []) ≡ again (drill_with (number_of word))
 with_number [] number is = cc
 with_number (x ∷ xs) number is =
     let digit = first_digit x xs number is in
-    each_digit (λ (k : ℕ). command_of (codes "drill" ∷ (k ∷ xs) ∷ []) ≡ drill_with (number_of (k ∷ xs)))
+    each_digit (λ (k : ℕ). command_of (codes "drill" ∷ (k ∷ xs) ∷ []) ≡ again (drill_with (number_of (k ∷ xs))))
     (drill_48 xs) (drill_49 xs) (drill_50 xs) (drill_51 xs) (drill_52 xs) (drill_53 xs) (drill_54 xs) (drill_55 xs) (drill_56 xs)
     (drill_57 xs) x digit.0 digit.1
 
@@ -238,4 +248,4 @@ is_drilled : (found : Option ℕ) (number : ℕ) → found ≡ Some number → n
 is_drilled found number is small = ap drill_with is ∙ cond-true _ _ _ (lt-ltb number (2 ^ 32) small)
 
 pub drill_is : (word : List ℕ) (number : ℕ) → number_of word ≡ Some number → number < 2 ^ 32 → command_of (codes "drill" ∷ word ∷ []) ≡ Some (Drill number)
-drill_is word number is small = with_number word number is ∙ is_drilled (number_of word) number is small
+drill_is word number is small = with_number word number is ∙ same_again _ ∙ is_drilled (number_of word) number is small

@@ -1,14 +1,14 @@
 -- The command of some arguments.
-use Rattle.std.proofs.Common.{◌≡◌, [], ◌∷◌, Some, None, refl, codes}
+use Rattle.std.proofs.Common.{◌≡◌, true, false, [], ◌∷◌, Some, None, refl, codes}
 use Rattle.clap.proofs.OnLiterals.{clap_on_literals}
 use Rattle.auditor_top.specs.declared.words.Command.TheVariants.{Serve, Drill}
 use Rattle.auditor_top.specs.Words.{command_of}
 
-a_batch_in_one_word : command_of (codes "serve" ∷ codes "--batch=2" ∷ []) ≡ Some (Serve 2)
+a_batch_in_one_word : command_of (codes "serve" ∷ codes "--batch=2" ∷ []) ≡ Some (Serve 2 false)
 unfolding command_of clap_on_literals
 a_batch_in_one_word = refl
 
-a_batch_with_a_zero : command_of (codes "serve" ∷ codes "--batch" ∷ codes "02" ∷ []) ≡ Some (Serve 2)
+a_batch_with_a_zero : command_of (codes "serve" ∷ codes "--batch" ∷ codes "02" ∷ []) ≡ Some (Serve 2 false)
 unfolding command_of clap_on_literals
 a_batch_with_a_zero = refl
 
@@ -20,13 +20,33 @@ two_batches : command_of (codes "serve" ∷ codes "--batch" ∷ codes "2" ∷ co
 unfolding command_of clap_on_literals
 two_batches = refl
 
-the_batch_first : command_of (codes "--batch" ∷ codes "2" ∷ codes "serve" ∷ []) ≡ Some (Serve 2)
+the_batch_first : command_of (codes "--batch" ∷ codes "2" ∷ codes "serve" ∷ []) ≡ Some (Serve 2 false)
 unfolding command_of clap_on_literals
 the_batch_first = refl
 
-after_two_dashes : command_of (codes "--" ∷ codes "serve" ∷ []) ≡ Some (Serve 1)
+after_two_dashes : command_of (codes "--" ∷ codes "serve" ∷ []) ≡ Some (Serve 1 false)
 unfolding command_of clap_on_literals
 after_two_dashes = refl
+
+the_twin_first : command_of (codes "--twin" ∷ codes "serve" ∷ []) ≡ Some (Serve 1 true)
+unfolding command_of clap_on_literals
+the_twin_first = refl
+
+a_twin_after_a_batch : command_of (codes "serve" ∷ codes "--batch" ∷ codes "2" ∷ codes "--twin" ∷ []) ≡ Some (Serve 2 true)
+unfolding command_of clap_on_literals
+a_twin_after_a_batch = refl
+
+init_with_a_twin : command_of (codes "init" ∷ codes "--twin" ∷ []) ≡ None
+unfolding command_of clap_on_literals
+init_with_a_twin = refl
+
+restore_with_a_twin : command_of (codes "restore" ∷ codes "--twin" ∷ []) ≡ None
+unfolding command_of clap_on_literals
+restore_with_a_twin = refl
+
+restore_with_a_number : command_of (codes "restore" ∷ codes "3" ∷ []) ≡ None
+unfolding command_of clap_on_literals
+restore_with_a_number = refl
 
 a_number_for_serve : command_of (codes "serve" ∷ codes "3" ∷ []) ≡ None
 unfolding command_of clap_on_literals

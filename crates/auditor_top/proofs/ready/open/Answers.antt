@@ -1,32 +1,23 @@
-use Rattle.std.proofs.Common.{◌≡◌, ℕ, List, [], Result, Ok, Err, refl, sym, ◌∙◌, ap, subst}
-use Rattle.audit_types.specs.Shapes.{IsShape}
-use Rattle.audit_types.specs.declared.shapes.Shape.{Shape}
-use Rattle.schema_json.specs.SecretShape.{shape_of}
-use Rattle.table_load.specs.Cells.{FitsSchema, PublicView}
+use Rattle.std.proofs.Common.{◌≡◌, ℕ, List, [], Result, Err, refl, sym, ap, subst}
 use Rattle.table_load.specs.Database.{base_of}
 use Rattle.auditor_top.specs.declared.opening.OpenFault.{OpenFault}
 use Rattle.auditor_top.specs.declared.opening.Opened.{Opened}
 use Rattle.auditor_top.specs.declared.opening.OpenedPublic.{OpenedPublic}
 use Rattle.auditor_top.specs.declared.words.Command.{Command}
 use Rattle.auditor_top.specs.declared.status.Status.{Status}
-use Rattle.auditor_top.specs.Commands.{opens_store, reads_files, reads_secrets}
+use Rattle.auditor_top.specs.Commands.{reads_files, reads_secrets}
 use Rattle.auditor_top.specs.Ready.{IsGiven, Refuses}
 use Rattle.auditor_top.proofs.FileRefusals.{files_refused, gives_up_over, gives_up_public}
-use Rattle.auditor_top.proofs.Openings.{stays}
-use Rattle.auditor_top.proofs.Refusals.{uncalled}
-use Rattle.audit_types.specs.History.{AreProtected}
 use Rattle.audit_types.specs.declared.records.Protected.{Protected}
 use Rattle.schema_json.specs.Columns.{Column}
-use Rattle.table_load.specs.Loaded.{table_view}
 use Rattle.table_load.specs.MeaningLaws.{read_means}
-use Rattle.table_load.specs.Tables.{table_of, public_of}
-use Rattle.set_index.specs.Groups.{AreEntries}
+use Rattle.table_load.specs.Tables.{public_of}
 use Rattle.set_index.specs.Indexed.{IndexView}
 use Rattle.set_index.specs.declared.index.IndexFault.{IndexFault}
 use Rattle.set_index.specs.declared.index.IndexFault.TheVariants as index
 use Rattle.auditor_top.specs.Commands.{AreSoundFilesOf, reads_groups}
 use Rattle.auditor_top.proofs.OneTable.{table_is_ok}
-use Rattle.auditor_top.proofs.GroupRefusals.{no_step, lacks, groups_refused, public_gives_up, growth_gives_up}
+use Rattle.auditor_top.proofs.GroupRefusals.{no_step, lacks, groups_refused, public_gives_up}
 use Rattle.auditor_top.proofs.ready.open.Goals as goal
 
 abbrev index_refused : IndexFault → Result IndexView IndexFault
