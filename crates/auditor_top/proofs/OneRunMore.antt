@@ -1,14 +1,13 @@
 -- A life with one run more.
 use Rattle.std.proofs.Common.{◌≡◌, ◌≢◌, ℕ, inl, inr, List, [], ◌∷◌, ◌++◌, Bool, true, false, Option, Some, refl, sym, ◌∙◌, ap, subst, append_assoc, arith}
 use Rattle.std.proofs.lemmas.List.{append_cancel_left, append-nil}
-use Rattle.audit_types.specs.declared.shapes.Shape.{Shape}
 use Rattle.audit_types.specs.declared.records.Answered.{Answered}
 use Rattle.audit_types.specs.History.{Table, IsLegal}
 use Rattle.bench_core.specs.declared.bench.Bench.{Ghosts}
 use Rattle.bench_core.specs.declared.source.Source as source
 use Rattle.bench_core.specs.Calls.{IsQuiet}
 use Rattle.table_load.specs.Database.{Database}
-use Rattle.journal_form.specs.Journal.{StandsFor, StandsAt}
+use Rattle.journal_form.specs.Journal.{StandsFor}
 use Rattle.audit_types.specs.Widening.{over}
 use Rattle.answer_journal.specs.Moments.{IsBeforeOrGrown}
 use Rattle.line_wire.specs.Lines.{counted_lines}

@@ -1,5 +1,5 @@
 -- What it comes to that two journals weren't opened, and how a session over them ended, by cases on each.
-use Rattle.std.proofs.Common.{rules, ◌≡◌, ◌≢◌, ◌⊎◌, ◌+◌, ◌<◌, ◌≤◌, ℕ, List, [], ◌++◌, length, take, true, Some, Result, Ok, Err, IsErrOf, OnOk, ap, refl, sym, ◌∙◌, subst, inl, inr, arith}
+use Rattle.std.proofs.Common.{◌≡◌, ◌≢◌, ◌⊎◌, ◌+◌, ◌<◌, ◌≤◌, ℕ, List, [], length, take, true, Some, Result, Ok, Err, IsErrOf, OnOk, ap, refl, sym, ◌∙◌, subst, inl, inr, arith}
 use Rattle.std.proofs.lemmas.List.{take_all, take-append-le}
 use Rattle.audit_types.specs.declared.records.Answered.{Answered}
 use Rattle.audit_types.specs.History.{Table as Guarded, IsLegal}
@@ -11,7 +11,7 @@ use Rattle.audit_store.specs.declared.starting.StartFault.{StartFault}
 use Rattle.audit_store.specs.declared.starting.StartFault.TheVariants as start
 use Rattle.line_wire.specs.Lines.{counted_lines, most_input}
 use Rattle.audit_session.specs.Ends.{Serves, ServesWhole, ServesSome, limited}
-use Rattle.audit_session.specs.Stops.{IsFront, stands_over}
+use Rattle.audit_session.specs.Stops.{stands_over}
 use Rattle.audit_session.specs.declared.session.TwinEnd.{TwinEnd}
 use Rattle.audit_session.specs.declared.session.TwinEnd.TheVariants as end
 use Rattle.twin_journal.specs.Twins.{KeepWhole, TwinCause, TwinGivesUp}
