@@ -82,16 +82,16 @@ module _ {P I B : Type 0} (files : source.Ghosts P) (lines : source.Ghosts I) (b
   twins_on batch is one serving ptold itold told goes reaches =
       let text = counted_lines (lines.left old.input) in
       stops_on batch is goes.2 goes.4 (
-        elim ((serving.twin_moment ptold itold told quiet left.base goes.0 goes.1 at.history (record { files = goes.2; together = goes.3 })).each image (before ++ sent) was) [
-          | inl catches ↦
-              let same : catches.1.now ≡ left.history = (one image left.base.secret.shape (in_force left).setting.shape catches.1.now left.history catches.1.stands.0 stands.0
-              catches.1.stands.1 stands.1).1 in
-              let now : at.history ≡ catches.1.now = fronts_meet at.history catches.1.now
-              (subst (λ (h : List Answered). IsFront at.history h) (sym same) reaches) catches.1.to in
-              untouched_stops left.base batch at.history text image before image (before ++ sent)
-              (subst (λ (h : List Answered). StandsFor image left.base.secret.shape h) (sym now) catches.1.stands) (catches.0, refl)
-          | inr stops ↦ stops
-        ]
+      elim ((serving.twin_moment ptold itold told quiet left.base goes.0 goes.1 at.history (record { files = goes.2; together = goes.3 })).each image (before ++ sent) was) [
+        | inl catches ↦
+            let same : catches.1.now ≡ left.history = (one image left.base.secret.shape (in_force left).setting.shape catches.1.now left.history catches.1.stands.0 stands.0
+            catches.1.stands.1 stands.1).1 in
+            let now : at.history ≡ catches.1.now = fronts_meet at.history catches.1.now
+            (subst (λ (h : List Answered). IsFront at.history h) (sym same) reaches) catches.1.to in
+            untouched_stops left.base batch at.history text image before image (before ++ sent)
+            (subst (λ (h : List Answered). StandsFor image left.base.secret.shape h) (sym now) catches.1.stands) (catches.0, refl)
+        | inr stops ↦ stops
+      ]
       )
 
   -- and with one of `grow`
