@@ -1,14 +1,13 @@
 -- A life with one run more.
 use Rattle.std.proofs.Common.{◌≡◌, ◌≢◌, ℕ, inl, inr, List, [], ◌∷◌, ◌++◌, Bool, true, false, Option, Some, refl, sym, ◌∙◌, ap, subst, append_assoc, arith}
 use Rattle.std.proofs.lemmas.List.{append_cancel_left, append-nil}
-use Rattle.audit_types.specs.declared.shapes.Shape.{Shape}
 use Rattle.audit_types.specs.declared.records.Answered.{Answered}
 use Rattle.audit_types.specs.History.{Table, IsLegal}
 use Rattle.bench_core.specs.declared.bench.Bench.{Ghosts}
 use Rattle.bench_core.specs.declared.source.Source as source
 use Rattle.bench_core.specs.Calls.{IsQuiet}
 use Rattle.table_load.specs.Database.{Database}
-use Rattle.journal_form.specs.Journal.{StandsFor, StandsAt}
+use Rattle.journal_form.specs.Journal.{StandsFor}
 use Rattle.audit_types.specs.Widening.{over}
 use Rattle.answer_journal.specs.Moments.{IsBeforeOrGrown}
 use Rattle.line_wire.specs.Lines.{counted_lines}
@@ -83,16 +82,16 @@ module _ {P I B : Type 0} (files : source.Ghosts P) (lines : source.Ghosts I) (b
   twins_on batch is one serving ptold itold told goes reaches =
       let text = counted_lines (lines.left old.input) in
       stops_on batch is goes.2 goes.4 (
-        elim ((serving.twin_moment ptold itold told quiet left.base goes.0 goes.1 at.history (record { files = goes.2; together = goes.3 })).each image (before ++ sent) was) [
-          | inl catches ↦
-              let same : catches.1.now ≡ left.history = (one image left.base.secret.shape (in_force left).setting.shape catches.1.now left.history catches.1.stands.0 stands.0
-              catches.1.stands.1 stands.1).1 in
-              let now : at.history ≡ catches.1.now = fronts_meet at.history catches.1.now
-              (subst (λ (h : List Answered). IsFront at.history h) (sym same) reaches) catches.1.to in
-              untouched_stops left.base batch at.history text image before image (before ++ sent)
-              (subst (λ (h : List Answered). StandsFor image left.base.secret.shape h) (sym now) catches.1.stands) (catches.0, refl)
-          | inr stops ↦ stops
-        ]
+      elim ((serving.twin_moment ptold itold told quiet left.base goes.0 goes.1 at.history (record { files = goes.2; together = goes.3 })).each image (before ++ sent) was) [
+        | inl catches ↦
+            let same : catches.1.now ≡ left.history = (one image left.base.secret.shape (in_force left).setting.shape catches.1.now left.history catches.1.stands.0 stands.0
+            catches.1.stands.1 stands.1).1 in
+            let now : at.history ≡ catches.1.now = fronts_meet at.history catches.1.now
+            (subst (λ (h : List Answered). IsFront at.history h) (sym same) reaches) catches.1.to in
+            untouched_stops left.base batch at.history text image before image (before ++ sent)
+            (subst (λ (h : List Answered). StandsFor image left.base.secret.shape h) (sym now) catches.1.stands) (catches.0, refl)
+        | inr stops ↦ stops
+      ]
       )
 
   -- and with one of `grow`

@@ -1,17 +1,15 @@
 -- What the end of the last step of `restore` comes to, by cases on it.
-use Rattle.std.proofs.Common.{rules, ◌≡◌, ◌≢◌, ℕ, List, Some, Result, Ok, Err, IsErrOf, OnOk, ap, refl, sym, ◌∙◌, subst, inl, inr}
+use Rattle.std.proofs.Common.{rules, ◌≡◌, ◌≢◌, ℕ, List, Some, Result, Ok, Err, IsErrOf, OnOk, ap, refl, sym, subst, inl, inr}
 use Rattle.audit_types.specs.History.{Table as Guarded}
 use Rattle.bench_core.specs.Causes.{Rose}
-use Rattle.audit_store.specs.Starting.{StartCause, GivesUp}
+use Rattle.audit_store.specs.Starting.{GivesUp}
 use Rattle.audit_store.specs.declared.starting.StartFault.{StartFault}
 use Rattle.audit_store.specs.declared.starting.StartFault.TheVariants as start
 use Rattle.twin_journal.specs.Restoring.{GivesUpRestoring, RestoreCause, RestoredUnlessGivenUp}
 use Rattle.twin_journal.specs.declared.restoring.RestoreFault.{RestoreFault}
 use Rattle.twin_journal.specs.declared.restoring.RestoreFault.TheVariants as restore
-use Rattle.auditor_top.specs.declared.words.Command.{Command}
 use Rattle.auditor_top.specs.declared.words.Command.TheVariants.{Restore}
 use Rattle.auditor_top.specs.declared.status.Which.TheVariants.{Input}
-use Rattle.auditor_top.specs.declared.status.Status.{Status}
 use Rattle.auditor_top.specs.declared.status.Status.TheVariants.{Done, SourceFault, BenchFault, SpareFault}
 use Rattle.auditor_top.specs.Causes.{BothCause, FaultCounts, FaultCause, WordCause, FileCause, SpareCause, NothingFailed, IsDoneOrWants}
 use Rattle.auditor_top.specs.Stages.{Before, opening_journal, reading_lines}

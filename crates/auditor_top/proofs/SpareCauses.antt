@@ -1,9 +1,9 @@
 -- What a status says of the spare whose run didn't come to it.
 use Rattle.std.proofs.Common.{ℕ, List}
-use Rattle.auditor_top.specs.declared.status.Which.TheVariants.{Schema, Table, Input}
+use Rattle.auditor_top.specs.declared.status.Which.TheVariants.{Input}
 use Rattle.auditor_top.specs.declared.words.Command.{Command}
 use Rattle.auditor_top.specs.declared.status.Status.{Status}
-use Rattle.auditor_top.specs.declared.status.Status.TheVariants.{Done, BadWords, BadSchema, BadTable, SourceFault, BenchFault, NotMade, AlreadyThere, Damaged, OtherShape, NothingNew, Untrue, Illegal, InputLimit, Disagrees, BadGroup, SpareThere, SpareFault, NoMemory}
+use Rattle.auditor_top.specs.declared.status.Status.TheVariants.{Done, SourceFault, InputLimit, Disagrees, SpareThere}
 use Rattle.auditor_top.specs.Causes.{SpareCause}
 use Rattle.auditor_top.specs.Ready.{EndsEarly}
 

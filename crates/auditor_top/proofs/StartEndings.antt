@@ -1,5 +1,5 @@
 -- What the fault of a journal comes to that is opened in the last step of a command, by cases on it.
-use Rattle.std.proofs.Common.{◌≡◌, ◌≢◌, ℕ, List, refl}
+use Rattle.std.proofs.Common.{◌≢◌, ℕ, List, refl}
 use Rattle.audit_types.specs.History.{Table as Guarded}
 use Rattle.audit_store.specs.Starting.{GivesUp}
 use Rattle.audit_store.specs.declared.starting.StartFault.{StartFault}

@@ -5,9 +5,8 @@ use Rattle.audit_types.specs.declared.shapes.Shape.{Shape}
 use Rattle.schema_json.specs.declared.faults.SchemaFault.{SchemaFault}
 use Rattle.table_load.specs.declared.faults.TableFault.{TableFault}
 use Rattle.question_plan.specs.declared.due.Due.{Due}
-use Rattle.auditor_top.specs.declared.status.Which.TheVariants.{Schema, Table, Input}
 use Rattle.auditor_top.specs.declared.status.Status.{Status}
-use Rattle.auditor_top.specs.declared.status.Status.TheVariants.{Done, BadWords, BadSchema, BadTable, SourceFault, BenchFault, NotMade, AlreadyThere, Damaged, OtherShape, NothingNew, Untrue, Illegal, InputLimit, Disagrees, BadGroup, SpareThere, SpareFault, BadSpare, TwinsDiffer, NothingLost, NoMemory}
+use Rattle.auditor_top.specs.declared.status.Status.TheVariants.{BadSchema, BadTable, Damaged, OtherShape, NothingNew, Untrue, Illegal, Disagrees, BadGroup, TwinsDiffer}
 use Rattle.auditor_top.specs.Status.{words_of, plain_text}
 
 pub tells_no_number : (status : Status)

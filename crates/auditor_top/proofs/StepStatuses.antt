@@ -1,8 +1,6 @@
 -- What follows from the status of each step of a run by itself.
 use Rattle.std.proofs.Common.{◌≡◌, ◌≢◌, ◌≤◌, List, ℕ, true, false, Bool, Some, Result, Ok, Err, IsErrOf, IsOk, arith, refl, subst, sym}
-use Rattle.std.specs.Prelude.{ℤ}
 use Rattle.std.specs.Bool.{OnTrue}
-use Rattle.audit_types.specs.declared.shapes.Shape.{Shape}
 use Rattle.schema_json.specs.Columns.{Column, Group, SchemaView}
 use Rattle.schema_json.specs.declared.faults.SchemaFault.{SchemaFault}
 use Rattle.schema_json.specs.declared.faults.SchemaFault.TheVariants as schema_fault
@@ -16,7 +14,6 @@ use Rattle.audit_session.specs.declared.serving.EndFault.{EndFault}
 use Rattle.audit_session.specs.declared.serving.EndFault.TheVariants as end
 use Rattle.journal_audit.specs.declared.faults.AuditFault.{AuditFault}
 use Rattle.journal_audit.specs.declared.faults.AuditFault.TheVariants as report
-use Rattle.question_plan.specs.declared.due.Due.{Due}
 use Rattle.transcript_sim.specs.declared.simulating.SimulationFault.{SimulationFault}
 use Rattle.transcript_sim.specs.declared.simulating.SimulationFault.TheVariants as verdict
 use Rattle.auditor_top.specs.declared.words.Command.{Command}
@@ -25,7 +22,7 @@ use Rattle.auditor_top.specs.Commands.{reads_lines}
 use Rattle.auditor_top.specs.declared.status.Which.{Which}
 use Rattle.auditor_top.specs.declared.status.Which.TheVariants.{Schema, Table, Input}
 use Rattle.auditor_top.specs.declared.status.Status.{Status}
-use Rattle.auditor_top.specs.declared.status.Status.TheVariants.{Done, BadWords, BadSchema, BadTable, SourceFault, BenchFault, NotMade, AlreadyThere, Damaged, OtherShape, NothingNew, Untrue, Illegal, InputLimit, Disagrees, BadGroup, SpareThere, SpareFault, NoMemory}
+use Rattle.auditor_top.specs.declared.status.Status.TheVariants.{Done, BadWords, BadSchema, BadTable, SourceFault, BenchFault, InputLimit, Disagrees, BadGroup, SpareFault, NoMemory}
 use Rattle.auditor_top.specs.Status.{making_status, session_status, audit_status, simulation_status}
 use Rattle.auditor_top.specs.Causes.{FaultCounts, counts, NeverFall, WordCause, SchemaCause, TableCause, GroupCause, FileCause, InputCause}
 use Rattle.auditor_top.specs.Ready.{EndsEarly, GivesUp}

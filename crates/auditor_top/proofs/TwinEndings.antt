@@ -1,5 +1,5 @@
 -- What it comes to that two journals weren't opened, and how a session over them ended, by cases on each.
-use Rattle.std.proofs.Common.{rules, ◌≡◌, ◌≢◌, ◌⊎◌, ◌+◌, ◌<◌, ◌≤◌, ℕ, List, [], ◌++◌, length, take, true, Some, Result, Ok, Err, IsErrOf, OnOk, ap, refl, sym, ◌∙◌, subst, inl, inr, arith}
+use Rattle.std.proofs.Common.{◌≡◌, ◌≢◌, ◌⊎◌, ◌+◌, ◌<◌, ◌≤◌, ℕ, List, [], length, take, true, Some, Result, Ok, Err, IsErrOf, OnOk, ap, refl, sym, ◌∙◌, subst, inl, inr, arith}
 use Rattle.std.proofs.lemmas.List.{take_all, take-append-le}
 use Rattle.audit_types.specs.declared.records.Answered.{Answered}
 use Rattle.audit_types.specs.History.{Table as Guarded, IsLegal}
@@ -11,7 +11,7 @@ use Rattle.audit_store.specs.declared.starting.StartFault.{StartFault}
 use Rattle.audit_store.specs.declared.starting.StartFault.TheVariants as start
 use Rattle.line_wire.specs.Lines.{counted_lines, most_input}
 use Rattle.audit_session.specs.Ends.{Serves, ServesWhole, ServesSome, limited}
-use Rattle.audit_session.specs.Stops.{IsFront, stands_over}
+use Rattle.audit_session.specs.Stops.{stands_over}
 use Rattle.audit_session.specs.declared.session.TwinEnd.{TwinEnd}
 use Rattle.audit_session.specs.declared.session.TwinEnd.TheVariants as end
 use Rattle.twin_journal.specs.Twins.{KeepWhole, TwinCause, TwinGivesUp}
@@ -168,10 +168,13 @@ twin_input fault bytes = tt
 pub front_is_legal : (table : Guarded) (file spare : List ℕ) (whole : List Answered) → KeepWhole table file spare whole → HoldsLegal file table
 front_is_legal table file spare whole keeps =
     let main = keeps.0 in
-    let all = keeps.2 in
-    (main, all.main_stands, subst (λ (h : List Answered). IsLegal table h)
-    (ap (λ (h : List Answered). take (length main) h) all.main_front.is ∙ take-append-le (length main) main all.main_front.rest (omega arith) ∙ take_all (length main) main (omega arith))
-    (legal_front table whole (length main) all.legal))
+    let all = keeps.2 in (
+      main,
+      all.main_stands,
+      subst (λ (h : List Answered). IsLegal table h)
+          (ap (λ (h : List Answered). take (length main) h) all.main_front.is ∙ take-append-le (length main) main all.main_front.rest (omega arith) ∙ take_all (length main) main (omega arith))
+          (legal_front table whole (length main) all.legal),
+    )
 
 pub twins_last : {X : Type 0} (ended : Result X TwinEnd) → EndsLastStep (twin_session_status ended)
 twins_last (Err end.Bench) = tt
@@ -221,15 +224,21 @@ pub twins_faults : {X : Type 0} (ended : Result X TwinEnd) (before : FaultCounts
     (ended ≡ Err end.Bench → Rose before.bench bench) → (ended ≢ Err end.Bench → bench ≡ before.bench) →
     (ended ≡ Err end.Spare → Rose before.spare spare) → (ended ≢ Err end.Spare → spare ≡ before.spare) →
     FaultCause (twin_session_status ended) before (record before { input = input; bench = bench; spare = spare })
-twins_faults (Err end.Input) before input bench spare input_rose input_same bench_rose bench_same spare_rose spare_same =
-    (input_rose refl, ap (λ (n : ℕ). record before { input = input; bench = n; spare = spare }) (bench_same (λ is. cc))
-    ∙ ap (λ (n : ℕ). record before { input = input; spare = n }) (spare_same (λ is. cc)))
-twins_faults (Err end.Bench) before input bench spare input_rose input_same bench_rose bench_same spare_rose spare_same =
-    (bench_rose refl, ap (λ (n : ℕ). record before { input = n; bench = bench; spare = spare }) (input_same (λ is. cc))
-    ∙ ap (λ (n : ℕ). record before { bench = bench; spare = n }) (spare_same (λ is. cc)))
-twins_faults (Err end.Spare) before input bench spare input_rose input_same bench_rose bench_same spare_rose spare_same =
-    (spare_rose refl, ap (λ (n : ℕ). record before { input = n; bench = bench; spare = spare }) (input_same (λ is. cc))
-    ∙ ap (λ (n : ℕ). record before { bench = n; spare = spare }) (bench_same (λ is. cc)))
+twins_faults (Err end.Input) before input bench spare input_rose input_same bench_rose bench_same spare_rose spare_same = (
+  input_rose refl,
+  ap (λ (n : ℕ). record before { input = input; bench = n; spare = spare }) (bench_same (λ is. cc))
+      ∙ ap (λ (n : ℕ). record before { input = input; spare = n }) (spare_same (λ is. cc)),
+)
+twins_faults (Err end.Bench) before input bench spare input_rose input_same bench_rose bench_same spare_rose spare_same = (
+  bench_rose refl,
+  ap (λ (n : ℕ). record before { input = n; bench = bench; spare = spare }) (input_same (λ is. cc))
+      ∙ ap (λ (n : ℕ). record before { bench = bench; spare = n }) (spare_same (λ is. cc)),
+)
+twins_faults (Err end.Spare) before input bench spare input_rose input_same bench_rose bench_same spare_rose spare_same = (
+  spare_rose refl,
+  ap (λ (n : ℕ). record before { input = n; bench = bench; spare = spare }) (input_same (λ is. cc))
+      ∙ ap (λ (n : ℕ). record before { bench = n; spare = spare }) (bench_same (λ is. cc)),
+)
 twins_faults ended before input bench spare input_rose input_same bench_rose bench_same spare_rose spare_same =
     all_same before input bench spare (input_same (λ is. cc)) (bench_same (λ is. cc)) (spare_same (λ is. cc))
 

@@ -1,12 +1,12 @@
 -- What a run of `serve` with two journals leaves, of which one history begins the other at first.
-use Rattle.std.specs.Prelude.{◌≡◌, ◌⊎◌, List, [], ℕ, true}
+use Rattle.std.specs.Prelude.{◌≡◌, ◌⊎◌, List, [], ℕ}
 use Rattle.audit_types.specs.declared.records.Answered.{Answered}
 use Rattle.table_load.specs.Database.{Database}
 use Rattle.line_wire.specs.Lines.{CountedLine, counted_lines}
 use Rattle.audit_session.specs.Ends.{Serves, ServesWhole, ServesSome, limited}
 use Rattle.audit_session.specs.Stops.{LeavesBoth, SpareStops, StopsOver, stands_over}
 use Rattle.twin_journal.specs.Twins.{CatchesUp, StandsBetween}
-use Rattle.auditor_top.specs.declared.status.Which.TheVariants.{Schema, Table, Input}
+use Rattle.auditor_top.specs.declared.status.Which.TheVariants.{Input}
 use Rattle.auditor_top.specs.declared.status.Status.{Status}
 use Rattle.auditor_top.specs.declared.status.Status.TheVariants.{Done, SourceFault, BenchFault, InputLimit, SpareFault, NoMemory}
 use Rattle.auditor_top.specs.Ends.{Outside}

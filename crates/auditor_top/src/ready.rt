@@ -178,7 +178,9 @@ pub fn open<P: Source, B: Bench>(
             },
             Err(fault) => Err(Status::from(fault)),
         },
-        Command::Serve { batch, twin: false } => match open_store(alloc, command, schema, table, bench) {
+        Command::Serve { batch, twin: false } => match open_store(
+            alloc, command, schema, table, bench,
+        ) {
             Ok(
                 Started {
                     schema,
@@ -193,7 +195,9 @@ pub fn open<P: Source, B: Bench>(
             }),
             Err(status) => Err(status),
         },
-        Command::Serve { batch, twin: true } => match open_groups(alloc, command, schema, table, bench) {
+        Command::Serve { batch, twin: true } => match open_groups(
+            alloc, command, schema, table, bench,
+        ) {
             Ok(
                 ReadyTable {
                     schema,
@@ -233,11 +237,23 @@ pub fn open<P: Source, B: Bench>(
             Err(status) => Err(status),
         },
         Command::Grow => match open_groups(alloc, command, schema, table, bench) {
-            Ok(ReadyTable { secret, protected, .. }) => Ok(Ready::Grow { secret, protected }),
+            Ok(
+                ReadyTable {
+                    secret,
+                    protected,
+                    ..
+                },
+            ) => Ok(Ready::Grow { secret, protected }),
             Err(status) => Err(status),
         },
         Command::Restore => match open_groups(alloc, command, schema, table, bench) {
-            Ok(ReadyTable { secret, protected, .. }) => Ok(Ready::Restore { secret, protected }),
+            Ok(
+                ReadyTable {
+                    secret,
+                    protected,
+                    ..
+                },
+            ) => Ok(Ready::Restore { secret, protected }),
             Err(status) => Err(status),
         },
     }

@@ -23,7 +23,9 @@ ghost use Rattle.auditor_top.specs.Stages.{Before, reading_table, opening_journa
 
 use crate::compacting::compact;
 use crate::drilling::drill;
-use crate::ends::{answered, compacted, explained, grown, judged, made, reported, restored, twins_answered};
+use crate::ends::{
+    answered, compacted, explained, grown, judged, made, reported, restored, twins_answered,
+};
 use crate::laws::{compactions, lives, stops_are_legal};
 use crate::ready::{Ready, open};
 use crate::status::{Status, Which};

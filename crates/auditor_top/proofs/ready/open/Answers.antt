@@ -39,12 +39,12 @@ returns-in-Init-clause-refusal g c =
     let e = c.in-Err.ensures in
     let fault = c.in-Err.fault in
     subst (λ (s : Status). Refuses g.P.Source g.B.Bench c.args.command s c.args.schema.now c.open_table.new.schema c.args.table.now c.open_table.new.table
-          c.args.bench.now c.args.bench.now) (sym c.from.ensures)
-          (files_refused g.P.Source g.B.Bench c.args.command c.args.schema.now c.open_table.new.schema c.args.table.now c.open_table.new.table c.args.bench.now fault
-          (ap reads_files c.in-Init.is) e.schema_cause (λ is. e.own_schema_fault (ap table_unopened is)) (λ is. e.own_table_fault (ap table_unopened is))
-          (λ ptold is. e.schema_within ptold (ap table_unopened is)) (λ ptold is. e.table_within ptold (ap table_unopened is)) e.faults
-          (λ is. e.schema_last (ap table_unopened is)) (λ is. e.table_last (ap table_unopened is)) e.untouched
-          (λ ptold reads columns is. e.table_cause ptold columns is) (λ ptold is. no_step reads_secrets c.in-Init.is refl (ap reads_secrets is)) (λ ptold given. gives_up_over fault _ _ _ (subst (λ (k : Command). IsGiven k (g.P.Source.left c.args.schema.now) (g.P.Source.left c.args.table.now) (g.B.Bench.file c.args.bench.now)) c.in-Init.is given).1 (e.schema_cause ptold) (e.table_cause ptold)))
+    c.args.bench.now c.args.bench.now) (sym c.from.ensures)
+    (files_refused g.P.Source g.B.Bench c.args.command c.args.schema.now c.open_table.new.schema c.args.table.now c.open_table.new.table c.args.bench.now fault
+    (ap reads_files c.in-Init.is) e.schema_cause (λ is. e.own_schema_fault (ap table_unopened is)) (λ is. e.own_table_fault (ap table_unopened is))
+    (λ ptold is. e.schema_within ptold (ap table_unopened is)) (λ ptold is. e.table_within ptold (ap table_unopened is)) e.faults
+    (λ is. e.schema_last (ap table_unopened is)) (λ is. e.table_last (ap table_unopened is)) e.untouched
+    (λ ptold reads columns is. e.table_cause ptold columns is) (λ ptold is. no_step reads_secrets c.in-Init.is refl (ap reads_secrets is)) (λ ptold given. gives_up_over fault _ _ _ (subst (λ (k : Command). IsGiven k (g.P.Source.left c.args.schema.now) (g.P.Source.left c.args.table.now) (g.B.Bench.file c.args.bench.now)) c.in-Init.is given).1 (e.schema_cause ptold) (e.table_cause ptold)))
 
 pub returns-in-Ok-clause-over : goal.returns-in-Ok-clause-over
 returns-in-Ok-clause-over g c =
@@ -63,12 +63,12 @@ returns-in-Simulate-clause-refusal g c =
     let e = c.in-Err-open_public.ensures in
     let fault = c.in-Err-open_public.fault in
     subst (λ (s : Status). Refuses g.P.Source g.B.Bench c.args.command s c.args.schema.now c.open_public.new.schema c.args.table.now c.open_public.new.table
-          c.args.bench.now c.args.bench.now) (sym c.from-in-Err-open_public.ensures)
-          (files_refused g.P.Source g.B.Bench c.args.command c.args.schema.now c.open_public.new.schema c.args.table.now c.open_public.new.table c.args.bench.now fault
-          (ap reads_files c.in-Simulate.is) e.schema_cause (λ is. e.own_schema_fault (ap public_unopened is)) (λ is. e.own_table_fault (ap public_unopened is))
-          (λ ptold is. e.schema_within ptold (ap public_unopened is)) (λ ptold is. e.table_within ptold (ap public_unopened is)) e.faults
-          (λ is. e.schema_last (ap public_unopened is)) (λ is. e.table_last (ap public_unopened is)) e.untouched
-          (λ ptold reads. lacks reads_secrets c.in-Simulate.is refl reads) (λ ptold is columns asked. e.public_cause ptold columns asked) (λ ptold given. gives_up_public fault _ _ _ _ (subst (λ (k : Command). IsGiven k (g.P.Source.left c.args.schema.now) (g.P.Source.left c.args.table.now) (g.B.Bench.file c.args.bench.now)) c.in-Simulate.is given).2 (e.schema_cause ptold) (e.public_cause ptold)))
+    c.args.bench.now c.args.bench.now) (sym c.from-in-Err-open_public.ensures)
+    (files_refused g.P.Source g.B.Bench c.args.command c.args.schema.now c.open_public.new.schema c.args.table.now c.open_public.new.table c.args.bench.now fault
+    (ap reads_files c.in-Simulate.is) e.schema_cause (λ is. e.own_schema_fault (ap public_unopened is)) (λ is. e.own_table_fault (ap public_unopened is))
+    (λ ptold is. e.schema_within ptold (ap public_unopened is)) (λ ptold is. e.table_within ptold (ap public_unopened is)) e.faults
+    (λ is. e.schema_last (ap public_unopened is)) (λ is. e.table_last (ap public_unopened is)) e.untouched
+    (λ ptold reads. lacks reads_secrets c.in-Simulate.is refl reads) (λ ptold is columns asked. e.public_cause ptold columns asked) (λ ptold given. gives_up_public fault _ _ _ _ (subst (λ (k : Command). IsGiven k (g.P.Source.left c.args.schema.now) (g.P.Source.left c.args.table.now) (g.B.Bench.file c.args.bench.now)) c.in-Simulate.is given).2 (e.schema_cause ptold) (e.public_cause ptold)))
 
 pub returns-in-Ok-open_public-clause-refusal : goal.returns-in-Ok-open_public-clause-refusal
 returns-in-Ok-open_public-clause-refusal g c =
@@ -77,16 +77,16 @@ returns-in-Ok-open_public-clause-refusal g c =
     let fault = c.in-Err-new.fault in
     let bad = λ (place : ℕ) (is : fault ≡ index.BadGroup place). c.in-Err-new.ensures.bad place (ap index_refused is) in
     subst (λ (s : Status). Refuses g.P.Source g.B.Bench c.args.command s c.args.schema.now c.open_public.new.schema c.args.table.now
-          c.open_public.new.table c.args.bench.now c.args.bench.now) (sym c.from-in-Err-new.ensures)
-          (groups_refused g.P.Source g.B.Bench c.args.command c.args.schema.now c.open_public.new.schema c.args.table.now c.open_public.new.table c.args.bench.now
-          (ap reads_groups c.in-Simulate.is) opened.schema e.schema_is e.steady.0 e.steady.1 fault bad
-          (λ ptold reads. lacks reads_secrets c.in-Simulate.is refl reads)
-          (λ ptold simulates other is. table_is_ok (λ (cs : List Column). public_of cs (g.P.Source.left c.args.table.now)) _ opened.schema other opened.public
-          (e.schema_is ptold) (e.public_is ptold) is)
-          (λ ptold told given. public_gives_up c.groups_of_a_schema.ensures.entries fault (g.P.Source.left c.args.schema.now) (g.P.Source.left c.args.table.now)
-          opened.schema opened.public (e.schema_is ptold) (e.public_is ptold) bad
-          (subst (λ (k : Command). IsGiven k (g.P.Source.left c.args.schema.now) (g.P.Source.left c.args.table.now) (g.B.Bench.file c.args.bench.now))
-          c.in-Simulate.is given)))
+    c.open_public.new.table c.args.bench.now c.args.bench.now) (sym c.from-in-Err-new.ensures)
+    (groups_refused g.P.Source g.B.Bench c.args.command c.args.schema.now c.open_public.new.schema c.args.table.now c.open_public.new.table c.args.bench.now
+    (ap reads_groups c.in-Simulate.is) opened.schema e.schema_is e.steady.0 e.steady.1 fault bad
+    (λ ptold reads. lacks reads_secrets c.in-Simulate.is refl reads)
+    (λ ptold simulates other is. table_is_ok (λ (cs : List Column). public_of cs (g.P.Source.left c.args.table.now)) _ opened.schema other opened.public
+    (e.schema_is ptold) (e.public_is ptold) is)
+    (λ ptold told given. public_gives_up c.groups_of_a_schema.ensures.entries fault (g.P.Source.left c.args.schema.now) (g.P.Source.left c.args.table.now)
+    opened.schema opened.public (e.schema_is ptold) (e.public_is ptold) bad
+    (subst (λ (k : Command). IsGiven k (g.P.Source.left c.args.schema.now) (g.P.Source.left c.args.table.now) (g.B.Bench.file c.args.bench.now))
+    c.in-Simulate.is given)))
 
 -- ---- over a store, or what a store is made of
 
@@ -95,21 +95,21 @@ returns-in-Ok-open_store-clause-over g c =
     let s = c.in-Ok-open_store.field-0 in
     let a = c.in-Ok-open_store.ensures in
     λ ptold.
-          subst (λ (l : List Protected). AreSoundFilesOf (g.P.Source.left c.args.schema.now) (g.P.Source.left c.args.table.now)
-          (base_of s.schema.columns s.index.public l s.store.secret)) (sym a.entries) (a.over ptold)
+    subst (λ (l : List Protected). AreSoundFilesOf (g.P.Source.left c.args.schema.now) (g.P.Source.left c.args.table.now)
+    (base_of s.schema.columns s.index.public l s.store.secret)) (sym a.entries) (a.over ptold)
 
 pub returns-in-Ok-open_store-3-clause-over : goal.returns-in-Ok-open_store-3-clause-over
 returns-in-Ok-open_store-3-clause-over g c =
     let s = c.in-Ok-open_store-3.field-0 in
     let a = c.in-Ok-open_store-3.ensures in
     λ ptold.
-          subst (λ (l : List Protected). AreSoundFilesOf (g.P.Source.left c.args.schema.now) (g.P.Source.left c.args.table.now)
-          (base_of s.schema.columns s.index.public l s.store.secret)) (sym a.entries) (a.over ptold)
+    subst (λ (l : List Protected). AreSoundFilesOf (g.P.Source.left c.args.schema.now) (g.P.Source.left c.args.table.now)
+    (base_of s.schema.columns s.index.public l s.store.secret)) (sym a.entries) (a.over ptold)
 
 pub returns-in-Ok-open_groups-clause-over : goal.returns-in-Ok-open_groups-clause-over
 returns-in-Ok-open_groups-clause-over g c =
     let s = c.in-Ok-open_groups.field-0 in
     let a = c.in-Ok-open_groups.ensures in
     λ ptold.
-        subst (λ (l : List Protected). AreSoundFilesOf (g.P.Source.left c.args.schema.now) (g.P.Source.left c.args.table.now)
-        (base_of s.schema.columns s.index.public l s.secret)) (sym a.entries) (a.over ptold)
+    subst (λ (l : List Protected). AreSoundFilesOf (g.P.Source.left c.args.schema.now) (g.P.Source.left c.args.table.now)
+    (base_of s.schema.columns s.index.public l s.secret)) (sym a.entries) (a.over ptold)

@@ -1,7 +1,6 @@
 -- What `run` says of `restore`.
 use Rattle.std.proofs.Common.{◌≡◌, ◌⊎◌, ℕ, List, Option, Some, Err, arith, refl, sym, ◌∙◌, ap, subst, map, string_bytes}
 use Rattle.audit_types.specs.declared.records.Answered.{Answered}
-use Rattle.audit_types.specs.History.{Table as Guarded}
 use Rattle.bench_core.specs.Causes.{Rose}
 use Rattle.bench_core.specs.Calls.{IsQuiet, IsUntouched, LeavesOnly}
 use Rattle.schema_json.specs.Columns.{Column}
@@ -12,18 +11,16 @@ use Rattle.set_index.specs.Groups.{AreEntries}
 use Rattle.std.specs.Bool.{OnTrue}
 use Rattle.journal_compact.specs.Whole.{IsUnmadeOrWhole}
 use Rattle.answer_journal.specs.Moments.{IsMade}
-use Rattle.twin_journal.specs.Restoring.{CanRestore, GivesUpRestoring, IsLostOf, RestoreCause, Restored, RestoredUnlessGivenUp}
+use Rattle.twin_journal.specs.Restoring.{CanRestore, IsLostOf, RestoreCause, Restored, RestoredUnlessGivenUp}
 use Rattle.twin_journal.specs.declared.restoring.RestoreFault.{RestoreFault}
-use Rattle.twin_journal.specs.declared.restoring.RestoreFault.TheVariants as restore
 use Rattle.auditor_top.specs.declared.words.Command.{Command}
 use Rattle.auditor_top.specs.declared.words.Command.TheVariants as command
 use Rattle.auditor_top.specs.declared.status.Status.{Status}
 use Rattle.auditor_top.specs.Words.{command_of, NamesCommand}
 use Rattle.auditor_top.specs.Commands.{AreFilesOf, AreSoundFilesOf, calls_spare, opens_store, reads_files, reads_groups, reads_lines, writes}
 use Rattle.auditor_top.specs.Causes.{BothCause, WordCause, FileCause, FaultCause, SpareCause, IsReadyFor, counts}
-use Rattle.auditor_top.specs.Ready.{IsReady, IsReadyOver}
+use Rattle.auditor_top.specs.Ready.{IsReadyOver}
 use Rattle.auditor_top.specs.Runs.{objects, faults_of, Restoring}
-use Rattle.auditor_top.specs.Stages.{reading_lines}
 use Rattle.auditor_top.specs.Status.{restoring_status}
 use Rattle.auditor_top.proofs.RestoreEndings.{restore_last, restore_words, restore_file, restore_cause, restore_bench, restore_spare, restore_no_input, restore_faults, restore_wants, restore_at_lines, restore_at_journal, restore_done, restore_takes_spare}
 use Rattle.auditor_top.proofs.OneCommand.{one_command, same_command, asked_for, not_asked, none_asked, takes_step, lacks_step}

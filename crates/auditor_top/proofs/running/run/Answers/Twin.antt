@@ -1,14 +1,13 @@
 -- What `run` says of `serve` over two journals that were opened.
-use Rattle.std.proofs.Common.{◌≡◌, ◌≢◌, ◌⊎◌, ℕ, List, Option, Some, Err, arith, refl, sym, ◌∙◌, ap, subst, inl, inr, true, map, string_bytes}
+use Rattle.std.proofs.Common.{◌≡◌, ℕ, List, Option, Some, refl, sym, ◌∙◌, ap, subst, inl, inr, true, map, string_bytes}
 use Rattle.audit_types.specs.declared.records.Answered.{Answered}
 use Rattle.audit_types.specs.declared.records.Protected.{Protected}
-use Rattle.audit_types.specs.History.{Table as Guarded}
 use Rattle.bench_core.specs.Causes.{Rose}
-use Rattle.bench_core.specs.Calls.{IsQuiet, IsUntouched, LeavesOnly}
+use Rattle.bench_core.specs.Calls.{IsQuiet, LeavesOnly}
 use Rattle.bench_core.specs.Moments.{joins, weakens}
 use Rattle.schema_json.specs.Columns.{Column}
 use Rattle.table_load.specs.Cells.{SecretView}
-use Rattle.table_load.specs.Database.{Database, base_of, secret_table, table_in}
+use Rattle.table_load.specs.Database.{Database, base_of, table_in}
 use Rattle.table_load.specs.MeaningLaws.{means_read}
 use Rattle.table_load.specs.Tables.{table_of}
 use Rattle.journal_form.specs.Journal.{StandsFor}
@@ -24,13 +23,13 @@ use Rattle.std.specs.Bool.{OnTrue}
 use Rattle.auditor_top.specs.declared.words.Command.{Command}
 use Rattle.auditor_top.specs.declared.words.Command.TheVariants as command
 use Rattle.auditor_top.specs.declared.status.Status.{Status}
-use Rattle.auditor_top.specs.Words.{command_of, NamesCommand}
-use Rattle.auditor_top.specs.Commands.{AreFilesOf, AreSoundFilesOf, TwinsOver, calls_spare, opens_store, reads_files, reads_groups, reads_lines, writes}
-use Rattle.auditor_top.specs.Causes.{BothCause, WordCause, FileCause, FaultCause, HoldsLegal, InputCause, SpareCause, IsReadyFor, counts}
+use Rattle.auditor_top.specs.Words.{command_of}
+use Rattle.auditor_top.specs.Commands.{AreSoundFilesOf, TwinsOver, calls_spare, opens_store, reads_files, reads_groups, reads_lines, writes}
+use Rattle.auditor_top.specs.Causes.{WordCause, FileCause, FaultCause, HoldsLegal, InputCause, SpareCause, IsReadyFor, counts}
 use Rattle.auditor_top.specs.Stages.{Before, opening_spare}
 use Rattle.auditor_top.specs.Ready.{IsReady, IsReadyOver}
 use Rattle.auditor_top.specs.Runs.{objects, faults_of, TwinServing}
-use Rattle.auditor_top.proofs.OneCommand.{one_command, same_command, asked_for, not_asked, none_asked, takes_step, lacks_step}
+use Rattle.auditor_top.proofs.OneCommand.{one_command, same_command, asked_for, not_asked, none_asked, takes_step}
 use Rattle.auditor_top.proofs.OneRunMore.{does_so, goes_on}
 use Rattle.auditor_top.proofs.OneTable.{one_base, schema_is_ok, table_is_ok, groups_are_sound}
 use Rattle.auditor_top.proofs.Openings.{later_still}
