@@ -24,6 +24,8 @@ impl<'a, R: Files + Print> FileBench<'a, R> {
     /// The journal of a name in the program's folder, to be read and written. Nothing is opened yet.
     pub fn new(rt: &'a R, name: &'static str) -> Self
         ensures fresh { (result.faults.count ≡ 0) × (result.faults.last ≡ false) }
+        ensures name { result.journal.name.now ≡ name.now }
+        ensures access { (result.journal.links ≡ Links.Refused) × (result.journal.access ≡ Access.Write) }
     {
         FileBench {
             rt,
@@ -35,6 +37,8 @@ impl<'a, R: Files + Print> FileBench<'a, R> {
     /// The same, but that a link of this name is followed: then the file is where it leads, and so is the folder that is synced.
     pub fn following(rt: &'a R, alloc: Global, name: &'static str) -> Self
         ensures fresh { (result.faults.count ≡ 0) × (result.faults.last ≡ false) }
+        ensures name { result.journal.name.now ≡ name.now }
+        ensures access { (result.journal.links ≡ Links.Followed alloc) × (result.journal.access ≡ Access.Write) }
     {
         FileBench {
             rt,
@@ -46,6 +50,8 @@ impl<'a, R: Files + Print> FileBench<'a, R> {
     /// The journal of such a name, to be read alone: each write of it fails, and each sync.
     pub fn to_read(rt: &'a R, name: &'static str) -> Self
         ensures fresh { (result.faults.count ≡ 0) × (result.faults.last ≡ false) }
+        ensures name { result.journal.name.now ≡ name.now }
+        ensures access { (result.journal.links ≡ Links.Refused) × (result.journal.access ≡ Access.Read) }
     {
         FileBench {
             rt,

@@ -1,10 +1,13 @@
 //! The journal's file, opened at the first call on it and made at the first write if it isn't there.
+ghost use Rattle.std.specs.Prelude.{◌≡◌, ◌↔◌, IsOk, IsErr};
 ghost use Rattle.std.specs.Io.{ReadsAtMost};
 
 use crate::counting::read_on;
-use crate::opening::{TryLock, make, open_to_read, open_to_write, still_named, sync_or_shut};
+use crate::opening::{
+    Opened, TryLock, make, open_to_read, open_to_write, still_named, sync_or_shut,
+};
 use crate::place::{Links, Place};
-use std::fs::{Files, Metadata, OpenFile};
+use std::fs::Files;
 use std::io;
 use std::io::{ErrorKind, Read, Seek, SeekFrom};
 use std::os::unix::fs::FileExt;
@@ -14,13 +17,6 @@ use std::os::unix::fs::FileExt;
 pub(crate) enum Access {
     Read,
     Write,
-}
-
-// The open file, and its length as this run found or left it.
-#[derive(Drop)]
-struct Opened<F: Drop> {
-    file: F,
-    length: u64,
 }
 
 /// The file of this name.
@@ -36,7 +32,11 @@ pub(crate) struct JournalFile<'a, R: Files> {
 }
 
 impl<'a, R: Files> JournalFile<'a, R> {
-    pub(crate) fn new(rt: &'a R, name: &'static str, links: Links, access: Access) -> Self {
+    pub(crate) fn new(rt: &'a R, name: &'static str, links: Links, access: Access) -> Self
+        ensures name { result.name.now ≡ name.now }
+        ensures links { result.links ≡ links }
+        ensures access { result.access ≡ access }
+    {
         JournalFile {
             rt,
             name,
@@ -77,8 +77,10 @@ fn read_whole<F: Read + Seek>(file: &mut F, at: u64, buf: &mut [u8]) -> io::Resu
 }
 
 // A file of another length was cut off, or written by somebody else.
-fn is_as_long(found: &Metadata, length: u64) -> io::Result<()> {
-    if found.len() == length {
+fn is_as_long(found: u64, length: u64) -> io::Result<()>
+    ensures { IsOk result ↔ (found ≡ length) }
+{
+    if found == length {
         Ok(())
     } else {
         Err(io::Error::from(ErrorKind::InvalidData))
@@ -93,29 +95,31 @@ where
     fn found(&mut self) -> io::Result<Option<&mut Opened<R::File>>> {
         if self.opened.is_none() {
             let place = found_place(self.rt, self.name, self.links, &mut self.place)?;
-            let opened = match self.access {
+            self.opened = match self.access {
                 Access::Read => open_to_read(self.rt, place)?,
                 Access::Write => open_to_write(self.rt, place)?,
             };
-            self.opened = opened.map(|(file, length)| Opened { file, length });
         }
         Ok(self.opened.as_mut())
     }
 
     // The open file to be written, which is made if it isn't there.
-    fn found_or_made(&mut self) -> io::Result<&mut Opened<R::File>> {
+    fn found_or_made(&mut self) -> io::Result<&mut Opened<R::File>>
+        ensures read { self.old.access ≡ Access.Read → IsErr result }
+    {
         self.may_write()?;
         if self.found()?.is_none() {
             let place = found_place(self.rt, self.name, self.links, &mut self.place)?;
-            let (file, length) = make(self.rt, place)?;
-            self.opened = Some(Opened { file, length });
+            self.opened = Some(make(self.rt, place)?);
         }
         self.opened
             .as_mut()
             .ok_or(io::Error::from(ErrorKind::NotFound))
     }
 
-    fn may_write(&self) -> io::Result<()> {
+    fn may_write(&self) -> io::Result<()>
+        ensures { IsErr result ↔ (self.now.access ≡ Access.Read) }
+    {
         match self.access {
             Access::Write => Ok(()),
             Access::Read => Err(io::Error::from(ErrorKind::PermissionDenied)),
@@ -141,10 +145,12 @@ where
     }
 
     /// Writes all of a piece, if the file is as long as this run left it.
-    pub(crate) fn write_at(&mut self, at: u64, piece: &[u8]) -> io::Result<()> {
+    pub(crate) fn write_at(&mut self, at: u64, piece: &[u8]) -> io::Result<()>
+        ensures read { self.old.access ≡ Access.Read → IsErr result }
+    {
         let opened = self.found_or_made()?;
-        is_as_long(&opened.file.metadata()?, opened.length)?;
-        // One call of the system, and not two, a seek and a write.
+        // The place of its end is its length, and found at a hundredth of the cost of `metadata`.
+        is_as_long(opened.file.seek(SeekFrom::End(0))?, opened.length)?;
         opened.file.write_all_at(piece, at)?;
         opened.length = opened.length.max(at.saturating_add(piece.len() as u64));
         Ok(())
@@ -152,13 +158,15 @@ where
 
     /// Leaves nothing to a power cut, if its place still names the file, and it is as long as this run left it. If there is no
     /// file, there is nothing to keep.
-    pub(crate) fn sync(&mut self) -> io::Result<()> {
+    pub(crate) fn sync(&mut self) -> io::Result<()>
+        ensures read { self.old.access ≡ Access.Read → IsErr result }
+    {
         self.may_write()?;
         self.found()?;
         match (&self.place, &self.opened) {
             (Some(place), Some(opened)) => {
                 sync_or_shut(&opened.file)?;
-                is_as_long(&still_named(self.rt, place, &opened.file)?, opened.length)
+                is_as_long(still_named(self.rt, place, opened.id)?.len(), opened.length)
             }
             _ => Ok(()),
         }

@@ -33,6 +33,30 @@ const SHUT: u32 = 0o400;
 // The owner's leave to write.
 const WRITABLE: u32 = 0o200;
 
+/// Which of the system's files a file is. No other one has its device and number as long as it is open.
+#[derive(Clone, Copy, PartialEq, Eq)]
+pub(crate) struct FileId {
+    device: u64,
+    number: u64,
+}
+
+impl FileId {
+    fn of(file: &Metadata) -> FileId {
+        FileId {
+            device: file.dev(),
+            number: file.ino(),
+        }
+    }
+}
+
+/// An open file, which one it is, and its length as this run found or left it.
+#[derive(Drop)]
+pub(crate) struct Opened<F: Drop> {
+    pub(crate) file: F,
+    pub(crate) id: FileId,
+    pub(crate) length: u64,
+}
+
 // What a path names, if anything. A link, a folder or a pipe isn't a journal.
 fn named<R: Files>(rt: &R, path: &str) -> io::Result<Option<Metadata>> {
     match fs::symlink_metadata(rt, path) {
@@ -43,12 +67,11 @@ fn named<R: Files>(rt: &R, path: &str) -> io::Result<Option<Metadata>> {
     }
 }
 
-/// What is known of an open file, if its place still names it. What is written to a file without a name is kept by nobody.
-pub(crate) fn still_named<R: Files>(rt: &R, place: &Place, file: &R::File) -> io::Result<Metadata> {
-    let open = file.metadata()?;
+/// What is known of the file of a place, if that is an open one. What is written to a file without a name is kept by nobody.
+pub(crate) fn still_named<R: Files>(rt: &R, place: &Place, open: FileId) -> io::Result<Metadata> {
     place.check_link(rt)?;
     match named(rt, place.path())? {
-        Some(named) if named.dev() == open.dev() && named.ino() == open.ino() => Ok(open),
+        Some(named) if FileId::of(&named) == open => Ok(named),
         _ => Err(io::Error::from(ErrorKind::NotFound)),
     }
 }
@@ -63,26 +86,28 @@ pub(crate) fn sync_or_shut<F: OpenFile>(file: &F) -> io::Result<()> {
     done
 }
 
-// Takes an open file for this run alone, as it stands on the disk, and answers its length.
-fn take<R: Files>(rt: &R, place: &Place, file: &R::File) -> io::Result<u64>
+// Takes an open file for this run alone, as it stands on the disk.
+fn take<R: Files>(rt: &R, place: &Place, file: R::File) -> io::Result<Opened<R::File>>
 where
     R::File: TryLock,
 {
     // Before anything is read: who holds the lock may be writing.
     file.try_lock()?;
-    let found = still_named(rt, place, file)?;
+    let id = FileId::of(&file.metadata()?);
+    let found = still_named(rt, place, id)?;
     if found.mode() & WRITABLE == 0 {
         return Err(io::Error::from(ErrorKind::PermissionDenied));
     }
     // A run that was killed may have left what it wrote without a sync.
-    sync_or_shut(file)?;
+    sync_or_shut(&file)?;
     // That the journal is there at all is written in its folder, which has a sync of its own.
     fs::open(rt, place.folder())?.sync_all()?;
-    Ok(found.len())
+    let length = found.len();
+    Ok(Opened { file, id, length })
 }
 
-/// Opens the journal to write it, if there is one, and answers its length too.
-pub(crate) fn open_to_write<R: Files>(rt: &R, place: &Place) -> io::Result<Option<(R::File, u64)>>
+/// Opens the journal to write it, if there is one.
+pub(crate) fn open_to_write<R: Files>(rt: &R, place: &Place) -> io::Result<Option<Opened<R::File>>>
 where
     R::File: TryLock,
 {
@@ -93,12 +118,11 @@ where
         .read(true)
         .write(true)
         .open(rt, place.path())?;
-    let length = take(rt, place, &file)?;
-    Ok(Some((file, length)))
+    Ok(Some(take(rt, place, file)?))
 }
 
 /// The same to read it alone, for which a copy will do that nobody may write.
-pub(crate) fn open_to_read<R: Files>(rt: &R, place: &Place) -> io::Result<Option<(R::File, u64)>>
+pub(crate) fn open_to_read<R: Files>(rt: &R, place: &Place) -> io::Result<Option<Opened<R::File>>>
 where
     R::File: TryLock,
 {
@@ -112,12 +136,13 @@ where
         // A file system that is only read may have no locks.
         _ => {}
     }
-    let length = still_named(rt, place, &file)?.len();
-    Ok(Some((file, length)))
+    let id = FileId::of(&file.metadata()?);
+    let length = still_named(rt, place, id)?.len();
+    Ok(Some(Opened { file, id, length }))
 }
 
 /// Makes the journal, if nothing has its path: a link that leads nowhere isn't followed there.
-pub(crate) fn make<R: Files>(rt: &R, place: &Place) -> io::Result<(R::File, u64)>
+pub(crate) fn make<R: Files>(rt: &R, place: &Place) -> io::Result<Opened<R::File>>
 where
     R::File: TryLock,
 {
@@ -127,6 +152,5 @@ where
         .create_new(true)
         .mode(OWN)
         .open(rt, place.path())?;
-    let length = take(rt, place, &file)?;
-    Ok((file, length))
+    take(rt, place, file)
 }

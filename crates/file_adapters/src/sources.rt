@@ -21,6 +21,7 @@ impl<'a, R: Files> FileSource<'a, R> {
     /// The file at a path. Nothing is opened yet.
     pub fn new(rt: &'a R, path: &'static str) -> Self
         ensures fresh { (result.faults.count ≡ 0) × (result.faults.last ≡ false) }
+        ensures path { result.path.now ≡ path.now }
     {
         FileSource {
             rt,

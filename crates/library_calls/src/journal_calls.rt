@@ -10,7 +10,7 @@ type Step = (Call, usize, usize);
 
 // Over a path that names nothing. The write makes the file, locks and syncs it, and syncs its folder. After a refused sync
 // nobody may write the file. After a write that was cut off its length isn't known.
-const MAKING: [Step; 22] = [
+const MAKING: [Step; 21] = [
     (Call::Name, 0, 0),
     (Call::Name, 1, 1),
     (Call::Open, 1, 1),
@@ -20,11 +20,10 @@ const MAKING: [Step; 22] = [
     (Call::Sync, 1, 3),
     (Call::OpenFolder, 1, 1),
     (Call::SyncFolder, 1, 1),
-    (Call::Look, 1, 1),
+    (Call::Seek, 1, 1),
     (Call::Write, 1, 1),
     (Call::Write, 1, 2),
     (Call::Sync, 2, 2),
-    (Call::Look, 2, 2),
     (Call::Name, 2, 2),
     (Call::Seek, 3, 3),
     (Call::Read, 3, 3),
@@ -36,7 +35,7 @@ const MAKING: [Step; 22] = [
 ];
 
 // Over a file of three bytes.
-const FINDING: [Step; 21] = [
+const FINDING: [Step; 20] = [
     (Call::Name, 0, 0),
     (Call::Open, 0, 0),
     (Call::Lock, 0, 0),
@@ -45,11 +44,10 @@ const FINDING: [Step; 21] = [
     (Call::Sync, 0, 3),
     (Call::OpenFolder, 0, 0),
     (Call::SyncFolder, 0, 0),
-    (Call::Look, 1, 1),
+    (Call::Seek, 1, 1),
     (Call::Write, 1, 1),
     (Call::Write, 1, 1),
     (Call::Sync, 2, 2),
-    (Call::Look, 2, 2),
     (Call::Name, 2, 2),
     (Call::Seek, 3, 3),
     (Call::Read, 3, 3),
@@ -61,7 +59,7 @@ const FINDING: [Step; 21] = [
 ];
 
 // Over a link that leads to a path in another folder, which names nothing. That folder is the one that is synced.
-const MAKING_THERE: [Step; 27] = [
+const MAKING_THERE: [Step; 26] = [
     (Call::Name, 0, 0),
     (Call::Link, 0, 0),
     (Call::OpenThere, 0, 0),
@@ -75,11 +73,10 @@ const MAKING_THERE: [Step; 27] = [
     (Call::Sync, 1, 3),
     (Call::OpenThere, 1, 1),
     (Call::SyncThere, 1, 1),
-    (Call::Look, 1, 1),
+    (Call::Seek, 1, 1),
     (Call::Write, 1, 1),
     (Call::Write, 1, 2),
     (Call::Sync, 2, 2),
-    (Call::Look, 2, 2),
     (Call::Link, 2, 2),
     (Call::Name, 2, 2),
     (Call::Seek, 3, 3),
@@ -92,7 +89,7 @@ const MAKING_THERE: [Step; 27] = [
 ];
 
 // Over a link that leads to a file of three bytes in another folder.
-const FINDING_THERE: [Step; 26] = [
+const FINDING_THERE: [Step; 25] = [
     (Call::Name, 0, 0),
     (Call::Link, 0, 0),
     (Call::OpenThere, 0, 0),
@@ -105,11 +102,10 @@ const FINDING_THERE: [Step; 26] = [
     (Call::Sync, 0, 3),
     (Call::OpenThere, 0, 0),
     (Call::SyncThere, 0, 0),
-    (Call::Look, 1, 1),
+    (Call::Seek, 1, 1),
     (Call::Write, 1, 1),
     (Call::Write, 1, 1),
     (Call::Sync, 2, 2),
-    (Call::Look, 2, 2),
     (Call::Link, 2, 2),
     (Call::Name, 2, 2),
     (Call::Seek, 3, 3),

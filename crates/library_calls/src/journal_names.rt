@@ -31,11 +31,11 @@ fn remove_all(rt: &HostRuntime) {
     let _ = fs::remove_dir(rt, JOURNAL);
 }
 
-// The journal of three bytes, and another one.
+// The journal of three bytes, and another one, as long as the journal is once two bytes more are written to it.
 fn prepare(rt: &HostRuntime) -> io::Result<()> {
     remove_all(rt);
     fs::write(rt, JOURNAL, b"abc".as_slice())?;
-    fs::write(rt, OTHER, b"xyz".as_slice())
+    fs::write(rt, OTHER, b"vwxyz".as_slice())
 }
 
 fn write_behind(rt: &HostRuntime) -> io::Result<()> {
@@ -109,7 +109,7 @@ fn opens_after(rt: &HostRuntime, deed: Deed) -> (Result<u64, Failed>, bool) {
 
 // Whether the file that a link might lead to is as it was, and nothing was made where one leads to nothing.
 fn is_untouched(rt: &HostRuntime) -> bool {
-    let is_other = fs::read_to_string(rt, OTHER).is_ok_and(|text| text.as_str() == "xyz");
+    let is_other = fs::read_to_string(rt, OTHER).is_ok_and(|text| text.as_str() == "vwxyz");
     is_other && fs::metadata(rt, "nothing.journal").is_err()
 }
 
