@@ -1,5 +1,5 @@
 //! A divisor of many numbers: each quotient is guessed, and the guess is tested.
-ghost use Rattle.std.specs.Prelude.{◌≡◌, ◌↔◌, ℕ, pos, ◌*◌, ◌<◌, ◌≤◌, ◌^◌, ◌≤ℤ◌, ◌*ℤ◌, unsigned_abs, IsTrue, IfSome};
+ghost use Rattle.std.specs.Prelude.{◌≡◌, ◌≢◌, ◌↔◌, ℕ, pos, ◌*◌, ◌<◌, ◌≤◌, ◌^◌, ◌≤ℤ◌, ◌*ℤ◌, unsigned_abs, IsTrue, IfSome};
 ghost use Rattle.std.specs.Int.{IsGcd, ◌∣◌};
 
 use crate::divisors::{WORD, common_divisor, quotient};
@@ -9,6 +9,8 @@ use std::marker::Model;
 #[derive(Drop)]
 pub struct Divisor {
     size: u128,
+    // The size, if it fits 64 bits, and else 0.
+    word: u64,
     // How often 2 divides the size, and the inverse of the rest modulo 2^64. Nothing rests on these two.
     shift: u32,
     inverse: u64,
@@ -19,7 +21,7 @@ impl Model for Divisor {
 
     ghost view = { λ d. d.size };
 
-    ghost invariant = { λ d. (d.size ≤ 2 ^ 126) × (d.shift ≤ 64) };
+    ghost invariant = { λ d. (d.size ≤ 2 ^ 126) × (d.word ≢ 0 → d.word ≡ d.size) };
 }
 
 // The inverse of an odd number modulo 2^64. The first guess is right in 5 bits, as trying the 16 odd numbers below 32 shows,
@@ -37,16 +39,30 @@ fn low_word(x: u128) -> u64 {
     (x & WORD) as u64
 }
 
+// The size, if it fits 64 bits, and else 0.
+fn word_of(size: u128) -> u64
+    ensures { result ≢ 0 → result ≡ size }
+{
+    if size <= WORD { size as u64 } else { 0 }
+}
+
+// The size without the lower bits.
+fn shifted(size: u128, bits: u32) -> u64 {
+    low_word(size >> (bits & 63))
+}
+
 // A size as a divisor.
 fn prepare(size: u128) -> Divisor
     requires { size ≤ 2 ^ 126 }
     ensures { result ≡ size }
 {
-    let shift = low_word(size).trailing_zeros();
+    let word = word_of(size);
+    let shift = word.trailing_zeros();
     Divisor {
         size,
+        word,
         shift,
-        inverse: inverse_of(low_word(size >> shift)),
+        inverse: inverse_of(shifted(size, shift)),
     }
 }
 
@@ -78,11 +94,11 @@ impl Divisor {
     fn guess(&self, size: u128) -> Option<u64>
         ensures { IfSome result (λ q. size ≡ self.now * q) }
     {
-        if self.size > WORD {
+        if self.word == 0 {
             return None;
         }
-        let q = low_word(size >> self.shift).wrapping_mul(self.inverse);
-        if self.size * q as u128 == size {
+        let q = shifted(size, self.shift).wrapping_mul(self.inverse);
+        if self.word as u128 * q as u128 == size {
             Some(q)
         } else {
             None
@@ -99,6 +115,15 @@ impl Divisor {
             Some(_) => self,
             None => prepare(common_divisor(self.size, size)),
         }
+    }
+
+    /// What the number is a multiple by. None if it isn't one, or if that isn't found at once.
+    pub fn exact(&self, number: i128) -> Option<i128>
+        requires { unsigned_abs number ≤ 2 ^ 126 }
+        ensures { IfSome result (λ q. number ≡ pos self.now *ℤ q) }
+    {
+        let q = self.guess(number.unsigned_abs())?;
+        Some(signed(q, number < 0))
     }
 
     /// What a multiple of it is a multiple by.

@@ -36,11 +36,6 @@ module _ (n : ℕ) (new : List ℤ) where
   primitives_from [] (suc k) p z = (tt, tt)
   primitives_from (row ∷ form) (suc k) p z = primitives_from form k p.1 z.1
 
-  -- a row in the middle of small rows is small
-  not_all : (made more : List (List ℤ)) (row : List ℤ) → AllByRecursion IsSmall (made ++ row ∷ more) → IsSmall row
-  not_all [] more row h = h.0
-  not_all (m ∷ made) more row h = not_all made more row h.1
-
   -- a list is its first k items, item k and the others
   split_at : (form : List (List ℤ)) (k : ℕ) → k < length form → form ≡ take k form ++ get_or form k [] ∷ drop (suc k) form
   split_at [] k h = absurd (omega arith)
@@ -57,9 +52,23 @@ module _ (n : ℕ) (new : List ℤ) where
       let all = cleared-append (take k form) (get_or form k [] ∷ drop (suc k) form) made (row ∷ rest.0) first.cleared (is, rest.1) in
       (rest.0, subst (λ l. AreCleared n new l (made ++ row ∷ rest.0)) (sym (split_at form k h)) all)
 
-  -- a row that is too large makes them all wide
-  pub too_large : (form made : List (List ℤ)) (k : ℕ) (row : List ℤ) → k < length form → IsPrimitive n new → AllByRecursion (IsPrimitive n) form →
-      IsZeroAtPivots form new → ClearsFirst n form new k made → IsCleared n new (get_or form k []) row → ¬ (IsSmall row) → ClearsWide n form new
-  too_large form made k row h p q z first is large =
-      let rest = rest_cleared form made k row h p q z first is in
-      record { rows = made ++ row ∷ rest.0; cleared = rest.1; wide = λ small. large (not_all made rest.0 row small) }
+  -- the last of small rows are small
+  later : (made more : List (List ℤ)) → AllByRecursion IsSmall (made ++ more) → AllByRecursion IsSmall more
+  later [] more h = h
+  later (m ∷ made) more h = later made more h.1
+
+  -- any row that is too large does
+  pub too_large : (form : List (List ℤ)) (k : ℕ) (row : List ℤ) → k < length form → IsPrimitive n new → AllByRecursion (IsPrimitive n) form →
+      IsZeroAtPivots form new → IsCleared n new (get_or form k []) row → ¬ (IsSmall row) → ClearsWide n form new
+  too_large [] k row h p q z is large = absurd (omega arith)
+  too_large (r ∷ form) zero row h p q z is large =
+      let rest = cleared_all n new form p q.1 z.1 in
+      record { rows = row ∷ rest.0; cleared = (is, rest.1); wide = λ small. large small.0 }
+  too_large (r ∷ form) (suc k) row h p q z is large =
+      let first = cleared_all n new (r ∷ []) p (q.0, tt) (z.0, tt) in
+      let more = too_large form k row (omega arith) p q.1 z.1 is large in
+      record {
+        rows = first.0 ++ more.rows;
+        cleared = cleared-append (r ∷ []) form first.0 more.rows first.1 more.cleared;
+        wide = λ small. more.wide (later first.0 more.rows small);
+      }

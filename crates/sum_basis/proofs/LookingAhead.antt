@@ -177,7 +177,7 @@ module _ (form : Echelon) (new : List ℤ) (f : IsSmallForm form.n form.rows) (p
   -- a cleared row that is too large
   pub looked_large : (k : ℕ) (common : ℤ) (fixing : Bool) (row : List ℤ) → k < length form.rows → IsLooked form.n form.rows new k common fixing →
       IsCleared form.n new (get_or form.rows k []) row → ¬ (IsSmall row) → GrowsWide form new
-  looked_large k common fixing row h l is large = row_too_large form new f p z (too_large form.n new form.rows l.made k row h p f.primitive z l.clears is large)
+  looked_large k common fixing row h l is large = row_too_large form new f p z (too_large form.n new form.rows k row h p f.primitive z is large)
 
   -- pivot entries whose multiple is too large
   pub looked_multiple : (k : ℕ) (common : ℤ) (fixing : Bool) (row : List ℤ) (m : ℕ) → k < length form.rows → IsLooked form.n form.rows new k common fixing

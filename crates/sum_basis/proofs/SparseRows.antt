@@ -135,6 +135,20 @@ front_zero from n (e ∷ es) (suc k) d h l =
     let rest = front_zero (e.place + 1) n es k d h.3 (omega arith) in
     omega (arith, ints)
 
+-- what a list has where entry k stands
+pub own_value : (from n : ℕ) (es : List FreeEntry) (k : ℕ) (d : FreeEntry) → IsListed from n es → k < length es →
+    entry_at es (get_or es k d).place ≡ (get_or es k d).value
+own_value from n [] k d h l = absurd (omega arith)
+own_value from n (e ∷ es) zero d h l =
+    let first = here e e.place refl in
+    let rest = zero_below (e.place + 1) n es e.place h.3 (omega arith) in
+    omega (arith, ints)
+own_value from n (e ∷ es) (suc k) d h l =
+    let next = (stands_within (e.place + 1) n es k d h.3 (omega arith)).after in
+    let first = elsewhere e (get_or es k d).place (λ same. omega arith) in
+    let rest = own_value (e.place + 1) n es k d h.3 (omega arith) in
+    omega (arith, ints)
+
 -- what the first k + 1 entries have
 pub take_entry : (es : List FreeEntry) (k : ℕ) (d : FreeEntry) (j : ℕ) → k < length es →
     entry_at (take (k + 1) es) j ≡ entry_at (take k es) j +ℤ cond (nat_eq (get_or es k d).place j) (get_or es k d).value (pos 0)

@@ -1,5 +1,5 @@
 //! A kept row cleared at the pivot of a new one: its list, over its content.
-ghost use Rattle.std.specs.Prelude.{◌≡◌, ◌≢◌, ◌↔◌, ℕ, ◌<◌, ◌≤◌, ◌+◌, ◌^◌, ℤ, pos, ◌-ℤ◌, ◌*ℤ◌, ◌<ℤ◌, List, [], ◌∷◌, length, map, unsigned_abs, slice_index_or, IsTrue, MatchOption};
+ghost use Rattle.std.specs.Prelude.{◌≡◌, ◌≢◌, ◌↔◌, ℕ, ◌<◌, ◌≤◌, ◌+◌, ◌^◌, ℤ, pos, ◌-ℤ◌, ◌*ℤ◌, ◌<ℤ◌, List, [], ◌∷◌, length, map, unsigned_abs, slice_index_or, IsTrue, IfSome};
 ghost use Rattle.std.specs.Int.{◌∣◌};
 ghost use Rattle.std.specs.List.{AllByRecursion};
 ghost use Rattle.std.specs.List.Sorted.{IsPartitionPoint};
@@ -9,6 +9,7 @@ ghost use Rattle.sum_basis.specs.Elimination.{IsSmall, IsCleared};
 ghost use Rattle.sum_basis.specs.Sparse.{entry_at, row_of, IsListed, entries_of, IsKept, scaled, IsNew, IsOverContent};
 
 use crate::merging::{combine_into, value_from};
+use crate::over_divisor::{LONG, combine_over, first_divisor};
 use crate::sparse::{FreeEntry, SparseRow};
 use int_rows::Divisor;
 
@@ -155,8 +156,43 @@ pub fn combine_at_pivot(
     ensures capacity { vec_capacity out.new ≡ vec_capacity out.old }
 {
     let by = new[0].value;
-    combine_into(out, columns, by, &row.free, times, new);
+    combine_into(out, columns, &by, &row.free, &times, new);
     product(by, row.head)
+}
+
+// Writes the list of the row, cleared at the new row's pivot, in one pass, and answers its pivot entry. None if the list
+// is short, or the divisor that is told from a few values doesn't divide all.
+fn clear_at_once(
+    out: &mut Vec<FreeEntry>,
+    columns: u16,
+    row: &SparseRow,
+    new: &[FreeEntry],
+    times: i128,
+) -> Option<i128>
+    requires empty { out.old.items ≡ [] }
+    requires room { columns ≤ vec_capacity out.old }
+    requires kept { IsKept columns row.now }
+    requires primitive { IsPrimitive columns (row_of columns (entries_of row.now)) }
+    requires small { IsSmall (row_of columns (entries_of row.now)) }
+    requires new { IsNew columns new.now }
+    requires before { row.now.pivot < (slice_index_or new.now 0 (record { place = 0; value = pos 0 })).place }
+    requires times { times ≡ entry_at row.now.free.items (slice_index_or new.now 0 (record { place = 0; value = pos 0 })).place }
+    requires some { times ≢ pos 0 }
+    ensures listed { IfSome result (λ head. IsListed 0 columns (record { place = row.now.pivot; value = head } ∷ out.new.items)) }
+    ensures leading { IfSome result (λ head. pos 0 <ℤ head) }
+    ensures cleared { IfSome result (λ head. IsCleared columns (row_of columns new.now) (row_of columns (entries_of row.now)) (row_of columns (record { place = row.now.pivot; value = head } ∷ out.new.items))) }
+    ensures capacity { vec_capacity out.new ≡ vec_capacity out.old }
+{
+    if row.free.len() < LONG {
+        return None;
+    }
+    let by = new[0].value;
+    let head = product(by, row.head);
+    let divisor = first_divisor(head, by, &row.free, times, new);
+    if !combine_over(out, columns, &by, &row.free, &times, new, &divisor) {
+        return None;
+    }
+    Some(divisor.quotient(head))
 }
 
 /// Writes the list of the row, cleared at the new row's pivot, and answers its pivot entry.
@@ -181,6 +217,10 @@ pub fn clear_into(
     ensures cleared { IsCleared columns (row_of columns new.now) (row_of columns (entries_of row.now)) (row_of columns (record { place = row.now.pivot; value = result } ∷ out.new.items)) }
     ensures capacity { vec_capacity out.new ≡ vec_capacity out.old }
 {
+    if let Some(head) = clear_at_once(out, columns, row, new, times) {
+        return head;
+    }
+    out.clear();
     let head = combine_at_pivot(out, columns, row, new, times);
     over_content(head, out)
 }

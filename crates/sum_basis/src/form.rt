@@ -17,7 +17,7 @@ use crate::elimination::{scale, write_bits};
 use crate::growth::{common_multiple, grow_rows};
 use crate::looking::look_ahead;
 use crate::primitive_list::{are_small, make_primitive};
-use crate::sparse::{FreeEntry, SparseRow, copy_rows, list_of, reduce};
+use crate::sparse::{FreeEntry, SparseRow, copy_list, copy_rows, list_of, reduce};
 use crate::{Grown, Prospect};
 use audit_types::NoMemory;
 use std::alloc::Global;
@@ -217,7 +217,9 @@ impl Form {
     {
         self.rows.reserve(1)?;
         let mut room = Vec::with_capacity(self.alloc, self.columns as usize)?;
-        grow_rows(&mut self.rows, self.columns, new, &mut room);
+        // The new list's memory, and the room's, are used again for the next row. The row keeps a copy, in memory that nothing longer was in.
+        let list = copy_list(self.alloc, &new, self.columns)?;
+        grow_rows(&mut self.rows, self.columns, list, &mut room);
         match common_multiple(&self.rows) {
             Some(common) => self.common = common,
             None => unreachable!(),

@@ -14,6 +14,12 @@ use crate::sparse::{FreeEntry, SparseRow};
 use int_rows::lcm_within;
 use std::mem;
 
+// How many entries fewer than the longest list a list has that is copied.
+const SHORTER: usize = 64;
+
+// How many entries are copied at a time. The C library copies more by a string instruction, which takes long to begin.
+const PART: usize = 64;
+
 // Whether both pivot entries are 1, and the new row has few entries beside those of the row.
 fn changes_few(row: &SparseRow, new: &[FreeEntry]) -> bool
     requires { 0 < length new.now }
@@ -41,12 +47,45 @@ fn clear_in_place(row: &mut SparseRow, columns: u16, new: &[FreeEntry], times: i
     row.most = take_entries(&mut row.free, columns, row.most, times, new);
 }
 
+// Makes the list equal to the other one. There is room for it.
+fn overwrite(list: &mut Vec<FreeEntry>, entries: &[FreeEntry])
+    requires room { length entries.now ≤ vec_capacity list.old }
+    ensures items { list.new.items ≡ entries.now }
+    ensures capacity { vec_capacity list.old ≤ vec_capacity list.new }
+{
+    list.clear();
+    let mut at = 0;
+    while at < entries.len() {
+        let end = entries.len().min(at + PART);
+        list.extend_from_slice(&entries[at..end]).unwrap();
+        at = end;
+    }
+}
+
+// Gives a row the list that was made: the two lists change places, unless it is much shorter than the longest one. Then it is copied, so
+// that memory which long lists were written to doesn't come to a row with a short one.
+fn take_list(free: &mut Vec<FreeEntry>, columns: u16, longest: usize, made: &mut Vec<FreeEntry>)
+    requires length { length made.old.items ≤ columns }
+    requires room { columns ≤ vec_capacity free.old }
+    requires made_room { columns ≤ vec_capacity made.old }
+    ensures items { free.new.items ≡ made.old.items }
+    ensures room { columns ≤ vec_capacity free.new }
+    ensures made_room { columns ≤ vec_capacity made.new }
+{
+    if longest.saturating_sub(made.len()) < SHORTER {
+        mem::swap(free, made);
+    } else {
+        overwrite(free, made);
+    }
+}
+
 // Clears the row at the new row's pivot, and bounds it anew.
 fn clear_anew(
     row: &mut SparseRow,
     columns: u16,
     new: &[FreeEntry],
     times: i128,
+    longest: usize,
     room: &mut Vec<FreeEntry>,
 )
     requires room { columns ≤ vec_capacity room.old }
@@ -63,12 +102,18 @@ fn clear_anew(
 {
     room.clear();
     row.head = clear_into(room, columns, row, new, times);
-    mem::swap(&mut row.free, room);
+    take_list(&mut row.free, columns, longest, room);
     row.most = bound_of(row.head, &row.free);
 }
 
 // Clears the row at the new row's pivot.
-fn clear(row: &mut SparseRow, columns: u16, new: &[FreeEntry], room: &mut Vec<FreeEntry>)
+fn clear(
+    row: &mut SparseRow,
+    columns: u16,
+    new: &[FreeEntry],
+    longest: usize,
+    room: &mut Vec<FreeEntry>,
+)
     requires room { columns ≤ vec_capacity room.old }
     requires kept { IsKept columns row.old }
     requires primitive { IsPrimitive columns (row_of columns (entries_of row.old)) }
@@ -86,8 +131,17 @@ fn clear(row: &mut SparseRow, columns: u16, new: &[FreeEntry], room: &mut Vec<Fr
     if changes_few(row, new) {
         clear_in_place(row, columns, new, times);
     } else {
-        clear_anew(row, columns, new, times, room);
+        clear_anew(row, columns, new, times, longest, room);
     }
+}
+
+// How many entries the longest list of the rows has. Only how much memory is used rests on it.
+fn longest_list(rows: &[SparseRow]) -> usize {
+    let mut longest = 0;
+    for row in rows {
+        longest = row.free.len().max(longest);
+    }
+    longest
 }
 
 // Clears all rows at the new row's pivot.
@@ -102,8 +156,9 @@ fn clear_all(rows: &mut Vec<SparseRow>, columns: u16, new: &[FreeEntry], room: &
     ensures capacity { vec_capacity rows.new ≡ vec_capacity rows.old }
     ensures len { vec_len rows.new ≡ vec_len rows.old }
 {
+    let longest = longest_list(rows);
     for k in 0..rows.len() {
-        clear(&mut rows[k], columns, new, room);
+        clear(&mut rows[k], columns, new, longest, room);
     }
 }
 

@@ -5,7 +5,7 @@ ghost use Rattle.std.specs.List.{AllByRecursion};
 ghost use Rattle.std.specs.Vec.{vec_capacity};
 ghost use Rattle.audit_types.specs.Form.{IsPrimitive, IsLeastCommonMultiple, pivot_entry, pivot_entries};
 ghost use Rattle.sum_basis.specs.Elimination.{IsSmall, IsSmallForm, IsZeroAtPivots, IsCleared, IsLone};
-ghost use Rattle.sum_basis.specs.Growth.{Foresees};
+ghost use Rattle.sum_basis.specs.Growth.{Foresees, GrowsWide};
 ghost use Rattle.sum_basis.specs.Sparse.{entry_at, row_of, rows_of, entries_of, IsKept, IsNew};
 
 use crate::Prospect;
@@ -93,6 +93,44 @@ fn look_at_each(
         Prospect::Fixing
     } else {
         Prospect::Open
+    }
+}
+
+// The place of the row with the greatest bound. Nothing rests on it.
+fn widest(rows: &[SparseRow]) -> usize {
+    let mut place = 0;
+    let mut most = 0;
+    for (k, row) in rows.iter().enumerate() {
+        if row.most > most {
+            most = row.most;
+            place = k;
+        }
+    }
+    place
+}
+
+// Whether the row with the greatest bound has an entry above the limit when it is cleared: mostly, if some row has.
+fn widest_is_too_large(
+    rows: &[SparseRow],
+    columns: u16,
+    new: &[FreeEntry],
+    room: &mut Vec<FreeEntry>,
+) -> bool
+    requires room { columns ≤ vec_capacity room.old }
+    requires kept { AllByRecursion (IsKept columns) rows.now }
+    requires form { IsSmallForm columns (rows_of columns rows.now) }
+    requires new { IsNew columns new.now }
+    requires zero { IsZeroAtPivots (rows_of columns rows.now) (row_of columns new.now) }
+    ensures wide { IsTrue result → GrowsWide (record { n = columns; rows = rows_of columns rows.now }) (row_of columns new.now) }
+    ensures room { columns ≤ vec_capacity room.new }
+{
+    let k = widest(rows);
+    if k >= rows.len() {
+        return false;
+    }
+    match clear_aside(&rows[k], columns, new, room) {
+        Some(_) => false,
+        None => true,
     }
 }
 
@@ -244,6 +282,8 @@ pub fn look_ahead(
 {
     if product(new[0].value, common) <= LIMIT as i128 {
         look_by_bounds(rows, columns, new, room)
+    } else if widest_is_too_large(rows, columns, new, room) {
+        Prospect::Wide
     } else {
         look_at_each(rows, columns, new, room)
     }

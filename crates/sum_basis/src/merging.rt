@@ -20,13 +20,14 @@ pub fn value_from(entries: &[FreeEntry], k: usize, place: u16) -> i128
     }
 }
 
-// `by * x - times * y`.
-fn difference(by: i128, x: i128, times: i128, y: i128) -> i128
+/// `by * x - times * y`.
+pub fn difference(by: i128, x: i128, times: i128, y: i128) -> i128
     requires by { unsigned_abs by ≤ 2 ^ 56 }
     requires x { unsigned_abs x ≤ 2 ^ 56 }
     requires times { unsigned_abs times ≤ 2 ^ 56 }
     requires y { unsigned_abs y ≤ 2 ^ 56 }
-    ensures { result ≡ by *ℤ x -ℤ times *ℤ y }
+    ensures exact { result ≡ by *ℤ x -ℤ times *ℤ y }
+    ensures small { unsigned_abs result ≤ 2 ^ 113 }
 {
     product(by, x) - product(times, y)
 }
@@ -60,26 +61,29 @@ fn append(out: &mut Vec<FreeEntry>, by: i128, rest: &[FreeEntry])
 }
 
 /// Writes into an empty list `by` times the one list less `times` times the other.
+// The two numbers are lent, and read for each entry: a number that stays in a register is widened to 128 bits before the loop, and then
+// each product takes three multiplications in place of one.
+#[inline(never)]
 pub fn combine_into(
     out: &mut Vec<FreeEntry>,
     columns: u16,
-    by: i128,
+    by: &i128,
     first: &[FreeEntry],
-    times: i128,
+    times: &i128,
     second: &[FreeEntry],
 )
     requires empty { out.old.items ≡ [] }
     requires room { columns ≤ vec_capacity out.old }
-    requires by { unsigned_abs by ≤ 2 ^ 56 }
-    requires by_some { by ≢ pos 0 }
+    requires by { unsigned_abs by.now ≤ 2 ^ 56 }
+    requires by_some { by.now ≢ pos 0 }
     requires first { IsListed 0 columns first.now }
     requires first_small { AllByRecursion (λ e. unsigned_abs e.value ≤ 2 ^ 56) first.now }
-    requires times { unsigned_abs times ≤ 2 ^ 56 }
-    requires times_some { times ≢ pos 0 }
+    requires times { unsigned_abs times.now ≤ 2 ^ 56 }
+    requires times_some { times.now ≢ pos 0 }
     requires second { IsListed 0 columns second.now }
     requires second_small { AllByRecursion (λ e. unsigned_abs e.value ≤ 2 ^ 56) second.now }
     ensures listed { IsListed 0 columns out.new.items }
-    ensures combined { (j : ℕ) → entry_at out.new.items j ≡ by *ℤ entry_at first.now j -ℤ times *ℤ entry_at second.now j }
+    ensures combined { (j : ℕ) → entry_at out.new.items j ≡ by.now *ℤ entry_at first.now j -ℤ times.now *ℤ entry_at second.now j }
     ensures capacity { vec_capacity out.new ≡ vec_capacity out.old }
 {
     let mut i = 0;
@@ -88,21 +92,21 @@ pub fn combine_into(
         let one = first[i];
         let other = second[j];
         if one.place < other.place {
-            put(out, one.place, product(by, one.value));
+            put(out, one.place, product(*by, one.value));
             i += 1;
         } else if other.place < one.place {
-            put(out, other.place, product(-times, other.value));
+            put(out, other.place, product(-*times, other.value));
             j += 1;
         } else {
             put(
                 out,
                 one.place,
-                difference(by, one.value, times, other.value),
+                difference(*by, one.value, *times, other.value),
             );
             i += 1;
             j += 1;
         }
     }
-    append(out, by, &first[i..]);
-    append(out, -times, &second[j..]);
+    append(out, *by, &first[i..]);
+    append(out, -*times, &second[j..]);
 }

@@ -38,15 +38,27 @@ impl SparseRow {
         ensures same { IfOk result (λ row. entries_of row ≡ entries_of self.now) }
         ensures kept { IfOk result (λ row. IsKept columns row) }
     {
-        let mut free = Vec::with_capacity(alloc, columns as usize)?;
-        free.extend_from_slice(&self.free)?;
         Ok(SparseRow {
             pivot: self.pivot,
             head: self.head,
             most: self.most,
-            free,
+            free: copy_list(alloc, &self.free, columns)?,
         })
     }
+}
+
+/// An equal list, with room for one entry a column.
+pub fn copy_list(
+    alloc: Global,
+    entries: &[FreeEntry],
+    columns: u16,
+) -> Result<Vec<FreeEntry>, NoMemory>
+    ensures same { IfOk result (λ list. list.items ≡ entries.now) }
+    ensures room { IfOk result (λ list. columns ≤ vec_capacity list) }
+{
+    let mut list = Vec::with_capacity(alloc, columns as usize)?;
+    list.extend_from_slice(entries)?;
+    Ok(list)
 }
 
 // x less y as often as `times` says.

@@ -1,22 +1,16 @@
-use Rattle.std.proofs.Common.{◌≡◌, ℕ, ◌+◌, ◌<◌, ℤ, List, [], ◌∷◌, ◌++◌, length, map, take, get_or, refl, sym, ap, ◌∙◌, arith, rules, append_assoc, take_all}
+use Rattle.std.proofs.Common.{◌++◌, length, map, get_or, refl, sym, ap, ◌∙◌, arith, rules, take_all}
 use Rattle.std.specs.Prelude.{FitsSigned, ◌*ℤ◌}
 use Rattle.std.specs.Int.{w128}
 use mir.Val.{to_z, of_z}
 use Rattle.std.proofs.lemmas.Int.{to_z-of_z}
-use Rattle.std.proofs.lemmas.List.{take_more, map-append, append-nil, length-append, length-map, length-take-le}
-use Rattle.sum_basis.specs.declared.sparse.FreeEntry.{FreeEntry}
+use Rattle.std.proofs.lemmas.List.{append-nil}
 use Rattle.sum_basis.specs.Sparse.{scaled}
 use Rattle.sum_basis.proofs.ListContents.{none, value_small}
+use Rattle.sum_basis.proofs.OverDivisor.{filled, pushed}
 use Rattle.sum_basis.proofs.merging.append.Goals as goal
 
 pub loop-e-init : goal.loop-e-init
 loop-e-init c = record { items = sym (append-nil c.args.out.now.items); capacity = refl }
-
--- how many entries stand there by now
-filled : (by : ℤ) (before rest : List FreeEntry) (k : ℕ) → k < length rest → length (before ++ map (scaled by) (take k rest)) ≡ length before + k
-filled by before rest k l =
-    length-append before (map (scaled by) (take k rest))
-    ∙ ap (λ n. length before + n) (length-map (take k rest) (scaled by) ∙ length-take-le k rest (omega arith))
 
 pub push_reserved-requires : goal.push_reserved-requires
 push_reserved-requires c =
@@ -37,16 +31,6 @@ product-value-requires-clause-y c =
     let value : FitsSigned w128 (get_or c.args.rest.now c.loop-e.e-index none).value = search rules in
     rw (to_z-of_z w128 (get_or c.args.rest.now c.loop-e.e-index none).value value)
     (value_small c.args.rest.now c.loop-e.e-index c.loop-e-test.true c.requires.small)
-
--- with one entry more
-pushed : (by : ℤ) (before out rest : List FreeEntry) (k : ℕ) (value : ℤ) → k < length rest → out ≡ before ++ map (scaled by) (take k rest)
-    → value ≡ by *ℤ (get_or rest k none).value
-    → out ++ record { place = (get_or rest k none).place; value = value } ∷ [] ≡ before ++ map (scaled by) (take (k + 1) rest)
-pushed by before out rest k value l is e =
-    ap (λ o. o ++ record { place = (get_or rest k none).place; value = value } ∷ []) is
-    ∙ append_assoc before (map (scaled by) (take k rest)) (record { place = (get_or rest k none).place; value = value } ∷ [])
-    ∙ ap (λ v. before ++ (map (scaled by) (take k rest) ++ record { place = (get_or rest k none).place; value = v } ∷ [])) e
-    ∙ ap (λ o. before ++ o) (sym (ap (map (scaled by)) (take_more rest k none l) ∙ map-append (scaled by) (take k rest) (get_or rest k none ∷ [])))
 
 pub loop-e-preserved : goal.loop-e-preserved
 loop-e-preserved c =

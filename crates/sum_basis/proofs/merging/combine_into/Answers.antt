@@ -1,60 +1,18 @@
-use Rattle.std.proofs.Common.{◌≡◌, ◌≢◌, ℕ, zero, suc, ◌-◌, ◌≤◌, ◌^◌, ℤ, pos, List, [], ◌∷◌, ◌++◌, length, map, take, drop, get_or, sym, ap, ◌∙◌, arith, rules, inl, inr, ◌⊎◌}
-use Rattle.std.specs.Prelude.{FitsSigned, ◌-ℤ◌, ◌*ℤ◌, neg_ℤ, unsigned_abs}
+use Rattle.std.proofs.Common.{◌≡◌, ◌≤◌, pos, ◌++◌, length, map, drop, get_or, ap, ◌∙◌, arith, rules, inl, inr, ◌⊎◌}
+use Rattle.std.specs.Prelude.{FitsSigned}
 use Rattle.std.specs.Int.{w128}
-use Rattle.std.specs.List.{AllByRecursion}
 use mir.Val.{to_z, of_z}
-use Rattle.std.proofs.lemmas.Int.{ints, to_z-of_z, fits_signed_from_abs}
-use Rattle.sum_basis.specs.declared.sparse.FreeEntry.{FreeEntry}
+use Rattle.std.proofs.lemmas.Int.{to_z-of_z}
 use Rattle.sum_basis.specs.Sparse.{entry_at, scaled}
 use Rattle.sum_basis.proofs.ListContents.{none, value_small}
-use Rattle.sum_basis.proofs.Merges.{out_room, first_merged, second_merged, both_merged, whole_listed, whole_is, part_length, whole_length, end_is, appended}
+use Rattle.sum_basis.proofs.Merges.{out_room, first_merged, second_merged, both_merged, whole_listed, whole_is, part_length, whole_length, end_is}
+use Rattle.sum_basis.proofs.Wide.{product_of}
+use Rattle.sum_basis.proofs.MergedNumbers.{limit_fits, difference_of, turned_product_of, appended_as, negated, minus_small, end_small}
 use Rattle.sum_basis.proofs.merging.combine_into.Goals.{then-loop-i-test+else-j-second, else-loop-i-test}
 use Rattle.sum_basis.proofs.merging.combine_into.Goals as goal
 
--- a number as the code passes it
-passed : (x y : ℤ) → FitsSigned w128 x → x ≡ y → to_z w128 (of_z w128 x) ≡ y
-passed x y fits e = to_z-of_z w128 x fits ∙ e
-
--- a product or difference of values as the code passes them
-of_value : (by x : ℤ) → FitsSigned w128 x → by *ℤ to_z w128 (of_z w128 x) ≡ by *ℤ x
-of_value by x fits = ap (λ z. by *ℤ z) (to_z-of_z w128 x fits)
-
-of_values : (by x times y : ℤ) → FitsSigned w128 x → FitsSigned w128 y →
-    by *ℤ to_z w128 (of_z w128 x) -ℤ times *ℤ to_z w128 (of_z w128 y) ≡ by *ℤ x -ℤ times *ℤ y
-of_values by x times y p q = ap (λ z. z -ℤ times *ℤ to_z w128 (of_z w128 y)) (of_value by x p) ∙ ap (λ z. by *ℤ x -ℤ z) (of_value times y q)
-
-some_by : (z : ℤ) → FitsSigned w128 z → z ≢ pos 0 → to_z w128 (of_z w128 z) ≢ pos 0
-some_by z fits n e = n (sym (to_z-of_z w128 z fits) ∙ e)
-
--- no number within the limit passes the least number when its sign is turned
-negated : (z : ℤ) → unsigned_abs z ≤ 2 ^ 56 → FitsSigned w128 (pos 0 -ℤ z)
-negated z h = fits_signed_from_abs w128 (pos 0 -ℤ z) (omega (arith, ints))
-
-minus_is : (z : ℤ) → FitsSigned w128 z → unsigned_abs z ≤ 2 ^ 56 → to_z w128 (of_z w128 (pos 0 -ℤ to_z w128 (of_z w128 z))) ≡ neg_ℤ (to_z w128 (of_z w128 z))
-minus_is z fits small = rw (to_z-of_z w128 z fits) (to_z-of_z w128 (pos 0 -ℤ z) (negated z small) ∙ minus z)
-  where
-    minus : (x : ℤ) → pos 0 -ℤ x ≡ neg_ℤ x
-    minus x = omega (arith, ints)
-
-minus_small : (z : ℤ) → FitsSigned w128 z → unsigned_abs z ≤ 2 ^ 56 → unsigned_abs (to_z w128 (of_z w128 (pos 0 -ℤ to_z w128 (of_z w128 z)))) ≤ 2 ^ 56
-minus_small z fits small = rw (minus_is z fits small, to_z-of_z w128 z fits) (turned z small)
-  where
-    turned : (x : ℤ) → unsigned_abs x ≤ 2 ^ 56 → unsigned_abs (neg_ℤ x) ≤ 2 ^ 56
-    turned x h = omega (arith, ints)
-
--- the end of a list of small values
-end_small : (es : List FreeEntry) (k : ℕ) → AllByRecursion (λ (e : FreeEntry). unsigned_abs e.value ≤ 2 ^ 56) es →
-    AllByRecursion (λ (e : FreeEntry). unsigned_abs e.value ≤ 2 ^ 56) (take (length es - k) (drop k es))
-end_small es k all = rw (end_is es k) (later es k all)
-  where
-    later : (xs : List FreeEntry) (i : ℕ) → AllByRecursion (λ (e : FreeEntry). unsigned_abs e.value ≤ 2 ^ 56) xs →
-        AllByRecursion (λ (e : FreeEntry). unsigned_abs e.value ≤ 2 ^ 56) (drop i xs)
-    later xs zero h = h
-    later [] (suc i) h = h
-    later (x ∷ xs) (suc i) h = later xs i h.1
-
 pub product-requires-clause-x : goal.product-requires-clause-x
-product-requires-clause-x c = rw (to_z-of_z w128 c.args.by c.ranges.by) c.requires.by
+product-requires-clause-x c = rw (to_z-of_z w128 c.args.by.now (limit_fits c.args.by.now c.requires.by)) c.requires.by
 
 pub product-requires-clause-y : goal.product-requires-clause-y
 product-requires-clause-y c =
@@ -62,10 +20,10 @@ product-requires-clause-y c =
     rw (to_z-of_z w128 (get_or c.args.first.now c.loop-i.i none).value x) (value_small c.args.first.now c.loop-i.i c.loop-i-test.true c.requires.first_small)
 
 pub overflow_sub-times : goal.overflow_sub-times
-overflow_sub-times c = rw (to_z-of_z w128 c.args.times c.ranges.times) (negated c.args.times c.requires.times)
+overflow_sub-times c = rw (to_z-of_z w128 c.args.times.now (limit_fits c.args.times.now c.requires.times)) (negated c.args.times.now c.requires.times)
 
 pub product-requires-then-other-one-clause-x : goal.product-requires-then-other-one-clause-x
-product-requires-then-other-one-clause-x c = minus_small c.args.times c.ranges.times c.requires.times
+product-requires-then-other-one-clause-x c = minus_small c.args.times.now (limit_fits c.args.times.now c.requires.times) c.requires.times
 
 pub product-requires-then-other-one-clause-y : goal.product-requires-then-other-one-clause-y
 product-requires-then-other-one-clause-y c =
@@ -73,7 +31,7 @@ product-requires-then-other-one-clause-y c =
     rw (to_z-of_z w128 (get_or c.args.second.now c.loop-i.j none).value y) (value_small c.args.second.now c.loop-i.j c.if-j-second.true c.requires.second_small)
 
 pub difference-requires-clause-by : goal.difference-requires-clause-by
-difference-requires-clause-by c = rw (to_z-of_z w128 c.args.by c.ranges.by) c.requires.by
+difference-requires-clause-by c = rw (to_z-of_z w128 c.args.by.now (limit_fits c.args.by.now c.requires.by)) c.requires.by
 
 pub difference-requires-clause-x : goal.difference-requires-clause-x
 difference-requires-clause-x c =
@@ -81,7 +39,7 @@ difference-requires-clause-x c =
     rw (to_z-of_z w128 (get_or c.args.first.now c.loop-i.i none).value x) (value_small c.args.first.now c.loop-i.i c.loop-i-test.true c.requires.first_small)
 
 pub difference-requires-clause-times : goal.difference-requires-clause-times
-difference-requires-clause-times c = rw (to_z-of_z w128 c.args.times c.ranges.times) c.requires.times
+difference-requires-clause-times c = rw (to_z-of_z w128 c.args.times.now (limit_fits c.args.times.now c.requires.times)) c.requires.times
 
 pub difference-requires-clause-y : goal.difference-requires-clause-y
 difference-requires-clause-y c =
@@ -89,16 +47,16 @@ difference-requires-clause-y c =
     rw (to_z-of_z w128 (get_or c.args.second.now c.loop-i.j none).value y) (value_small c.args.second.now c.loop-i.j c.if-j-second.true c.requires.second_small)
 
 pub append-requires-clause-by : goal.append-requires-clause-by
-append-requires-clause-by c = rw (to_z-of_z w128 c.args.by c.ranges.by) c.requires.by
+append-requires-clause-by c = rw (to_z-of_z w128 c.args.by.now (limit_fits c.args.by.now c.requires.by)) c.requires.by
 
 pub append-requires-clause-small : goal.append-requires-clause-small
 append-requires-clause-small c = end_small c.args.first.now c.loop-i.i c.requires.first_small
 
 pub overflow_sub-times-2 : goal.overflow_sub-times-2
-overflow_sub-times-2 c = rw (to_z-of_z w128 c.args.times c.ranges.times) (negated c.args.times c.requires.times)
+overflow_sub-times-2 c = rw (to_z-of_z w128 c.args.times.now (limit_fits c.args.times.now c.requires.times)) (negated c.args.times.now c.requires.times)
 
 pub append-requires-2-clause-by : goal.append-requires-2-clause-by
-append-requires-2-clause-by c = minus_small c.args.times c.ranges.times c.requires.times
+append-requires-2-clause-by c = minus_small c.args.times.now (limit_fits c.args.times.now c.requires.times) c.requires.times
 
 pub append-requires-2-clause-small : goal.append-requires-2-clause-small
 append-requires-2-clause-small c = end_small c.args.second.now c.loop-i.j c.requires.second_small
@@ -140,7 +98,7 @@ loop-i-preserved-then-one-other c =
     record {
       merging = rw c.put.ensures.items
           (first_merged c.args.columns _ c.args.first.now _ c.args.second.now c.loop-i.out.items c.loop-i.i c.loop-i.j c.loop-i.invariant.merging
-          c.loop-i-test.true c.if-j-second.true _ c.if-one-other.true (passed _ _ v (c.product.ensures.exact ∙ of_value _ _ x)));
+          c.loop-i-test.true c.if-j-second.true _ c.if-one-other.true (product_of _ _ _ v (limit_fits c.args.by.now c.requires.by) x c.product.ensures.exact));
       capacity = c.put.ensures.capacity ∙ c.loop-i.invariant.capacity;
     }
 
@@ -152,9 +110,7 @@ loop-i-preserved-then-other-one c =
       merging = rw c.put-then-other-one.ensures.items
           (second_merged c.args.columns _ c.args.first.now _ c.args.second.now c.loop-i.out.items c.loop-i.i c.loop-i.j c.loop-i.invariant.merging
           c.loop-i-test.true c.if-j-second.true _ c.if-other-one.true
-          (passed _ _ v (c.product-then-other-one.ensures.exact
-          ∙ ap (λ z. z *ℤ to_z w128 (of_z w128 (get_or c.args.second.now c.loop-i.j (record { place = 0; value = pos 0 })).value))
-          (minus_is c.args.times c.ranges.times c.requires.times) ∙ of_value _ _ y)));
+          (turned_product_of _ _ _ v c.requires.times y c.product-then-other-one.ensures.exact));
       capacity = c.put-then-other-one.ensures.capacity ∙ c.loop-i.invariant.capacity;
     }
 
@@ -169,7 +125,7 @@ loop-i-preserved c =
       merging =
           rw c.put-else-other-one.ensures.items
           (both_merged c.args.columns _ c.args.first.now _ c.args.second.now c.loop-i.out.items c.loop-i.i c.loop-i.j c.loop-i.invariant.merging
-          c.loop-i-test.true c.if-j-second.true _ (omega arith) (passed _ _ v (c.difference.ensures ∙ of_values _ _ _ _ x y)));
+          c.loop-i-test.true c.if-j-second.true _ (omega arith) (difference_of _ _ _ _ _ v c.requires.by x c.requires.times y c.difference.ensures.exact));
       capacity = c.put-else-other-one.ensures.capacity ∙ c.loop-i.invariant.capacity;
     }
 
@@ -183,7 +139,7 @@ append-requires-clause-room c =
     ] in
     let m = c.loop-i.invariant.merging in
     let enough = part_length c.args.columns _ c.args.first.now _ c.args.second.now c.loop-i.out.items c.loop-i.i c.loop-i.j m over
-    (some_by c.args.by c.ranges.by c.requires.by_some) (some_by c.args.times c.ranges.times c.requires.times_some) in
+    c.requires.by_some c.requires.times_some in
     let len = c.loop-i.out.ok.0 in
     let cap = c.loop-i.invariant.capacity in
     let room = c.requires.room in
@@ -199,11 +155,11 @@ append-requires-2-clause-room c =
     ] in
     let m = c.loop-i.invariant.merging in
     let enough = whole_length c.args.columns _ c.args.first.now _ c.args.second.now c.loop-i.out.items c.loop-i.i c.loop-i.j m over
-    (some_by c.args.by c.ranges.by c.requires.by_some) (some_by c.args.times c.ranges.times c.requires.times_some) in
-    let same : length c.append.new.out.items ≡ length (c.loop-i.out.items ++ map (scaled (to_z w128 (of_z w128 c.args.by)))
-    (drop c.loop-i.i c.args.first.now)) =
-    ap length (c.append.ensures.items ∙ ap (λ l. c.loop-i.out.items ++ map (scaled (to_z w128 (of_z w128 c.args.by))) l)
-    (end_is c.args.first.now c.loop-i.i)) in
+    c.requires.by_some c.requires.times_some in
+    let same : length c.append.new.out.items ≡ length (c.loop-i.out.items ++ map (scaled c.args.by.now) (drop c.loop-i.i c.args.first.now)) =
+    ap length (c.append.ensures.items ∙ ap (λ l. c.loop-i.out.items ++ map (scaled (to_z w128 (of_z w128 c.args.by.now))) l)
+    (end_is c.args.first.now c.loop-i.i)
+    ∙ ap (λ z. c.loop-i.out.items ++ map (scaled z) (drop c.loop-i.i c.args.first.now)) (to_z-of_z w128 c.args.by.now (limit_fits c.args.by.now c.requires.by))) in
     let len = c.append.new.out.ok.0 in
     let cap = c.append.ensures.capacity in
     let before = c.loop-i.invariant.capacity in
@@ -218,12 +174,11 @@ returns-clause-listed c =
           inr (omega arith)
       | else-loop-i-test w ↦ let past = w.loop-i-test.false in inl (omega arith)
     ] in
-    let is = appended c.loop-i.out.items c.append.new.out.items c.append-2.new.out.items c.args.first.now c.args.second.now _
-    (to_z w128 (of_z w128 c.args.times)) _ c.loop-i.i c.loop-i.j c.append.ensures.items c.append-2.ensures.items
-    (minus_is c.args.times c.ranges.times c.requires.times) in
+    let is = appended_as c.loop-i.out.items c.append.new.out.items c.append-2.new.out.items c.args.first.now c.args.second.now c.args.by.now
+    c.args.times.now c.loop-i.i c.loop-i.j c.requires.by c.requires.times c.append.ensures.items c.append-2.ensures.items in
     rw is
     (whole_listed c.args.columns _ c.args.first.now _ c.args.second.now c.loop-i.out.items c.loop-i.i c.loop-i.j c.loop-i.invariant.merging over
-    (some_by c.args.by c.ranges.by c.requires.by_some) (some_by c.args.times c.ranges.times c.requires.times_some))
+    c.requires.by_some c.requires.times_some)
 
 pub returns-clause-combined : goal.returns-clause-combined
 returns-clause-combined c = λ k.
@@ -233,14 +188,11 @@ returns-clause-combined c = λ k.
           inr (omega arith)
       | else-loop-i-test w ↦ let past = w.loop-i-test.false in inl (omega arith)
     ] in
-    let is = appended c.loop-i.out.items c.append.new.out.items c.append-2.new.out.items c.args.first.now c.args.second.now _
-    (to_z w128 (of_z w128 c.args.times)) _ c.loop-i.i c.loop-i.j c.append.ensures.items c.append-2.ensures.items
-    (minus_is c.args.times c.ranges.times c.requires.times) in
+    let is = appended_as c.loop-i.out.items c.append.new.out.items c.append-2.new.out.items c.args.first.now c.args.second.now c.args.by.now
+    c.args.times.now c.loop-i.i c.loop-i.j c.requires.by c.requires.times c.append.ensures.items c.append-2.ensures.items in
     ap (λ l. entry_at l k) is
     ∙ whole_is c.args.columns _ c.args.first.now _ c.args.second.now c.loop-i.out.items c.loop-i.i c.loop-i.j c.loop-i.invariant.merging over
-    (some_by c.args.by c.ranges.by c.requires.by_some) (some_by c.args.times c.ranges.times c.requires.times_some) k
-    ∙ ap (λ z. z *ℤ entry_at c.args.first.now k -ℤ to_z w128 (of_z w128 c.args.times) *ℤ entry_at c.args.second.now k) (to_z-of_z w128 c.args.by c.ranges.by)
-    ∙ ap (λ z. c.args.by *ℤ entry_at c.args.first.now k -ℤ z *ℤ entry_at c.args.second.now k) (to_z-of_z w128 c.args.times c.ranges.times)
+    c.requires.by_some c.requires.times_some k
 
 pub loop-i-smaller-then-one-other : goal.loop-i-smaller-then-one-other
 loop-i-smaller-then-one-other c = omega arith
