@@ -4,6 +4,7 @@ pub mod NextCountedLine
 pub mod FromTurnToTurn
 pub mod PassedBytes
 pub mod BufferRanges
+pub mod FirstFeed
 -- ---- requests: what a line asks
 
 pub mod AnsweredLines

@@ -8,6 +8,7 @@ ghost use Rattle.line_wire.specs.Cutter.{IsFeedless, IsFirstFeed};
 use crate::buffer::{Buffer, LONGEST};
 use audit_types::NoMemory;
 use bench_core::{Failed, Source};
+use memchr::memchr;
 use std::alloc::Global;
 use std::marker::Model;
 
@@ -233,5 +234,5 @@ impl Lines {
 fn feed_at(bytes: &[u8]) -> Option<usize>
     ensures { MatchOption result (IsFeedless bytes.now) (IsFirstFeed bytes.now) }
 {
-    bytes.iter().position(|b| *b == b'\n')
+    memchr(b'\n', bytes)
 }

@@ -150,10 +150,21 @@ pub fn read_reply(line: &[u8]) -> Option<Reply>
     // A reply in range that is written so is read, and no other one.
     ensures only { (reply : Reply) → IsReply line.now reply → result ≡ Some reply }
 {
-    read_word(line, &WORDS)
-        .or(read_count(line))
-        .or(read_sum(line))
-        .or(read_average(line))
-        .or(read_max(line))
-        .or(read_condition(line))
+    // A form is read only if the ones before it aren't the line's. Those of most lines come first.
+    if let Some(reply) = read_sum(line) {
+        return Some(reply);
+    }
+    if let Some(reply) = read_max(line) {
+        return Some(reply);
+    }
+    if let Some(reply) = read_word(line, &WORDS) {
+        return Some(reply);
+    }
+    if let Some(reply) = read_count(line) {
+        return Some(reply);
+    }
+    if let Some(reply) = read_average(line) {
+        return Some(reply);
+    }
+    read_condition(line)
 }

@@ -1,6 +1,5 @@
-use Rattle.std.proofs.Common.{arith}
-use Rattle.std.proofs.lemmas.Grind.{common_steps}
+use Rattle.line_wire.proofs.FirstFeed.{first_feed}
 use Rattle.line_wire.proofs.lines.feed_at.Goals as goal
 
 pub returns : goal.returns
-returns c = grind (arith, common_steps)
+returns c = first_feed c.args.bytes.now c.memchr.result c.memchr.ensures

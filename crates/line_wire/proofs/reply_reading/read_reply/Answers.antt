@@ -1,24 +1,28 @@
-use Rattle.std.proofs.Common.{List, ℕ}
-use Rattle.line_wire.proofs.NoOtherForm.{IsTried, NoForm, tried_both, read_only}
+use Rattle.line_wire.proofs.NoOtherForm.{only_reply, last_reply}
 use Rattle.line_wire.proofs.reply_reading.read_reply.Goals as goal
 
-tried : (c : goal.After-or-5) → IsTried c.args.line.now c.or-5.result (NoForm c.args.line.now)
-tried c =
-    let line : List ℕ = c.args.line.now in
-    tried_both line c.or-4.result c.read_condition.result c.or-5.result
-    (tried_both line c.or-3.result c.read_max.result c.or-4.result
-    (tried_both line c.or-2.result c.read_average.result c.or-3.result
-    (tried_both line c.or.result c.read_sum.result c.or-2.result
-    (tried_both line c.read_word.result c.read_count.result c.or.result
-    (record { found = c.read_word.ensures.found; none = c.read_word.ensures.none })
-    (record { found = c.read_count.ensures.found; none = c.read_count.ensures.none }) c.or.ensures)
-    (record { found = c.read_sum.ensures.found; none = c.read_sum.ensures.none }) c.or-2.ensures)
-    (record { found = c.read_average.ensures.found; none = c.read_average.ensures.none }) c.or-3.ensures)
-    (record { found = c.read_max.ensures.found; none = c.read_max.ensures.none }) c.or-4.ensures)
-    (record { found = c.read_condition.ensures.found; none = c.read_condition.ensures.none }) c.or-5.ensures
+pub returns-in-Some-clause-only : goal.returns-in-Some-clause-only
+returns-in-Some-clause-only c = only_reply c.args.line.now c.in-Some.reply c.in-Some.ensures.found
 
-pub returns-clause-found : goal.returns-clause-found
-returns-clause-found c = (tried c).found
+pub returns-in-Some-read_max-clause-only : goal.returns-in-Some-read_max-clause-only
+returns-in-Some-read_max-clause-only c = only_reply c.args.line.now c.in-Some-read_max.reply c.in-Some-read_max.ensures.found
+
+pub returns-in-Some-read_word-clause-only : goal.returns-in-Some-read_word-clause-only
+returns-in-Some-read_word-clause-only c = only_reply c.args.line.now c.in-Some-read_word.reply c.in-Some-read_word.ensures.found
+
+pub returns-in-Some-read_count-clause-only : goal.returns-in-Some-read_count-clause-only
+returns-in-Some-read_count-clause-only c = only_reply c.args.line.now c.in-Some-read_count.reply c.in-Some-read_count.ensures.found
+
+pub returns-in-Some-read_average-clause-only : goal.returns-in-Some-read_average-clause-only
+returns-in-Some-read_average-clause-only c = only_reply c.args.line.now c.in-Some-read_average.reply c.in-Some-read_average.ensures.found
 
 pub returns-clause-only : goal.returns-clause-only
-returns-clause-only c = read_only c.args.line.now c.or-5.result (tried c)
+returns-clause-only c = last_reply c.args.line.now c.read_condition.result
+    (record {
+      sum = c.in_default.ensures.none;
+      max = c.in_default-read_max.ensures.none;
+      word = c.in_default-read_word.ensures.none;
+      count = c.in_default-read_count.ensures.none;
+      average = c.in_default-read_average.ensures.none;
+    })
+    c.read_condition.ensures.found c.read_condition.ensures.none
