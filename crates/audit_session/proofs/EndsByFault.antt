@@ -55,22 +55,30 @@ pub all_read : (input pending left : List ℕ) (taken : ℕ) → pending ++ left
 all_read input [] left taken none read within = (none, omega (arith, read, within, ap (λ (l : List ℕ). length l) none))
 all_read input (byte ∷ pending) left taken none read within = let never : ⊥ = cc in absurd never
 
--- an answer that refused only because memory ran out leaves all as it stood
+-- a fault is one of five
+uncalled : {X Claim : Type 0} (fault : TwinEnd) → (IsErrOf {T = X} (Err fault) end.Input → ⊥) → (IsErrOf {T = X} (Err fault) end.Limit → ⊥) →
+    (IsErrOf {T = X} (Err fault) end.Bench → ⊥) → (IsErrOf {T = X} (Err fault) end.NoMemory → Claim) → (IsErrOf {T = X} (Err fault) end.Spare → Claim) → Claim
+uncalled end.Input no_input no_limit no_bench memory spare = absurd (no_input refl)
+uncalled end.Limit no_input no_limit no_bench memory spare = absurd (no_limit refl)
+uncalled end.Bench no_input no_limit no_bench memory spare = absurd (no_bench refl)
+uncalled end.Spare no_input no_limit no_bench memory spare = spare refl
+uncalled end.NoMemory no_input no_limit no_bench memory spare = memory refl
+
+-- an answer that was refused without a call of the bench leaves all as it stood
 pub rests_by : {B X : Type 0} (fault : TwinEnd) → (IsErrOf {T = X} (Err fault) end.Input → ⊥) → (IsErrOf {T = X} (Err fault) end.Limit → ⊥) →
-    (IsErrOf {T = X} (Err fault) end.Bench → ⊥) → (IsErrOf {T = X} (Err fault) end.Spare → ⊥)
-    → (bench : Ghosts B) (old mid new : B) (was now : StoreContents) → (IsErrOf {T = X} (Err fault) end.NoMemory → (new ≡ mid) × (now.history ≡ was.history))
-    → now.secret ≡ was.secret → Rests bench old mid was → Rests bench old new now
-rests_by end.Input no_input no_limit no_bench no_spare bench old mid new was now still secret rests = absurd (no_input refl)
-rests_by end.Limit no_input no_limit no_bench no_spare bench old mid new was now still secret rests = absurd (no_limit refl)
-rests_by end.Bench no_input no_limit no_bench no_spare bench old mid new was now still secret rests = absurd (no_bench refl)
-rests_by end.Spare no_input no_limit no_bench no_spare bench old mid new was now still secret rests = absurd (no_spare refl)
-rests_by end.NoMemory no_input no_limit no_bench no_spare bench old mid new was now still secret rests = record {
-  stands = λ t.
-      subst (λ (h : List Answered). StandsFor (bench.file new) now.secret.shape h) (sym (still refl).1)
-      (subst (λ (s : SecretView). StandsFor (bench.file new) s.shape was.history) (sym secret)
-      (subst (λ b. StandsFor (bench.file b) was.secret.shape was.history) (sym (still refl).0) (rests.stands t)));
-  quiet = λ t quiet. subst (λ b. IsQuiet bench b) (sym (still refl).0) (rests.quiet t quiet);
-}
+    (IsErrOf {T = X} (Err fault) end.Bench → ⊥) → (bench : Ghosts B) (old mid new : B) (was now : StoreContents)
+    → (IsErrOf {T = X} (Err fault) end.NoMemory → (new ≡ mid) × (now.history ≡ was.history))
+    → (IsErrOf {T = X} (Err fault) end.Spare → (new ≡ mid) × (now.history ≡ was.history)) → now.secret ≡ was.secret → Rests bench old mid was →
+    Rests bench old new now
+rests_by fault no_input no_limit no_bench bench old mid new was now memory spare secret rests =
+    let still = uncalled fault no_input no_limit no_bench memory spare in
+    record {
+      stands = λ t.
+          subst (λ (h : List Answered). StandsFor (bench.file new) now.secret.shape h) (sym still.1)
+          (subst (λ (s : SecretView). StandsFor (bench.file new) s.shape was.history) (sym secret)
+          (subst (λ b. StandsFor (bench.file b) was.secret.shape was.history) (sym still.0) (rests.stands t)));
+      quiet = λ t quiet. subst (λ b. IsQuiet bench b) (sym still.0) (rests.quiet t quiet);
+    }
 
 -- the bytes below the limit
 front_is : (most : ℕ) (input read rest : List ℕ) → input ≡ read ++ rest → length read ≡ most → take most input ≡ read

@@ -1,5 +1,5 @@
 -- Before the first call a stop leaves the history and sends nothing.
-use Rattle.std.proofs.Common.{◌≡◌, ℕ, ◌*◌, List, [], take, sym, ◌∙◌, subst, refl, arith}
+use Rattle.std.proofs.Common.{◌≡◌, ℕ, ◌*◌, List, [], ◌++◌, take, sym, ◌∙◌, subst, refl, arith}
 use Rattle.std.proofs.lemmas.List.{append-nil}
 use Rattle.audit_types.specs.declared.records.Answered.{Answered}
 use Rattle.table_load.specs.Database.{Database}
@@ -9,10 +9,10 @@ use Rattle.bench_core.specs.Moments.{started}
 use Rattle.line_wire.specs.Lines.{CountedLine}
 use Rattle.question_plan.specs.Session.{AreReplies}
 use Rattle.question_plan.specs.Replies.{IsDue}
-use Rattle.audit_session.specs.Stops.{StopsOver, stands_over}
+use Rattle.audit_session.specs.Stops.{LeavesBoth, StopsOver, stands_over}
 use Rattle.audit_session.specs.Ends.{ServesSome}
 use Rattle.audit_session.specs.Groups.{SpareAmong}
-use Rattle.audit_session.proofs.StopsOfGroups.{stop_between}
+use Rattle.audit_session.proofs.StopsOfGroups.{both_between, stop_between}
 
 pub stops_first : {B : Type 0} (bench : Ghosts B) (at : B) (base : Database) (batch : ℕ) (history : List Answered) (lines : List CountedLine)
     → ((image bytes : List ℕ) → bench.since at (bench.moment at) image bytes → bench.leaves at image × (bytes ≡ bench.sent at))
@@ -66,3 +66,21 @@ spare_first told spare at base batch history lines only_now quiet stands = start
           (subst (λ (n : ℕ). AreReplies (IsDue base) history (take n ls) []) none tt)
           (subst (λ (h : List Answered). stands_over base image h) (sym (append-nil history)) here) refl,
     )
+
+-- before the first call both files stand for the history
+pub both_first : {B E : Type 0} (bench : Ghosts B) (at : B) (spare : Ghosts E) (end : E) (base : Database) (batch : ℕ) (history : List Answered)
+    (lines : List CountedLine) (image other : List ℕ) → IsQuiet bench at → stands_over base (bench.file at) history → IsQuiet spare end
+    → stands_over base (spare.file end) history → bench.leaves at image → spare.leaves end other
+    → LeavesBoth base batch history lines (bench.sent at) (bench.sent at) image other
+both_first bench at spare end base batch history lines image other quiet stands spare_quiet spare_stands left spare_left =
+    both_between base batch 0 history lines [] (bench.sent at) (bench.sent at) image other
+    (subst (λ (n : ℕ). AreReplies (IsDue base) history (take n lines) []) none tt) (sym (append-nil (bench.sent at)))
+    (here image (bench.file at) (quiet image left) stands) (here other (spare.file end) (spare_quiet other spare_left) spare_stands)
+  where
+    none : 0 ≡ 0 * batch
+    none = omega arith
+
+    here : (image file : List ℕ) → image ≡ file → stands_over base file history → stands_over base image (history ++ [])
+    here image file same stands =
+        subst (λ (h : List Answered). stands_over base image h) (sym (append-nil history))
+        (subst (λ (f : List ℕ). stands_over base f history) (sym same) stands)

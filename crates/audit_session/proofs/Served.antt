@@ -1,8 +1,7 @@
 -- What the loop over groups keeps from turn to turn.
-use Rattle.std.proofs.Common.{◌≡◌, ℕ, ◌+◌, ◌*◌, ◌<◌, ◌≤◌, Bool, true, false, List, [], ◌++◌, length, refl, sym, ◌∙◌, ap, subst, arith, inl, inr, ◌⊎◌, ⊎_elim, append_assoc, length-append}
-use Rattle.std.specs.Prelude.{◌/◌}
-use Rattle.std.proofs.lemmas.Nat.{div-mul-add}
+use Rattle.std.proofs.Common.{◌≡◌, ℕ, ◌+◌, ◌*◌, ◌<◌, ◌≤◌, Bool, true, false, List, [], ◌++◌, length, drop, refl, sym, ◌∙◌, ap, subst, arith, inl, inr, ◌⊎◌, append_assoc, length-append}
 use Rattle.std.proofs.Math.Nat.{suc-mul}
+use Rattle.std.proofs.Math.Seq.{drop-append_seam}
 use Rattle.std.proofs.lemmas.Bool.{false≢true}
 use Rattle.std.proofs.lemmas.List.{append-nil}
 use Rattle.audit_types.specs.declared.records.Answered.{Answered}
@@ -16,28 +15,22 @@ use Rattle.audit_types.specs.declared.records.Protected.{Protected}
 use Rattle.table_load.specs.Cells.{PublicView, SecretView}
 use Rattle.table_load.specs.Database.{Database, base_of, secret_table}
 use Rattle.journal_form.specs.Journal.{StandsAt}
-use Rattle.audit_store.specs.Stores.{StoreContents, IsAsLeft, IsStore, table_of}
-use Rattle.line_wire.specs.Lines.{CountedLine, counted_lines, whole_lines, most_input}
+use Rattle.audit_store.specs.Stores.{StoreContents, IsAsLeft, IsStore, calls_for, table_of}
+use Rattle.line_wire.specs.Lines.{CountedLine, counted_lines, most_input}
 use Rattle.line_wire.specs.Cutter.{Cutter}
-use Rattle.line_wire.specs.ReadLines.{IsRead, ReadsLines}
+use Rattle.line_wire.specs.ReadLines.{ReadsLines}
 use Rattle.line_wire.specs.LinesInTurn.{reads_none, reads_more}
 use Rattle.question_plan.specs.declared.planning.Plan.{Plan}
-use Rattle.question_plan.specs.Session.{Replied, records_of, bytes_of, AreReplies, commits, groups}
+use Rattle.question_plan.specs.Session.{Replied, records_of, bytes_of, AreReplies, commits}
 use Rattle.question_plan.specs.Replies.{IsDue, IsReplyOf}
 use Rattle.audit_session.specs.Stops.{LeavesBoth, StopsOver}
-use Rattle.audit_session.specs.Ends.{Serves, ServesWhole, ServesSome, TakesCalls, limited}
-use Rattle.audit_session.specs.Groups.{BothInGroup, CutsShort, Gathers, InGroup, UnsentInGroup, SpareAmong, AnswersGroup, StandsOn, StopsAmong, stands_of}
+use Rattle.audit_session.specs.Ends.{KeepsCalls, Serves, TakesCalls}
+use Rattle.audit_session.specs.Groups.{BothInGroup, Gathers, InGroup, UnsentInGroup, SpareAmong, AnswersGroup, StandsOn, StopsAmong, stands_of}
 use Rattle.question_plan.specs.InTurn.{bytes_of-append, length-replies}
 use Rattle.audit_session.proofs.FirstStop.{stops_first, spare_first}
 use Rattle.audit_session.proofs.Planned.{length-plans}
-use Rattle.audit_session.proofs.GroupStops.{both_after, stops_among, all_due, history_more, first_groups}
+use Rattle.audit_session.proofs.GroupStops.{both_after, stops_among, all_due, history_more}
 use Rattle.audit_session.proofs.Commits.{commits_more}
-use Rattle.audit_session.proofs.EndsByFault.{limited_is}
-
--- bytes are left where a group was cut short at the limit
-pub cut_not_over : (batch : ℕ) (rest pending left : List ℕ) → CutsShort batch rest (pending ++ left) → 0 < length pending → rest ≡ [] → ⊥
-cut_not_over batch rest pending left cut some none =
-    omega (arith, ap (λ (l : List ℕ). length l) (sym none ∙ cut.split), length-append cut.read (pending ++ left), length-append pending left, some)
 
 -- the lines of the groups that were answered, and their replies
 pub record AnsweredLines (told : Type 0) (base : Database) (batch : ℕ) (history : List Answered) (input rest : List ℕ) (ended : Bool)
@@ -74,7 +67,7 @@ pub record Served {P B : Type 0} (source : SourceGhosts P) (bench : Ghosts B) (c
 
 -- and of a spare, which isn't called if the keeper isn't spared
 pub record SpareServed {P K S : Type 0} (source : SourceGhosts P) (keeper : KeeperGhosts K) (spare : Ghosts S) (columns : List Column) (public : PublicView)
-    (batch : ℕ) (first_keeper kept : K) (first_source : P) (first at : S) : Type 0 where
+    (batch : ℕ) (first_keeper kept : K) (first_source : P) (first at : S) (replies : List (Replied Answered)) : Type 0 where
   pub stands : keeper.spared → spare.told → StandsAt (spare.file at) (keeper.store kept).secret.shape (keeper.store kept).history (keeper.spare_gate kept)
   pub moments : keeper.spared → spare.told → IsQuiet spare first →
       LeavesOnly spare first at
@@ -82,6 +75,7 @@ pub record SpareServed {P K S : Type 0} (source : SourceGhosts P) (keeper : Keep
       (keeper.store first_keeper).history (counted_lines (source.left first_source)) (spare.sent first))
   pub quiet : keeper.spared → spare.told → IsQuiet spare first → IsQuiet spare at
   pub sent : spare.sent at ≡ spare.sent first
+  pub calls : keeper.spared → spare.told → spare.moment at ≡ spare.moment first + 4 * commits batch replies
   pub steady : spare.faults at ≡ spare.faults first
   pub untouched : (keeper.spared → ⊥) → at ≡ first
 
@@ -101,7 +95,7 @@ first_moments told bench columns public batch store all at only_now quiet stands
       before = λ t image bytes le was. inl was;
     }
 
-pub nothing_served : {P B : Type 0} (source : SourceGhosts P) (bench : Ghosts B) (columns : List Column) (public : PublicView) (batch : ℕ) (lines : Cutter)
+abbrev pub nothing_served : {P B : Type 0} (source : SourceGhosts P) (bench : Ghosts B) (columns : List Column) (public : PublicView) (batch : ℕ) (lines : Cutter)
     (store : StoreContents) (from : P) (at : B)
     → (lines.taken ≡ 0) × (lines.pending ≡ []) × (lines.ended ≡ false) → store.usable ≡ true → IsStore store → (bench.told → IsAsLeft (bench.file at) store)
     → ((image bytes : List ℕ) → bench.since at (bench.moment at) image bytes → bench.leaves at image × (bytes ≡ bench.sent at))
@@ -138,7 +132,7 @@ pub spare_unserved : {P K S : Type 0} (source : SourceGhosts P) (keeper : Keeper
     (batch : ℕ) (kept : K) (from : P) (at : S)
     → ((image bytes : List ℕ) → spare.since at (spare.moment at) image bytes → spare.leaves at image × (bytes ≡ spare.sent at))
     → (keeper.spared → spare.told → StandsAt (spare.file at) (keeper.store kept).secret.shape (keeper.store kept).history (keeper.spare_gate kept))
-    → SpareServed source keeper spare columns public batch kept kept from at at
+    → SpareServed source keeper spare columns public batch kept kept from at at []
 spare_unserved source keeper spare columns public batch kept from at only_now stands = record {
   stands = stands;
   moments = λ spared told quiet.
@@ -147,6 +141,7 @@ spare_unserved source keeper spare columns public batch kept from at only_now st
       quiet (keeper.spare_gate kept, stands spared told);
   quiet = λ spared told quiet. quiet;
   sent = refl;
+  calls = λ spared told. omega arith;
   steady = refl;
   untouched = λ none. refl;
 }
@@ -160,83 +155,13 @@ module _ {P B : Type 0} (source : SourceGhosts P) (bench : Ghosts B) (columns : 
   abbrev all : List CountedLine
   all = counted_lines (source.left first_source)
 
-  -- ---- ends before the next group
-
-  -- the groups so far, if these are the first lines
-  groups_served : bench.told → (more : List CountedLine) → groups batch served.answered.count more ≡ served.answered.lines →
-      Serves base first_store.history (groups batch served.answered.count more) store.history (bench.sent first) (bench.sent at)
-  groups_served told more is = record {
-    replies = served.answered.replies;
-    due = subst (λ (ls : List CountedLine). AreReplies (IsDue base) first_store.history ls served.answered.replies) (sym is) served.answered.due;
-    history_is = served.answered.history_is;
-    sent_is = served.sent_is told;
-  }
-
-  pub some_served : source.told → bench.told → ServesSome base first_store.history batch all store.history (bench.sent first) (bench.sent at)
-  some_served t u = record {
-    count = served.answered.count;
-    serves =
-        groups_served u all (ap (λ (ls : List CountedLine). groups batch served.answered.count ls) (served.answered.reads t).counted
-        ∙ first_groups batch served.answered.count served.answered.lines (counted_lines (lines.pending ++ source.left from)) served.answered.many);
-  }
-
-  -- a group was cut short where this is left
-  module _ (t : source.told) (u : bench.told) (left : List ℕ) (going : lines.ended ≡ true → lines.pending ++ source.left from ≡ [] → ⊥)
-      (cut : CutsShort batch (lines.pending ++ source.left from) left) where
-    abbrev reads : ReadsLines (source.left first_source) (lines.pending ++ source.left from) lines.ended served.answered.lines
-    reads = served.answered.reads t
-
-    abbrev read : List ℕ
-    read = reads.read ++ cut.read
-
-    split : source.left first_source ≡ read ++ left
-    split = reads.split ∙ ap (λ (l : List ℕ). reads.read ++ l) cut.split ∙ sym (append_assoc reads.read cut.read left)
-
-    lines_are : whole_lines read ≡ served.answered.lines ++ whole_lines cut.read
-    lines_are = ⊎_elim (λ (is : IsRead reads.read served.answered.lines). is cut.read) (λ over. absurd (going over.0 over.1)) reads.whole
-
-    many_lines : length (whole_lines read) ≡ served.answered.count * batch + length (whole_lines cut.read)
-    many_lines =
-        ap (λ (ls : List CountedLine). length ls) lines_are ∙ length-append served.answered.lines (whole_lines cut.read)
-        ∙ ap (λ (n : ℕ). n + length (whole_lines cut.read)) served.answered.many
-
-    whole_groups : groups batch served.answered.count (whole_lines read) ≡ served.answered.lines
-    whole_groups =
-        ap (λ (ls : List CountedLine). groups batch served.answered.count ls) lines_are
-        ∙ first_groups batch served.answered.count served.answered.lines (whole_lines cut.read) served.answered.many
-
-    count_is : length (whole_lines read) / batch ≡ served.answered.count
-    count_is = ap (λ (n : ℕ). n / batch) many_lines ∙ div-mul-add served.answered.count batch (length (whole_lines cut.read)) cut.few
-
-    serves_whole : Serves base first_store.history (groups batch (length (whole_lines read) / batch) (whole_lines read)) store.history (bench.sent first)
-        (bench.sent at)
-    serves_whole =
-        subst (λ (n : ℕ). Serves base first_store.history (groups batch n (whole_lines read)) store.history (bench.sent first) (bench.sent at)) (sym count_is)
-        (groups_served u (whole_lines read) whole_groups)
-
-    pub served_whole : ServesWhole base first_store.history batch (source.left first_source) left store.history (bench.sent first) (bench.sent at)
-    served_whole = (read, split, serves_whole)
-
-    below_limit : (pending behind : List ℕ) (taken : ℕ) → left ≡ pending ++ behind → taken ≡ most_input + length pending →
-        taken + length behind ≡ length (source.left first_source) → limited (source.left first_source) ≡ read
-    below_limit pending behind taken is over all = limited_is (source.left first_source) read left split
-        (omega (arith, ap (λ (l : List ℕ). length l) split, length-append read left, ap (λ (l : List ℕ). length l) is, length-append pending behind, over, all))
-
-    pub served_limited : (pending behind : List ℕ) (taken : ℕ) → left ≡ pending ++ behind → taken ≡ most_input + length pending →
-        taken + length behind ≡ length (source.left first_source) →
-        ServesWhole base first_store.history batch (limited (source.left first_source)) [] store.history (bench.sent first) (bench.sent at)
-    served_limited pending behind taken left_is over total =
-        (read, below_limit pending behind taken left_is over total ∙ sym (append-nil read), serves_whole)
-
-  -- ---- a group more
-
   module _ (lines_now : Cutter) (ended_now : Bool) (source_now : P) (plans : List Plan)
       (gathers : Gathers source.told columns public (lines.pending ++ source.left from) (lines_now.pending ++ source.left source_now) ended_now plans)
       (few : length plans ≤ batch) (some : 0 < batch) (once : lines.ended ≡ true → ended_now ≡ true) where
     abbrev behind : List CountedLine
     behind = counted_lines (lines_now.pending ++ source.left source_now)
 
-    reads_now : source.told →
+    pub reads_now : source.told →
         ReadsLines (source.left first_source) (lines_now.pending ++ source.left source_now) ended_now (served.answered.lines ++ gathers.lines)
     reads_now t =
         reads_more (source.left first_source) (lines.pending ++ source.left from)
@@ -245,7 +170,7 @@ module _ {P B : Type 0} (source : SourceGhosts P) (bench : Ghosts B) (columns : 
     all_are : source.told → all ≡ served.answered.lines ++ (gathers.lines ++ behind)
     all_are t = (reads_now t).counted ∙ append_assoc served.answered.lines gathers.lines behind
 
-    as_many : length gathers.lines ≡ length plans
+    pub as_many : length gathers.lines ≡ length plans
     as_many = length-plans columns public gathers.lines plans gathers.planned
 
     -- of the store as it was before the group
@@ -297,7 +222,7 @@ module _ {P B : Type 0} (source : SourceGhosts P) (bench : Ghosts B) (columns : 
               (inr (found.0, found.1, found.2, (0, sym (append-nil (bytes_of served.answered.replies))))),
         )
 
-    -- both files after a call failed
+    -- both files, whatever a crash left of them
     pub both_turn : (sent image other : List ℕ) → source.told → bench.told → (source.told → (length plans ≡ batch) ⊎ (behind ≡ []))
         → BothInGroup (IsReplyOf (table_of store)) (stands_of store.secret.shape) store.history plans (bench.sent at) sent image other
         → LeavesBoth base batch first_store.history all (bench.sent first) sent image other
@@ -308,42 +233,50 @@ module _ {P B : Type 0} (source : SourceGhosts P) (bench : Ghosts B) (columns : 
         (over_first (λ s p. BothInGroup (IsReplyOf (secret_table s p)) (stands_of s.shape) store.history plans (bench.sent at) sent image other) found)
 
     module _ (now : List Answered) (new : B) (answers : AnswersGroup bench at new (table_of store) store.history now plans) where
-      due_now : AreReplies (IsDue base) first_store.history (served.answered.lines ++ gathers.lines) (served.answered.replies ++ answers.replies)
+      pub due_now : AreReplies (IsDue base) first_store.history (served.answered.lines ++ gathers.lines) (served.answered.replies ++ answers.replies)
       due_now =
           all_due base batch served.answered.count first_store.history store.history served.answered.lines gathers.lines served.answered.replies plans
           served.answered.many few served.answered.due served.answered.history_is gathers.planned answers.replies
           (over_first (λ s p. AreReplies (IsReplyOf (secret_table s p)) store.history plans answers.replies) answers.due)
 
-      history_now : now ≡ first_store.history ++ records_of (served.answered.replies ++ answers.replies)
+      pub history_now : now ≡ first_store.history ++ records_of (served.answered.replies ++ answers.replies)
       history_now =
           answers.history_is ∙ ap (λ (h : List Answered). h ++ records_of answers.replies) served.answered.history_is
           ∙ history_more first_store.history served.answered.replies answers.replies
 
-      sent_now : bench.told → bench.sent new ≡ bench.sent first ++ bytes_of (served.answered.replies ++ answers.replies)
+      pub sent_now : bench.told → bench.sent new ≡ bench.sent first ++ bytes_of (served.answered.replies ++ answers.replies)
       sent_now u =
           answers.sent_is u ∙ ap (λ (l : List ℕ). l ++ bytes_of answers.replies) (served.sent_is u)
           ∙ append_assoc (bench.sent first) (bytes_of served.answered.replies) (bytes_of answers.replies)
           ∙ ap (λ (l : List ℕ). bench.sent first ++ l) (sym (bytes_of-append served.answered.replies answers.replies))
 
-      calls_now : bench.told →
-          bench.moment new ≡ bench.moment first + length (served.answered.lines ++ gathers.lines) + 4 * commits batch
-          (served.answered.replies ++ answers.replies)
-      calls_now u =
+      -- one group more
+      commits_now : 4 * commits batch (served.answered.replies ++ answers.replies)
+          ≡ 4 * commits batch served.answered.replies + calls_for (records_of answers.replies)
+      commits_now =
           let long : length served.answered.replies ≡ served.answered.count * batch =
           length-replies (IsDue base) first_store.history served.answered.lines served.answered.replies served.answered.due ∙ served.answered.many in
           let more : length answers.replies ≡ length plans =
           length-replies (IsReplyOf (table_of store)) store.history plans answers.replies answers.due in
-          omega (
-            arith,
-            answers.calls u,
-            served.calls u,
-            as_many,
-            length-append served.answered.lines gathers.lines,
-            commits_more batch served.answered.count served.answered.replies some long answers.replies (omega (arith, more, few)),
-          )
+          commits_more batch served.answered.count served.answered.replies some long answers.replies (omega (arith, more, few))
+
+      pub calls_now : bench.told →
+          bench.moment new ≡ bench.moment first + length (served.answered.lines ++ gathers.lines) + 4 * commits batch
+          (served.answered.replies ++ answers.replies)
+      calls_now u =
+          omega (arith, answers.calls u, served.calls u, as_many, length-append served.answered.lines gathers.lines, commits_now)
+
+      -- the calls of a spare, by its moments
+      pub spare_calls_now : (first mid last : ℕ) → mid ≡ first + 4 * commits batch served.answered.replies
+          → last ≡ mid + calls_for (drop (length store.history) now) → last ≡ first + 4 * commits batch (served.answered.replies ++ answers.replies)
+      spare_calls_now first mid last so_far more =
+          let added : drop (length store.history) now ≡ records_of answers.replies =
+          ap (λ (h : List Answered). drop (length store.history) h) answers.history_is ∙ drop-append_seam store.history (records_of answers.replies) in
+          let calls : last ≡ mid + calls_for (records_of answers.replies) = more ∙ ap (λ (l : List Answered). mid + calls_for l) added in
+          omega (arith, so_far, calls, commits_now)
 
       -- the group was whole
-      pub next_turn : (store_now : StoreContents) → store_now.history ≡ now → ended_now ≡ lines_now.ended → length plans ≡ batch
+      abbrev pub next_turn : (store_now : StoreContents) → store_now.history ≡ now → ended_now ≡ lines_now.ended → length plans ≡ batch
           → (source.told → lines_now.ended ≡ true → source.left source_now ≡ [])
           → (source.told → lines_now.taken + length (source.left source_now) ≡ lines.taken + length (source.left from))
           → lines_now.taken ≤ most_input + length lines_now.pending → source.faults source_now ≡ source.faults from → StandsOn bench at new store_now →
@@ -410,4 +343,14 @@ module _ {P B : Type 0} (source : SourceGhosts P) (bench : Ghosts B) (columns : 
         calls =
             subst (λ (ls : List CountedLine). bench.moment new ≡ bench.moment first + length ls + 4 * commits batch
             (served.answered.replies ++ answers.replies)) (lines_are_all t none) (calls_now u);
+      }
+
+      pub all_kept : source.told → behind ≡ [] → (first last : ℕ) → last ≡ first + 4 * commits batch (served.answered.replies ++ answers.replies)
+          → KeepsCalls base first_store.history batch all first last
+      all_kept t none first last calls = record {
+        replies = served.answered.replies ++ answers.replies;
+        due =
+            subst (λ (ls : List CountedLine). AreReplies (IsDue base) first_store.history ls (served.answered.replies ++ answers.replies))
+            (lines_are_all t none) due_now;
+        calls = calls;
       }

@@ -54,6 +54,12 @@ pub record TakesCalls (base : Database) (history : List Answered) (batch : ℕ) 
   pub due : AreReplies (IsDue base) history lines replies
   pub calls : after ≡ before + length lines + 4 * commits batch replies
 
+-- the calls of the spare: four for each group in which some reply makes a record
+pub record KeepsCalls (base : Database) (history : List Answered) (batch : ℕ) (lines : List CountedLine) (before after : ℕ) : Type 0 where
+  pub replies : List (Replied Answered)
+  pub due : AreReplies (IsDue base) history lines replies
+  pub calls : after ≡ before + 4 * commits batch replies
+
 -- how much of the input there was, by the end
 abbrev pub Reads : Result (Unit {0}) TwinEnd → List ℕ → List ℕ → Type 0
 Reads (Ok done) input left = (left ≡ []) × (length input ≤ most_input)

@@ -1,12 +1,12 @@
 //! Answering a group: its questions are decided and kept, and then its replies are sent.
-ghost use Rattle.std.specs.Prelude.{◌≡◌, ◌≢◌, ◌≤◌, ◌+◌, ◌++◌, List, ℕ, true, false, length, All, OnOk, OnErr, IsErr, IsErrOf, Err};
+ghost use Rattle.std.specs.Prelude.{◌≡◌, ◌≢◌, ◌≤◌, ◌+◌, ◌++◌, List, ℕ, true, false, length, drop, All, OnOk, OnErr, IsErr, IsErrOf, Err};
 ghost use Rattle.std.specs.List.{flat_map};
 ghost use Rattle.std.specs.Vec.{vec_capacity};
 ghost use Rattle.bench_core.specs.Causes.{HasCause};
 ghost use Rattle.bench_core.specs.Bench.{AppendsFront, Elapses, Sending};
 ghost use Rattle.bench_core.specs.Calls.{IsQuiet, LeavesOnly, TellsFault};
 ghost use Rattle.journal_form.specs.Journal.{StandsAt};
-ghost use Rattle.audit_store.specs.Stores.{IsAsLeft, IsStore, table_of};
+ghost use Rattle.audit_store.specs.Stores.{IsAsLeft, IsStore, calls_for, table_of};
 ghost use Rattle.line_wire.specs.Reply.{reply_bytes, IsInRange};
 ghost use Rattle.question_plan.specs.Plans.{CanBeServed};
 ghost use Rattle.question_plan.specs.Replies.{IsReplyOf};
@@ -76,7 +76,9 @@ fn decide<K: Keeper, B: Bench, S: Bench>(
     ensures spare_sent { S.sent spare.new ≡ S.sent spare.old }
     ensures both { K.spared → B.told → S.told → IsQuiet B.Bench bench.old → IsQuiet S.Bench spare.old → IsErr result → (image other : List ℕ) → B.leaves bench.new image → S.leaves spare.new other
         → BothInGroup (IsReplyOf (table_of (K.store keeper.old))) (stands_of (K.store keeper.old).secret.shape) (K.store keeper.old).history group.old.plans.items (B.sent bench.old) (B.sent bench.new) image other }
+    ensures spare_ticks { K.spared → S.told → OnOk result (S.moment spare.new ≡ S.moment spare.old + calls_for (drop (length (K.store keeper.old).history) (K.store keeper.new).history)) }
     ensures spare_fault { TellsFault S.Bench spare.old spare.new (IsErrOf result KeepFault.Spare) }
+    ensures spare_first { IsErrOf result KeepFault.Spare → bench.new ≡ bench.old }
     ensures own { IsErrOf result KeepFault.Spare → K.spared }
     ensures untouched { (K.spared → ⊥) → spare.new ≡ spare.old }
 {
@@ -151,9 +153,11 @@ pub(crate) fn answer<K: Keeper, B: Bench, S: Bench>(
         → LeavesOnly S.Bench spare.old spare.new (UnsentInGroup (IsReplyOf (table_of (K.store keeper.old))) (stands_of (K.store keeper.old).secret.shape) (K.store keeper.old).history group.old.plans.items (S.sent spare.old)) }
     ensures spare_quiet { K.spared → S.told → IsQuiet S.Bench spare.old → result ≢ Err TwinEnd.Spare → IsQuiet S.Bench spare.new }
     ensures spare_sent { S.sent spare.new ≡ S.sent spare.old }
-    ensures both { K.spared → B.told → S.told → IsQuiet B.Bench bench.old → IsQuiet S.Bench spare.old → IsErr result → (image other : List ℕ) → B.leaves bench.new image → S.leaves spare.new other
+    ensures both { K.spared → B.told → S.told → IsQuiet B.Bench bench.old → IsQuiet S.Bench spare.old → (image other : List ℕ) → B.leaves bench.new image → S.leaves spare.new other
         → BothInGroup (IsReplyOf (table_of (K.store keeper.old))) (stands_of (K.store keeper.old).secret.shape) (K.store keeper.old).history group.old.plans.items (B.sent bench.old) (B.sent bench.new) image other }
+    ensures spare_ticks { K.spared → S.told → OnOk result (S.moment spare.new ≡ S.moment spare.old + calls_for (drop (length (K.store keeper.old).history) (K.store keeper.new).history)) }
     ensures spare_fault { TellsFault S.Bench spare.old spare.new (result ≡ Err TwinEnd.Spare) }
+    ensures spare_first { result ≡ Err TwinEnd.Spare → (bench.new ≡ bench.old) × ((K.store keeper.new).history ≡ (K.store keeper.old).history) }
     ensures own { result ≡ Err TwinEnd.Spare → K.spared }
     ensures untouched { (K.spared → ⊥) → spare.new ≡ spare.old }
     ensures others { (result ≢ Err TwinEnd.Input) × (result ≢ Err TwinEnd.Limit) }

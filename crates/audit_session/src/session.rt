@@ -1,5 +1,5 @@
 //! The session: the lines of an input are answered in groups over what a keeper keeps.
-ghost use Rattle.std.specs.Prelude.{◌≡◌, ◌≢◌, ◌⊎◌, ◌<◌, ◌≤◌, ◌+◌, [], List, ℕ, true, false, length, IfOk, OnOk, Err};
+ghost use Rattle.std.specs.Prelude.{◌≡◌, ◌≢◌, ◌<◌, ◌≤◌, ◌+◌, [], List, ℕ, true, false, length, IfOk, OnOk, Err};
 ghost use Rattle.std.specs.Vec.{vec_capacity};
 ghost use Rattle.schema_json.specs.SecretShape.{shape_of};
 ghost use Rattle.table_load.specs.Cells.{FitsSchema};
@@ -10,7 +10,7 @@ ghost use Rattle.journal_form.specs.Journal.{StandsAt, StandsFor};
 ghost use Rattle.audit_store.specs.Stores.{IsAsLeft, IsStore, table_of};
 ghost use Rattle.line_wire.specs.Lines.{counted_lines, most_input};
 ghost use Rattle.audit_session.specs.Stops.{IsBatch, IsHarmless, LeavesBoth, SpareStops, StopsOver};
-ghost use Rattle.audit_session.specs.Ends.{Serves, ServesWhole, ServesSome, TakesCalls, limited, Ends, Reads, Rests, keep_end, plan_end};
+ghost use Rattle.audit_session.specs.Ends.{KeepsCalls, Serves, ServesWhole, ServesSome, TakesCalls, limited, Ends, Reads, Rests, keep_end, plan_end};
 ghost use Rattle.audit_session.specs.Groups.{SpareAmong, StopsAmong};
 
 use crate::answering::answer;
@@ -106,7 +106,7 @@ fn answer_groups<K: Keeper, P: Source, B: Bench, S: Bench>(
     requires spare_stands { K.spared → S.told → StandsAt (S.file spare.old) (K.store keeper.old).secret.shape (K.store keeper.old).history (K.spare_gate keeper.old) }
     ensures ends { P.told → B.told → Ends batch result (base_of schema.now.columns index.now.public (K.store keeper.old).protected (K.store keeper.old).secret) (K.store keeper.old).history (P.left source.old) (P.left source.new) (K.store keeper.new).history (B.sent bench.old) (B.sent bench.new) }
     ensures reads { P.told → Reads result (P.left source.old) (P.left source.new) }
-    ensures rests { result ≢ Err TwinEnd.Bench → result ≢ Err TwinEnd.Spare → Rests B.Bench bench.old bench.new (K.store keeper.new) }
+    ensures rests { result ≢ Err TwinEnd.Bench → Rests B.Bench bench.old bench.new (K.store keeper.new) }
     ensures again { OnOk result (((K.store keeper.new).usable ≡ true) × (B.told → IsAsLeft (B.file bench.new) (K.store keeper.new))) }
     ensures usable { result ≢ Err TwinEnd.Bench → result ≢ Err TwinEnd.Spare → result ≢ Err TwinEnd.NoMemory → (K.store keeper.new).usable ≡ true }
     ensures left { B.told → (K.store keeper.new).usable ≡ true → IsAsLeft (B.file bench.new) (K.store keeper.new) }
@@ -125,9 +125,10 @@ fn answer_groups<K: Keeper, P: Source, B: Bench, S: Bench>(
         → LeavesOnly S.Bench spare.old spare.new (SpareAmong P.told (base_of schema.now.columns index.now.public (K.store keeper.old).protected (K.store keeper.old).secret) batch (K.store keeper.old).history (counted_lines (P.left source.old)) (S.sent spare.old)) }
     ensures spare_quiet { K.spared → S.told → IsQuiet S.Bench spare.old → result ≢ Err TwinEnd.Spare → IsQuiet S.Bench spare.new }
     ensures spare_sent { S.sent spare.new ≡ S.sent spare.old }
-    ensures both { K.spared → P.told → B.told → S.told → IsQuiet B.Bench bench.old → IsQuiet S.Bench spare.old → (result ≡ Err TwinEnd.Bench) ⊎ (result ≡ Err TwinEnd.Spare)
+    ensures both { K.spared → P.told → B.told → S.told → IsQuiet B.Bench bench.old → IsQuiet S.Bench spare.old
         → (image other : List ℕ) → B.leaves bench.new image → S.leaves spare.new other
         → LeavesBoth (base_of schema.now.columns index.now.public (K.store keeper.old).protected (K.store keeper.old).secret) batch (K.store keeper.old).history (counted_lines (P.left source.old)) (B.sent bench.old) (B.sent bench.new) image other }
+    ensures spare_calls { K.spared → P.told → S.told → OnOk result (KeepsCalls (base_of schema.now.columns index.now.public (K.store keeper.old).protected (K.store keeper.old).secret) (K.store keeper.old).history batch (counted_lines (P.left source.old)) (S.moment spare.old) (S.moment spare.new)) }
     ensures spare_fault { TellsFault S.Bench spare.old spare.new (result ≡ Err TwinEnd.Spare) }
     ensures own { result ≡ Err TwinEnd.Spare → K.spared }
     ensures untouched { (K.spared → ⊥) → spare.new ≡ spare.old }
@@ -173,13 +174,13 @@ pub fn serve_with<K: Keeper, P: Source, B: Bench, S: Bench>(
     requires spare_stands { K.spared → S.told → StandsAt (S.file spare.old) (K.store keeper.old).secret.shape (K.store keeper.old).history (K.spare_gate keeper.old) }
     requires batch { IsBatch batch }
 
-    // The ends: which lines were answered. The file stands for the history, unless a call of the bench or of the spare failed.
+    // The ends: which lines were answered. The file stands for the history, unless a call of the bench failed.
     ensures done { P.told → B.told → OnOk result (Serves (base_of schema.now.columns index.now.public index.now.protected (K.store keeper.old).secret) (K.store keeper.old).history (counted_lines (P.left source.old)) (K.store keeper.new).history (B.sent bench.old) (B.sent bench.new)) }
     ensures input_end { P.told → B.told → result ≡ Err TwinEnd.Input → ServesWhole (base_of schema.now.columns index.now.public index.now.protected (K.store keeper.old).secret) (K.store keeper.old).history batch (P.left source.old) (P.left source.new) (K.store keeper.new).history (B.sent bench.old) (B.sent bench.new) }
     ensures limit_end { P.told → B.told → result ≡ Err TwinEnd.Limit → ServesWhole (base_of schema.now.columns index.now.public index.now.protected (K.store keeper.old).secret) (K.store keeper.old).history batch (limited (P.left source.old)) [] (K.store keeper.new).history (B.sent bench.old) (B.sent bench.new) }
     ensures memory_end { P.told → B.told → result ≡ Err TwinEnd.NoMemory → ServesSome (base_of schema.now.columns index.now.public index.now.protected (K.store keeper.old).secret) (K.store keeper.old).history batch (counted_lines (P.left source.old)) (K.store keeper.new).history (B.sent bench.old) (B.sent bench.new) }
-    ensures stands { B.told → result ≢ Err TwinEnd.Bench → result ≢ Err TwinEnd.Spare → StandsFor (B.file bench.new) (K.store keeper.new).secret.shape (K.store keeper.new).history }
-    ensures quiet { B.told → IsQuiet B.Bench bench.old → result ≢ Err TwinEnd.Bench → result ≢ Err TwinEnd.Spare → IsQuiet B.Bench bench.new }
+    ensures stands { B.told → result ≢ Err TwinEnd.Bench → StandsFor (B.file bench.new) (K.store keeper.new).secret.shape (K.store keeper.new).history }
+    ensures quiet { B.told → IsQuiet B.Bench bench.old → result ≢ Err TwinEnd.Bench → IsQuiet B.Bench bench.new }
 
     // After Ok it may be called again. Only if a call failed or memory ran out may the keeper be left unusable, and while it is
     // usable the file is as the keeper left it.
@@ -213,17 +214,18 @@ pub fn serve_with<K: Keeper, P: Source, B: Bench, S: Bench>(
     ensures steady { result ≢ Err TwinEnd.Input → P.faults source.new ≡ P.faults source.old }
     ensures fault { TellsFault B.Bench bench.old bench.new (result ≡ Err TwinEnd.Bench) }
 
-    // The same of the spare. If a call of one of them failed, the spare is then at most one group ahead; at every other end both stand
-    // for one history. A keeper that isn't spared never calls the spare.
+    // The same of the spare. At every end a crash leaves each of both at a stop with what was sent, the spare at most one group ahead;
+    // unless a call of one of them failed, both stand for one history. A keeper that isn't spared never calls the spare.
     ensures spare_stands { K.spared → S.told → result ≢ Err TwinEnd.Bench → result ≢ Err TwinEnd.Spare → StandsFor (S.file spare.new) (K.store keeper.new).secret.shape (K.store keeper.new).history }
     ensures spare_moments { K.spared → P.told → S.told → IsQuiet S.Bench spare.old
         → LeavesOnly S.Bench spare.old spare.new (SpareStops (base_of schema.now.columns index.now.public index.now.protected (K.store keeper.old).secret) batch (K.store keeper.old).history (counted_lines (P.left source.old)) (S.sent spare.old)) }
     ensures spare_legal { K.spared → S.told → IsQuiet S.Bench spare.old → LeavesOnly S.Bench spare.old spare.new (λ image sent. IsHarmless (table_of (K.store keeper.old)) image) }
     ensures spare_quiet { K.spared → S.told → IsQuiet S.Bench spare.old → result ≢ Err TwinEnd.Spare → IsQuiet S.Bench spare.new }
     ensures spare_sent { S.sent spare.new ≡ S.sent spare.old }
-    ensures both { K.spared → P.told → B.told → S.told → IsQuiet B.Bench bench.old → IsQuiet S.Bench spare.old → (result ≡ Err TwinEnd.Bench) ⊎ (result ≡ Err TwinEnd.Spare)
+    ensures both { K.spared → P.told → B.told → S.told → IsQuiet B.Bench bench.old → IsQuiet S.Bench spare.old
         → (image other : List ℕ) → B.leaves bench.new image → S.leaves spare.new other
         → LeavesBoth (base_of schema.now.columns index.now.public index.now.protected (K.store keeper.old).secret) batch (K.store keeper.old).history (counted_lines (P.left source.old)) (B.sent bench.old) (B.sent bench.new) image other }
+    ensures spare_calls { K.spared → P.told → S.told → OnOk result (KeepsCalls (base_of schema.now.columns index.now.public index.now.protected (K.store keeper.old).secret) (K.store keeper.old).history batch (counted_lines (P.left source.old)) (S.moment spare.old) (S.moment spare.new)) }
     ensures spare_fault { TellsFault S.Bench spare.old spare.new (result ≡ Err TwinEnd.Spare) }
     ensures own { result ≡ Err TwinEnd.Spare → K.spared }
     ensures untouched { (K.spared → ⊥) → spare.new ≡ spare.old }

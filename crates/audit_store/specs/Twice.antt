@@ -21,9 +21,13 @@ pub record IsJournalOf (shape : Shape) (history : List Answered) (journal : Jour
   pub same_shape : journal.shape ≡ shape
   pub counted : journal.count ≡ length history
 
--- nothing was sent, and the image stands for the history with some of the missing records, from the first on
+-- the image stands for the history with some of the missing records, from the first on
+abbrev pub StandsWithSome : Shape → List Answered → List Answered → List ℕ → Type 0
+StandsWithSome shape history missing image = (count : ℕ) × StandsFor image shape (history ++ take count missing)
+
+-- and nothing was sent
 abbrev pub IsBroughtUp : Shape → List Answered → List Answered → List ℕ → List ℕ → List ℕ → Type 0
-IsBroughtUp shape history missing before image sent = (sent ≡ before) × ((count : ℕ) × StandsFor image shape (history ++ take count missing))
+IsBroughtUp shape history missing before image sent = (sent ≡ before) × StandsWithSome shape history missing image
 
 -- the calls that bring a journal up: four for each 64 records that are missing
 abbrev pub calls_to_bring_up : List Answered → ℕ

@@ -5,7 +5,7 @@ ghost use Rattle.audit_types.specs.declared.records.Answered.{Answered};
 ghost use Rattle.audit_types.specs.History.{FitsShape, IsLegal, Table};
 ghost use Rattle.bench_core.specs.Calls.{IsQuiet, LeavesOnly, TellsFault};
 ghost use Rattle.journal_form.specs.Journal.{StandsAt};
-ghost use Rattle.audit_store.specs.Twice.{IsBroughtUp, calls_to_bring_up};
+ghost use Rattle.audit_store.specs.Twice.{IsBroughtUp, StandsWithSome, calls_to_bring_up};
 
 use crate::asking::keep;
 use crate::outcome::StoreFault;
@@ -33,6 +33,8 @@ pub fn bring_up<B: Bench>(
         → LeavesOnly B.Bench bench.old bench.new (IsBroughtUp journal.old.shape history missing.now (B.sent bench.old)) }
     ensures done { (history : List Answered) → B.told → StandsAt (B.file bench.old) journal.old.shape history journal.old.gate → length history ≡ journal.old.count
         → OnOk result (StandsAt (B.file bench.new) journal.new.shape (history ++ missing.now) journal.new.gate) }
+    ensures no_memory { (history : List Answered) → B.told → StandsAt (B.file bench.old) journal.old.shape history journal.old.gate → length history ≡ journal.old.count
+        → IsErrOf result StoreFault.NoMemory → StandsWithSome journal.old.shape history missing.now (B.file bench.new) }
     ensures quiet { B.told → IsQuiet B.Bench bench.old → (IsErrOf result StoreFault.Failed → ⊥) → IsQuiet B.Bench bench.new }
     ensures sent { B.sent bench.new ≡ B.sent bench.old }
     ensures ticks { B.told → OnOk result (B.moment bench.new ≡ B.moment bench.old + calls_to_bring_up missing.now) }

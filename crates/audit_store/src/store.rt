@@ -10,7 +10,7 @@ ghost use Rattle.audit_store.specs.Growing.{GrowCause, CanGrow, GivesUpGrowing, 
 ghost use Rattle.audit_store.specs.declared.growing.GrowFault.{GrowFault};
 ghost use Rattle.audit_core.specs.Outcomes.{AreOutcomes, records_made};
 ghost use Rattle.audit_store.specs.Stores.{IsAsLeft, IsStore, table_of, Keeps, KeptAhead, HasGroup, calls_for};
-ghost use Rattle.audit_store.specs.Twice.{IsBroughtUp, IsJournalOf, calls_to_bring_up};
+ghost use Rattle.audit_store.specs.Twice.{IsBroughtUp, IsJournalOf, StandsWithSome, calls_to_bring_up};
 ghost use Rattle.table_load.specs.Database.{secret_table};
 ghost use Rattle.audit_store.specs.Starting.{StartCause, GivesUp, StartsUnlessFailed, RefusedUnlessFailed};
 ghost use Rattle.audit_store.specs.declared.starting.StartFault.{StartFault};
@@ -299,6 +299,7 @@ impl Store {
         // A crash at any moment leaves the history with some of them, from the first on.
         ensures any_moment { B.told → IsQuiet B.Bench bench.old
             → LeavesOnly B.Bench bench.old bench.new (IsBroughtUp self.old.secret.shape self.old.history missing.now (B.sent bench.old)) }
+        ensures no_memory { B.told → IsErrOf result StoreFault.NoMemory → StandsWithSome self.old.secret.shape self.old.history missing.now (B.file bench.new) }
         ensures quiet { B.told → IsQuiet B.Bench bench.old → (IsErrOf result StoreFault.Failed → ⊥) → IsQuiet B.Bench bench.new }
         ensures sent { B.sent bench.new ≡ B.sent bench.old }
         ensures ticks { B.told → OnOk result (B.moment bench.new ≡ B.moment bench.old + calls_to_bring_up missing.now) }

@@ -10,9 +10,9 @@ use Rattle.bench_core.specs.declared.bench.Bench.{Ghosts}
 use Rattle.bench_core.specs.Calls.{IsQuiet, LeavesOnly}
 use Rattle.bench_core.specs.Moments.{started, weakens}
 use Rattle.journal_form.specs.Journal.{StandsAt}
-use Rattle.audit_store.specs.Twice.{IsBroughtUp, calls_to_bring_up}
+use Rattle.audit_store.specs.Twice.{IsBroughtUp, StandsWithSome, calls_to_bring_up}
 use Rattle.audit_session.specs.Stops.{IsFront}
-use Rattle.twin_journal.specs.Twins.{CatchesUp, DifferFirst, Meet, missing}
+use Rattle.twin_journal.specs.Twins.{CatchesUp, DifferFirst, Meet, StandsBetween, missing}
 
 -- ---- fronts
 
@@ -114,6 +114,23 @@ lacks_nothing history = ap (λ (l : List Answered). calls_to_bring_up l) (none h
     none [] = refl
     none (r ∷ list) = none list
 
+module _ (shape : Shape) (history whole : List Answered) (file : List ℕ) where
+  -- a file that is left as it was stands for its own history
+  pub still_between : (gate : ℕ) → StandsAt file shape history gate → IsFront history whole → StandsBetween shape history whole file
+  still_between gate stands front = record { now = history; stands = (gate, stands); from = own_front history; to = front }
+
+  -- with some of the records that it lacks, it stands for a history between its own and the whole
+  pub some_between : (lacks : List Answered) → whole ≡ history ++ lacks → StandsWithSome shape history lacks file → StandsBetween shape history whole file
+  some_between lacks is some = record {
+    now = history ++ take some.0 lacks;
+    stands = some.1;
+    from = record { rest = take some.0 lacks; is = refl };
+    to = record {
+      rest = drop some.0 lacks;
+      is = is ∙ ap (λ (l : List Answered). history ++ l) (sym (take-append-drop some.0 lacks)) ∙ sym (append_assoc history (take some.0 lacks) (drop some.0 lacks));
+    };
+  }
+
 module _ {D : Type 0} (bench : Ghosts D) (shape : Shape) (history whole : List Answered) where
   -- if nothing is called the file stands for its own history
   pub still_there : (at : D) (gate : ℕ) → ((image sent : List ℕ) → bench.since at (bench.moment at) image sent → bench.leaves at image × (sent ≡ bench.sent at)) → IsQuiet bench at
@@ -122,30 +139,15 @@ module _ {D : Type 0} (bench : Ghosts D) (shape : Shape) (history whole : List A
       started bench at (CatchesUp shape history whole (bench.sent at)) (λ image sent was.
       let now = only_now image sent was in (
         now.1,
-        record {
-          now = history;
-          stands = (gate, subst (λ (f : List ℕ). StandsAt f shape history gate) (sym (quiet image now.0)) stands);
-          from = own_front history;
-          to = front;
-        },
+        still_between shape history whole image gate (subst (λ (f : List ℕ). StandsAt f shape history gate) (sym (quiet image now.0)) stands) front,
       ))
 
   -- while the records are appended that it lacks, it stands for a history between its own and the whole
   pub while_brought_up : (old new : D) (lacks : List Answered) → whole ≡ history ++ lacks → LeavesOnly bench old new (IsBroughtUp shape history lacks (bench.sent old))
       → LeavesOnly bench old new (CatchesUp shape history whole (bench.sent old))
   while_brought_up old new lacks is found =
-      weakens bench old new (IsBroughtUp shape history lacks (bench.sent old)) (CatchesUp shape history whole (bench.sent old)) (λ image sent has. (
-        has.0,
-        record {
-          now = history ++ take has.1.0 lacks;
-          stands = has.1.1;
-          from = record { rest = take has.1.0 lacks; is = refl };
-          to = record {
-            rest = drop has.1.0 lacks;
-            is = is ∙ ap (λ (l : List Answered). history ++ l) (sym (take-append-drop has.1.0 lacks)) ∙ sym (append_assoc history (take has.1.0 lacks) (drop has.1.0 lacks));
-          };
-        },
-      )) found
+      weakens bench old new (IsBroughtUp shape history lacks (bench.sent old)) (CatchesUp shape history whole (bench.sent old))
+      (λ image sent has. (has.0, some_between shape history whole image lacks is has.1)) found
 
 -- ---- what is missing, as it is cut from the longer history
 

@@ -6,15 +6,15 @@ use Rattle.audit_types.specs.History.{Table, IsLegal}
 use Rattle.bench_core.specs.declared.bench.Bench.{Ghosts}
 use Rattle.bench_core.specs.Calls.{IsQuiet, IsUntouched, LeavesOnly, OnlyReads}
 use Rattle.bench_core.specs.Moments.{joins, still_quiet, weakens}
-use Rattle.journal_form.specs.Journal.{StandsFor}
+use Rattle.journal_form.specs.Journal.{StandsAt, StandsFor}
 use Rattle.audit_store.specs.Starting.{StartCause, GivesUp}
 use Rattle.audit_store.specs.Twice.{calls_to_bring_up}
 use Rattle.audit_store.specs.declared.starting.StartFault.{StartFault}
 use Rattle.audit_session.specs.Stops.{IsFront}
 use Rattle.twin_journal.specs.declared.starting.TwinFault.{TwinFault}
 use Rattle.twin_journal.specs.declared.starting.TwinFault.TheVariants.{Main, Spare, Differ, MainFailed, SpareFailed, NoMemory}
-use Rattle.twin_journal.specs.Twins.{CatchesUp, DifferFirst, HoldApart, KeepApart, KeepTogether, KeepWhole, Meet, TwinCause, TwinGivesUp, calls_to_open, missing}
-use Rattle.twin_journal.proofs.CatchingUp.{fronts_of_each_other, own_front}
+use Rattle.twin_journal.specs.Twins.{CatchesUp, DifferFirst, HoldApart, KeepApart, KeepTogether, KeepWhole, Meet, StandsBetween, TwinCause, TwinGivesUp, calls_to_open, missing}
+use Rattle.twin_journal.proofs.CatchingUp.{fronts_of_each_other, own_front, still_between}
 use Rattle.twin_journal.proofs.TwinCauses.{OneHistory, differ_once, left_due, meet_or_differ, meet_together, same_main, same_other, same_place, together_meet}
 
 -- while a file is only read it stands for its own history
@@ -25,6 +25,17 @@ while_read bench old new shape history whole reads quiet stands front =
       is.0,
       record { now = history; stands = subst (λ (f : List ℕ). StandsFor f shape history) (sym is.1) stands; from = own_front history; to = front },
     )) (reads.untouched quiet)
+
+-- files that were only read stand for their own histories
+pub read_between : (table : Table) (file spare main_file spare_file : List ℕ) (main other whole : List Answered) → main_file ≡ file → spare_file ≡ spare
+    → KeepTogether table file spare main other whole
+    → StandsBetween table.setting.shape main whole main_file × StandsBetween table.setting.shape other whole spare_file
+read_between table file spare main_file spare_file main other whole same spare_same keep = (
+  still_between table.setting.shape main whole main_file keep.main_stands.0
+      (subst (λ (f : List ℕ). StandsAt f table.setting.shape main keep.main_stands.0) (sym same) keep.main_stands.1) keep.main_front,
+  still_between table.setting.shape other whole spare_file keep.spare_stands.0
+      (subst (λ (f : List ℕ). StandsAt f table.setting.shape other keep.spare_stands.0) (sym spare_same) keep.spare_stands.1) keep.spare_front,
+)
 
 -- two wholes of the same histories are one
 pub meet_once : (main other one two : List Answered) → Meet main other one → Meet main other two → one ≡ two
@@ -75,6 +86,19 @@ module _ (once : OneHistory) (table : Table) (file spare : List ℕ) (main other
       (sym (same_other once table file spare main other stands spare_stands o keep.spare_stands))
       (read_and_catch bench old mid new table.setting.shape other whole reads quiet (subst (λ (f : List ℕ). StandsFor f table.setting.shape other) (sym same) spare_stands)
       meet.other_front (rest whole (still_quiet bench old mid reads quiet) meet))
+
+  -- if memory runs out meanwhile both stand between
+  pub left_between : (left spare_left : List ℕ) → ((whole : List Answered) → Meet main other whole → StandsBetween table.setting.shape main whole left)
+      → ((whole : List Answered) → Meet main other whole → StandsBetween table.setting.shape other whole spare_left)
+      → (m o whole : List Answered) → KeepTogether table file spare m o whole
+      → StandsBetween table.setting.shape m whole left × StandsBetween table.setting.shape o whole spare_left
+  left_between left spare_left rest spare_rest m o whole keep =
+      let meet = together_meet once table file spare main other stands spare_stands m o whole keep in (
+        subst (λ (h : List Answered). StandsBetween table.setting.shape h whole left)
+            (sym (same_main once table file spare main other stands spare_stands m keep.main_stands)) (rest whole meet),
+        subst (λ (h : List Answered). StandsBetween table.setting.shape h whole spare_left)
+            (sym (same_other once table file spare main other stands spare_stands o keep.spare_stands)) (spare_rest whole meet),
+      )
 
   -- if the files don't keep together, no history has both as fronts
   pub apart_never_meet : KeepApart table file spare → (whole : List Answered) → Meet main other whole → ⊥

@@ -3,6 +3,7 @@ use Rattle.std.specs.Prelude.{◌≡◌, ◌≢◌, ◌⊎◌, ℕ, ◌+◌, ◌
 use Rattle.audit_types.specs.declared.records.Answered.{Answered}
 use Rattle.audit_types.specs.declared.shapes.Shape.{Shape}
 use Rattle.audit_types.specs.History.{Table, IsLegal}
+use Rattle.table_load.specs.Database.{Database}
 use Rattle.journal_form.specs.Journal.{StandsAt, StandsFor}
 use Rattle.answer_journal.specs.Contents.{JournalContents}
 use Rattle.audit_store.specs.Stores.{StoreContents}
@@ -10,7 +11,8 @@ use Rattle.audit_store.specs.Starting.{StartCause, StandsForOne, GivesUp}
 use Rattle.audit_store.specs.declared.starting.StartFault.{StartFault}
 use Rattle.audit_store.specs.declared.starting.StartFault.TheVariants as start
 use Rattle.audit_store.specs.Twice.{calls_to_bring_up}
-use Rattle.audit_session.specs.Stops.{IsFront}
+use Rattle.line_wire.specs.Lines.{CountedLine}
+use Rattle.audit_session.specs.Stops.{IsFront, SpareStops, StopsOver}
 use Rattle.twin_journal.specs.declared.starting.TwinFault.{TwinFault}
 use Rattle.twin_journal.specs.declared.starting.TwinFault.TheVariants.{Main, Spare, Differ, MainFailed, SpareFailed, NoMemory}
 
@@ -129,6 +131,16 @@ pub record StandsBetween (shape : Shape) (first whole : List Answered) (image : 
 -- while a journal catches up nothing is sent
 abbrev pub CatchesUp : Shape → List Answered → List Answered → List ℕ → List ℕ → List ℕ → Type 0
 CatchesUp shape first whole before image sent = (sent ≡ before) × StandsBetween shape first whole image
+
+-- while a journal is brought up nothing is sent, and its image stands for a history between its own and the whole; then it is a stop
+abbrev pub CatchesUpOrStops : Database → ℕ → List Answered → List Answered → List CountedLine → List ℕ → List ℕ → List ℕ → Type 0
+CatchesUpOrStops base batch first whole lines before image sent =
+    CatchesUp base.secret.shape first whole before image sent ⊎ StopsOver base batch whole lines before image sent
+
+-- the same of a spare, on which nothing is sent
+abbrev pub SpareCatchesUpOrStops : Database → ℕ → List Answered → List Answered → List CountedLine → List ℕ → List ℕ → List ℕ → Type 0
+SpareCatchesUpOrStops base batch first whole lines before image sent =
+    CatchesUp base.secret.shape first whole before image sent ⊎ SpareStops base batch whole lines before image sent
 
 -- the records of the whole that a history lacks
 abbrev pub missing : List Answered → List Answered → List Answered

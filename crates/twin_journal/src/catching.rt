@@ -7,7 +7,7 @@ ghost use Rattle.journal_form.specs.Journal.{StandsAt};
 ghost use Rattle.audit_store.specs.Stores.{IsAsLeft, IsStore, table_of};
 ghost use Rattle.audit_store.specs.Twice.{IsJournalOf, calls_to_bring_up};
 ghost use Rattle.twin_journal.specs.declared.starting.TwinFault.{TwinFault};
-ghost use Rattle.twin_journal.specs.Twins.{CatchesUp, DifferFirst, Meet, TwinGivesUp, missing};
+ghost use Rattle.twin_journal.specs.Twins.{CatchesUp, DifferFirst, Meet, StandsBetween, TwinGivesUp, missing};
 
 use crate::starting::TwinFault;
 use answer_journal::Journal;
@@ -41,11 +41,16 @@ pub(crate) fn catch_up<B: Bench, S: Bench>(
     ensures differ { (place : ℕ) → result ≡ Err (TwinFault.Differ place) → DifferFirst store.old.history list.now place }
     ensures cause { IfErr result (λ fault. TwinGivesUp fault ⊎ ((place : ℕ) × (fault ≡ TwinFault.Differ place))) }
 
-    // At every moment each file stands for a history between its own and the longer one. Files that differ are left alone.
+    // At every moment each file stands for a history between its own and the longer one, and at the end, too, if memory ran out. Files
+    // that differ are left alone.
     ensures moments { (whole : List Answered) → B.told → IsQuiet B.Bench bench.old → Meet store.old.history list.now whole
         → LeavesOnly B.Bench bench.old bench.new (CatchesUp store.old.secret.shape store.old.history whole (B.sent bench.old)) }
     ensures spare_moments { (whole : List Answered) → S.told → IsQuiet S.Bench spare.old → Meet store.old.history list.now whole
         → LeavesOnly S.Bench spare.old spare.new (CatchesUp store.old.secret.shape list.now whole (S.sent spare.old)) }
+    ensures no_memory { (whole : List Answered) → B.told → Meet store.old.history list.now whole → IsErrOf result TwinFault.NoMemory
+        → StandsBetween store.old.secret.shape store.old.history whole (B.file bench.new) }
+    ensures spare_no_memory { (whole : List Answered) → S.told → Meet store.old.history list.now whole → IsErrOf result TwinFault.NoMemory
+        → StandsBetween store.old.secret.shape list.now whole (S.file spare.new) }
     ensures reads { (place : ℕ) → result ≡ Err (TwinFault.Differ place) → (bench.new ≡ bench.old) × (spare.new ≡ spare.old) }
     ensures apart { ((whole : List Answered) → Meet store.old.history list.now whole → ⊥) → (bench.new ≡ bench.old) × (spare.new ≡ spare.old) }
     ensures quiet { B.told → IsQuiet B.Bench bench.old → (IsErrOf result TwinFault.MainFailed → ⊥) → IsQuiet B.Bench bench.new }

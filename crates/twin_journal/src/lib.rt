@@ -7,6 +7,7 @@
 mod catching;
 mod copying;
 mod keeping;
+pub mod laws;
 mod restoring;
 mod serving;
 mod starting;

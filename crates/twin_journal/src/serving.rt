@@ -1,5 +1,5 @@
 //! Answering lines over two journals.
-ghost use Rattle.std.specs.Prelude.{◌≡◌, ◌≢◌, ◌⊎◌, ◌<◌, ◌≤◌, ◌+◌, [], List, ℕ, true, length, OnOk, Err};
+ghost use Rattle.std.specs.Prelude.{◌≡◌, ◌≢◌, ◌<◌, ◌≤◌, ◌+◌, [], List, ℕ, true, length, OnOk, Err};
 ghost use Rattle.schema_json.specs.SecretShape.{shape_of};
 ghost use Rattle.table_load.specs.Cells.{FitsSchema};
 ghost use Rattle.table_load.specs.Database.{base_of};
@@ -9,7 +9,7 @@ ghost use Rattle.journal_form.specs.Journal.{StandsFor};
 ghost use Rattle.audit_store.specs.Stores.{IsAsLeft, IsStore, table_of};
 ghost use Rattle.line_wire.specs.Lines.{counted_lines, most_input};
 ghost use Rattle.audit_session.specs.Stops.{IsBatch, IsHarmless, LeavesBoth, SpareStops, StopsOver};
-ghost use Rattle.audit_session.specs.Ends.{Serves, ServesWhole, ServesSome, TakesCalls, limited};
+ghost use Rattle.audit_session.specs.Ends.{KeepsCalls, Serves, ServesWhole, ServesSome, TakesCalls, limited};
 ghost use Rattle.twin_journal.specs.Twins.{IsSpareAsLeft};
 
 use crate::starting::TwinStore;
@@ -39,13 +39,13 @@ pub fn serve_twin<P: Source, B: Bench, S: Bench>(
     requires spare_stands { S.told → IsSpareAsLeft (S.file spare.old) twin.old }
     requires batch { IsBatch batch }
 
-    // The ends: which lines were answered. The file stands for the history, unless a call of the bench or of the spare failed.
+    // The ends: which lines were answered. The file stands for the history, unless a call of the bench failed.
     ensures done { P.told → B.told → OnOk result (Serves (base_of schema.now.columns index.now.public index.now.protected twin.old.store.secret) twin.old.store.history (counted_lines (P.left source.old)) twin.new.store.history (B.sent bench.old) (B.sent bench.new)) }
     ensures input_end { P.told → B.told → result ≡ Err TwinEnd.Input → ServesWhole (base_of schema.now.columns index.now.public index.now.protected twin.old.store.secret) twin.old.store.history batch (P.left source.old) (P.left source.new) twin.new.store.history (B.sent bench.old) (B.sent bench.new) }
     ensures limit_end { P.told → B.told → result ≡ Err TwinEnd.Limit → ServesWhole (base_of schema.now.columns index.now.public index.now.protected twin.old.store.secret) twin.old.store.history batch (limited (P.left source.old)) [] twin.new.store.history (B.sent bench.old) (B.sent bench.new) }
     ensures memory_end { P.told → B.told → result ≡ Err TwinEnd.NoMemory → ServesSome (base_of schema.now.columns index.now.public index.now.protected twin.old.store.secret) twin.old.store.history batch (counted_lines (P.left source.old)) twin.new.store.history (B.sent bench.old) (B.sent bench.new) }
-    ensures stands { B.told → result ≢ Err TwinEnd.Bench → result ≢ Err TwinEnd.Spare → StandsFor (B.file bench.new) twin.new.store.secret.shape twin.new.store.history }
-    ensures quiet { B.told → IsQuiet B.Bench bench.old → result ≢ Err TwinEnd.Bench → result ≢ Err TwinEnd.Spare → IsQuiet B.Bench bench.new }
+    ensures stands { B.told → result ≢ Err TwinEnd.Bench → StandsFor (B.file bench.new) twin.new.store.secret.shape twin.new.store.history }
+    ensures quiet { B.told → IsQuiet B.Bench bench.old → result ≢ Err TwinEnd.Bench → IsQuiet B.Bench bench.new }
 
     // After Ok it may be called again. Only if a call failed or memory ran out may the store be left unusable, and while it is
     // usable the file is as the store left it.
@@ -79,17 +79,18 @@ pub fn serve_twin<P: Source, B: Bench, S: Bench>(
     ensures steady { result ≢ Err TwinEnd.Input → P.faults source.new ≡ P.faults source.old }
     ensures fault { TellsFault B.Bench bench.old bench.new (result ≡ Err TwinEnd.Bench) }
 
-    // The same of the spare. If a call of one of them failed, the spare is then at most one group ahead; at every other end both stand
-    // for one history.
+    // The same of the spare. At every end a crash leaves each of both at a stop with what was sent, the spare at most one group ahead;
+    // unless a call of one of them failed, both stand for one history.
     ensures spare_stands { S.told → result ≢ Err TwinEnd.Bench → result ≢ Err TwinEnd.Spare → StandsFor (S.file spare.new) twin.new.store.secret.shape twin.new.store.history }
     ensures spare_moments { P.told → S.told → IsQuiet S.Bench spare.old
         → LeavesOnly S.Bench spare.old spare.new (SpareStops (base_of schema.now.columns index.now.public index.now.protected twin.old.store.secret) batch twin.old.store.history (counted_lines (P.left source.old)) (S.sent spare.old)) }
     ensures spare_legal { S.told → IsQuiet S.Bench spare.old → LeavesOnly S.Bench spare.old spare.new (λ image sent. IsHarmless (table_of twin.old.store) image) }
     ensures spare_quiet { S.told → IsQuiet S.Bench spare.old → result ≢ Err TwinEnd.Spare → IsQuiet S.Bench spare.new }
     ensures spare_sent { S.sent spare.new ≡ S.sent spare.old }
-    ensures both { P.told → B.told → S.told → IsQuiet B.Bench bench.old → IsQuiet S.Bench spare.old → (result ≡ Err TwinEnd.Bench) ⊎ (result ≡ Err TwinEnd.Spare)
+    ensures both { P.told → B.told → S.told → IsQuiet B.Bench bench.old → IsQuiet S.Bench spare.old
         → (image other : List ℕ) → B.leaves bench.new image → S.leaves spare.new other
         → LeavesBoth (base_of schema.now.columns index.now.public index.now.protected twin.old.store.secret) batch twin.old.store.history (counted_lines (P.left source.old)) (B.sent bench.old) (B.sent bench.new) image other }
+    ensures spare_calls { P.told → S.told → OnOk result (KeepsCalls (base_of schema.now.columns index.now.public index.now.protected twin.old.store.secret) twin.old.store.history batch (counted_lines (P.left source.old)) (S.moment spare.old) (S.moment spare.new)) }
     ensures spare_fault { TellsFault S.Bench spare.old spare.new (result ≡ Err TwinEnd.Spare) }
 {
     // A twin store says of itself that its history is legal.

@@ -10,7 +10,7 @@ ghost use Rattle.audit_store.specs.Stores.{HasGroup, IsAsLeft, IsStore, Keeps, K
 ghost use Rattle.audit_store.specs.Starting.{GivesUp};
 ghost use Rattle.audit_store.specs.declared.starting.StartFault.{StartFault};
 ghost use Rattle.twin_journal.specs.declared.starting.TwinFault.{TwinFault};
-ghost use Rattle.twin_journal.specs.Twins.{CatchesUp, IsSpareAsLeft, IsTwin, KeepApart, KeepTogether, KeepWhole, RefusedUnlessGivenUp, StartsUnlessGivenUp, TwinCause, TwinGivesUp, calls_to_open, fault_of_main, fault_of_spare};
+ghost use Rattle.twin_journal.specs.Twins.{CatchesUp, IsSpareAsLeft, IsTwin, KeepApart, KeepTogether, KeepWhole, RefusedUnlessGivenUp, StandsBetween, StartsUnlessGivenUp, TwinCause, TwinGivesUp, calls_to_open, fault_of_main, fault_of_spare};
 
 use crate::catching::catch_up;
 use answer_journal::Journal;
@@ -115,11 +115,14 @@ impl TwinStore {
         ensures own { (fault : StartFault) → GivesUp fault → (result ≢ Err (TwinFault.Main fault)) × (result ≢ Err (TwinFault.Spare fault)) }
         ensures opens { (main other whole : List Answered) → B.told → S.told → KeepTogether (secret_table secret protected.items) (B.file bench.old) (S.file spare.old) main other whole → StartsUnlessGivenUp result }
 
-        // At every moment each file stands for a history between its own and the whole. Files that don't keep together are only read.
+        // At every moment each file stands for a history between its own and the whole, and at the end, too, if memory ran out. Files that
+        // don't keep together are only read.
         ensures main_moments { (main other whole : List Answered) → B.told → S.told → IsQuiet B.Bench bench.old → KeepTogether (secret_table secret protected.items) (B.file bench.old) (S.file spare.old) main other whole
             → LeavesOnly B.Bench bench.old bench.new (CatchesUp secret.shape main whole (B.sent bench.old)) }
         ensures spare_moments { (main other whole : List Answered) → B.told → S.told → IsQuiet S.Bench spare.old → KeepTogether (secret_table secret protected.items) (B.file bench.old) (S.file spare.old) main other whole
             → LeavesOnly S.Bench spare.old spare.new (CatchesUp secret.shape other whole (S.sent spare.old)) }
+        ensures no_memory { (main other whole : List Answered) → B.told → S.told → KeepTogether (secret_table secret protected.items) (B.file bench.old) (S.file spare.old) main other whole
+            → IsErrOf result TwinFault.NoMemory → StandsBetween secret.shape main whole (B.file bench.new) × StandsBetween secret.shape other whole (S.file spare.new) }
         ensures untouched { B.told → S.told → IsQuiet B.Bench bench.old → KeepApart (secret_table secret protected.items) (B.file bench.old) (S.file spare.old)
             → LeavesOnly B.Bench bench.old bench.new (IsUntouched (B.file bench.old) (B.sent bench.old)) }
         ensures spare_untouched { B.told → S.told → IsQuiet S.Bench spare.old → KeepApart (secret_table secret protected.items) (B.file bench.old) (S.file spare.old)

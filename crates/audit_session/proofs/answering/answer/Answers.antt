@@ -65,7 +65,7 @@ returns-in_err-send_all g c =
       spare_moments = c.decide.ensures.spare_moments;
       spare_quiet = λ spared told quiet other. c.in_ok-decide.ensures.spare_quiet spared told quiet (λ is. no_refusal _ _ is);
       spare_sent = c.decide.ensures.spare_sent;
-      both = λ spared told spare_told quiet spare_quiet refused.
+      both = λ spared told spare_told quiet spare_quiet.
           let store = g.K.Keeper.store c.args.keeper.now in
           let after = g.K.Keeper.store c.decide.new.keeper in
           let mid = c.decide.new.bench in
@@ -87,6 +87,8 @@ returns-in_err-send_all g c =
         last_call = λ is. bench_no_spare c.from_residual-in_err-send_all.result same is;
         steady = λ other. c.in_ok-decide.ensures.spare_fault.steady (λ is. no_refusal _ _ is);
       };
+      spare_ticks = λ spared told. IfOk-from_err _ _ c.from_residual-in_err-send_all.ensures.0;
+      spare_first = λ is. bench_no_spare c.from_residual-in_err-send_all.result same is;
       own = λ is. bench_no_spare c.from_residual-in_err-send_all.result same is;
       untouched = c.decide.ensures.untouched;
       others = search rules;
@@ -117,13 +119,15 @@ returns-in_err-decide g c =
       spare_moments = c.decide.ensures.spare_moments;
       spare_quiet = λ spared told quiet other. c.in_err-decide.ensures.spare_quiet spared told quiet (no_spare_call given c.from_residual.result same other);
       spare_sent = c.decide.ensures.spare_sent;
-      both = λ spared told spare_told quiet spare_quiet refused. c.in_err-decide.ensures.both spared told spare_told quiet spare_quiet refl;
+      both = λ spared told spare_told quiet spare_quiet. c.in_err-decide.ensures.both spared told spare_told quiet spare_quiet refl;
       spare_fault = record {
         later = c.decide.ensures.spare_fault.later;
         failed = λ is. c.in_err-decide.ensures.spare_fault.failed (by_spare given c.from_residual.result same is);
         last_call = λ is. c.in_err-decide.ensures.spare_fault.last_call (by_spare given c.from_residual.result same is);
         steady = λ other. c.in_err-decide.ensures.spare_fault.steady (no_spare_call given c.from_residual.result same other);
       };
+      spare_ticks = λ spared told. IfOk-from_err _ _ c.from_residual.ensures.0;
+      spare_first = λ is. (c.in_err-decide.ensures.spare_first (by_spare given c.from_residual.result same is), c.in_err-decide.ensures.err.0);
       own = λ is. c.in_err-decide.ensures.own (by_spare given c.from_residual.result same is);
       untouched = c.decide.ensures.untouched;
       others = search rules;
@@ -174,13 +178,27 @@ returns g c =
       spare_moments = c.decide.ensures.spare_moments;
       spare_quiet = λ spared told quiet other. c.in_ok-decide.ensures.spare_quiet spared told quiet (λ is. no_refusal _ _ is);
       spare_sent = c.decide.ensures.spare_sent;
-      both = λ spared told spare_told quiet spare_quiet refused. absurd (false≢true refused);
+      both = λ spared told spare_told quiet spare_quiet.
+          let after = g.K.Keeper.store c.decide.new.keeper in
+          let sends =
+          subst (λ (rs : List Reply). LeavesOnly g.B.Bench mid c.send_all.new.bench
+          (SendsPart (g.B.Bench.file mid) (g.B.Bench.sent mid) (flat_map reply_bytes rs))) c.deref.ensures.value (c.send_all.ensures.moments told
+          (e.stands.quiet told quiet)) in
+          sends_failed g.B.Bench g.S.Bench c.args.bench.now c.send_all.new.bench c.args.spare.now c.decide.new.spare store.secret store.protected store.history
+          c.args.group.now.plans.items mid after.history c.decide.new.group.replies.items e.decides e.sent
+          (left_stands (g.B.Bench.file mid) store after (e.stands.as_left told) e.table.0)
+          (e.spare_quiet spared spare_told spare_quiet (λ is. no_refusal _ _ is))
+          (subst (λ (s : SecretView). stands_of s.shape (g.S.Bench.file c.decide.new.spare) after.history) e.table.0
+          (g.K.Keeper.spare_gate c.decide.new.keeper, e.spare_stands spared spare_told))
+          sends (λ image le left. g.met.B.Bench.counts_now c.send_all.new.bench (g.B.Bench.moment mid) image le left);
       spare_fault = record {
         later = c.decide.ensures.spare_fault.later;
         failed = λ is. no_refusal _ _ is;
         last_call = λ is. no_refusal _ _ is;
         steady = λ other. c.in_ok-decide.ensures.spare_fault.steady (λ is. no_refusal _ _ is);
       };
+      spare_ticks = c.in_ok-decide.ensures.spare_ticks;
+      spare_first = λ is. no_refusal _ _ is;
       own = λ is. no_refusal _ _ is;
       untouched = c.decide.ensures.untouched;
       others = (λ is. no_refusal _ _ is, λ is. no_refusal _ _ is);

@@ -1,8 +1,10 @@
-use Rattle.std.proofs.Common.{◌≡◌, ◌+◌, ◌++◌, List, length, Result, Err, sym, ◌∙◌, ap, subst, arith, rules}
+use Rattle.std.proofs.Common.{◌≡◌, ◌+◌, ◌++◌, List, length, drop, Result, Err, sym, ◌∙◌, ap, subst, arith, rules}
 use Rattle.std.specs.Prelude.{All}
 use Rattle.std.proofs.lemmas.Bool.{false≢true}
 use Rattle.std.proofs.lemmas.Result.{IfOk-from_err}
+use Rattle.std.proofs.Math.Seq.{drop-append_seam}
 use Rattle.audit_types.specs.declared.records.Asked.{Asked}
+use Rattle.audit_types.specs.declared.records.Answered.{Answered}
 use Rattle.audit_types.specs.History.{FitsShape}
 use Rattle.audit_core.specs.declared.outcome.Outcome.{Outcome}
 use Rattle.audit_core.specs.Outcomes.{AreOutcomes, records_made}
@@ -134,6 +136,8 @@ returns-in_err-outcomes g c =
         last_call = λ is. c.in_err-outcomes.ensures.spare_fault.last_call (same_fault given fault.Spare (sym same ∙ is));
         steady = λ other. c.in_err-outcomes.ensures.spare_fault.steady (λ is. other (same ∙ same_fault given fault.Spare is));
       };
+      spare_ticks = λ spared told. IfOk-from_err _ _ c.from_residual.ensures.0;
+      spare_first = λ is. c.in_err-outcomes.ensures.spare_first (same_fault given fault.Spare (sym same ∙ is));
       own = λ is. c.in_err-outcomes.ensures.own (same_fault given fault.Spare (sym same ∙ is));
       untouched = c.ask_group.ensures.untouched;
     }
@@ -195,6 +199,13 @@ returns g c =
         last_call = λ is. no_refusal _ _ is;
         steady = λ other. c.in_ok-outcomes.ensures.spare_fault.steady (λ is. no_refusal _ _ is);
       };
+      spare_ticks = λ spared told.
+          let e = c.in_ok-outcomes.ensures in
+          let records = records_made c.deref.result.now c.in_ok-outcomes.outcomes.items in
+          let added : drop (length store.history) (g.K.Keeper.store c.ask_group.new.self).history ≡ records =
+          ap (λ (h : List Answered). drop (length store.history) h) e.history ∙ drop-append_seam store.history records in
+          e.spare_ticks spared told ∙ ap (λ (l : List Answered). g.S.Bench.moment c.args.spare.now + calls_for l) (sym added);
+      spare_first = λ is. no_refusal _ _ is;
       own = λ is. no_refusal _ _ is;
       untouched = c.ask_group.ensures.untouched;
     }

@@ -1,4 +1,5 @@
-use Rattle.std.proofs.Common.{⊎_elim, ◌≡◌, ℕ, ◌++◌, ◌||◌, Bool, true, false, not, List, Result, Ok, Err, refl, sym, ◌∙◌, ap, subst, arith, rules}
+mod LastTurn
+use Rattle.std.proofs.Common.{◌≡◌, ℕ, ◌++◌, ◌||◌, Bool, true, false, not, List, Result, Ok, Err, refl, sym, ◌∙◌, ap, subst, arith, rules}
 use Rattle.std.specs.Prelude.{All}
 use Rattle.std.proofs.lemmas.Result.{IfOk-from_err}
 use Rattle.audit_types.specs.declared.shapes.Shape.{Shape}
@@ -15,9 +16,11 @@ use Rattle.audit_session.specs.Ends.{Ends, Reads, ServesSome}
 use Rattle.audit_session.specs.Groups.{IsUngathered}
 use Rattle.audit_session.proofs.EndsByFault.{all_read, ends_by, reads_by, rests_by}
 use Rattle.audit_session.proofs.GatheredLines.{still_ended, unfailed, whole_or_last}
-use Rattle.audit_session.proofs.Served.{spare_unserved, spare_turn, both_turn, nothing_served, some_served, served_whole, served_limited, cut_not_over, turn_moments, next_turn, all_served, all_calls}
+use Rattle.audit_session.proofs.Served.{spare_unserved, spare_turn, spare_calls_now, both_turn, nothing_served, turn_moments, next_turn, all_served, all_calls, all_kept}
+use Rattle.audit_session.proofs.ServedEnds.{both_kept, some_served, served_whole, served_limited, cut_not_over}
 use Rattle.audit_store.specs.Refusals.{no_refusal}
 use Rattle.audit_session.proofs.Refusals.{of_fault, only_memory, still_later}
+use Rattle.audit_session.proofs.session.answer_groups.Answers.LastTurn.{last_turn}
 use Rattle.audit_session.proofs.session.answer_groups.Goals as goal
 
 abbrev ended_by : TwinEnd → Result (Unit {0}) TwinEnd
@@ -71,6 +74,14 @@ loop-more-preserved g c =
             (c.answer.ensures.spare_moments spared told (c.loop-more.invariant.spare.quiet spared told quiet));
         quiet = λ spared told quiet. a.spare_quiet spared told (c.loop-more.invariant.spare.quiet spared told quiet) (search rules);
         sent = c.answer.ensures.spare_sent ∙ c.loop-more.invariant.spare.sent;
+        calls = λ spared told.
+            spare_calls_now g.P.Source g.B.Bench c.args.schema.now.columns c.args.index.now.public c.args.batch c.loop-more.planner
+            (g.K.Keeper.store c.args.keeper.now) (g.K.Keeper.store c.loop-more.keeper)
+            c.args.source.now c.loop-more.source c.args.bench.now c.loop-more.bench c.loop-more.invariant.served
+            now (not c.in_ok-more.more || now.ended) c.gather.new.source plans e.gathers e.most c.requires.batch.0
+            (λ ended. still_ended c.in_ok-more.more now.ended (e.cuts.still ended)) (g.K.Keeper.store c.answer.new.keeper).history c.answer.new.bench a.answers
+            (g.S.Bench.moment c.args.spare.now) (g.S.Bench.moment c.loop-more.spare) (g.S.Bench.moment c.answer.new.spare)
+            (c.loop-more.invariant.spare.calls spared told) (a.spare_ticks spared told);
         steady = a.spare_fault.steady (search rules) ∙ c.loop-more.invariant.spare.steady;
         untouched = λ none. c.answer.ensures.untouched none ∙ c.loop-more.invariant.spare.untouched none;
       };
@@ -155,7 +166,7 @@ returns-in_err-more g c =
           (λ is.
           let passes = of_fault {X = Bool} fault end.Limit Ungathered why is in
           omega (arith, e.cuts.taken t, c.loop-more.invariant.served.taken t, passes.over, passes.some)));
-      rests = λ no spare.
+      rests = λ no.
           record {
             stands = λ u. ((g.K.Keeper.store c.loop-more.keeper).journal.gate, c.loop-more.invariant.served.as_left u);
             quiet = c.loop-more.invariant.served.quiet;
@@ -185,9 +196,13 @@ returns-in_err-more g c =
       spare_moments = c.loop-more.invariant.spare.moments;
       spare_quiet = λ spared told quiet other. c.loop-more.invariant.spare.quiet spared told quiet;
       spare_sent = c.loop-more.invariant.spare.sent;
-      both = λ spared t told spare_told quiet spare_quiet failed.
-          absurd (⊎_elim (λ is. of_fault {X = Unit {0}} fault end.Bench Ungathered why (sym same ∙ is))
-          (λ is. of_fault {X = Unit {0}} fault end.Spare Ungathered why (sym same ∙ is)) failed);
+      both = λ spared t told spare_told quiet spare_quiet image other left spare_left.
+          both_kept g.P.Source g.B.Bench c.args.schema.now.columns c.args.index.now.public c.args.batch c.loop-more.planner
+          (g.K.Keeper.store c.args.keeper.now) (g.K.Keeper.store c.loop-more.keeper) c.args.source.now c.loop-more.source c.args.bench.now
+          c.loop-more.bench c.loop-more.invariant.served g.S.Bench c.loop-more.spare image other t told quiet
+          (c.loop-more.invariant.spare.quiet spared spare_told spare_quiet)
+          (g.K.Keeper.spare_gate c.loop-more.keeper, c.loop-more.invariant.spare.stands spared spare_told) left spare_left;
+      spare_calls = λ spared t told. IfOk-from_err _ _ c.from_residual.ensures.0;
       spare_fault = record {
         later = omega (arith, c.loop-more.invariant.spare.steady);
         failed = λ is. absurd (of_fault {X = Unit {0}} fault end.Spare Ungathered why (sym same ∙ is));
@@ -232,12 +247,12 @@ returns-in_err-answer g c =
           (g.K.Keeper.store c.loop-more.keeper).history before (g.B.Bench.sent b))
           (sym still.0) some)));
       reads = search rules;
-      rests = λ no spare.
+      rests = λ no.
           let served = c.loop-more.invariant.served in
           rests_by {X = Unit {0}} fault e.others.0 e.others.1
-          (λ is. no (same ∙ is)) (λ is. spare (same ∙ is)) g.B.Bench c.args.bench.now c.loop-more.bench c.answer.new.bench
+          (λ is. no (same ∙ is)) g.B.Bench c.args.bench.now c.loop-more.bench c.answer.new.bench
           (g.K.Keeper.store c.loop-more.keeper) (g.K.Keeper.store c.answer.new.keeper)
-          (λ is. let still = e.no_memory is in (still.0, still.2)) e.table.0 (record {
+          (λ is. let still = e.no_memory is in (still.0, still.2)) e.spare_first e.table.0 (record {
             stands = λ u.
                 ((g.K.Keeper.store c.loop-more.keeper).journal.gate, served.as_left u);
             quiet = served.quiet;
@@ -297,7 +312,8 @@ returns-in_err-answer g c =
           (c.answer.ensures.spare_moments spared told (c.loop-more.invariant.spare.quiet spared told quiet));
       spare_quiet = λ spared told quiet other. e.spare_quiet spared told (c.loop-more.invariant.spare.quiet spared told quiet) (λ is. other (same ∙ is));
       spare_sent = c.answer.ensures.spare_sent ∙ c.loop-more.invariant.spare.sent;
-      both = λ spared t told spare_told quiet spare_quiet failed image other left spare_left.
+      spare_calls = λ spared t told. IfOk-from_err _ _ c.from_residual-in_err-answer.ensures.0;
+      both = λ spared t told spare_told quiet spare_quiet image other left spare_left.
           let e = c.in_ok-more.ensures in
           let now = c.gather.new.planner in
           let plans = c.gather.new.group.plans.items in
@@ -307,7 +323,7 @@ returns-in_err-answer g c =
           (λ ended. still_ended c.in_ok-more.more now.ended (e.cuts.still ended)) (g.B.Bench.sent c.answer.new.bench) image other t told
           (whole_or_last {E = TwinEnd} g.P.Source.told c.args.batch c.in_ok-more.more plans (now.pending ++ g.P.Source.left c.gather.new.source) e.whole e.last)
           (c.in_err-answer.ensures.both spared told spare_told (c.loop-more.invariant.served.quiet told quiet)
-          (c.loop-more.invariant.spare.quiet spared spare_told spare_quiet) refl image other left spare_left);
+          (c.loop-more.invariant.spare.quiet spared spare_told spare_quiet) image other left spare_left);
       spare_fault = record {
         later = still_later _ _ _ c.loop-more.invariant.spare.steady c.answer.ensures.spare_fault.later;
         failed = λ is.
@@ -320,80 +336,4 @@ returns-in_err-answer g c =
     }
 
 pub returns-then-not-more : goal.returns-then-not-more
-returns-then-not-more g c =
-    let e = c.in_ok-more.ensures in
-    let now = c.gather.new.planner in
-    let plans = c.gather.new.group.plans.items in
-    let more_is : c.in_ok-more.more ≡ false = search rules in
-    record {
-      ends = λ t u.
-          all_served g.P.Source g.B.Bench c.args.schema.now.columns c.args.index.now.public c.args.batch c.loop-more.planner
-          (g.K.Keeper.store c.args.keeper.now) (g.K.Keeper.store c.loop-more.keeper)
-          c.args.source.now c.loop-more.source c.args.bench.now c.loop-more.bench c.loop-more.invariant.served
-          now (not c.in_ok-more.more || now.ended) c.gather.new.source plans e.gathers e.most c.requires.batch.0
-          (λ ended. still_ended c.in_ok-more.more now.ended (e.cuts.still ended)) (g.K.Keeper.store c.answer.new.keeper).history c.answer.new.bench
-          c.in_ok-answer.ensures.answers
-          t u (ap counted_lines (e.last t (ap given more_is))) (g.K.Keeper.store c.answer.new.keeper).history refl;
-      reads = λ t.
-          all_read (g.P.Source.left c.args.source.now) c.gather.new.planner.pending (g.P.Source.left c.gather.new.source) c.gather.new.planner.taken
-          (e.last t (ap given more_is))
-          (e.cuts.taken t ∙ c.loop-more.invariant.served.taken t) e.cuts.within;
-      rests = λ no spare. record {
-        stands = λ u. ((g.K.Keeper.store c.answer.new.keeper).journal.gate, c.in_ok-answer.ensures.stands.as_left u);
-        quiet = λ u quiet. c.in_ok-answer.ensures.stands.quiet u (c.loop-more.invariant.served.quiet u quiet);
-      };
-      again = (c.in_ok-answer.ensures.stands.usable, c.in_ok-answer.ensures.stands.as_left);
-      usable = λ bench spare memory. c.in_ok-answer.ensures.stands.usable;
-      left = λ u usable. c.in_ok-answer.ensures.stands.as_left u;
-      calls = λ t u.
-          all_calls g.P.Source g.B.Bench c.args.schema.now.columns c.args.index.now.public c.args.batch c.loop-more.planner
-          (g.K.Keeper.store c.args.keeper.now) (g.K.Keeper.store c.loop-more.keeper)
-          c.args.source.now c.loop-more.source c.args.bench.now c.loop-more.bench c.loop-more.invariant.served
-          now (not c.in_ok-more.more || now.ended) c.gather.new.source plans e.gathers e.most c.requires.batch.0
-          (λ ended. still_ended c.in_ok-more.more now.ended (e.cuts.still ended)) (g.K.Keeper.store c.answer.new.keeper).history c.answer.new.bench
-          c.in_ok-answer.ensures.answers
-          t u (ap counted_lines (e.last t (ap given more_is)));
-      moments = λ u quiet.
-          let rest = now.pending ++ g.P.Source.left c.gather.new.source in
-          turn_moments g.P.Source g.B.Bench c.args.schema.now.columns c.args.index.now.public c.args.batch c.loop-more.planner
-          (g.K.Keeper.store c.args.keeper.now) (g.K.Keeper.store c.loop-more.keeper)
-          c.args.source.now c.loop-more.source c.args.bench.now c.loop-more.bench c.loop-more.invariant.served
-          now (not c.in_ok-more.more || now.ended) c.gather.new.source plans e.gathers e.most c.requires.batch.0
-          (λ ended. still_ended c.in_ok-more.more now.ended (e.cuts.still ended)) c.answer.new.bench
-          (whole_or_last {E = TwinEnd} g.P.Source.told c.args.batch c.in_ok-more.more plans rest e.whole e.last) u quiet
-          (c.in_ok-answer.ensures.moments u (c.loop-more.invariant.served.quiet u quiet));
-      table = (c.in_ok-answer.ensures.table.0 ∙ c.loop-more.invariant.served.secret, c.in_ok-answer.ensures.table.1 ∙ c.loop-more.invariant.served.protected);
-      is = c.in_ok-answer.ensures.is;
-      later = still_later _ _ _ c.loop-more.invariant.served.source_steady c.gather.ensures.cuts.later;
-      input = λ is. no_refusal _ _ is;
-      last_read = λ is. no_refusal _ _ is;
-      steady = λ no. c.in_ok-more.ensures.steady ∙ c.loop-more.invariant.served.source_steady;
-      fault = record {
-        later = still_later _ _ _ c.loop-more.invariant.served.bench_steady c.answer.ensures.fault.later;
-        failed = λ is. no_refusal _ _ is;
-        last_call = λ is. no_refusal _ _ is;
-        steady = λ no. c.in_ok-answer.ensures.fault.steady (λ is. no_refusal _ _ is) ∙ c.loop-more.invariant.served.bench_steady;
-      };
-      spare_stands = λ spared told bench spare. (g.K.Keeper.spare_gate c.answer.new.keeper, c.in_ok-answer.ensures.spare_stands spared told);
-      spare_moments = λ spared told quiet.
-          spare_turn g.P.Source g.B.Bench c.args.schema.now.columns c.args.index.now.public c.args.batch c.loop-more.planner
-          (g.K.Keeper.store c.args.keeper.now)
-          (g.K.Keeper.store c.loop-more.keeper) c.args.source.now c.loop-more.source c.args.bench.now c.loop-more.bench c.loop-more.invariant.served
-          now (not c.in_ok-more.more || now.ended) c.gather.new.source plans e.gathers e.most c.requires.batch.0
-          (λ ended. still_ended c.in_ok-more.more now.ended (e.cuts.still ended)) g.S.Bench c.args.spare.now c.loop-more.spare c.answer.new.spare
-          (whole_or_last {E = TwinEnd} g.P.Source.told c.args.batch c.in_ok-more.more plans (now.pending ++ g.P.Source.left c.gather.new.source) e.whole e.last)
-          c.loop-more.invariant.spare.sent (c.loop-more.invariant.spare.moments spared told quiet)
-          (c.answer.ensures.spare_moments spared told (c.loop-more.invariant.spare.quiet spared told quiet));
-      spare_quiet = λ spared told quiet other.
-          c.in_ok-answer.ensures.spare_quiet spared told (c.loop-more.invariant.spare.quiet spared told quiet) (λ is. no_refusal _ _ is);
-      spare_sent = c.answer.ensures.spare_sent ∙ c.loop-more.invariant.spare.sent;
-      both = λ spared t told spare_told quiet spare_quiet failed. absurd (⊎_elim (λ is. no_refusal _ _ is) (λ is. no_refusal _ _ is) failed);
-      spare_fault = record {
-        later = still_later _ _ _ c.loop-more.invariant.spare.steady c.answer.ensures.spare_fault.later;
-        failed = λ is. no_refusal _ _ is;
-        last_call = λ is. no_refusal _ _ is;
-        steady = λ no. c.in_ok-answer.ensures.spare_fault.steady (λ is. no_refusal _ _ is) ∙ c.loop-more.invariant.spare.steady;
-      };
-      own = λ is. no_refusal _ _ is;
-      untouched = λ none. c.answer.ensures.untouched none ∙ c.loop-more.invariant.spare.untouched none;
-    }
+returns-then-not-more g c = last_turn g c

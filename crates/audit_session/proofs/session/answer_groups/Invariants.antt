@@ -8,7 +8,8 @@ abbrev pub invariant-loop-more : goal.invariant-loop-more
 invariant-loop-more g l = record {
   served : Served g.P.Source g.B.Bench l.schema.columns l.index.public l.batch l.planner (g.K.Keeper.store l.fn.keeper) (g.K.Keeper.store l.keeper) l.fn.source
       l.source l.fn.bench l.bench;
-  spare : SpareServed g.P.Source g.K.Keeper g.S.Bench l.schema.columns l.index.public l.batch l.fn.keeper l.keeper l.fn.source l.fn.spare l.spare;
+  spare : SpareServed g.P.Source g.K.Keeper g.S.Bench l.schema.columns l.index.public l.batch l.fn.keeper l.keeper l.fn.source l.fn.spare l.spare
+      served.answered.replies;
   room : vec_capacity l.group.replies ≡ l.batch;
 }
 

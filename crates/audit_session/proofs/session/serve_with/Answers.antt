@@ -1,4 +1,4 @@
-use Rattle.std.proofs.Common.{⊎_elim, ◌≡◌, [], List, Result, Err, refl, sym, subst, arith}
+use Rattle.std.proofs.Common.{◌≡◌, [], List, Result, Err, refl, sym, subst, arith}
 use Rattle.std.proofs.lemmas.Result.{IfOk-from_err}
 use Rattle.audit_types.specs.declared.records.Protected.{Protected}
 use Rattle.std.specs.Prelude.{OnOk}
@@ -8,10 +8,10 @@ use Rattle.line_wire.specs.Lines.{counted_lines}
 use Rattle.table_load.specs.Database.{base_of}
 use Rattle.audit_session.specs.declared.session.TwinEnd.{TwinEnd}
 use Rattle.audit_session.specs.declared.session.TwinEnd.TheVariants as end
-use Rattle.audit_session.specs.Ends.{Ends, Reads, TakesCalls}
+use Rattle.audit_session.specs.Ends.{Ends, KeepsCalls, Reads, TakesCalls}
 use Rattle.audit_session.specs.Stops.{LeavesBoth, SpareStops, StopsOver}
 use Rattle.audit_session.proofs.EndsByFault.{all_by, read_by, within_by}
-use Rattle.audit_session.proofs.FirstStop.{serves_none, spare_first, stops_first}
+use Rattle.audit_session.proofs.FirstStop.{both_first, serves_none, spare_first, stops_first}
 use Rattle.audit_session.proofs.Refusals.{memory_no_bench, memory_no_spare, memory_no_input, memory_no_limit, refusal}
 use Rattle.audit_session.proofs.session.serve_with.Goals as goal
 
@@ -29,8 +29,8 @@ returns-in_err-planner g c =
           serves_none (base_of c.args.schema.now.columns c.args.index.now.public c.args.index.now.protected (g.K.Keeper.store c.args.keeper.now).secret)
           c.args.batch
           (g.K.Keeper.store c.args.keeper.now).history (counted_lines (g.P.Source.left c.args.source.now)) (g.B.Bench.sent c.args.bench.now);
-      stands = λ u no spare. ((g.K.Keeper.store c.args.keeper.now).journal.gate, c.requires.stands u);
-      quiet = λ u quiet no spare. quiet;
+      stands = λ u no. ((g.K.Keeper.store c.args.keeper.now).journal.gate, c.requires.stands u);
+      quiet = λ u quiet no. quiet;
       again = IfOk-from_err _ _ c.from_residual.ensures.0;
       usable = λ no spare none. c.requires.usable;
       left = λ u usable. c.requires.stands u;
@@ -92,8 +92,13 @@ returns-in_err-planner g c =
           (g.K.Keeper.spare_gate c.args.keeper.now, c.requires.spare_stands spared told));
       spare_quiet = λ spared told quiet other. quiet;
       spare_sent = refl;
-      both = λ spared t told spare_told quiet spare_quiet failed.
-          absurd (⊎_elim (λ is. memory_no_bench _ same is) (λ is. memory_no_spare _ same is) failed);
+      both = λ spared t told spare_told quiet spare_quiet image other left spare_left.
+          both_first g.B.Bench c.args.bench.now g.S.Bench c.args.spare.now
+          (base_of c.args.schema.now.columns c.args.index.now.public c.args.index.now.protected (g.K.Keeper.store c.args.keeper.now).secret) c.args.batch
+          (g.K.Keeper.store c.args.keeper.now).history (counted_lines (g.P.Source.left c.args.source.now)) image other quiet
+          ((g.K.Keeper.store c.args.keeper.now).journal.gate, c.requires.stands told) spare_quiet
+          (g.K.Keeper.spare_gate c.args.keeper.now, c.requires.spare_stands spared spare_told) left spare_left;
+      spare_calls = λ spared t told. IfOk-from_err _ _ c.from_residual.ensures.0;
       spare_fault = record {
         later = omega arith;
         failed = λ is. absurd (memory_no_spare _ same is);
@@ -130,8 +135,8 @@ returns g c =
       input_end = λ t u is. ends_as (refused end.Input) is t u;
       limit_end = λ t u is. ends_as (refused end.Limit) is t u;
       memory_end = λ t u is. ends_as (refused end.NoMemory) is t u;
-      stands = λ u no spare. (c.answer_groups.ensures.rests no spare).stands u;
-      quiet = λ u quiet no spare. (c.answer_groups.ensures.rests no spare).quiet u quiet;
+      stands = λ u no. (c.answer_groups.ensures.rests no).stands u;
+      quiet = λ u quiet no. (c.answer_groups.ensures.rests no).quiet u quiet;
       again = c.answer_groups.ensures.again;
       usable = c.answer_groups.ensures.usable;
       left = c.answer_groups.ensures.left;
@@ -181,10 +186,14 @@ returns g c =
           (c.answer_groups.ensures.spare_moments spared told quiet);
       spare_quiet = c.answer_groups.ensures.spare_quiet;
       spare_sent = c.answer_groups.ensures.spare_sent;
-      both = λ spared t told spare_told quiet spare_quiet failed image other left spare_left.
+      both = λ spared t told spare_told quiet spare_quiet image other left spare_left.
           subst (λ (p : List Protected). LeavesBoth (base_of columns public p store.secret) batch store.history (counted_lines input) before after image
           other) same
-          (c.answer_groups.ensures.both spared t told spare_told quiet spare_quiet failed image other left spare_left);
+          (c.answer_groups.ensures.both spared t told spare_told quiet spare_quiet image other left spare_left);
+      spare_calls = λ spared t told.
+          subst (λ (p : List Protected). OnOk c.answer_groups.result (KeepsCalls (base_of columns public p store.secret) store.history batch
+          (counted_lines input)
+          (g.S.Bench.moment c.args.spare.now) (g.S.Bench.moment c.answer_groups.new.spare))) same (c.answer_groups.ensures.spare_calls spared t told);
       spare_fault = c.answer_groups.ensures.spare_fault;
       own = c.answer_groups.ensures.own;
       untouched = c.answer_groups.ensures.untouched;

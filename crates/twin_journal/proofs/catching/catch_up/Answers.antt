@@ -7,9 +7,9 @@ use Rattle.bench_core.specs.Calls.{LeavesOnly}
 use Rattle.journal_form.specs.Journal.{StandsAt}
 use Rattle.audit_store.specs.LegalFronts.{legal_fits}
 use Rattle.audit_store.specs.Stores.{table_of}
-use Rattle.audit_store.specs.Twice.{IsBroughtUp}
+use Rattle.audit_store.specs.Twice.{IsBroughtUp, StandsWithSome}
 use Rattle.twin_journal.specs.Twins.{DifferFirst}
-use Rattle.twin_journal.proofs.CatchingUp.{differ_first, main_lacks, meet_at_main, meet_at_other, other_lacks, same_as_main, still_there, while_brought_up, whole_is_main, whole_is_other}
+use Rattle.twin_journal.proofs.CatchingUp.{differ_first, main_lacks, meet_at_main, meet_at_other, other_lacks, same_as_main, some_between, still_between, still_there, while_brought_up, whole_is_main, whole_is_other}
 use Rattle.twin_journal.proofs.catching.catch_up.Goals as goal
 
 -- ---- the spare's history begins the journal's
@@ -111,6 +111,28 @@ returns-in-Err-NoMemory-clause-spare_moments g c = λ whole told quiet meet.
     let found = c.bring_up.ensures.any_moment list told here (sym c.requires.other.counted) quiet in
     while_brought_up bench c.args.store.now.secret.shape list whole old c.bring_up.new.bench lacks (whole_is_main main list whole meet (record { rest = lacks; is = all }) ∙ all)
     (subst (λ (s : Shape). LeavesOnly bench old c.bring_up.new.bench (IsBroughtUp s list lacks (bench.sent old))) shape found)
+
+pub returns-in-Err-NoMemory-clause-no_memory : goal.returns-in-Err-NoMemory-clause-no_memory
+returns-in-Err-NoMemory-clause-no_memory g c = λ whole told meet refused.
+    let store = c.args.store.now in
+    still_between store.secret.shape store.history whole (g.B.Bench.file c.args.bench.now) store.journal.gate (c.requires.stands told) meet.main_front
+
+pub returns-in-Err-NoMemory-clause-spare_no_memory : goal.returns-in-Err-NoMemory-clause-spare_no_memory
+returns-in-Err-NoMemory-clause-spare_no_memory g c = λ whole told meet refused.
+    let main = c.args.store.now.history in
+    let shown = c.history-history.result.now in
+    let list = c.args.list.now in
+    let place = c.agreement-place.result in
+    let file = g.S.Bench.file c.bring_up.new.bench in
+    let hist : shown ≡ main = c.history-history.ensures.history in
+    let lacks = take (length shown - place) (drop place shown) in
+    let all : main ≡ list ++ lacks = other_lacks main shown list place hist c.agreement-place.ensures.same c.if-place-list.true in
+    let shape = c.requires.other.same_shape in
+    let journal = c.args.journal.now in
+    let here : StandsAt (g.S.Bench.file c.args.spare.now) journal.shape list journal.gate =
+    subst (λ (s : Shape). StandsAt (g.S.Bench.file c.args.spare.now) s list journal.gate) (sym shape) (c.requires.spare_stands told) in
+    some_between c.args.store.now.secret.shape list whole file lacks (whole_is_main main list whole meet (record { rest = lacks; is = all }) ∙ all)
+    (subst (λ (s : Shape). StandsWithSome s list lacks file) shape (c.bring_up.ensures.no_memory list told here (sym c.requires.other.counted) cc))
 
 pub returns-in-Err-NoMemory-clause-apart : goal.returns-in-Err-NoMemory-clause-apart
 returns-in-Err-NoMemory-clause-apart g c = λ none.
@@ -219,6 +241,24 @@ returns-in-Err-NoMemory-bring_up-clause-moments g c = λ whole told quiet meet.
     let all : list ≡ main ++ lacks = main_lacks main shown list place hist c.agreement-place.ensures.same at in
     while_brought_up g.B.Bench c.args.store.now.secret.shape main whole c.args.bench.now c.bring_up-2.new.bench lacks
     (whole_is_other main list whole meet (record { rest = lacks; is = all }) ∙ all) (c.bring_up-2.ensures.any_moment told quiet)
+
+pub returns-in-Err-NoMemory-bring_up-clause-no_memory : goal.returns-in-Err-NoMemory-bring_up-clause-no_memory
+returns-in-Err-NoMemory-bring_up-clause-no_memory g c = λ whole told meet refused.
+    let main = c.args.store.now.history in
+    let shown = c.history-history.result.now in
+    let list = c.args.list.now in
+    let place = c.agreement-place.result in
+    let hist : shown ≡ main = c.history-history.ensures.history in
+    let at : place ≡ length main = omega (arith, c.if-place-history.false, c.agreement-place.ensures.within.0, ap length hist) in
+    let lacks = take (length list - place) (drop place list) in
+    let all : list ≡ main ++ lacks = main_lacks main shown list place hist c.agreement-place.ensures.same at in
+    some_between c.args.store.now.secret.shape main whole (g.B.Bench.file c.bring_up-2.new.bench) lacks
+    (whole_is_other main list whole meet (record { rest = lacks; is = all }) ∙ all) (c.bring_up-2.ensures.no_memory told cc)
+
+pub returns-in-Err-NoMemory-bring_up-clause-spare_no_memory : goal.returns-in-Err-NoMemory-bring_up-clause-spare_no_memory
+returns-in-Err-NoMemory-bring_up-clause-spare_no_memory g c = λ whole told meet refused.
+    still_between c.args.store.now.secret.shape c.args.list.now whole (g.S.Bench.file c.args.spare.now) c.args.journal.now.gate
+    (c.requires.spare_stands told) meet.other_front
 
 pub returns-in-Err-NoMemory-bring_up-clause-spare_moments : goal.returns-in-Err-NoMemory-bring_up-clause-spare_moments
 returns-in-Err-NoMemory-bring_up-clause-spare_moments g c = λ whole told quiet meet.

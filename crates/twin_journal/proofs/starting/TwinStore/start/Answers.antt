@@ -13,12 +13,12 @@ use Rattle.audit_store.specs.Starting.{GivesUp, StartCause}
 use Rattle.audit_store.specs.Stores.{table_of}
 use Rattle.audit_store.specs.declared.starting.StartFault.{StartFault}
 use Rattle.twin_journal.specs.declared.starting.TwinFault.{TwinFault}
-use Rattle.twin_journal.specs.declared.starting.TwinFault.TheVariants.{Differ, SpareFailed}
+use Rattle.twin_journal.specs.declared.starting.TwinFault.TheVariants.{Differ, NoMemory, SpareFailed}
 use Rattle.twin_journal.specs.Fronts.{main_is_legal, spare_is_legal}
-use Rattle.twin_journal.specs.Twins.{CatchesUp, Meet, TwinCause, TwinGivesUp}
+use Rattle.twin_journal.specs.Twins.{CatchesUp, Meet, StandsBetween, TwinCause, TwinGivesUp}
 use Rattle.twin_journal.proofs.CatchingUp.{still_there}
 use Rattle.twin_journal.proofs.TwinCauses.{IsOwn, main_gives_up, never_given_up, own_of_main, own_of_refused, own_of_spare, refused, spare_cause, spare_due, spare_gives_up}
-use Rattle.twin_journal.proofs.TwinMoments.{apart_never_meet, caught_due, caught_longer, caught_together, main_calls, main_catches, refused_cause, refused_due, refused_opens, spare_calls, spare_catches, while_read}
+use Rattle.twin_journal.proofs.TwinMoments.{apart_never_meet, caught_due, caught_longer, caught_together, left_between, main_calls, main_catches, read_between, refused_cause, refused_due, refused_opens, spare_calls, spare_catches, while_read}
 use Rattle.twin_journal.proofs.starting.TwinStore.start.Goals as goal
 
 -- ---- the journal has a fault
@@ -38,6 +38,11 @@ pub returns-in-Err-clause-spare_moments : goal.returns-in-Err-clause-spare_momen
 returns-in-Err-clause-spare_moments g c = λ main other whole told spare_told quiet keep.
     still_there g.S.Bench c.args.secret.shape other whole c.args.spare.now keep.spare_stands.0
     (λ image sent was. g.met.S.Bench.only_now c.args.spare.now image sent was) quiet keep.spare_stands.1 keep.spare_front
+
+pub returns-in-Err-clause-no_memory : goal.returns-in-Err-clause-no_memory
+returns-in-Err-clause-no_memory g c = λ main other whole told spare_told keep refused.
+    read_between (secret_table c.args.secret c.args.protected.items) (g.B.Bench.file c.args.bench.now) (g.S.Bench.file c.args.spare.now)
+    (g.B.Bench.file c.start.new.bench) (g.S.Bench.file c.args.spare.now) main other whole c.start.ensures.reads.file refl keep
 
 -- ---- the spare has one
 
@@ -98,6 +103,11 @@ returns-in-Err-open_other-clause-main_moments g c = λ main other whole told spa
 pub returns-in-Err-open_other-clause-spare_moments : goal.returns-in-Err-open_other-clause-spare_moments
 returns-in-Err-open_other-clause-spare_moments g c = λ main other whole told spare_told quiet keep.
     while_read g.S.Bench c.args.spare.now c.open_other.new.spare c.args.secret.shape other whole c.open_other.ensures.reads quiet keep.spare_stands keep.spare_front
+
+pub returns-in-Err-open_other-clause-no_memory : goal.returns-in-Err-open_other-clause-no_memory
+returns-in-Err-open_other-clause-no_memory g c = λ main other whole told spare_told keep refused.
+    read_between (secret_table c.args.secret c.args.protected.items) (g.B.Bench.file c.args.bench.now) (g.S.Bench.file c.args.spare.now)
+    (g.B.Bench.file c.start.new.bench) (g.S.Bench.file c.open_other.new.spare) main other whole c.start.ensures.reads.file c.open_other.ensures.reads.file keep
 
 -- ---- one was to be brought up to the other
 
@@ -185,6 +195,33 @@ returns-in-Err-catch_up-clause-opens g c = λ m o whole told spare_told keep.
     let why = c.in-Err-catch_up.ensures.cause in
     let differ = λ (place : ℕ). λ (is : given ≡ Differ place). c.in-Err-catch_up.ensures.differ place (ap (λ (f : TwinFault). err f) is) in
     refused_opens c.one_reading.ensures table file spare main other stands spare_stands legal other_legal given why differ m o whole keep
+
+pub returns-in-Err-catch_up-clause-no_memory : goal.returns-in-Err-catch_up-clause-no_memory
+returns-in-Err-catch_up-clause-no_memory g c = λ m o whole told spare_told keep refused.
+    let file = g.B.Bench.file c.args.bench.now in
+    let spare = g.S.Bench.file c.args.spare.now in
+    let table = secret_table c.args.secret c.args.protected.items in
+    let store = c.in-Ok.store in
+    let is = c.in-Ok.ensures.store in
+    let same_table : table_of store ≡ table = ap (λ (s : SecretView). secret_table s store.protected) is.0 ∙ ap (λ (p : List Protected). secret_table c.args.secret p) is.1 in
+    let same_shape : store.secret.shape ≡ c.args.secret.shape = ap (λ (s : SecretView). s.shape) is.0 in
+    let main = store.history in
+    let legal : IsLegal table main = subst (λ (t : Table). IsLegal t main) same_table is.3.legal in
+    let stands : StandsFor file c.args.secret.shape main = (store.journal.gate, subst (λ (s : Shape). StandsAt file s main store.journal.gate) same_shape (c.in-Ok.ensures.stands told)) in
+    let found = c.in-Ok-open_other.found in
+    let other = c.deref.result.now in
+    let listed : found.1.items ≡ other = sym c.deref.ensures.value in
+    let other_legal : IsLegal table other = subst (λ (t : Table). IsLegal t other) same_table (subst (λ (h : List Answered). IsLegal (table_of store) h) listed c.in-Ok-open_other.ensures.legal) in
+    let spare_stands : StandsFor spare c.args.secret.shape other = (
+      found.0.gate,
+      subst (λ (s : Shape). StandsAt spare s other found.0.gate) same_shape
+          (subst (λ (h : List Answered). StandsAt spare store.secret.shape h found.0.gate) listed (c.in-Ok-open_other.ensures.stands spare_told)),
+    ) in
+    let memory = let same : c.in-Err-catch_up.fault ≡ NoMemory = cc in ap (λ (f : TwinFault). err f) same in
+    left_between c.one_reading.ensures table file spare main other stands spare_stands legal other_legal (g.B.Bench.file c.catch_up.new.bench) (g.S.Bench.file c.catch_up.new.spare)
+    (λ w meet. subst (λ (s : Shape). StandsBetween s main w (g.B.Bench.file c.catch_up.new.bench)) same_shape (c.in-Err-catch_up.ensures.no_memory w told meet memory))
+    (λ w meet. subst (λ (s : Shape). StandsBetween s other w (g.S.Bench.file c.catch_up.new.spare)) same_shape (c.in-Err-catch_up.ensures.spare_no_memory w spare_told meet memory))
+    m o whole keep
 
 pub returns-in-Err-catch_up-clause-main_moments : goal.returns-in-Err-catch_up-clause-main_moments
 returns-in-Err-catch_up-clause-main_moments g c = λ m o whole told spare_told quiet keep.
