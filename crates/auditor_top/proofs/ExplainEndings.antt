@@ -1,5 +1,5 @@
 -- What explaining lines comes to, by cases on how it ended.
-use Rattle.std.proofs.Common.{◌≡◌, ℕ, List, [], Result, Ok, Err, OnOk, refl, sym, ◌∙◌}
+use Rattle.std.proofs.Common.{◌≡◌, ℕ, List, [], Result, Err, OnOk, refl, sym, ◌∙◌, rules}
 use Rattle.std.specs.List.{concat}
 use Rattle.std.proofs.lemmas.List.{append-nil}
 use Rattle.audit_types.specs.declared.records.Answered.{Answered}
@@ -26,50 +26,29 @@ pub untouched_lines : (tells : Type 0) (columns : List Column) (index : IndexVie
 untouched_lines tells columns index history input file before image sent same =
     (same.1, λ told. record { asked = []; first = none_first input; lines = []; are = tt; front = (0, same.0 ∙ sym (append-nil before)) })
 
--- a run is done whose lines were explained to the end
-pub explain_done : {X P : Type 0} (ended : Result X ExplainFault) → session_status (as_session ended) ≡ Done → OnOk ended P → P
-explain_done (Ok done) is holds = holds
-explain_done (Err explain.Input) is holds = cc
-explain_done (Err explain.Bench) is holds = cc
-explain_done (Err explain.Limit) is holds = cc
-explain_done (Err explain.NoMemory) is holds = cc
+-- the fault of a session is that of the lines, and a run is done whose lines were explained to the end
+pub record ExplainSays {X : Type 0} (ended : Result X ExplainFault) : Type 1 where
+  pub input : as_session ended ≡ Err end.Input → ended ≡ Err explain.Input
+  pub bench : as_session ended ≡ Err end.Bench → ended ≡ Err explain.Bench
+  pub done : (P : Type 0) → session_status (as_session ended) ≡ Done → OnOk ended P → P
 
--- the fault of a session is that of the lines
-pub failed_input : {X : Type 0} (ended : Result X ExplainFault) → as_session ended ≡ Err end.Input → ended ≡ Err explain.Input
-failed_input (Ok done) is = cc
-failed_input (Err explain.Input) is = refl
-failed_input (Err explain.Bench) is = cc
-failed_input (Err explain.Limit) is = cc
-failed_input (Err explain.NoMemory) is = cc
-
-pub failed_bench : {X : Type 0} (ended : Result X ExplainFault) → as_session ended ≡ Err end.Bench → ended ≡ Err explain.Bench
-failed_bench (Ok done) is = cc
-failed_bench (Err explain.Input) is = cc
-failed_bench (Err explain.Bench) is = refl
-failed_bench (Err explain.Limit) is = cc
-failed_bench (Err explain.NoMemory) is = cc
+pub explain_says : {X : Type 0} (ended : Result X ExplainFault) → ExplainSays ended
+explain_says (Err explain.Input) = search rules
+explain_says ended = search rules
 
 -- which lines were explained is what the run says, and so are what was sent, and how much of the input there was
 pub explain_ends : (ended : Result (Unit {0}) ExplainFault) (input left : List ℕ) (asked : List CountedLine) → EndLines ended input left asked →
     ExplainEnds (session_status (as_session ended)) input left asked
-explain_ends (Ok done) input left asked are = are
 explain_ends (Err explain.Input) input left asked are = are
-explain_ends (Err explain.Bench) input left asked are = are
-explain_ends (Err explain.Limit) input left asked are = are
-explain_ends (Err explain.NoMemory) input left asked are = are
+explain_ends ended input left asked are = are
 
 pub explain_sends : (ended : Result (Unit {0}) ExplainFault) (lines : List (List ℕ)) (before after : List ℕ) → EndSends ended lines before after →
     SendsLines (session_status (as_session ended)) (concat lines) before after
-explain_sends (Ok done) lines before after sends = sends
 explain_sends (Err explain.Input) lines before after sends = sends
-explain_sends (Err explain.Bench) lines before after sends = sends
-explain_sends (Err explain.Limit) lines before after sends = sends
-explain_sends (Err explain.NoMemory) lines before after sends = sends
+explain_sends ended lines before after sends = sends
 
 pub explain_reads : (ended : Result (Unit {0}) ExplainFault) (before after : List ℕ) → EndReads ended before after →
     InputCause (session_status (as_session ended)) before after
-explain_reads (Ok done) before after reads = reads
-explain_reads (Err explain.Input) before after reads = reads
 explain_reads (Err explain.Bench) before after reads = tt
-explain_reads (Err explain.Limit) before after reads = reads
 explain_reads (Err explain.NoMemory) before after reads = tt
+explain_reads ended before after reads = reads

@@ -1,14 +1,13 @@
 -- What a refusal says: the files weren't opened, or the journal wasn't.
-use Rattle.std.proofs.Common.{◌≡◌, ◌≢◌, ◌≤◌, ◌+◌, ℕ, true, List, length, Some, Result, Ok, refl, subst}
+use Rattle.std.proofs.Common.{◌≡◌, ◌≢◌, ℕ, true, List, Some, Result, Ok, refl, subst, rules, Err, IsErr, IsErrAnd, IfErr, sym}
 use Rattle.bench_core.specs.declared.bench.Bench.{Ghosts}
 use Rattle.bench_core.specs.declared.source.Source as source
 use Rattle.schema_json.specs.Columns.{Column, Group, SchemaView}
-use Rattle.schema_json.specs.Reading.{schema_of, most_schema}
+use Rattle.schema_json.specs.Reading.{schema_of}
 use Rattle.schema_json.specs.declared.faults.SchemaFault.{SchemaFault}
 use Rattle.schema_json.specs.declared.faults.SchemaFault.TheVariants as schema_fault
 use Rattle.table_load.specs.Cells.{PublicView, TableView}
 use Rattle.table_load.specs.Database.{Database}
-use Rattle.table_load.specs.Reading.{most_table}
 use Rattle.table_load.specs.MeaningLaws.{means_read}
 use Rattle.table_load.specs.Tables.{table_of, public_of}
 use Rattle.table_load.specs.declared.faults.TableFault.{TableFault}
@@ -16,21 +15,27 @@ use Rattle.table_load.specs.declared.faults.TableFault.TheVariants as table_faul
 use Rattle.audit_types.specs.History.{Table as Guarded}
 use Rattle.set_index.specs.Indexed.{IndexView}
 use Rattle.table_load.specs.Database.{table_in}
-use Rattle.auditor_top.specs.declared.files.FileFault.{FileFault}
 use Rattle.auditor_top.specs.declared.files.FileFault.TheVariants as file
 use Rattle.auditor_top.specs.declared.opening.OpenFault.{OpenFault}
 use Rattle.auditor_top.specs.declared.opening.OpenFault.TheVariants as opening
 use Rattle.auditor_top.specs.declared.words.Command.{Command}
 use Rattle.auditor_top.specs.declared.words.Command.TheVariants as command
 use Rattle.auditor_top.specs.declared.status.Which.TheVariants.{Schema, Table}
+use Rattle.auditor_top.specs.declared.status.Status.{Status}
 use Rattle.auditor_top.specs.declared.status.Status.TheVariants.{BadSchema, BadTable, SourceFault, BenchFault}
+use Rattle.auditor_top.specs.Openings.{LeavesUnopened}
 use Rattle.auditor_top.specs.Status.{open_status}
-use Rattle.auditor_top.specs.Causes.{FaultCause, WordCause, SchemaCause, TableCause, GroupCause, FileCause, counts}
+use Rattle.auditor_top.specs.Causes.{WordCause, SchemaCause, TableCause, GroupCause, FileCause}
 use Rattle.auditor_top.specs.Commands.{AreFilesOf, ArePublicFilesOf, reads_files, reads_secrets}
 use Rattle.auditor_top.specs.Ready.{EndsEarly, GivesUp, IsGiven, Refuses}
-use Rattle.auditor_top.specs.Stages.{Before, reading_table, opening_journal}
+use Rattle.auditor_top.specs.Stages.{opening_journal}
 use Rattle.auditor_top.proofs.StepFaults.{not_both}
 use Rattle.auditor_top.proofs.StepStatuses.{always_before}
+
+-- what holds of a status holds of the error that it is
+pub of_status : {X : Type 0} (P : Status → Type 0) (r : Result X Status) (status : Status) → IsErr r × IsErrAnd r (λ e. e ≡ status) → P status → IfErr r P
+of_status P (Ok x) status is holds = tt
+of_status P (Err e) status is holds = subst P (sym is.1) holds
 
 -- ---- the files weren't opened
 
@@ -48,97 +53,16 @@ record FileRefusal (fault : OpenFault) : Type 1 where
   pub gives_up : (X : Type 0) (schema : SchemaView) (meant : X) → SchemaCause (open_status fault) (Ok schema) → TableCause (open_status fault) (Ok meant) →
       GivesUp (open_status fault)
 
-schema_refusal : (fault : FileFault SchemaFault) → FileRefusal (opening.Schema fault)
-schema_refusal file.Failed = record {
-  words = λ asked reads. reads;
-  journal = λ asked bytes table. tt;
-  early = tt;
-  groups = λ columns groups. tt;
-  own_schema = λ is. cc;
-  own_table = λ is. cc;
-  schema = λ is. refl;
-  table = λ is. cc;
-  no_bench = λ is. cc;
-  gives_up = λ X view meant schema table. tt;
-}
-schema_refusal file.NoMemory = record {
-  words = λ asked reads. tt;
-  journal = λ asked bytes table. tt;
-  early = tt;
-  groups = λ columns groups. tt;
-  own_schema = λ is. cc;
-  own_table = λ is. cc;
-  schema = λ is. cc;
-  table = λ is. cc;
-  no_bench = λ is. cc;
-  gives_up = λ X view meant schema table. tt;
-}
-schema_refusal (file.Bad f) = record {
-  words = λ asked reads. reads;
-  journal = λ asked bytes table. tt;
-  early = tt;
-  groups = λ columns groups. tt;
-  own_schema = λ is. cc;
-  own_table = λ is. cc;
-  schema = λ is. cc;
-  table = λ is. cc;
-  no_bench = λ is. cc;
-  gives_up = λ X view meant schema table. absurd (not_both view f schema);
-}
-
-table_refusal : (fault : FileFault TableFault) → FileRefusal (opening.Table fault)
-table_refusal file.Failed = record {
-  words = λ asked reads. reads;
-  journal = λ asked bytes table. tt;
-  early = tt;
-  groups = λ columns groups. tt;
-  own_schema = λ is. cc;
-  own_table = λ is. cc;
-  schema = λ is. cc;
-  table = λ is. refl;
-  no_bench = λ is. cc;
-  gives_up = λ X view meant schema table. tt;
-}
-table_refusal file.NoMemory = record {
-  words = λ asked reads. tt;
-  journal = λ asked bytes table. tt;
-  early = tt;
-  groups = λ columns groups. tt;
-  own_schema = λ is. cc;
-  own_table = λ is. cc;
-  schema = λ is. cc;
-  table = λ is. cc;
-  no_bench = λ is. cc;
-  gives_up = λ X view meant schema table. tt;
-}
-table_refusal (file.Bad f) = record {
-  words = λ asked reads. reads;
-  journal = λ asked bytes table. tt;
-  early = tt;
-  groups = λ columns groups. tt;
-  own_schema = λ is. cc;
-  own_table = λ is. cc;
-  schema = λ is. cc;
-  table = λ is. cc;
-  no_bench = λ is. cc;
-  gives_up = λ X view meant schema table. absurd (not_both meant f table);
-}
-
 file_refusal : (fault : OpenFault) → FileRefusal fault
-file_refusal (opening.Schema fault) = schema_refusal fault
-file_refusal (opening.Table fault) = table_refusal fault
+file_refusal (opening.Schema (file.Bad f)) = search (rules, not_both)
+file_refusal (opening.Schema fault) = search rules
+file_refusal (opening.Table (file.Bad f)) = search (rules, not_both)
+file_refusal (opening.Table fault) = search rules
 
 -- so a command that stands on the files is refused, by what opening them says
-module _ {P B : Type 0} (files : source.Ghosts P) (bench : Ghosts B) (asked : Command) (schema later_schema table later_table : P) (at : B) (fault : OpenFault)
-    (stands_on : reads_files asked ≡ true) (schema_cause : files.told → SchemaCause (open_status fault) (schema_of (files.left schema)))
-    (own_schema : fault ≢ opening.Schema (file.Bad schema_fault.NoMemory)) (own_table : fault ≢ opening.Table (file.Bad table_fault.NoMemory))
-    (schema_within : files.told → fault ≡ opening.Schema file.Failed → length (files.left schema) ≤ most_schema + length (files.left later_schema))
-    (table_within : files.told → fault ≡ opening.Table file.Failed → length (files.left table) ≤ most_table + length (files.left later_table))
-    (faults : (input now spare : ℕ) → FaultCause (open_status fault) (counts (files.faults schema) (files.faults table) input now spare)
-    (counts (files.faults later_schema) (files.faults later_table) input now spare))
-    (schema_last : fault ≡ opening.Schema file.Failed → files.last_failed later_schema ≡ true)
-    (table_last : fault ≡ opening.Table file.Failed → files.last_failed later_table ≡ true)
-    (untouched : Before reading_table (open_status fault) (later_table ≡ table)) where
+module _ {P B X : Type 0} (files : source.Ghosts P) (bench : Ghosts B) (asked : Command) (schema later_schema table later_table : P) (at : B) (fault : OpenFault)
+    (stands_on : reads_files asked ≡ true) (meaning : List Column → List ℕ → Result X TableFault)
+    (unopened : LeavesUnopened files meaning fault schema later_schema table later_table) where
   pub files_refused : (files.told → reads_secrets asked ≡ true → (meant : SchemaView) → schema_of (files.left schema) ≡ Ok meant →
       TableCause (open_status fault) (table_of meant.columns (files.left table))) →
       (files.told → asked ≡ command.Simulate → (meant : SchemaView) → schema_of (files.left schema) ≡ Ok meant →
@@ -149,22 +73,22 @@ module _ {P B : Type 0} (files : source.Ghosts P) (bench : Ghosts B) (asked : Co
       let says = file_refusal fault in
       record {
         words = says.words asked stands_on;
-        schema = λ ptold reads. schema_cause ptold;
+        schema = λ ptold reads. unopened.schema ptold;
         table = table_cause;
         public = public_cause;
         groups = λ ptold reads meant is. says.groups meant.columns meant.groups;
         file = λ ptold told base given sound. says.journal asked (bench.file at) (table_in base);
-        own_schema_fault = λ is. own_schema (says.own_schema is);
-        own_table_fault = λ is. own_table (says.own_table is);
-        schema_within = λ ptold is. schema_within ptold (says.schema is);
-        table_within = λ ptold is. table_within ptold (says.table is);
+        own_schema_fault = λ is. unopened.own_schema_fault (says.own_schema is);
+        own_table_fault = λ is. unopened.own_table_fault (says.own_table is);
+        schema_within = λ ptold is. unopened.schema_within ptold (says.schema is);
+        table_within = λ ptold is. unopened.table_within ptold (says.table is);
         early = says.early;
         gives_up = λ ptold told given. gives_up ptold given;
-        faults = λ input spare. faults input (bench.faults at) spare;
-        schema_last = λ is. schema_last (says.schema is);
-        table_last = λ is. table_last (says.table is);
+        faults = λ input spare. unopened.faults input (bench.faults at) spare;
+        schema_last = λ is. unopened.schema_last (says.schema is);
+        table_last = λ is. unopened.table_last (says.table is);
         bench_last = λ is. absurd (says.no_bench is);
-        before_table = untouched;
+        before_table = unopened.untouched;
         before_bench = always_before opening_journal (open_status fault) refl;
       }
 

@@ -1,5 +1,5 @@
 -- What a refusal says if the groups of the schema weren't made ready, and which steps a command takes.
-use Rattle.std.proofs.Common.{◌≡◌, ℕ, Bool, true, false, List, Some, Result, Ok, IsOk, refl, sym, ◌∙◌, ap, subst}
+use Rattle.std.proofs.Common.{◌≡◌, ℕ, Bool, true, false, List, Some, Result, Ok, IsOk, refl, sym, ◌∙◌, ap, subst, rules}
 use Rattle.std.proofs.lemmas.Bool.{true≢false}
 use Rattle.audit_types.specs.History.{Table as Guarded}
 use Rattle.audit_types.specs.declared.records.Protected.{Protected}
@@ -54,26 +54,8 @@ record GroupRefusal (fault : IndexFault) : Type 1 where
   pub same : (before : FaultCounts) → FaultCause (index_status fault) before before
 
 group_refusal : (fault : IndexFault) → GroupRefusal fault
-group_refusal (index.BadGroup place) = record {
-  words = λ asked reads. reads;
-  schema = λ meant is. is;
-  table = λ X meant is. is;
-  journal = λ asked bytes table. tt;
-  early = tt;
-  ends = tt;
-  before = λ P. tt;
-  same = λ before. refl;
-}
-group_refusal index.NoMemory = record {
-  words = λ asked reads. tt;
-  schema = λ meant is. tt;
-  table = λ X meant is. tt;
-  journal = λ asked bytes table. tt;
-  early = tt;
-  ends = tt;
-  before = λ P. tt;
-  same = λ before. refl;
-}
+group_refusal (index.BadGroup place) = search rules
+group_refusal index.NoMemory = search rules
 
 -- the first bad group is reported, and none is if none has a fault
 group_cause : (fault : IndexFault) (columns : List Column) (groups : List Group) →

@@ -33,16 +33,9 @@ same_place : (a b : Command) → a ≡ b → nat_eq (place_of a) (place_of b) �
 same_place a b is = subst (λ (k : Command). nat_eq (place_of a) (place_of k) ≡ true) is (to_itself a)
   where
     to_itself : (a : Command) → nat_eq (place_of a) (place_of a) ≡ true
-    to_itself Init = refl
     to_itself (Serve batch false) = refl
     to_itself (Serve batch true) = refl
-    to_itself Audit = refl
-    to_itself Simulate = refl
-    to_itself (Drill number) = refl
-    to_itself Grow = refl
-    to_itself Explain = refl
-    to_itself Compact = refl
-    to_itself Restore = refl
+    to_itself a = refl
 
 -- arguments that name one command name no other
 pub not_asked : {Y : Type 0} (asked : Option Command) (one another : Command) → asked ≡ Some one → asked ≡ Some another →

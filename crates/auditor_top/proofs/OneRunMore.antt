@@ -10,15 +10,17 @@ use Rattle.table_load.specs.Database.{Database}
 use Rattle.journal_form.specs.Journal.{StandsFor}
 use Rattle.audit_types.specs.Widening.{over}
 use Rattle.answer_journal.specs.Moments.{IsBeforeOrGrown}
-use Rattle.line_wire.specs.Lines.{counted_lines}
+use Rattle.line_wire.specs.Lines.{CountedLine, counted_lines}
 use Rattle.question_plan.specs.Replies.{IsDue}
 use Rattle.audit_session.specs.Stops.{IsBatch, IsFront, Stop, StopsOver, stands_over}
 use Rattle.audit_session.specs.Lives.{Standing, serves, grows, Run, GoesFrom, Lead, IsLife, in_force, over_all}
+use Rattle.twin_journal.specs.Twins.{CatchesUpOrStops}
 use Rattle.auditor_top.specs.declared.status.Status.{Status}
 use Rattle.auditor_top.specs.declared.words.Command.{Command}
 use Rattle.auditor_top.specs.declared.words.Command.TheVariants.{Serve, Grow}
-use Rattle.auditor_top.specs.Commands.{AreSoundFilesOf, GoesOnOver, deed_of}
+use Rattle.auditor_top.specs.Commands.{AreSoundFilesOf, GoesOnOver, TwinsOver, deed_of}
 use Rattle.auditor_top.specs.Promise.{GoesOn, RunsMakeLives}
+use Rattle.auditor_top.specs.Twins.{LeavesTwins}
 use Rattle.auditor_top.specs.Runs.{Objects, Does, Serving, TwinServing, Growing}
 use Rattle.auditor_top.proofs.OneCommand.{one_command}
 use Rattle.auditor_top.proofs.OneTable.{OneReading, untouched_stops}
@@ -43,9 +45,8 @@ pub lead_push : (at : Standing) (runs : List Run) (mid : Standing) (run : Run) �
 lead_push at [] mid run lead goes = (subst (λ (s : Standing). GoesFrom s run) lead goes, refl)
 lead_push at (before ∷ runs) mid run lead goes = (lead.0, lead_push before.left runs mid run lead.1 goes)
 
-module _ {P I B : Type 0} (files : source.Ghosts P) (lines : source.Ghosts I) (bench : Ghosts B) (status : Status) (old new : Objects P I B) (longer : RunsMakeLives)
-    (quiet : IsQuiet bench old.bench) (at : Standing) (first : Database) (runs : List Run) (life : IsLife first runs at) (image sent : List ℕ) (left : Standing)
-    (was : bench.since new.bench (bench.moment old.bench) image (bench.sent old.bench ++ sent))
+module _ {P I B : Type 0} (files : source.Ghosts P) (lines : source.Ghosts I) (bench : Ghosts B) (old : Objects P I B) (longer : RunsMakeLives) (at : Standing)
+    (first : Database) (runs : List Run) (life : IsLife first runs at) (image sent : List ℕ) (left : Standing)
     (stands : StandsFor image (in_force left).setting.shape left.history) where
   abbrev before : List ℕ
   before = bench.sent old.bench
@@ -68,21 +69,14 @@ module _ {P I B : Type 0} (files : source.Ghosts P) (lines : source.Ghosts I) (b
         );
       })
 
-  -- so with a run of `serve`
-  serves_on : (batch : ℕ) → IsBatch batch → Serving files lines bench batch status old new → files.told → lines.told → bench.told →
-      GoesOnOver (Serve batch false) (files.left old.schema) (files.left old.table) (bench.file old.bench) (bench.file old.spare) at left.base →
+  -- so with one that is brought up first, once it isn't behind the whole: until then it stands for the whole at the end alone
+  catches_on : OneReading → (batch : ℕ) → IsBatch batch → (begun : List Answered) → AreSoundFilesOf (files.left old.schema) (files.left old.table) left.base →
+      at ≡ over_all left.base at.history → IsFront at.history left.history →
+      CatchesUpOrStops left.base batch begun at.history (counted_lines (lines.left old.input)) before image (before ++ sent) →
       GoesOn first runs (record { deed = serves batch (lines.left old.input); left = left; sent = sent })
-  serves_on batch is serving ptold itold told goes =
-      stops_on batch is goes.0.files goes.1 ((serving.any_moment ptold itold told quiet left.base at.history goes.0).each image (before ++ sent) was)
-
-  -- and with one over two journals, once the file isn't behind the longer one: while it is brought up it stands for that one at the end alone
-  twins_on : (batch : ℕ) → IsBatch batch → OneReading → TwinServing files lines bench batch status old new → files.told → lines.told → bench.told →
-      GoesOnOver (Serve batch true) (files.left old.schema) (files.left old.table) (bench.file old.bench) (bench.file old.spare) at left.base →
-      IsFront at.history left.history → GoesOn first runs (record { deed = serves batch (lines.left old.input); left = left; sent = sent })
-  twins_on batch is one serving ptold itold told goes reaches =
+  catches_on one batch is begun sound stood reaches found =
       let text = counted_lines (lines.left old.input) in
-      stops_on batch is goes.2 goes.4 (
-      elim ((serving.twin_moment ptold itold told quiet left.base goes.0 goes.1 at.history (record { files = goes.2; together = goes.3 })).each image (before ++ sent) was) [
+      stops_on batch is sound stood (elim found [
         | inl catches ↦
             let same : catches.1.now ≡ left.history = (one image left.base.secret.shape (in_force left).setting.shape catches.1.now left.history catches.1.stands.0 stands.0
             catches.1.stands.1 stands.1).1 in
@@ -91,22 +85,63 @@ module _ {P I B : Type 0} (files : source.Ghosts P) (lines : source.Ghosts I) (b
             untouched_stops left.base batch at.history text image before image (before ++ sent)
             (subst (λ (h : List Answered). StandsFor image left.base.secret.shape h) (sym now) catches.1.stands) (catches.0, refl)
         | inr stops ↦ stops
-      ]
-      )
+      ])
 
-  -- and with one of `grow`
-  grows_on : Growing files lines bench status old new → files.told → bench.told →
-      GoesOnOver Grow (files.left old.schema) (files.left old.table) (bench.file old.bench) (bench.file old.spare) at left.base →
-      GoesOn first runs (record { deed = grows; left = left; sent = sent })
-  grows_on growing ptold told goes =
-      let found : IsBeforeOrGrown (over at.rows left.base.secret.shape) at.history left.base.secret.shape.rows before image (before ++ sent) =
-      (growing.growing ptold told quiet left.base at.rows at.history goes.0).each image (before ++ sent) was in
-      longer (files.left old.schema) (files.left old.table) first runs at (record { deed = grows; left = left; sent = sent }) goes.0.files life (record {
-        table = goes.1;
-        image = image;
-        stands = stands;
-        makes = (append_cancel_left before sent [] (found.0 ∙ sym (append-nil before)), found.1);
-      })
+  module _ (status : Status) (new : Objects P I B) (quiet : IsQuiet bench old.bench) (was : bench.since new.bench (bench.moment old.bench) image (before ++ sent)) where
+    -- with a run of `serve`
+    serves_on : (batch : ℕ) → IsBatch batch → Serving files lines bench batch status old new → files.told → lines.told → bench.told →
+        GoesOnOver (Serve batch false) (files.left old.schema) (files.left old.table) (bench.file old.bench) (bench.file old.spare) at left.base →
+        GoesOn first runs (record { deed = serves batch (lines.left old.input); left = left; sent = sent })
+    serves_on batch is serving ptold itold told goes =
+        stops_on batch is goes.0.files goes.1 ((serving.any_moment ptold itold told quiet left.base at.history goes.0).each image (before ++ sent) was)
+
+    -- with one over two journals
+    twins_on : (batch : ℕ) → IsBatch batch → OneReading → TwinServing files lines bench batch status old new → files.told → lines.told → bench.told →
+        GoesOnOver (Serve batch true) (files.left old.schema) (files.left old.table) (bench.file old.bench) (bench.file old.spare) at left.base →
+        IsFront at.history left.history → GoesOn first runs (record { deed = serves batch (lines.left old.input); left = left; sent = sent })
+    twins_on batch is one serving ptold itold told goes reaches =
+        catches_on one batch is goes.0 goes.2 goes.4 reaches
+        ((serving.twin_moment ptold itold told quiet left.base goes.0 goes.1 at.history (record { files = goes.2; together = goes.3 })).each image (before ++ sent) was)
+
+    -- and with one of `grow`
+    grows_on : Growing files lines bench status old new → files.told → bench.told →
+        GoesOnOver Grow (files.left old.schema) (files.left old.table) (bench.file old.bench) (bench.file old.spare) at left.base →
+        GoesOn first runs (record { deed = grows; left = left; sent = sent })
+    grows_on growing ptold told goes =
+        let found : IsBeforeOrGrown (over at.rows left.base.secret.shape) at.history left.base.secret.shape.rows before image (before ++ sent) =
+        (growing.growing ptold told quiet left.base at.rows at.history goes.0).each image (before ++ sent) was in
+        longer (files.left old.schema) (files.left old.table) first runs at (record { deed = grows; left = left; sent = sent }) goes.0.files life (record {
+          table = goes.1;
+          image = image;
+          stands = stands;
+          makes = (append_cancel_left before sent [] (found.0 ∙ sym (append-nil before)), found.1);
+        })
+
+-- of what a crash leaves of both files the spare alone
+pub left_of_spare : (base : Database) (batch : ℕ) (main other whole : List Answered) (lines : List CountedLine) (earlier sent all image spare : List ℕ) →
+    all ≡ earlier ++ sent → LeavesTwins base batch main other whole lines earlier all image spare →
+    CatchesUpOrStops base batch other whole lines earlier spare (earlier ++ sent)
+left_of_spare base batch main other whole lines earlier sent all image spare is (inl catches) = inl (sym is ∙ catches.0, catches.2)
+left_of_spare base batch main other whole lines earlier sent all image spare is (inr stops) = inr (stops.new, sym is ∙ stops.sent_is, stops.other)
+
+-- so a life goes on from the spare alone, too
+pub spare_goes_on : {P I B : Type 0} (files : source.Ghosts P) (lines : source.Ghosts I) (bench : Ghosts B) (batch : ℕ) (old new : Objects P I B) → RunsMakeLives →
+    OneReading → IsBatch batch →
+    ((base : Database) (main other whole : List Answered) →
+    TwinsOver (files.left old.schema) (files.left old.table) (bench.file old.bench) (bench.file old.spare) base main other whole →
+    (image sent : List ℕ) → bench.leaves new.spare image → bench.sent new.bench ≡ bench.sent old.bench ++ sent →
+    CatchesUpOrStops base batch other whole (counted_lines (lines.left old.input)) (bench.sent old.bench) image (bench.sent old.bench ++ sent)) →
+    (base : Database) (at : Standing) →
+    GoesOnOver (Serve batch true) (files.left old.schema) (files.left old.table) (bench.file old.bench) (bench.file old.spare) at base →
+    (first : Database) (runs : List Run) → IsLife first runs at → (image sent : List ℕ) (left : Standing) → left.base ≡ base →
+    bench.leaves new.spare image → bench.sent new.bench ≡ bench.sent old.bench ++ sent →
+    StandsFor image (in_force left).setting.shape left.history → IsFront at.history left.history →
+    GoesOn first runs (record { deed = serves batch (lines.left old.input); left = left; sent = sent })
+spare_goes_on files lines bench batch old new longer one is found base at goes first runs life image sent left same leaves all stands reaches =
+    let here = subst (λ (b : Database). GoesOnOver (Serve batch true) (files.left old.schema) (files.left old.table) (bench.file old.bench) (bench.file old.spare) at b)
+    (sym same) goes in
+    catches_on files lines bench old longer at first runs life image sent left stands one batch is here.1 here.2 here.4 reaches
+    (found left.base here.0 here.1 at.history (record { files = here.2; together = here.3 }) image sent leaves all)
 
 -- `serve` isn't `grow`, which reads no lines
 serves_lines : (batch : ℕ) (twin : Bool) → Serve batch twin ≢ Grow
@@ -122,14 +157,14 @@ pub goes_on : {P I B : Type 0} (files : source.Ghosts P) (lines : source.Ghosts 
     bench.since new.bench (bench.moment old.bench) image (bench.sent old.bench ++ sent) → StandsFor image (in_force left).setting.shape left.history →
     ((batch : ℕ) → command ≡ Serve batch true → IsFront at.history left.history) → GoesOn first runs (record { deed = deed_of command (lines.left old.input); left = left; sent = sent })
 goes_on files lines bench status old new longer one (Serve batch false) batches does ptold told itold quiet base at goes first runs life image sent left is was stands reaches =
-    serves_on files lines bench status old new longer quiet at first runs life image sent left was stands batch (batches batch false refl) does ptold (itold (serves_lines batch false)) told
+    serves_on files lines bench old longer at first runs life image sent left stands status new quiet was batch (batches batch false refl) does ptold (itold (serves_lines batch false)) told
     (subst (λ (b : Database). GoesOnOver (Serve batch false) (files.left old.schema) (files.left old.table) (bench.file old.bench) (bench.file old.spare) at b) (sym is) goes)
 goes_on files lines bench status old new longer one (Serve batch true) batches does ptold told itold quiet base at goes first runs life image sent left is was stands reaches =
-    twins_on files lines bench status old new longer quiet at first runs life image sent left was stands batch (batches batch true refl) one does ptold (itold (serves_lines batch true)) told
+    twins_on files lines bench old longer at first runs life image sent left stands status new quiet was batch (batches batch true refl) one does ptold (itold (serves_lines batch true)) told
     (subst (λ (b : Database). GoesOnOver (Serve batch true) (files.left old.schema) (files.left old.table) (bench.file old.bench) (bench.file old.spare) at b) (sym is) goes)
     (reaches batch refl)
 goes_on files lines bench status old new longer one Grow batches does ptold told itold quiet base at goes first runs life image sent left is was stands reaches =
-    grows_on files lines bench status old new longer quiet at first runs life image sent left was stands does ptold told
+    grows_on files lines bench old longer at first runs life image sent left stands status new quiet was does ptold told
     (subst (λ (b : Database). GoesOnOver Grow (files.left old.schema) (files.left old.table) (bench.file old.bench) (bench.file old.spare) at b) (sym is) goes)
 goes_on files lines bench status old new longer one command batches does ptold told itold quiet base at goes first runs life image sent left is was stands reaches = absurd goes
 

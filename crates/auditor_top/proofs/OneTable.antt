@@ -1,5 +1,5 @@
 -- What files mean is one table, and what a run leaves that answered nothing.
-use Rattle.std.proofs.Common.{◌≡◌, ℕ, ◌-◌, ◌*◌, List, [], ◌++◌, take, Bool, true, Option, Some, Result, Ok, IsOk, refl, sym, ◌∙◌, ap, subst, unwrap_or}
+use Rattle.std.proofs.Common.{◌≡◌, ℕ, ◌-◌, ◌*◌, List, [], ◌++◌, take, Result, Ok, IsOk, refl, sym, ◌∙◌, ap, subst, unwrap_or}
 use Rattle.std.specs.Result.{result_ok}
 use Rattle.std.proofs.Math.Nat.{zero-mul}
 use Rattle.std.proofs.Math.Seq.{take-nil}
@@ -13,7 +13,7 @@ use Rattle.schema_json.specs.Columns.{Column, Group, SchemaView}
 use Rattle.schema_json.specs.Reading.{schema_of}
 use Rattle.schema_json.specs.declared.faults.SchemaFault.{SchemaFault}
 use Rattle.table_load.specs.Cells.{PublicView, TableView}
-use Rattle.table_load.specs.Database.{Database, base_of, table_in}
+use Rattle.table_load.specs.Database.{Database, base_of}
 use Rattle.table_load.specs.MeaningLaws.{means_read}
 use Rattle.table_load.specs.Tables.{table_of}
 use Rattle.journal_form.specs.Journal.{StandsFor, StandsAt}
@@ -23,11 +23,7 @@ use Rattle.question_plan.specs.Session.{Replied, bytes_of, AreReplies, groups}
 use Rattle.question_plan.specs.Replies.{IsDue}
 use Rattle.audit_session.specs.Stops.{StopsOver}
 use Rattle.audit_session.specs.Ends.{ServesSome}
-use Rattle.std.specs.Bool.{OnTrue}
-use Rattle.auditor_top.specs.declared.words.Command.{Command}
-use Rattle.auditor_top.specs.Causes.{HoldsLegal}
-use Rattle.auditor_top.specs.Commands.{AreFilesOf, AreSoundFilesOf, ServesOver, reads_groups}
-use Rattle.auditor_top.proofs.OneCommand.{one_command}
+use Rattle.auditor_top.specs.Commands.{AreFilesOf, AreSoundFilesOf, ServesOver}
 use Rattle.auditor_top.specs.Ends.{StandsForWhat}
 
 -- one file has one history
@@ -96,18 +92,6 @@ pub groups_are_sound : OneListOfEntries → (schema : List ℕ) (columns : List 
     schema_of schema ≡ Ok asked → AreSound asked.columns asked.groups
 groups_are_sound law schema columns public groups protected asked is entries also =
     subst (λ (v : SchemaView). AreSound v.columns v.groups) (same_ok (schema_of schema) _ asked is also) (law.sound columns public groups protected entries)
-
--- so the history of the table that was opened is one of every table that the files mean
-pub holds_for : OneListOfEntries → (words : Option Command) (one asked : Command) → words ≡ Some one → words ≡ Some asked → reads_groups one ≡ true →
-    (schema table file : List ℕ) (seen base : Database) → AreSoundFilesOf schema table seen → HoldsLegal file (table_in seen) →
-    (files : AreFilesOf schema table base) → OnTrue (reads_groups asked) (AreEntries base.columns base.public files.groups base.protected) →
-    HoldsLegal file (table_in base)
-holds_for law words one asked is_one is_asked grouped schema table file seen base are holds files sound =
-    let reads : reads_groups asked ≡ true = ap reads_groups (one_command words asked one is_asked is_one) ∙ grouped in
-    subst (λ (b : Database). HoldsLegal file (table_in b)) (one_base law schema table seen base are (record {
-      files = files;
-      entries = subst (λ (b : Bool). OnTrue b (AreEntries base.columns base.public files.groups base.protected)) reads sound;
-    })) holds
 
 -- no group of lines has no replies
 none_due : (base : Database) (batch : ℕ) (history : List Answered) (lines : List CountedLine) → AreReplies (IsDue base) history (groups batch 0 lines) []

@@ -1,17 +1,25 @@
 -- What the fault of a file comes to, by cases on that fault.
-use Rattle.std.proofs.Common.{◌≡◌, ◌≢◌, ℕ, ◌≤◌, ◌+◌, Result, Ok, Err, refl, sym, ap, subst, arith}
+use Rattle.std.proofs.Common.{◌≡◌, ◌≢◌, ℕ, ◌≤◌, ◌+◌, Result, Ok, Err, refl, sym, ap, subst, arith, List}
 use Rattle.bench_core.specs.Causes.{Rose}
-use Rattle.schema_json.specs.Columns.{SchemaView}
+use Rattle.bench_core.specs.declared.source.Source as source
+use Rattle.schema_json.specs.Columns.{Column, SchemaView}
+use Rattle.schema_json.specs.Reading.{schema_of, most_schema}
+use Rattle.schema_json.specs.declared.faults.SchemaFault.TheVariants as schema_fault
+use Rattle.table_load.specs.Reading.{most_table}
+use Rattle.table_load.specs.declared.faults.TableFault.TheVariants as table_fault
 use Rattle.schema_json.specs.declared.faults.SchemaFault.{SchemaFault}
 use Rattle.table_load.specs.declared.faults.TableFault.{TableFault}
 use Rattle.auditor_top.specs.declared.files.FileFault.{FileFault}
 use Rattle.auditor_top.specs.declared.files.FileFault.TheVariants as file
-use Rattle.auditor_top.specs.declared.opening.OpenFault.{OpenFault}
 use Rattle.auditor_top.specs.declared.opening.OpenFault.TheVariants as opening
 use Rattle.auditor_top.specs.Status.{open_status}
 use Rattle.auditor_top.specs.Files.{IsFaultOf}
 use Rattle.auditor_top.specs.Causes.{FaultCause, SchemaCause, TableCause, counts}
+use Rattle.auditor_top.specs.Openings.{LeavesUnopened}
+use Rattle.auditor_top.specs.Reading.{TellsRead}
 use Rattle.auditor_top.specs.Stages.{Before, reading_table}
+use Rattle.auditor_top.proofs.OneTable.{same_ok}
+use Rattle.auditor_top.proofs.StepStatuses.{always_before}
 
 -- a count is no more than itself
 pub stays : (n : ℕ) → n ≤ n
@@ -25,53 +33,31 @@ one_more n = omega arith
 pub later_still : (a b c : ℕ) → a ≤ b → b ≤ c → a ≤ c
 later_still a b c first second = omega arith
 
--- ---- the fault is reported as it is
-
-pub same_schema_fault : {X Y : Type 0} (a b : FileFault SchemaFault) → ◌≡◌ {A = Result X OpenFault} (Err (opening.Schema a)) (Err (opening.Schema b))
-    → ◌≡◌ {A = Result Y (FileFault SchemaFault)} (Err a) (Err b)
-same_schema_fault a b is = cc
-
-pub same_table_fault : {X Y : Type 0} (a b : FileFault TableFault) → ◌≡◌ {A = Result X OpenFault} (Err (opening.Table a)) (Err (opening.Table b))
-    → ◌≡◌ {A = Result Y (FileFault TableFault)} (Err a) (Err b)
-same_table_fault a b is = cc
-
-pub not_table : {X : Type 0} (a : FileFault SchemaFault) (b : FileFault TableFault) →
-    ◌≢◌ {A = Result X OpenFault} (Err (opening.Schema a)) (Err (opening.Table b))
-not_table a b is = cc
-
-pub not_schema : {X : Type 0} (a : FileFault TableFault) (b : FileFault SchemaFault) →
-    ◌≢◌ {A = Result X OpenFault} (Err (opening.Table a)) (Err (opening.Schema b))
-not_schema a b is = cc
-
 -- ---- the schema's file
 
 pub schema_says : (fault : FileFault SchemaFault) (meant : Result SchemaView SchemaFault) → IsFaultOf fault meant →
     SchemaCause (open_status (opening.Schema fault)) meant
-schema_says file.Failed meant is = tt
-schema_says file.NoMemory meant is = tt
 schema_says (file.Bad f) meant is = is
+schema_says fault meant is = tt
 
 -- nothing is said of the table
 pub schema_only : {X : Type 0} (fault : FileFault SchemaFault) (meant : Result X TableFault) → TableCause (open_status (opening.Schema fault)) meant
 schema_only file.Failed meant = tt
-schema_only file.NoMemory meant = tt
-schema_only (file.Bad f) meant = tt
+schema_only fault meant = tt
 
 pub schema_faults : {X : Type 0} (fault : FileFault SchemaFault) (schema later table input bench spare : ℕ)
     → (◌≡◌ {A = Result X (FileFault SchemaFault)} (Err fault) (Err file.Failed) → Rose schema later)
     → (◌≢◌ {A = Result X (FileFault SchemaFault)} (Err fault) (Err file.Failed) → later ≡ schema)
     → FaultCause (open_status (opening.Schema fault)) (counts schema table input bench spare) (counts later table input bench spare)
 schema_faults file.Failed schema later table input bench spare failed steady = (failed refl, refl)
-schema_faults file.NoMemory schema later table input bench spare failed steady = ap (λ (n : ℕ). counts n table input bench spare) (steady (λ is. cc))
-schema_faults (file.Bad f) schema later table input bench spare failed steady = ap (λ (n : ℕ). counts n table input bench spare) (steady (λ is. cc))
+schema_faults fault schema later table input bench spare failed steady = ap (λ (n : ℕ). counts n table input bench spare) (steady (λ is. cc))
 
 -- ---- the table's file
 
 pub table_says : {X : Type 0} (fault : FileFault TableFault) (meant : Result X TableFault) → IsFaultOf fault meant →
     TableCause (open_status (opening.Table fault)) meant
-table_says file.Failed meant is = tt
-table_says file.NoMemory meant is = tt
 table_says (file.Bad f) meant is = is
+table_says fault meant is = tt
 
 -- the schema was read
 pub past_schema : (fault : FileFault TableFault) (meant : Result SchemaView SchemaFault) (schema : SchemaView) → meant ≡ Ok schema
@@ -103,3 +89,45 @@ pub at_table : (P : Type 0) (fault : FileFault TableFault) → Before reading_ta
 at_table P file.Failed = tt
 at_table P file.NoMemory = tt
 at_table P (file.Bad f) = tt
+
+-- ---- so the files weren't opened
+
+-- a call that failed is told as that
+abbrev DidFail : (Y : Type 0) {F : Type 0} → FileFault F → Type 0
+DidFail Y {F} fault = ◌≡◌ {A = Result Y (FileFault F)} (Err fault) (Err file.Failed)
+
+module _ {P X : Type 0} (files : source.Ghosts P) (meaning : List Column → List ℕ → Result X TableFault) where
+  pub schema_unopened : {Y : Type 0} (fault : FileFault SchemaFault) (schema later table : P) → (files.told → IsFaultOf fault (schema_of (files.left schema))) →
+      ◌≢◌ {A = Result Y (FileFault SchemaFault)} (Err fault) (Err (file.Bad schema_fault.NoMemory)) →
+      TellsRead files most_schema schema later (DidFail Y fault) → LeavesUnopened files meaning (opening.Schema fault) schema later table table
+  schema_unopened fault schema later table means own tells = record {
+    schema = λ told. schema_says fault _ (means told);
+    table = λ told meant is. schema_only fault _;
+    own_schema_fault = λ is. own cc;
+    own_table_fault = λ is. cc;
+    schema_within = λ told is. tells.within told cc;
+    table_within = λ told is. cc;
+    faults = λ input bench spare. schema_faults fault _ _ _ input bench spare tells.failed tells.steady;
+    schema_last = λ is. tells.last_call cc;
+    table_last = λ is. cc;
+    untouched = always_before reading_table (open_status (opening.Schema fault)) refl;
+  }
+
+  pub table_unopened : {Y : Type 0} (fault : FileFault TableFault) (schema later table left : P) (read : SchemaView) →
+      (files.told → schema_of (files.left schema) ≡ Ok read) → files.faults later ≡ files.faults schema →
+      (files.told → IsFaultOf fault (meaning read.columns (files.left table))) →
+      ◌≢◌ {A = Result Y (FileFault TableFault)} (Err fault) (Err (file.Bad table_fault.NoMemory)) →
+      TellsRead files most_table table left (DidFail Y fault) → LeavesUnopened files meaning (opening.Table fault) schema later table left
+  table_unopened fault schema later table left read schema_is same means own tells = record {
+    schema = λ told. past_schema fault _ read (schema_is told);
+    table = λ told meant is. table_says fault _
+        (subst (λ (s : SchemaView). IsFaultOf fault (meaning s.columns (files.left table))) (same_ok _ read meant (schema_is told) is) (means told));
+    own_schema_fault = λ is. cc;
+    own_table_fault = λ is. own cc;
+    schema_within = λ told is. cc;
+    table_within = λ told is. tells.within told cc;
+    faults = λ input bench spare. table_faults fault _ _ _ _ input bench spare same tells.failed tells.steady;
+    schema_last = λ is. cc;
+    table_last = λ is. tells.last_call cc;
+    untouched = at_table _ fault;
+  }

@@ -1,51 +1,13 @@
 -- The plain spellings of the commands are commands, whatever number they hold.
-use Rattle.std.proofs.Common.{◌≡◌, ℕ, ◌≤◌, ◌<◌, ◌^◌, Bool, true, false, nat_le, List, [], ◌∷◌, ◌++◌, Option, Some, None, option_and_then, refl, codes, ap, sym, subst, ◌∙◌, inl, inr, arith, cond}
+use Rattle.std.proofs.Common.{◌≡◌, ℕ, ◌+◌, ◌≤◌, ◌<◌, ◌^◌, Bool, true, false, nat_le, List, [], ◌∷◌, ◌++◌, Option, Some, None, option_and_then, refl, codes, ap, subst, ◌∙◌, inl, inr, arith, cond}
 use Rattle.std.specs.List.{list_all}
 use Rattle.std.specs.Char.{is_ascii_digit}
 use Rattle.std.proofs.lemmas.Bool.{cases_lt, and_parts, and_from, cond-true, le-leb, leb-true, lt-ltb}
 use Rattle.clap.proofs.OnLiterals.{clap_on_literals}
 use Rattle.audit_session.specs.Stops.{IsBatch}
 use Rattle.auditor_top.specs.declared.words.Command.{Command}
-use Rattle.auditor_top.specs.declared.words.Command.TheVariants.{Init, Serve, Audit, Simulate, Drill, Grow, Explain, Compact, Restore}
+use Rattle.auditor_top.specs.declared.words.Command.TheVariants.{Serve, Drill}
 use Rattle.auditor_top.specs.Words.{command_of, number_of, serve_with, drill_with, twinned}
-
--- ---- one word
-
-pub init_is : command_of (codes "init" ∷ []) ≡ Some Init
-unfolding command_of clap_on_literals
-init_is = refl
-
-pub serve_is : command_of (codes "serve" ∷ []) ≡ Some (Serve 1 false)
-unfolding command_of clap_on_literals
-serve_is = refl
-
-pub twin_is : command_of (codes "serve" ∷ codes "--twin" ∷ []) ≡ Some (Serve 1 true)
-unfolding command_of clap_on_literals
-twin_is = refl
-
-pub audit_is : command_of (codes "audit" ∷ []) ≡ Some Audit
-unfolding command_of clap_on_literals
-audit_is = refl
-
-pub simulate_is : command_of (codes "simulate" ∷ []) ≡ Some Simulate
-unfolding command_of clap_on_literals
-simulate_is = refl
-
-pub grow_is : command_of (codes "grow" ∷ []) ≡ Some Grow
-unfolding command_of clap_on_literals
-grow_is = refl
-
-pub explain_is : command_of (codes "explain" ∷ []) ≡ Some Explain
-unfolding command_of clap_on_literals
-explain_is = refl
-
-pub compact_is : command_of (codes "compact" ∷ []) ≡ Some Compact
-unfolding command_of clap_on_literals
-compact_is = refl
-
-pub restore_is : command_of (codes "restore" ∷ []) ≡ Some Restore
-unfolding command_of clap_on_literals
-restore_is = refl
 
 -- ---- without the flag
 
@@ -71,91 +33,25 @@ unfolding command_of clap_on_literals
 twin_in_one_word word = refl
 
 -- what holds of each digit holds of every byte between the first digit and the last
-each_digit : (P : ℕ → Type 0) → P 48 → P 49 → P 50 → P 51 → P 52 → P 53 → P 54 → P 55 → P 56 → P 57 → (x : ℕ) → 48 ≤ x → x ≤ 57 → P x
-each_digit P at_48 at_49 at_50 at_51 at_52 at_53 at_54 at_55 at_56 at_57 x least most =
-    let same : (d : ℕ) → x ≡ d → P d → P x = λ d is at. subst P (sym is) at in
-    elim (cases_lt x 49) [
-      | inl low ↦ same 48 (omega (arith, least)) at_48
-      | inr high ↦
-          elim (cases_lt x 50) [
-            | inl low ↦ same 49 (omega arith) at_49
-            | inr high ↦
-                elim (cases_lt x 51) [
-                  | inl low ↦ same 50 (omega arith) at_50
-                  | inr high ↦
-                      elim (cases_lt x 52) [
-                        | inl low ↦ same 51 (omega arith) at_51
-                        | inr high ↦
-                            elim (cases_lt x 53) [
-                              | inl low ↦ same 52 (omega arith) at_52
-                              | inr high ↦
-                                  elim (cases_lt x 54) [
-                                    | inl low ↦ same 53 (omega arith) at_53
-                                    | inr high ↦
-                                        elim (cases_lt x 55) [
-                                          | inl low ↦ same 54 (omega arith) at_54
-                                          | inr high ↦
-                                              elim (cases_lt x 56) [
-                                                | inl low ↦ same 55 (omega arith) at_55
-                                                | inr high ↦
-                                                    elim (cases_lt x 57) [
-                                                      | inl low ↦ same 56 (omega arith) at_56
-                                                      | inr high ↦ same 57 (omega (arith, most)) at_57
-                                                    ]
-                                              ]
-                                        ]
-                                  ]
-                            ]
-                      ]
-                ]
-          ]
-    ]
+abbrev EachDigit : (ℕ → Type 0) → Type 0
+EachDigit P = P 48 × P 49 × P 50 × P 51 × P 52 × P 53 × P 54 × P 55 × P 56 × P 57
+
+each_digit : (P : ℕ → Type 0) → EachDigit P → (x : ℕ) → 48 ≤ x → x ≤ 57 → P x
+each_digit P each =
+    from 48 each.0 (from 49 each.1 (from 50 each.2 (from 51 each.3 (from 52 each.4 (from 53 each.5 (from 54 each.6 (from 55 each.7 (from 56 each.8 (from 57 each.9
+    (λ x least most. absurd (omega (arith, least, most))))))))))))
+  where
+    from : (k : ℕ) → P k → ((x : ℕ) → k + 1 ≤ x → x ≤ 57 → P x) → (x : ℕ) → k ≤ x → x ≤ 57 → P x
+    from k at rest x least most =
+        elim (cases_lt x (k + 1)) [
+          | inl low ↦ let same : k ≡ x = omega (arith, least) in subst P same at
+          | inr high ↦ rest x high most
+        ]
 
 -- a word that begins with a digit is the batch
-at_48 : (xs : List ℕ) → command_of (codes "serve" ∷ codes "--batch" ∷ (48 ∷ xs) ∷ []) ≡ again (serve_with (number_of (48 ∷ xs)))
+served_at : (xs : List ℕ) → EachDigit (λ (k : ℕ). command_of (codes "serve" ∷ codes "--batch" ∷ (k ∷ xs) ∷ []) ≡ again (serve_with (number_of (k ∷ xs))))
 unfolding command_of clap_on_literals
-at_48 xs = refl
-
-at_49 : (xs : List ℕ) → command_of (codes "serve" ∷ codes "--batch" ∷ (49 ∷ xs) ∷ []) ≡ again (serve_with (number_of (49 ∷ xs)))
-unfolding command_of clap_on_literals
-at_49 xs = refl
-
-at_50 : (xs : List ℕ) → command_of (codes "serve" ∷ codes "--batch" ∷ (50 ∷ xs) ∷ []) ≡ again (serve_with (number_of (50 ∷ xs)))
-unfolding command_of clap_on_literals
-at_50 xs = refl
-
-at_51 : (xs : List ℕ) → command_of (codes "serve" ∷ codes "--batch" ∷ (51 ∷ xs) ∷ []) ≡ again (serve_with (number_of (51 ∷ xs)))
-unfolding command_of clap_on_literals
-at_51 xs = refl
-
-at_52 : (xs : List ℕ) → command_of (codes "serve" ∷ codes "--batch" ∷ (52 ∷ xs) ∷ []) ≡ again (serve_with (number_of (52 ∷ xs)))
-unfolding command_of clap_on_literals
-at_52 xs = refl
-
-at_53 : (xs : List ℕ) → command_of (codes "serve" ∷ codes "--batch" ∷ (53 ∷ xs) ∷ []) ≡ again (serve_with (number_of (53 ∷ xs)))
-unfolding command_of clap_on_literals
-at_53 xs = refl
-
-at_54 : (xs : List ℕ) → command_of (codes "serve" ∷ codes "--batch" ∷ (54 ∷ xs) ∷ []) ≡ again (serve_with (number_of (54 ∷ xs)))
-unfolding command_of clap_on_literals
-at_54 xs = refl
-
-at_55 : (xs : List ℕ) → command_of (codes "serve" ∷ codes "--batch" ∷ (55 ∷ xs) ∷ []) ≡ again (serve_with (number_of (55 ∷ xs)))
-unfolding command_of clap_on_literals
-at_55 xs = refl
-
-at_56 : (xs : List ℕ) → command_of (codes "serve" ∷ codes "--batch" ∷ (56 ∷ xs) ∷ []) ≡ again (serve_with (number_of (56 ∷ xs)))
-unfolding command_of clap_on_literals
-at_56 xs = refl
-
-at_57 : (xs : List ℕ) → command_of (codes "serve" ∷ codes "--batch" ∷ (57 ∷ xs) ∷ []) ≡ again (serve_with (number_of (57 ∷ xs)))
-unfolding command_of clap_on_literals
-at_57 xs = refl
-
-by_digit : (x : ℕ) (xs : List ℕ) → 48 ≤ x → x ≤ 57 → command_of (codes "serve" ∷ codes "--batch" ∷ (x ∷ xs) ∷ []) ≡ again (serve_with (number_of (x ∷ xs)))
-by_digit x xs =
-    each_digit (λ (k : ℕ). command_of (codes "serve" ∷ codes "--batch" ∷ (k ∷ xs) ∷ []) ≡ again (serve_with (number_of (k ∷ xs))))
-    (at_48 xs) (at_49 xs) (at_50 xs) (at_51 xs) (at_52 xs) (at_53 xs) (at_54 xs) (at_55 xs) (at_56 xs) (at_57 xs) x
+served_at xs = (refl, refl, refl, refl, refl, refl, refl, refl, refl, refl)
 
 -- if a number is chosen, it is by the test
 some_if : (b : Bool) (x y : ℕ) → cond b (Some x) None ≡ Some y → b ≡ true
@@ -174,7 +70,8 @@ in_next_word : (word : List ℕ) (batch : ℕ) → number_of word ≡ Some batch
 in_next_word [] batch is = cc
 in_next_word (x ∷ xs) batch is =
     let digit = first_digit x xs batch is in
-    by_digit x xs digit.0 digit.1
+    each_digit (λ (k : ℕ). command_of (codes "serve" ∷ codes "--batch" ∷ (k ∷ xs) ∷ []) ≡ again (serve_with (number_of (k ∷ xs))))
+    (served_at xs) x digit.0 digit.1
 
 -- a number of 1 to 64 is a batch
 is_served : (number : Option ℕ) (batch : ℕ) → number ≡ Some batch → IsBatch batch → serve_with number ≡ Some (Serve batch false)
@@ -195,45 +92,9 @@ twin_batch_is word batch is within = twin_in_one_word word ∙ ap (λ (k : Optio
 -- ---- `drill` with a number
 
 -- a word that begins with a digit is the number
-drill_48 : (xs : List ℕ) → command_of (codes "drill" ∷ (48 ∷ xs) ∷ []) ≡ again (drill_with (number_of (48 ∷ xs)))
+drilled_at : (xs : List ℕ) → EachDigit (λ (k : ℕ). command_of (codes "drill" ∷ (k ∷ xs) ∷ []) ≡ again (drill_with (number_of (k ∷ xs))))
 unfolding command_of clap_on_literals
-drill_48 xs = refl
-
-drill_49 : (xs : List ℕ) → command_of (codes "drill" ∷ (49 ∷ xs) ∷ []) ≡ again (drill_with (number_of (49 ∷ xs)))
-unfolding command_of clap_on_literals
-drill_49 xs = refl
-
-drill_50 : (xs : List ℕ) → command_of (codes "drill" ∷ (50 ∷ xs) ∷ []) ≡ again (drill_with (number_of (50 ∷ xs)))
-unfolding command_of clap_on_literals
-drill_50 xs = refl
-
-drill_51 : (xs : List ℕ) → command_of (codes "drill" ∷ (51 ∷ xs) ∷ []) ≡ again (drill_with (number_of (51 ∷ xs)))
-unfolding command_of clap_on_literals
-drill_51 xs = refl
-
-drill_52 : (xs : List ℕ) → command_of (codes "drill" ∷ (52 ∷ xs) ∷ []) ≡ again (drill_with (number_of (52 ∷ xs)))
-unfolding command_of clap_on_literals
-drill_52 xs = refl
-
-drill_53 : (xs : List ℕ) → command_of (codes "drill" ∷ (53 ∷ xs) ∷ []) ≡ again (drill_with (number_of (53 ∷ xs)))
-unfolding command_of clap_on_literals
-drill_53 xs = refl
-
-drill_54 : (xs : List ℕ) → command_of (codes "drill" ∷ (54 ∷ xs) ∷ []) ≡ again (drill_with (number_of (54 ∷ xs)))
-unfolding command_of clap_on_literals
-drill_54 xs = refl
-
-drill_55 : (xs : List ℕ) → command_of (codes "drill" ∷ (55 ∷ xs) ∷ []) ≡ again (drill_with (number_of (55 ∷ xs)))
-unfolding command_of clap_on_literals
-drill_55 xs = refl
-
-drill_56 : (xs : List ℕ) → command_of (codes "drill" ∷ (56 ∷ xs) ∷ []) ≡ again (drill_with (number_of (56 ∷ xs)))
-unfolding command_of clap_on_literals
-drill_56 xs = refl
-
-drill_57 : (xs : List ℕ) → command_of (codes "drill" ∷ (57 ∷ xs) ∷ []) ≡ again (drill_with (number_of (57 ∷ xs)))
-unfolding command_of clap_on_literals
-drill_57 xs = refl
+drilled_at xs = (refl, refl, refl, refl, refl, refl, refl, refl, refl, refl)
 
 -- a number begins with a digit
 with_number : (word : List ℕ) (number : ℕ) → number_of word ≡ Some number → command_of (codes "drill" ∷ word ∷ []) ≡ again (drill_with (number_of word))
@@ -241,8 +102,7 @@ with_number [] number is = cc
 with_number (x ∷ xs) number is =
     let digit = first_digit x xs number is in
     each_digit (λ (k : ℕ). command_of (codes "drill" ∷ (k ∷ xs) ∷ []) ≡ again (drill_with (number_of (k ∷ xs))))
-    (drill_48 xs) (drill_49 xs) (drill_50 xs) (drill_51 xs) (drill_52 xs) (drill_53 xs) (drill_54 xs) (drill_55 xs) (drill_56 xs)
-    (drill_57 xs) x digit.0 digit.1
+    (drilled_at xs) x digit.0 digit.1
 
 is_drilled : (found : Option ℕ) (number : ℕ) → found ≡ Some number → number < 2 ^ 32 → drill_with found ≡ Some (Drill number)
 is_drilled found number is small = ap drill_with is ∙ cond-true _ _ _ (lt-ltb number (2 ^ 32) small)

@@ -1,5 +1,5 @@
 -- What a run does whose command never went on: its files or its journal were refused, a call failed, or memory ran out.
-use Rattle.std.proofs.Common.{◌≡◌, ℕ, true, false, List, [], Option, Some, refl, sym, ◌∙◌, subst, inl, inr}
+use Rattle.std.proofs.Common.{◌≡◌, ℕ, Bool, true, false, List, [], Option, Some, refl, sym, ◌∙◌, subst, inl, inr}
 use Rattle.std.proofs.lemmas.Bool.{false≢true}
 use Rattle.std.proofs.lemmas.List.{append-nil}
 use Rattle.audit_types.specs.declared.records.Answered.{Answered}
@@ -13,7 +13,7 @@ use Rattle.table_load.specs.Database.{Database, table_in}
 use Rattle.journal_form.specs.Journal.{StandsFor}
 use Rattle.answer_journal.specs.Moments.{IsMade}
 use Rattle.line_wire.specs.Lines.{CountedLine, counted_lines}
-use Rattle.audit_session.specs.Stops.{StopsOver}
+use Rattle.audit_session.specs.Stops.{IsBatch, IsFront, StopsOver}
 use Rattle.audit_session.specs.Ends.{ServesSome}
 use Rattle.journal_audit.specs.Reports.{subjects, ReportsFront}
 use Rattle.journal_audit.specs.SendLaws.{none_front}
@@ -22,7 +22,7 @@ use Rattle.auditor_top.specs.declared.words.Command.TheVariants.{Init, Serve, Au
 use Rattle.auditor_top.specs.declared.status.Status.{Status}
 use Rattle.auditor_top.specs.declared.status.Status.TheVariants.{Done}
 use Rattle.audit_types.specs.declared.shapes.Shape.{Shape}
-use Rattle.audit_session.specs.Stops.{IsFront}
+use Rattle.twin_journal.specs.Fronts.{main_is_legal, spare_is_legal}
 use Rattle.twin_journal.specs.Twins.{StandsBetween}
 use Rattle.auditor_top.specs.Stages.{opening_journal}
 use Rattle.auditor_top.specs.Twins.{TwinEnds}
@@ -30,11 +30,13 @@ use Rattle.auditor_top.specs.Causes.{BothCause, FaultCause, NothingFailed, IsDon
 use Rattle.auditor_top.specs.Commands.{AreSoundFilesOf, opens_store}
 use Rattle.auditor_top.specs.Compactions.{CompactEnds}
 use Rattle.auditor_top.specs.Ends.{AuditEnds, GrowEnds, LeavesFile, ServeEnds, SimulateEnds, SendsLines, StandsForWhat, ExplainEnds, audit_over, outside, public_part}
+use Rattle.auditor_top.specs.Promise.{RunsMakeLives}
 use Rattle.auditor_top.specs.Ready.{IsGiven, EndsEarly, GivesUp}
 use Rattle.auditor_top.specs.Runs.{Objects, objects, faults_of, Does, Making, Serving, Auditing, Simulating, Drilling, Growing, Explaining, Compacting, TwinServing, Restoring}
 use Rattle.auditor_top.proofs.AuditEndings.{untouched_report}
 use Rattle.auditor_top.proofs.ExplainEndings.{none_first, untouched_lines}
-use Rattle.auditor_top.proofs.OneTable.{nothing_served, untouched_stops}
+use Rattle.auditor_top.proofs.OneRunMore.{spare_goes_on}
+use Rattle.auditor_top.proofs.OneTable.{OneReading, nothing_served, untouched_stops}
 use Rattle.auditor_top.proofs.SimulationEndings.{none_begun, no_verdict}
 use Rattle.auditor_top.proofs.StepFaults.{not_made}
 use Rattle.auditor_top.proofs.StepStatuses.{always_before, by_giving_up}
@@ -137,13 +139,18 @@ module _ {P I B : Type 0} (files : source.Ghosts P) (lines : source.Ghosts I) (b
         wants (gives_up (Serve batch false) is ptold (λ opens. told) (base, history, over)) none;
   }
 
-  untwinned : OnlyReads bench spare spare → (batch : ℕ) → asked ≡ Some (Serve batch true) → TwinServing files lines bench batch status old new
-  untwinned spared batch is =
+  untwinned : StopsAreLegal → RunsMakeLives → OneReading → OnlyReads bench spare spare → (batch : ℕ) → IsBatch batch → asked ≡ Some (Serve batch true) →
+      TwinServing files lines bench batch status old new
+  untwinned legal longer one spared batch few is =
       let gave = λ (ptold : files.told) (told : bench.told). gives_up (Serve batch true) is ptold (λ opens. told) in
       record {
         twins_served = λ ptold itold told base main other whole over.
-            by_giving_up (λ (s : Status). TwinEnds batch s base whole (outside lines bench input at) (outside lines bench input later) (bench.file spare)) status
-            (gave ptold told (base, over.files)) (reads.sent, reads.file) (reads.sent, reads.file) tt (inl reads.sent);
+            by_giving_up (λ (s : Status). TwinEnds batch s base main other whole (outside lines bench input at) (outside lines bench input later) (bench.file spare))
+            status (gave ptold told (base, over.files)) (reads.sent, reads.file) (reads.sent, reads.file) tt (inl (
+              reads.sent,
+              at_first base.secret.shape main whole over.together.main_stands over.together.main_front (bench.file later) reads.file,
+              at_first base.secret.shape other whole over.together.spare_stands over.together.spare_front (bench.file spare) refl,
+            ));
         twin_moment = λ ptold itold told quiet base main other whole over.
             weakens bench at later (IsUntouched (bench.file at) (bench.sent at)) _
             (λ image sent same. inl (same.0, at_first base.secret.shape main whole over.together.main_stands over.together.main_front image same.1)) (reads.untouched quiet);
@@ -151,17 +158,31 @@ module _ {P I B : Type 0} (files : source.Ghosts P) (lines : source.Ghosts I) (b
             weakens bench spare spare (IsUntouched (bench.file spare) (bench.sent spare)) _
             (λ image sent same. inl (same.0, at_first base.secret.shape other whole over.together.spare_stands over.together.spare_front image same.1))
             (spared.untouched quiet);
-        twins_left = λ ptold itold told quiet spare_quiet failed base main other whole over image found left left_there. inl (
+        twins_left = λ ptold itold told quiet spare_quiet base main other whole over image found left left_there. inl (
           reads.sent,
           at_first base.secret.shape main whole over.together.main_stands over.together.main_front image (quiet image (reads.crash image left)),
           at_first base.secret.shape other whole over.together.spare_stands over.together.spare_front found (spare_quiet found left_there),
         );
+        spare_lives = λ ptold itold told quiet spare_quiet. spare_goes_on files lines bench batch old new longer one few
+            (λ base main other whole over image sent left all. inl (
+              sym all ∙ reads.sent,
+              at_first base.secret.shape other whole over.together.spare_stands over.together.spare_front image (spare_quiet image left),
+            ));
+        undisclosed = λ ptold told quiet base main other whole over image sent now was.
+            legal _ _ (bench.sent at) image sent base batch main now [] over.files (main_is_legal (table_in base) _ _ main other whole over.together)
+            (untouched_stops base batch main [] (bench.file at) (bench.sent at) image sent over.together.main_stands ((reads.untouched quiet).each image sent was));
+        spare_undisclosed = λ ptold told quiet base main other whole over image sent now was.
+            legal _ _ (bench.sent spare) image sent base batch other now [] over.files (spare_is_legal (table_in base) _ _ main other whole over.together)
+            (untouched_stops base batch other [] (bench.file spare) (bench.sent spare) image sent over.together.spare_stands
+            ((spared.untouched quiet).each image sent was));
         apart = λ ptold told quiet none. reads.untouched quiet;
         spare_apart = λ ptold told quiet none. spared.untouched quiet;
         cause = λ ptold told base sound.
             by_giving_up (λ (s : Status). BothCause s (Serve batch true) (bench.file at) (bench.file spare) (table_in base)) status (gave ptold told (base, sound)) tt tt tt tt;
         spare_quiet = λ told quiet fine. quiet;
         spare_unsent = refl;
+        twin_calls = λ ptold itold told done base main other whole over. never_done status early done;
+        spare_calls = λ ptold itold told done base main other whole over. never_done status early done;
         twins_complete = λ ptold itold told base main other whole over within none fine. wants (gave ptold told (base, over.files)) none;
       }
 
@@ -186,6 +207,7 @@ module _ {P I B : Type 0} (files : source.Ghosts P) (lines : source.Ghosts I) (b
         spare_quiet = λ told quiet fine. quiet;
         unsent = (reads.sent, refl);
         uncalled = always_before opening_journal status refl;
+        restore_calls = λ told done. never_done status early done;
         restores = λ ptold told base sound can none fine. wants (gave ptold told (base, sound)) none;
       }
 
@@ -288,16 +310,17 @@ module _ {P I B : Type 0} (files : source.Ghosts P) (lines : source.Ghosts I) (b
         compacts = λ ptold told unmade base history over none fine. wants (gives_up Compact is ptold (λ opens. told) (base, history, over)) none;
       }
 
-  pub refused : StopsAreLegal → OnlyReads bench spare spare →
+  pub refused : StopsAreLegal → RunsMakeLives → OneReading → ((batch : ℕ) (twin : Bool) → asked ≡ Some (Serve batch twin) → IsBatch batch) →
+      OnlyReads bench spare spare →
       ((number : ℕ) → asked ≡ Some (Drill number) → Drilling files lines bench number status old new) →
       (command : Command) → asked ≡ Some command → Does files lines bench command status old new
-  refused legal spared drilled Init is = unmade is
-  refused legal spared drilled (Serve batch false) is = unserved legal batch is
-  refused legal spared drilled (Serve batch true) is = untwinned spared batch is
-  refused legal spared drilled Audit is = unaudited is
-  refused legal spared drilled Simulate is = unsimulated is
-  refused legal spared drilled (Drill number) is = drilled number is
-  refused legal spared drilled Grow is = ungrown is
-  refused legal spared drilled Explain is = unexplained is
-  refused legal spared drilled Compact is = uncompacted spared is
-  refused legal spared drilled Restore is = unrestored spared is
+  refused legal longer one batches spared drilled Init is = unmade is
+  refused legal longer one batches spared drilled (Serve batch false) is = unserved legal batch is
+  refused legal longer one batches spared drilled (Serve batch true) is = untwinned legal longer one spared batch (batches batch true is) is
+  refused legal longer one batches spared drilled Audit is = unaudited is
+  refused legal longer one batches spared drilled Simulate is = unsimulated is
+  refused legal longer one batches spared drilled (Drill number) is = drilled number is
+  refused legal longer one batches spared drilled Grow is = ungrown is
+  refused legal longer one batches spared drilled Explain is = unexplained is
+  refused legal longer one batches spared drilled Compact is = uncompacted spared is
+  refused legal longer one batches spared drilled Restore is = unrestored spared is

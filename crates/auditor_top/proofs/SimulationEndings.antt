@@ -1,5 +1,5 @@
 -- What a simulation comes to, by cases on how it ended.
-use Rattle.std.proofs.Common.{rules, ◌≡◌, ◌≢◌, ℕ, ◌^◌, ◌≤◌, List, [], length, Result, Ok, Err, refl, sym, ◌∙◌, inl, inr, ap, subst, arith}
+use Rattle.std.proofs.Common.{rules, ◌≡◌, ◌≢◌, ℕ, ◌^◌, ◌≤◌, List, [], length, Result, Ok, Err, refl, sym, ◌∙◌, inl, inr, ap, subst, arith, Some, OnOk}
 use Rattle.std.proofs.lemmas.List.{append-nil}
 use Rattle.audit_types.specs.declared.records.Answered.{Answered}
 use Rattle.audit_types.specs.declared.records.Protected.{Protected}
@@ -17,12 +17,18 @@ use Rattle.transcript_sim.specs.declared.simulating.SimulationFault.TheVariants 
 use Rattle.transcript_sim.specs.Verdicts.{AreVerdicts}
 use Rattle.transcript_sim.specs.Laws.{FirstLinesHaveVerdicts}
 use Rattle.transcript_sim.specs.Ends.{BeginVerdicts, EndVerdicts, EndSends, EndReads, SimulatesMeanwhile}
+use Rattle.audit_types.specs.History.{Table as Guarded}
+use Rattle.auditor_top.specs.declared.words.Command.TheVariants as command
 use Rattle.auditor_top.specs.Status.{simulation_status}
 use Rattle.auditor_top.specs.Ends.{SimulateEnds, SendsLines}
 use Rattle.auditor_top.specs.Commands.{ArePublicFilesOf}
-use Rattle.auditor_top.specs.Causes.{FaultCounts, FaultCause, InputCause, NothingFailed, IsDoneOrWants}
+use Rattle.auditor_top.specs.Causes.{FaultCounts, FaultCause, InputCause, NothingFailed, IsDoneOrWants, WordCause, FileCause}
 use Rattle.auditor_top.proofs.OneTable.{same_ok}
-use Rattle.auditor_top.proofs.StepFaults.{not_both, same_counts}
+use Rattle.auditor_top.proofs.StepFaults.{same_counts}
+use Rattle.auditor_top.specs.declared.status.Which.TheVariants.{Input}
+use Rattle.auditor_top.specs.declared.status.Status.TheVariants.{Done, SourceFault, BenchFault}
+use Rattle.auditor_top.specs.Stages.{Before, reading_lines}
+use Rattle.auditor_top.proofs.StepStatuses.{EndsLastStep}
 
 abbrev index_of : PublicView → List Protected → IndexView
 index_of public protected = record { public = public; protected = protected }
@@ -60,54 +66,51 @@ pub no_verdict : (told : Type 0) (columns : List Column) (public : IndexView) (l
     sent ≡ before → SimulatesMeanwhile told columns public lines file before image sent
 no_verdict told columns public lines file before image sent same none = (same, λ t. ([], none_begun columns public lines, (0, none ∙ sym (append-nil before))))
 
+-- what its status says by itself
+pub record SimulationSays {X : Type 0} (ended : Result X SimulationFault) : Type 1 where
+  pub last : EndsLastStep (simulation_status ended)
+  pub words : WordCause (simulation_status ended) (Some command.Simulate)
+  pub bench : simulation_status ended ≡ BenchFault → ended ≡ Err verdict.Bench
+  pub input : simulation_status ended ≡ SourceFault Input → ended ≡ Err verdict.Input
+  pub done : (P : Type 0) → simulation_status ended ≡ Done → OnOk ended P → P
+  pub at_lines : (P : Type 0) → Before reading_lines (simulation_status ended) P
+  pub file : (file : List ℕ) (table : Guarded) → FileCause (simulation_status ended) command.Simulate file table
+
+pub simulation_says : {X : Type 0} (ended : Result X SimulationFault) → SimulationSays ended
+simulation_says (Err verdict.Input) = search rules
+simulation_says ended = search rules
+
 -- ---- reading the transcript
 
 -- the ends of a simulation are those of the run
 pub simulation_ends : (ended : Result (Unit {0}) SimulationFault) (columns : List Column) (public : IndexView) (input left : List ℕ)
     (verdicts : List (Replied Answered)) →
     EndVerdicts ended columns public input left verdicts → SimulateEnds (simulation_status ended) columns public input left verdicts
-simulation_ends (Ok done) columns public input left verdicts are = are
 simulation_ends (Err verdict.Input) columns public input left verdicts are = are
-simulation_ends (Err verdict.Limit) columns public input left verdicts are = are
-simulation_ends (Err (verdict.Disagrees line due)) columns public input left verdicts are = are
-simulation_ends (Err verdict.Bench) columns public input left verdicts are = are
-simulation_ends (Err verdict.NoMemory) columns public input left verdicts are = are
+simulation_ends ended columns public input left verdicts are = are
 
 pub simulation_sends : (ended : Result (Unit {0}) SimulationFault) (verdicts : List (Replied Answered)) (before after : List ℕ) →
     EndSends ended verdicts before after → SendsLines (simulation_status ended) (bytes_of verdicts) before after
-simulation_sends (Ok done) verdicts before after sends = sends
 simulation_sends (Err verdict.Input) verdicts before after sends = sends
-simulation_sends (Err verdict.Limit) verdicts before after sends = sends
-simulation_sends (Err (verdict.Disagrees line due)) verdicts before after sends = sends
-simulation_sends (Err verdict.Bench) verdicts before after sends = sends
-simulation_sends (Err verdict.NoMemory) verdicts before after sends = sends
+simulation_sends ended verdicts before after sends = sends
 
 -- how much of the input there was, by the end
 pub simulation_reads : (ended : Result (Unit {0}) SimulationFault) (before after : List ℕ) → EndReads ended before after →
     InputCause (simulation_status ended) before after
-simulation_reads (Ok done) before after reads = reads
-simulation_reads (Err verdict.Input) before after reads = reads
-simulation_reads (Err verdict.Limit) before after reads = reads
-simulation_reads (Err (verdict.Disagrees line due)) before after reads = reads
 simulation_reads (Err verdict.Bench) before after reads = tt
 simulation_reads (Err verdict.NoMemory) before after reads = tt
+simulation_reads ended before after reads = reads
 
 -- the count of what failed rose, and no other changed
 pub simulation_faults : (ended : Result (Unit {0}) SimulationFault) (before : FaultCounts) (input bench : ℕ)
     → (ended ≡ Err verdict.Input → Rose before.input input) → (ended ≢ Err verdict.Input → input ≡ before.input)
     → (ended ≡ Err verdict.Bench → Rose before.bench bench) → (ended ≢ Err verdict.Bench → bench ≡ before.bench) →
     FaultCause (simulation_status ended) before (record before { input = input; bench = bench })
-simulation_faults (Ok done) before input bench input_rose input_same bench_rose bench_same =
-    same_counts before input bench (input_same (not_both done verdict.Input)) (bench_same (not_both done verdict.Bench))
 simulation_faults (Err verdict.Input) before input bench input_rose input_same bench_rose bench_same =
     (input_rose refl, same_counts (record before { input = input }) input bench refl (bench_same (search rules)))
 simulation_faults (Err verdict.Bench) before input bench input_rose input_same bench_rose bench_same =
     (bench_rose refl, same_counts (record before { bench = bench }) input bench (input_same (search rules)) refl)
-simulation_faults (Err verdict.Limit) before input bench input_rose input_same bench_rose bench_same =
-    same_counts before input bench (input_same (search rules)) (bench_same (search rules))
-simulation_faults (Err (verdict.Disagrees line due)) before input bench input_rose input_same bench_rose bench_same =
-    same_counts before input bench (input_same (search rules)) (bench_same (search rules))
-simulation_faults (Err verdict.NoMemory) before input bench input_rose input_same bench_rose bench_same =
+simulation_faults ended before input bench input_rose input_same bench_rose bench_same =
     same_counts before input bench (input_same (search rules)) (bench_same (search rules))
 
 -- if every reply agrees, the input is within its limit and nothing failed, it is done, or there was no memory

@@ -1,5 +1,5 @@
 -- What the end of the last step of `init` and of `serve` comes to, by cases on it.
-use Rattle.std.proofs.Common.{rules, ◌≡◌, ◌≢◌, ℕ, ◌+◌, ◌<◌, ◌≤◌, List, [], Result, Ok, Err, IsErr, IsErrOf, OnOk, length, refl, sym, ◌∙◌, ap, inl, inr, arith, subst}
+use Rattle.std.proofs.Common.{rules, ◌≡◌, ◌≢◌, ℕ, ◌+◌, ◌<◌, ◌≤◌, List, true, [], Result, Ok, Err, IsErr, IsErrOf, OnOk, length, refl, sym, ◌∙◌, ap, inl, inr, arith, subst, Some}
 use Rattle.std.proofs.lemmas.Bool.{false≢true}
 use Rattle.audit_types.specs.declared.records.Answered.{Answered}
 use Rattle.bench_core.specs.Causes.{Rose}
@@ -16,10 +16,14 @@ use Rattle.audit_session.specs.declared.serving.EndFault.TheVariants as end
 use Rattle.auditor_top.specs.declared.words.Command.{Command}
 use Rattle.auditor_top.specs.declared.words.Command.TheVariants.{Init}
 use Rattle.auditor_top.specs.declared.status.Status.{Status}
-use Rattle.auditor_top.specs.declared.status.Status.TheVariants.{Done, BenchFault}
+use Rattle.auditor_top.specs.declared.status.Status.TheVariants.{Done, BenchFault, SourceFault, NoMemory}
 use Rattle.auditor_top.specs.Status.{making_status, session_status}
 use Rattle.auditor_top.specs.Ends.{Outside, ServeEnds}
-use Rattle.auditor_top.specs.Causes.{FaultCounts, counts, FaultCause, FileCause, IsReadyFor, InputCause, NothingFailed, IsDoneOrWants}
+use Rattle.auditor_top.specs.Causes.{FaultCounts, counts, FaultCause, FileCause, IsReadyFor, InputCause, NothingFailed, IsDoneOrWants, WordCause}
+use Rattle.auditor_top.specs.declared.status.Which.TheVariants.{Input}
+use Rattle.auditor_top.specs.Stages.{Before, reading_lines}
+use Rattle.auditor_top.proofs.StepStatuses.{EndsLastStep}
+use Rattle.auditor_top.specs.Commands.{reads_lines}
 
 -- an answer isn't good and bad
 pub not_both : {X E : Type 0} (x : X) (e : E) → Ok x ≡ Err e → ⊥
@@ -41,15 +45,45 @@ moved status before schema later_schema table later_table input bench spare is a
 pub not_made : (file : List ℕ) → (IsAlready file → ⊥) → IsMade file → ⊥
 not_made file absent made = grind arith
 
+-- ---- what a status says by itself
+
+-- of making a journal
+pub record MakingSays {X : Type 0} (ended : Result X MakeFault) : Type 1 where
+  pub last : EndsLastStep (making_status ended)
+  pub words : WordCause (making_status ended) (Some Init)
+  pub bench : making_status ended ≡ BenchFault → IsErrOf ended make.Failed
+  pub no_input : making_status ended ≢ SourceFault Input
+  pub no_memory : making_status ended ≢ NoMemory
+  pub done : (P : Type 0) → making_status ended ≡ Done → OnOk ended P → P
+  -- before the lines it ends only if a journal or another file was there
+  pub at_lines : (P : Type 0) → (IsErrOf ended make.AlreadyThere → P) → Before reading_lines (making_status ended) P
+
+pub making_says : {X : Type 0} (ended : Result X MakeFault) → MakingSays ended
+making_says (Err make.AlreadyThere) = search rules
+making_says ended = search rules
+
+-- and of answering lines
+pub record SessionSays {X : Type 0} (ended : Result X EndFault) : Type 1 where
+  pub last : EndsLastStep (session_status ended)
+  pub words : (one : Command) → reads_lines one ≡ true → WordCause (session_status ended) (Some one)
+  pub bench : session_status ended ≡ BenchFault → ended ≡ Err end.Bench
+  pub input : session_status ended ≡ SourceFault Input → ended ≡ Err end.Input
+  pub done : (P : Type 0) → session_status ended ≡ Done → OnOk ended P → P
+  pub at_lines : (P : Type 0) → Before reading_lines (session_status ended) P
+  pub file : (one : Command) (file : List ℕ) (table : Guarded) → IsReadyFor one file table → FileCause (session_status ended) one file table
+
+pub session_says : {X : Type 0} (ended : Result X EndFault) → SessionSays ended
+session_says (Err end.Input) = search rules
+session_says ended = search rules
+
 -- ---- making a journal
 
 -- the count of the bench rose if a call of it failed, and no other count changed
 pub making_faults : (making : Result (Unit {0}) MakeFault) (before : FaultCounts) (bench : ℕ) → (IsErrOf making make.Failed → Rose before.bench bench)
     → ((IsErrOf making make.Failed → ⊥) → bench ≡ before.bench)
     → FaultCause (making_status making) before (record before { bench = bench })
-making_faults (Ok done) before bench rose same = same_counts before before.input bench refl (same (search rules))
-making_faults (Err make.AlreadyThere) before bench rose same = same_counts before before.input bench refl (same (search rules))
 making_faults (Err make.Failed) before bench rose same = (rose refl, refl)
+making_faults making before bench rose same = same_counts before before.input bench refl (same (search rules))
 
 -- a journal was made where none was there
 pub making_cause : (making : Result (Unit {0}) MakeFault) (file : List ℕ) (table : Guarded) → (IsAlready file → IsErr making)
@@ -78,22 +112,7 @@ there_is (Ok done) undone fine = absurd (undone refl)
 there_is (Err make.AlreadyThere) undone fine = refl
 there_is (Err make.Failed) undone fine = absurd (fine refl)
 
--- it is reported if the bench failed
-pub making_failed : (making : Result (Unit {0}) MakeFault) → making_status making ≡ BenchFault → IsErrOf making make.Failed
-making_failed (Ok done) is = cc
-making_failed (Err make.AlreadyThere) is = cc
-making_failed (Err make.Failed) is = refl
-
 -- ---- answering lines
-
--- a session over a file that its command takes has that cause
-pub session_cause : {X : Type 0} (ended : Result X EndFault) (one : Command) (file : List ℕ) (table : Guarded) → IsReadyFor one file table →
-    FileCause (session_status ended) one file table
-session_cause (Ok done) one file table ready = ready
-session_cause (Err end.Input) one file table ready = ready
-session_cause (Err end.Bench) one file table ready = tt
-session_cause (Err end.Limit) one file table ready = ready
-session_cause (Err end.NoMemory) one file table ready = tt
 
 -- the ends of a session are those of the run
 pub session_ends : {X : Type 0} (ended : Result X EndFault) (base : Database) (batch : ℕ) (history now : List Answered) (before after : Outside)
@@ -113,15 +132,11 @@ pub session_faults : {X : Type 0} (ended : Result X EndFault) (before : FaultCou
     → (ended ≢ Err end.Input → input ≡ before.input)
     → (ended ≡ Err end.Bench → Rose before.bench bench) → (ended ≢ Err end.Bench → bench ≡ before.bench) →
     FaultCause (session_status ended) before (record before { input = input; bench = bench })
-session_faults (Ok done) before input bench input_rose input_same bench_rose bench_same =
-    same_counts before input bench (input_same (not_both done end.Input)) (bench_same (not_both done end.Bench))
 session_faults (Err end.Input) before input bench input_rose input_same bench_rose bench_same =
     (input_rose refl, same_counts (record before { input = input }) input bench refl (bench_same (search rules)))
 session_faults (Err end.Bench) before input bench input_rose input_same bench_rose bench_same =
     (bench_rose refl, same_counts (record before { bench = bench }) input bench (input_same (search rules)) refl)
-session_faults (Err end.Limit) before input bench input_rose input_same bench_rose bench_same =
-    same_counts before input bench (input_same (search rules)) (bench_same (search rules))
-session_faults (Err end.NoMemory) before input bench input_rose input_same bench_rose bench_same =
+session_faults ended before input bench input_rose input_same bench_rose bench_same =
     same_counts before input bench (input_same (search rules)) (bench_same (search rules))
 
 -- how much of the input there was, by the end
@@ -130,9 +145,8 @@ pub session_reads : {X : Type 0} (ended : Result X EndFault) (before after : Lis
     → (ended ≡ Err end.Limit → most_input + length after < length before) → InputCause (session_status ended) before after
 session_reads (Ok done) before after read within failed limit = (read, within)
 session_reads (Err end.Input) before after read within failed limit = failed refl
-session_reads (Err end.Bench) before after read within failed limit = tt
 session_reads (Err end.Limit) before after read within failed limit = limit refl
-session_reads (Err end.NoMemory) before after read within failed limit = tt
+session_reads ended before after read within failed limit = tt
 
 -- if the input is within its limit and nothing failed, it is done, or there was no memory
 pub session_wants : {X : Type 0} (ended : Result X EndFault) (before after : FaultCounts) (input left : List ℕ) → FaultCause (session_status ended) before after

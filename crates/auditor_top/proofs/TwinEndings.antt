@@ -1,5 +1,5 @@
 -- What it comes to that two journals weren't opened, and how a session over them ended, by cases on each.
-use Rattle.std.proofs.Common.{◌≡◌, ◌≢◌, ◌⊎◌, ◌+◌, ◌<◌, ◌≤◌, ℕ, List, [], length, take, true, Some, Result, Ok, Err, IsErrOf, OnOk, ap, refl, sym, ◌∙◌, subst, inl, inr, arith}
+use Rattle.std.proofs.Common.{◌≡◌, ◌≢◌, ◌+◌, ◌<◌, ◌≤◌, ℕ, List, [], length, take, true, Some, Result, Ok, Err, IsErrOf, OnOk, ap, refl, sym, ◌∙◌, subst, inl, inr, arith}
 use Rattle.std.proofs.lemmas.List.{take_all, take-append-le}
 use Rattle.audit_types.specs.declared.records.Answered.{Answered}
 use Rattle.audit_types.specs.History.{Table as Guarded, IsLegal}
@@ -25,9 +25,9 @@ use Rattle.auditor_top.specs.Causes.{BothCause, FaultCounts, FaultCause, WordCau
 use Rattle.auditor_top.specs.Ends.{Outside}
 use Rattle.auditor_top.specs.Stages.{Before, opening_spare, reading_lines}
 use Rattle.auditor_top.specs.Status.{start_status, twin_session_status, twin_status}
-use Rattle.auditor_top.specs.Twins.{TwinEnds}
+use Rattle.auditor_top.specs.Twins.{BothCatchUp, TwinEnds}
 use Rattle.auditor_top.proofs.CompactEndings.{both_same}
-use Rattle.auditor_top.proofs.StartEndings.{never_bench, never_input, never_spare, own_steady, start_at_lines, start_file, start_last, start_spare}
+use Rattle.auditor_top.proofs.StartEndings.{never_bench, never_done, never_input, never_spare, own_steady, start_at_lines, start_file, start_last, start_spare}
 use Rattle.auditor_top.proofs.StepFaults.{not_both}
 use Rattle.auditor_top.proofs.StepStatuses.{EndsLastStep}
 use Rattle.auditor_top.proofs.StoreRefusals.{start_words}
@@ -115,14 +115,19 @@ twin_faults (twin.Main fault) before bench spare own rose same spare_rose spare_
 twin_faults fault before bench spare own rose same spare_rose spare_same = both_same before bench spare (same (λ is. cc)) (spare_same (λ is. cc))
 
 -- if the files keep together, a call failed or memory ran out, and nothing was sent
-pub twin_gave_up : (fault : TwinFault) (batch : ℕ) (base : Database) (whole : List Answered) (before after : Outside) (spare : List ℕ) → TwinGivesUp fault →
-    after.sent ≡ before.sent → TwinEnds batch (twin_status fault) base whole before after spare
-twin_gave_up (twin.Main fault) batch base whole before after spare gave same = absurd gave
-twin_gave_up (twin.Spare fault) batch base whole before after spare gave same = absurd gave
-twin_gave_up (twin.Differ place) batch base whole before after spare gave same = absurd gave
-twin_gave_up twin.MainFailed batch base whole before after spare gave same = tt
-twin_gave_up twin.SpareFailed batch base whole before after spare gave same = tt
-twin_gave_up twin.NoMemory batch base whole before after spare gave same = inl same
+pub twin_gave_up : (fault : TwinFault) (batch : ℕ) (base : Database) (main other whole : List Answered) (before after : Outside) (spare : List ℕ) → TwinGivesUp fault →
+    (fault ≡ twin.NoMemory → BothCatchUp base main other whole before.sent after.sent after.file spare) →
+    TwinEnds batch (twin_status fault) base main other whole before after spare
+twin_gave_up (twin.Main fault) batch base main other whole before after spare gave catch = absurd gave
+twin_gave_up (twin.Spare fault) batch base main other whole before after spare gave catch = absurd gave
+twin_gave_up (twin.Differ place) batch base main other whole before after spare gave catch = absurd gave
+twin_gave_up twin.MainFailed batch base main other whole before after spare gave catch = tt
+twin_gave_up twin.SpareFailed batch base main other whole before after spare gave catch = tt
+twin_gave_up twin.NoMemory batch base main other whole before after spare gave catch = inl (catch refl)
+
+pub twin_never_done : (fault : TwinFault) → twin_status fault ≢ Done
+twin_never_done (twin.Main fault) is = never_done fault is
+twin_never_done fault is = cc
 
 pub twin_wants : (fault : TwinFault) (before after : FaultCounts) → TwinGivesUp fault → FaultCause (twin_status fault) before after → NothingFailed before after →
     (Rose before.spare after.spare → ⊥) → IsDoneOrWants (twin_status fault)
@@ -204,11 +209,6 @@ pub twins_spare : {X : Type 0} (ended : Result X TwinEnd) → twin_session_statu
 twins_spare (Err end.Spare) is = refl
 twins_spare ended is = cc
 
-pub failed_so : {X : Type 0} (ended : Result X TwinEnd) → (twin_session_status ended ≡ BenchFault) ⊎ (twin_session_status ended ≡ SpareFault) →
-    (ended ≡ Err end.Bench) ⊎ (ended ≡ Err end.Spare)
-failed_so ended (inl is) = inl (twins_bench ended is)
-failed_so ended (inr is) = inr (twins_spare ended is)
-
 pub twins_input : {X : Type 0} (ended : Result X TwinEnd) → twin_session_status ended ≡ SourceFault Input → ended ≡ Err end.Input
 twins_input (Err end.Input) is = refl
 twins_input ended is = cc
@@ -243,19 +243,28 @@ twins_faults ended before input bench spare input_rose input_same bench_rose ben
     all_same before input bench spare (input_same (λ is. cc)) (bench_same (λ is. cc)) (spare_same (λ is. cc))
 
 -- which lines were answered, and that both files stand for their records
-pub twins_end : {X : Type 0} (ended : Result X TwinEnd) (base : Database) (batch : ℕ) (whole now : List Answered) (before after : Outside) (spare : List ℕ) →
+pub twins_end : {X : Type 0} (ended : Result X TwinEnd) (base : Database) (batch : ℕ) (main other whole now : List Answered) (before after : Outside) (spare : List ℕ) →
     OnOk ended (Serves base whole (counted_lines before.input) now before.sent after.sent) →
     (ended ≡ Err end.Input → ServesWhole base whole batch before.input after.input now before.sent after.sent) →
     (ended ≡ Err end.Limit → ServesWhole base whole batch (limited before.input) [] now before.sent after.sent) →
     (ended ≡ Err end.NoMemory → ServesSome base whole batch (counted_lines before.input) now before.sent after.sent) →
     (ended ≢ Err end.Bench → ended ≢ Err end.Spare → stands_over base after.file now × stands_over base spare now) →
-    TwinEnds batch (twin_session_status ended) base whole before after spare
-twins_end (Ok done) base batch whole now before after spare all read below some stands = let both = stands (not_both done end.Bench) (not_both done end.Spare) in (now, all, both.0, both.1)
-twins_end (Err end.Input) base batch whole now before after spare all read below some stands = let both = stands (λ is. cc) (λ is. cc) in (now, read refl, both.0, both.1)
-twins_end (Err end.Limit) base batch whole now before after spare all read below some stands = let both = stands (λ is. cc) (λ is. cc) in (now, below refl, both.0, both.1)
-twins_end (Err end.NoMemory) base batch whole now before after spare all read below some stands =
+    TwinEnds batch (twin_session_status ended) base main other whole before after spare
+twins_end (Ok done) base batch main other whole now before after spare all read below some stands =
+    let both = stands (not_both done end.Bench) (not_both done end.Spare) in (now, all, both.0, both.1)
+twins_end (Err end.Input) base batch main other whole now before after spare all read below some stands =
+    let both = stands (λ is. cc) (λ is. cc) in (now, read refl, both.0, both.1)
+twins_end (Err end.Limit) base batch main other whole now before after spare all read below some stands =
+    let both = stands (λ is. cc) (λ is. cc) in (now, below refl, both.0, both.1)
+twins_end (Err end.NoMemory) base batch main other whole now before after spare all read below some stands =
     let both = stands (λ is. cc) (λ is. cc) in inr (now, some refl, both.0, both.1)
-twins_end ended base batch whole now before after spare all read below some stands = tt
+twins_end ended base batch main other whole now before after spare all read below some stands = tt
+
+-- a session that is done ended well
+pub twins_done : {X P : Type 0} (ended : Result X TwinEnd) → twin_session_status ended ≡ Done → OnOk ended P → P
+twins_done (Ok done) is holds = holds
+twins_done (Err end.Bench) is holds = cc
+twins_done ended is holds = cc
 
 pub twins_reads : {X : Type 0} (ended : Result X TwinEnd) (before after : List ℕ) → OnOk ended (after ≡ []) → OnOk ended (length before ≤ most_input) →
     (ended ≡ Err end.Input → length before ≤ most_input + length after) → (ended ≡ Err end.Limit → most_input + length after < length before) →

@@ -2,6 +2,7 @@
 use Rattle.std.proofs.Common.{◌≡◌, ℕ, ◌<◌, ◌≤◌, ◌+◌, List, [], ◌++◌, length, Option, Some, Result, Ok, Err, ◌≢◌, refl, inl, inr, ◌⊎◌, sym, ◌∙◌, ap, arith, length-append}
 use Rattle.std.proofs.lemmas.List.{append-nil}
 use Rattle.std.proofs.lemmas.Bool.{cond-true, lt-ltb}
+use Rattle.bench_core.specs.declared.source.Source as source
 use Rattle.schema_json.specs.Columns.{Column}
 use Rattle.schema_json.specs.Reading.{schema_of}
 use Rattle.schema_json.specs.declared.faults.SchemaFault.TheVariants as schema_fault
@@ -14,7 +15,7 @@ use Rattle.auditor_top.specs.declared.files.FileFault.{FileFault}
 use Rattle.auditor_top.specs.declared.files.FileFault.TheVariants as file
 use Rattle.auditor_top.specs.declared.reading.ReadFault.{ReadFault}
 use Rattle.auditor_top.specs.declared.reading.ReadFault.TheVariants as read
-use Rattle.auditor_top.specs.Reading.{ReadsAll}
+use Rattle.auditor_top.specs.Reading.{ReadsAll, TellsRead}
 
 -- what judges all files above the limit alike judges what was read as it judges the whole file
 same_meaning : {Y : Type 0} (meaning : List ℕ → Y) (most : ℕ) (refused : Y) → ((bytes : List ℕ) → most < length bytes → meaning bytes ≡ refused) →
@@ -90,6 +91,30 @@ wants_not_bad f is = cc
 
 pub wants_not_failed : {X F : Type 0} → ◌≢◌ {A = Result X (FileFault F)} (Err file.NoMemory) (Err file.Failed)
 wants_not_failed is = cc
+
+-- ---- what is told of a read
+
+module _ {P : Type 0} (files : source.Ghosts P) (most : ℕ) (old new : P) where
+  -- none failed
+  pub unfailed : (failed : Type 0) → (failed → ⊥) → files.faults old ≤ files.faults new → files.faults new ≡ files.faults old →
+      TellsRead files most old new failed
+  unfailed failed none later steady = record {
+    within = λ told is. absurd (none is);
+    later = later;
+    failed = λ is. absurd (none is);
+    last_call = λ is. absurd (none is);
+    steady = λ other. steady;
+  }
+
+  -- the same failure in other words
+  pub tells_so : {A B : Type 0} → (A → B) → (B → A) → TellsRead files most old new A → TellsRead files most old new B
+  tells_so there back tells = record {
+    within = λ told is. tells.within told (back is);
+    later = tells.later;
+    failed = λ is. tells.failed (back is);
+    last_call = λ is. tells.last_call (back is);
+    steady = λ other. tells.steady (λ is. other (there is));
+  }
 
 -- what was read before a read that failed isn't more than may be
 pub read_within : (most : ℕ) (before bytes now after : List ℕ) → before ≡ bytes ++ now → after ≡ now → length bytes ≤ most → length before ≤ most + length after

@@ -13,3 +13,4 @@ pub mod Stages
 pub mod Status
 pub mod Twins
 pub mod Words
+pub mod Openings

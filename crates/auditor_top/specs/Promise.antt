@@ -20,7 +20,8 @@ use Rattle.question_plan.specs.Session.{Replied}
 use Rattle.audit_session.specs.Stops.{StopsOver, stands_over}
 use Rattle.audit_session.specs.Lives.{Standing, Run, GoesFrom, IsLife, KeepsPromise, AreAlike, over_all, in_force}
 use Rattle.audit_session.specs.Hidden.{IsHidden}
-use Rattle.auditor_top.specs.Commands.{AreSoundFilesOf, GrowsOver, ServesOver}
+use Rattle.twin_journal.specs.Twins.{CatchesUpOrStops, SpareCatchesUpOrStops}
+use Rattle.auditor_top.specs.Commands.{AreSoundFilesOf, GrowsOver, ServesOver, TwinsOver}
 
 -- a life decides as every life over tables that differ in their secrets alone, whose runs do the same and left the same histories
 -- and rows: to the next line both give one reply, or each the true answer of its own table
@@ -45,6 +46,14 @@ abbrev pub StopsAreTaken : Type 0
 StopsAreTaken =
     (schema table file image before sent : List ℕ) (base : Database) (batch : ℕ) (history : List Answered) (lines : List CountedLine) → ServesOver schema table file base history →
     StopsOver base batch history lines before image sent → (now : List Answered) × ServesOver schema table image base now
+
+-- what a stop of `serve` with two journals left of both files, each at whatever moment, is taken again, whatever the lines were
+abbrev pub TwinStopsAreTaken : Type 0
+TwinStopsAreTaken =
+    (schema table file spare image spare_image before sent spare_before spare_sent : List ℕ) (base : Database) (batch : ℕ) (main other whole : List Answered)
+    (lines : List CountedLine) → TwinsOver schema table file spare base main other whole → CatchesUpOrStops base batch main whole lines before image sent →
+    SpareCatchesUpOrStops base batch other whole lines spare_before spare_image spare_sent →
+    (now : List Answered) × (beside : List Answered) × (longer : List Answered) × TwinsOver schema table image spare_image base now beside longer
 
 -- what a growth at any moment left can grow as before, or is taken over all rows
 abbrev pub GrowthsAreTaken : Type 0

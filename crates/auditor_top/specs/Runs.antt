@@ -1,5 +1,5 @@
 -- What a run of each command does, by its status, and by the objects that it is handed: as they were and as they are left.
-use Rattle.std.specs.Prelude.{◌≡◌, ◌≢◌, ◌≤◌, ◌+◌, ◌⊎◌, List, [], ℕ, true, false, length}
+use Rattle.std.specs.Prelude.{◌≡◌, ◌≢◌, ◌≤◌, ◌+◌, ◌⊎◌, List, [], ◌++◌, ℕ, true, false, length}
 use Rattle.std.specs.List.{concat}
 use Rattle.audit_types.specs.declared.records.Answered.{Answered}
 use Rattle.audit_types.specs.History.{IsLegal, IsUndisclosed}
@@ -15,8 +15,9 @@ use Rattle.answer_journal.specs.Make.{calls_to_make}
 use Rattle.answer_journal.specs.Moments.{IsAlready, IsMade, IsBeforeOrGrown, IsUnmadeOrEmpty}
 use Rattle.line_wire.specs.Lines.{CountedLine, counted_lines, most_input}
 use Rattle.question_plan.specs.Session.{Replied, bytes_of}
-use Rattle.audit_session.specs.Ends.{TakesCalls}
-use Rattle.audit_session.specs.Stops.{StopsOver}
+use Rattle.audit_session.specs.Ends.{KeepsCalls, TakesCalls}
+use Rattle.audit_session.specs.Stops.{IsFront, StopsOver}
+use Rattle.audit_session.specs.Lives.{IsLife, Run, Standing, in_force, serves}
 use Rattle.journal_audit.specs.Reports.{SendsMeanwhile, subjects}
 use Rattle.certificate_lines.specs.Ends.{ExplainsMeanwhile}
 use Rattle.certificate_lines.specs.Explained.{AreExplained}
@@ -29,11 +30,13 @@ use Rattle.auditor_top.specs.declared.status.Status.TheVariants.{Done, BenchFaul
 use Rattle.bench_core.specs.Causes.{Rose}
 use Rattle.auditor_top.specs.Compactions.{CompactEnds, DecideAlike, IsUnmadeOrKept, SendsCounts}
 use Rattle.journal_compact.specs.Whole.{IsUnmadeOrWhole}
-use Rattle.twin_journal.specs.Restoring.{CanRestore, IsLostOf, Restored, StandForTheSame}
+use Rattle.twin_journal.specs.Restoring.{CanRestore, IsLost, IsLostOf, Restored, StandForTheSame, TakeCalls}
+use Rattle.twin_journal.specs.Twins.{CatchesUpOrStops, SpareCatchesUpOrStops, calls_to_open}
 use Rattle.auditor_top.specs.Stages.{Before, opening_journal}
-use Rattle.auditor_top.specs.Twins.{CatchesUpOrStops, LeavesTwins, SpareCatchesUpOrStops, TwinEnds}
+use Rattle.auditor_top.specs.Twins.{LeavesTwins, TwinEnds}
 use Rattle.auditor_top.specs.Causes.{BothCause, FaultCounts, counts, NothingFailed, IsDoneOrWants}
-use Rattle.auditor_top.specs.Commands.{AreFilesOf, ArePublicFilesOf, AreSoundFilesOf, GrowsOver, ServesOver, TwinsOver}
+use Rattle.auditor_top.specs.Commands.{AreFilesOf, ArePublicFilesOf, AreSoundFilesOf, GoesOnOver, GrowsOver, ServesOver, TwinsOver}
+use Rattle.auditor_top.specs.Promise.{GoesOn}
 use Rattle.auditor_top.specs.Drills.{DrillEnds}
 use Rattle.auditor_top.specs.Ends.{AuditEnds, GrowEnds, LeavesFile, ServeEnds, SimulateEnds, SendsLines, ExplainEnds, audit_over, outside, public_part}
 
@@ -248,7 +251,7 @@ pub record TwinServing {P I B : Type 0} (files : source.Ghosts P) (lines : sourc
   -- after the longer one, what was sent and what both files stand for, at each end
   pub twins_served : files.told → lines.told → bench.told → (base : Database) (main other whole : List Answered) →
       TwinsOver (files.left old.schema) (files.left old.table) (bench.file old.bench) (bench.file old.spare) base main other whole →
-      TwinEnds batch status base whole (outside lines bench old.input old.bench) (outside lines bench new.input new.bench) (bench.file new.spare)
+      TwinEnds batch status base main other whole (outside lines bench old.input old.bench) (outside lines bench new.input new.bench) (bench.file new.spare)
   -- at every moment each file is brought up to the longer history, or is at a stop of the answers after it
   pub twin_moment : files.told → lines.told → bench.told → IsQuiet bench old.bench → (base : Database) (main other whole : List Answered) →
       TwinsOver (files.left old.schema) (files.left old.table) (bench.file old.bench) (bench.file old.spare) base main other whole →
@@ -256,13 +259,27 @@ pub record TwinServing {P I B : Type 0} (files : source.Ghosts P) (lines : sourc
   pub spare_moment : files.told → lines.told → bench.told → IsQuiet bench old.spare → (base : Database) (main other whole : List Answered) →
       TwinsOver (files.left old.schema) (files.left old.table) (bench.file old.bench) (bench.file old.spare) base main other whole →
       LeavesOnly bench old.spare new.spare (SpareCatchesUpOrStops base batch other whole (counted_lines (lines.left old.input)) (bench.sent old.spare))
-  -- if a call of one of them failed, each has, whatever crash comes then, the record of every reply of which a byte was sent; at every other
-  -- end both stand for one history, and a crash leaves that
-  pub twins_left : files.told → lines.told → bench.told → IsQuiet bench old.bench → IsQuiet bench old.spare →
-      (status ≡ BenchFault) ⊎ (status ≡ SpareFault) → (base : Database) (main other whole : List Answered) →
+  -- whatever crash comes after the run, each has the record of every reply of which a byte was sent
+  pub twins_left : files.told → lines.told → bench.told → IsQuiet bench old.bench → IsQuiet bench old.spare → (base : Database) (main other whole : List Answered) →
       TwinsOver (files.left old.schema) (files.left old.table) (bench.file old.bench) (bench.file old.spare) base main other whole →
       (image spare : List ℕ) → bench.leaves new.bench image → bench.leaves new.spare spare →
       LeavesTwins base batch main other whole (counted_lines (lines.left old.input)) (bench.sent old.bench) (bench.sent new.bench) image spare
+  -- so a life goes on with the run from what a crash leaves of the spare alone, once that isn't behind the longer history
+  pub spare_lives : files.told → lines.told → bench.told → IsQuiet bench old.bench → IsQuiet bench old.spare → (base : Database) (at : Standing) →
+      GoesOnOver (Serve batch true) (files.left old.schema) (files.left old.table) (bench.file old.bench) (bench.file old.spare) at base →
+      (first : Database) (runs : List Run) → IsLife first runs at → (image sent : List ℕ) (left : Standing) → left.base ≡ base →
+      bench.leaves new.spare image → bench.sent new.bench ≡ bench.sent old.bench ++ sent →
+      StandsFor image (in_force left).setting.shape left.history → IsFront at.history left.history →
+      GoesOn first runs (record { deed = serves batch (lines.left old.input); left = left; sent = sent })
+  -- every history that a crash at any moment leaves in one of them is legal for the table, and discloses no secret of it, whatever the input is
+  pub undisclosed : files.told → bench.told → IsQuiet bench old.bench → (base : Database) (main other whole : List Answered) →
+      TwinsOver (files.left old.schema) (files.left old.table) (bench.file old.bench) (bench.file old.spare) base main other whole →
+      (image sent : List ℕ) (now : List Answered) → bench.since new.bench (bench.moment old.bench) image sent → StandsFor image base.secret.shape now →
+      IsLegal (table_in base) now × IsUndisclosed (table_in base) now
+  pub spare_undisclosed : files.told → bench.told → IsQuiet bench old.spare → (base : Database) (main other whole : List Answered) →
+      TwinsOver (files.left old.schema) (files.left old.table) (bench.file old.bench) (bench.file old.spare) base main other whole →
+      (image sent : List ℕ) (now : List Answered) → bench.since new.spare (bench.moment old.spare) image sent → StandsFor image base.secret.shape now →
+      IsLegal (table_in base) now × IsUndisclosed (table_in base) now
   -- over any other files both stay, at every moment, and nothing is sent
   pub apart : files.told → bench.told → IsQuiet bench old.bench → ((base : Database) (main other whole : List Answered) →
       TwinsOver (files.left old.schema) (files.left old.table) (bench.file old.bench) (bench.file old.spare) base main other whole → ⊥) →
@@ -275,6 +292,14 @@ pub record TwinServing {P I B : Type 0} (files : source.Ghosts P) (lines : sourc
       BothCause status (Serve batch true) (bench.file old.bench) (bench.file old.spare) (table_in base)
   pub spare_quiet : bench.told → IsQuiet bench old.spare → status ≢ SpareFault → IsQuiet bench new.spare
   pub spare_unsent : bench.sent new.spare ≡ bench.sent old.spare
+  -- it took the calls that read each of them back and bring it up; then one of the bench for each line, and four of both for each group in
+  -- which some reply makes a record
+  pub twin_calls : files.told → lines.told → bench.told → status ≡ Done → (base : Database) (main other whole : List Answered) →
+      TwinsOver (files.left old.schema) (files.left old.table) (bench.file old.bench) (bench.file old.spare) base main other whole →
+      TakesCalls base whole batch (counted_lines (lines.left old.input)) (bench.moment old.bench + calls_to_open main whole) (bench.moment new.bench)
+  pub spare_calls : files.told → lines.told → bench.told → status ≡ Done → (base : Database) (main other whole : List Answered) →
+      TwinsOver (files.left old.schema) (files.left old.table) (bench.file old.bench) (bench.file old.spare) base main other whole →
+      KeepsCalls base whole batch (counted_lines (lines.left old.input)) (bench.moment old.spare + calls_to_open other whole) (bench.moment new.spare)
   -- if nothing is wrong and nothing fails, it is done
   pub twins_complete : files.told → lines.told → bench.told → (base : Database) (main other whole : List Answered) →
       TwinsOver (files.left old.schema) (files.left old.table) (bench.file old.bench) (bench.file old.spare) base main other whole →
@@ -313,6 +338,10 @@ pub record Restoring {P I B : Type 0} (files : source.Ghosts P) (lines : source.
   pub spare_quiet : bench.told → IsQuiet bench old.spare → status ≢ SpareFault → IsQuiet bench new.spare
   pub unsent : (bench.sent new.bench ≡ bench.sent old.bench) × (bench.sent new.spare ≡ bench.sent old.spare)
   pub uncalled : Before opening_journal status (new.spare ≡ old.spare)
+  -- it took eight calls of the lost one, and four of the other
+  pub restore_calls : bench.told → status ≡ Done →
+      (IsLost (bench.file old.spare) × TakeCalls (bench.moment old.spare) (bench.moment new.spare) (bench.moment old.bench) (bench.moment new.bench))
+      ⊎ (IsLost (bench.file old.bench) × TakeCalls (bench.moment old.bench) (bench.moment new.bench) (bench.moment old.spare) (bench.moment new.spare))
   -- if nothing is wrong and nothing fails, it is done
   pub restores : files.told → bench.told → (base : Database) → AreSoundFilesOf (files.left old.schema) (files.left old.table) base →
       CanRestore (table_in base) (bench.file old.bench) (bench.file old.spare) → NothingFailed (faults_of files lines bench old) (faults_of files lines bench new) →

@@ -1,12 +1,12 @@
 //! The two files that a run stands on, each read whole, and what its bytes mean.
-ghost use Rattle.std.specs.Prelude.{◌≡◌, ◌≢◌, ◌≤◌, ◌+◌, true, length, IfOk, Err};
-ghost use Rattle.bench_core.specs.Causes.{Rose};
+ghost use Rattle.std.specs.Prelude.{◌≡◌, ◌≢◌, IfOk, Err};
 ghost use Rattle.schema_json.specs.Reading.{schema_of, most_schema};
 ghost use Rattle.table_load.specs.Reading.{most_table};
 ghost use Rattle.schema_json.specs.SecretShape.{shape_of};
 ghost use Rattle.table_load.specs.Cells.{FitsSchema};
 ghost use Rattle.table_load.specs.Tables.{table_of, public_of};
 ghost use Rattle.auditor_top.specs.Files.{GivesSchema, GivesTable, GivesPublic};
+ghost use Rattle.auditor_top.specs.Reading.{TellsRead};
 
 use crate::reading::{ReadFault, read_all};
 use bench_core::Source;
@@ -45,11 +45,7 @@ pub fn schema_from<P: Source>(
 ) -> Result<Schema, FileFault<SchemaFault>>
     ensures means { P.told → GivesSchema result (schema_of (P.left source.old)) }
     ensures own { result ≢ Err (FileFault.Bad SchemaFault.NoMemory) }
-    ensures within { P.told → result ≡ Err FileFault.Failed → length (P.left source.old) ≤ most_schema + length (P.left source.new) }
-    ensures later { P.faults source.old ≤ P.faults source.new }
-    ensures failed { result ≡ Err FileFault.Failed → Rose (P.faults source.old) (P.faults source.new) }
-    ensures last_call { result ≡ Err FileFault.Failed → P.last_failed source.new ≡ true }
-    ensures steady { (result ≡ Err FileFault.Failed → ⊥) → P.faults source.new ≡ P.faults source.old }
+    ensures fault { TellsRead P.Source most_schema source.old source.new (result ≡ Err FileFault.Failed) }
 {
     match read_all(alloc, source, MOST_SCHEMA) {
         Ok(bytes) => schema_in(alloc, &bytes),
@@ -83,11 +79,7 @@ pub fn table_from<P: Source>(
     ensures fits { IfOk result (λ table. FitsSchema schema.now.columns table.public) }
     ensures shape { IfOk result (λ table. table.secret.shape ≡ shape_of schema.now.columns table.public.rows) }
     ensures own { result ≢ Err (FileFault.Bad TableFault.NoMemory) }
-    ensures within { P.told → result ≡ Err FileFault.Failed → length (P.left source.old) ≤ most_table + length (P.left source.new) }
-    ensures later { P.faults source.old ≤ P.faults source.new }
-    ensures failed { result ≡ Err FileFault.Failed → Rose (P.faults source.old) (P.faults source.new) }
-    ensures last_call { result ≡ Err FileFault.Failed → P.last_failed source.new ≡ true }
-    ensures steady { (result ≡ Err FileFault.Failed → ⊥) → P.faults source.new ≡ P.faults source.old }
+    ensures fault { TellsRead P.Source most_table source.old source.new (result ≡ Err FileFault.Failed) }
 {
     match read_all(alloc, source, MOST_TABLE) {
         Ok(bytes) => table_in(alloc, schema, &bytes),
@@ -120,11 +112,7 @@ pub fn public_from<P: Source>(
     ensures means { P.told → GivesPublic result (public_of schema.now.columns (P.left source.old)) }
     ensures fits { IfOk result (λ public. FitsSchema schema.now.columns public) }
     ensures own { result ≢ Err (FileFault.Bad TableFault.NoMemory) }
-    ensures within { P.told → result ≡ Err FileFault.Failed → length (P.left source.old) ≤ most_table + length (P.left source.new) }
-    ensures later { P.faults source.old ≤ P.faults source.new }
-    ensures failed { result ≡ Err FileFault.Failed → Rose (P.faults source.old) (P.faults source.new) }
-    ensures last_call { result ≡ Err FileFault.Failed → P.last_failed source.new ≡ true }
-    ensures steady { (result ≡ Err FileFault.Failed → ⊥) → P.faults source.new ≡ P.faults source.old }
+    ensures fault { TellsRead P.Source most_table source.old source.new (result ≡ Err FileFault.Failed) }
 {
     match read_all(alloc, source, MOST_TABLE) {
         Ok(bytes) => public_in(alloc, schema, &bytes),

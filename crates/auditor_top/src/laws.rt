@@ -11,7 +11,7 @@ ghost use Rattle.auditor_top.specs.Commands.{AreSoundFilesOf};
 ghost use Rattle.auditor_top.specs.Compactions.{DecideAlike, IsUnmadeOrKept};
 ghost use Rattle.auditor_top.specs.declared.words.Command.TheVariants.{Init, Serve, Audit, Simulate, Drill, Grow, Explain, Compact, Restore};
 ghost use Rattle.auditor_top.specs.Words.{command_of, number_of};
-ghost use Rattle.auditor_top.specs.Promise.{LivesKeepPromise, LivesGoOn, LivesGrow, GrowthsAreTaken, MadeIsTaken, StopsAreTaken, RunsMakeLives};
+ghost use Rattle.auditor_top.specs.Promise.{LivesKeepPromise, LivesGoOn, LivesGrow, GrowthsAreTaken, MadeIsTaken, StopsAreTaken, TwinStopsAreTaken, RunsMakeLives};
 ghost use Rattle.auditor_top.specs.Shown.{TwinsAreShownAlike, TwinsHaveOneReport, LivesTellNothingMore};
 
 /// Every history for which a stop over a legal history of a table leaves an image is a legal history of it, and discloses nothing of
@@ -77,16 +77,18 @@ pub fn nothing_more()
     audit_session::laws::lives();
 }
 
-/// What `init` made, and what a stop of `serve` or of `grow` at any moment left, is never refused: with the files of the table it is
-/// what the clauses `served`, `audited` and `grown` of `run` take, whose ends have no status that refuses it. Nor is what a life left
-/// refused by `grow` over a table with more rows.
+/// What `init` made, and what a stop of `serve`, with two journals or one, or of `grow` at any moment left, is never refused: with the
+/// files of the table it is what the clauses `served`, `twins_served`, `audited` and `grown` of `run` take, whose ends have no status that
+/// refuses it. Nor is what a life left refused by `grow` over a table with more rows.
 pub fn never_refused()
     ensures made { MadeIsTaken }
     ensures left { StopsAreTaken }
+    ensures twins { TwinStopsAreTaken }
     ensures grown { GrowthsAreTaken }
     ensures grows { LivesGrow }
 {
     stops_are_legal();
+    twin_journal::laws::stay_together();
     schema_json::laws::columns_of_a_schema();
     table_load::laws::secrets_of_a_table();
     set_index::groups_of_a_schema();

@@ -1,15 +1,11 @@
 //! The files that every command over a table stands on: the schema, and the table over it.
-ghost use Rattle.std.specs.Prelude.{◌≡◌, ◌≢◌, ◌≤◌, ◌+◌, ℕ, true, List, length, IfOk, IfErr, OnOk, Ok, Err};
-ghost use Rattle.schema_json.specs.Columns.{SchemaView};
-ghost use Rattle.schema_json.specs.Reading.{schema_of, most_schema};
-ghost use Rattle.table_load.specs.Reading.{most_table};
+ghost use Rattle.std.specs.Prelude.{◌≡◌, ◌≤◌, IfOk, IfErr, OnOk, Ok};
+ghost use Rattle.schema_json.specs.Reading.{schema_of};
 ghost use Rattle.schema_json.specs.SecretShape.{shape_of};
 ghost use Rattle.table_load.specs.Cells.{FitsSchema};
 ghost use Rattle.table_load.specs.Loaded.{table_view};
 ghost use Rattle.table_load.specs.Tables.{table_of, public_of};
-ghost use Rattle.auditor_top.specs.Causes.{FaultCause, SchemaCause, TableCause, counts};
-ghost use Rattle.auditor_top.specs.Stages.{Before, reading_table};
-ghost use Rattle.auditor_top.specs.Status.{open_status};
+ghost use Rattle.auditor_top.specs.Openings.{LeavesUnopened};
 
 use crate::files::{FileFault, public_from, schema_from, table_from};
 use bench_core::Source;
@@ -50,20 +46,9 @@ pub fn open_table<P: Source>(
     ensures shape { IfOk result (λ opened. opened.table.secret.shape ≡ shape_of opened.schema.columns opened.table.public.rows) }
 
     // A fault is the first that there is. The table is read only over a schema without fault.
-    ensures schema_cause { P.told → IfErr result (λ fault. SchemaCause (open_status fault) (schema_of (P.left schema.old))) }
-    ensures table_cause { P.told → (meant : SchemaView) → schema_of (P.left schema.old) ≡ Ok meant
-        → IfErr result (λ fault. TableCause (open_status fault) (table_of meant.columns (P.left table.old))) }
-    ensures own_schema_fault { result ≢ Err (OpenFault.Schema (FileFault.Bad SchemaFault.NoMemory)) }
-    ensures own_table_fault { result ≢ Err (OpenFault.Table (FileFault.Bad TableFault.NoMemory)) }
-    ensures schema_within { P.told → result ≡ Err (OpenFault.Schema FileFault.Failed) → length (P.left schema.old) ≤ most_schema + length (P.left schema.new) }
-    ensures table_within { P.told → result ≡ Err (OpenFault.Table FileFault.Failed) → length (P.left table.old) ≤ most_table + length (P.left table.new) }
-    ensures faults { (input bench spare : ℕ) → IfErr result (λ fault. FaultCause (open_status fault)
-        (counts (P.faults schema.old) (P.faults table.old) input bench spare) (counts (P.faults schema.new) (P.faults table.new) input bench spare)) }
-    ensures schema_last { result ≡ Err (OpenFault.Schema FileFault.Failed) → P.last_failed schema.new ≡ true }
-    ensures table_last { result ≡ Err (OpenFault.Table FileFault.Failed) → P.last_failed table.new ≡ true }
+    ensures refused { IfErr result (λ fault. LeavesUnopened P.Source table_of fault schema.old schema.new table.old table.new) }
     ensures steady { OnOk result ((P.faults schema.new ≡ P.faults schema.old) × (P.faults table.new ≡ P.faults table.old)) }
     ensures later { (P.faults schema.old ≤ P.faults schema.new) × (P.faults table.old ≤ P.faults table.new) }
-    ensures untouched { IfErr result (λ fault. Before reading_table (open_status fault) (table.new ≡ table.old)) }
 {
     let schema = match schema_from(alloc, schema) {
         Ok(schema) => schema,
@@ -86,20 +71,9 @@ pub fn open_public<P: Source>(
     ensures fits { IfOk result (λ opened. FitsSchema opened.schema.columns opened.public) }
 
     // A fault is the first that there is. The table is read only over a schema without fault.
-    ensures schema_cause { P.told → IfErr result (λ fault. SchemaCause (open_status fault) (schema_of (P.left schema.old))) }
-    ensures public_cause { P.told → (meant : SchemaView) → schema_of (P.left schema.old) ≡ Ok meant
-        → IfErr result (λ fault. TableCause (open_status fault) (public_of meant.columns (P.left table.old))) }
-    ensures own_schema_fault { result ≢ Err (OpenFault.Schema (FileFault.Bad SchemaFault.NoMemory)) }
-    ensures own_table_fault { result ≢ Err (OpenFault.Table (FileFault.Bad TableFault.NoMemory)) }
-    ensures schema_within { P.told → result ≡ Err (OpenFault.Schema FileFault.Failed) → length (P.left schema.old) ≤ most_schema + length (P.left schema.new) }
-    ensures table_within { P.told → result ≡ Err (OpenFault.Table FileFault.Failed) → length (P.left table.old) ≤ most_table + length (P.left table.new) }
-    ensures faults { (input bench spare : ℕ) → IfErr result (λ fault. FaultCause (open_status fault)
-        (counts (P.faults schema.old) (P.faults table.old) input bench spare) (counts (P.faults schema.new) (P.faults table.new) input bench spare)) }
-    ensures schema_last { result ≡ Err (OpenFault.Schema FileFault.Failed) → P.last_failed schema.new ≡ true }
-    ensures table_last { result ≡ Err (OpenFault.Table FileFault.Failed) → P.last_failed table.new ≡ true }
+    ensures refused { IfErr result (λ fault. LeavesUnopened P.Source public_of fault schema.old schema.new table.old table.new) }
     ensures steady { OnOk result ((P.faults schema.new ≡ P.faults schema.old) × (P.faults table.new ≡ P.faults table.old)) }
     ensures later { (P.faults schema.old ≤ P.faults schema.new) × (P.faults table.old ≤ P.faults table.new) }
-    ensures untouched { IfErr result (λ fault. Before reading_table (open_status fault) (table.new ≡ table.old)) }
 {
     let schema = match schema_from(alloc, schema) {
         Ok(schema) => schema,

@@ -1,7 +1,6 @@
 //! Reads a source to its end, or past a limit.
-ghost use Rattle.std.specs.Prelude.{◌≡◌, ◌≤◌, ◌+◌, true, length, IfOk, Err};
-ghost use Rattle.bench_core.specs.Causes.{Rose};
-ghost use Rattle.auditor_top.specs.Reading.{ReadsAll};
+ghost use Rattle.std.specs.Prelude.{◌≡◌, IfOk, Err};
+ghost use Rattle.auditor_top.specs.Reading.{ReadsAll, TellsRead};
 
 use bench_core::{Failed, Source};
 use std::alloc::Global;
@@ -20,11 +19,7 @@ pub enum ReadFault {
 /// Reads all bytes of a source, or stops after more than `most`.
 pub fn read_all<P: Source>(alloc: Global, source: &mut P, most: usize) -> Result<Vec<u8>, ReadFault>
     ensures bytes { P.told → IfOk result (λ v. ReadsAll most (P.left source.old) (P.left source.new) v.items) }
-    ensures within { P.told → result ≡ Err ReadFault.Failed → length (P.left source.old) ≤ most + length (P.left source.new) }
-    ensures later { P.faults source.old ≤ P.faults source.new }
-    ensures failed { result ≡ Err ReadFault.Failed → Rose (P.faults source.old) (P.faults source.new) }
-    ensures last_call { result ≡ Err ReadFault.Failed → P.last_failed source.new ≡ true }
-    ensures steady { (result ≡ Err ReadFault.Failed → ⊥) → P.faults source.new ≡ P.faults source.old }
+    ensures fault { TellsRead P.Source most source.old source.new (result ≡ Err ReadFault.Failed) }
 {
     let mut bytes = Vec::new(alloc);
     let mut piece = [0u8; PIECE];

@@ -20,52 +20,19 @@ use set_index::{Index, groups_of_a_schema};
 use std::alloc::Global;
 use table_load::Secret;
 
-/// What a command goes on with.
+/// What a command goes on with: of a table what was opened, and of the arguments the batch or the number.
 #[derive(Drop)]
 pub enum Ready {
-    Init {
-        shape: Shape,
-    },
-    Serve {
-        schema: Schema,
-        index: Index,
-        store: Store,
-        batch: u8,
-    },
-    Twin {
-        schema: Schema,
-        index: Index,
-        secret: Secret,
-        protected: Vec<Protected>,
-        batch: u8,
-    },
-    Audit {
-        schema: Schema,
-        store: Store,
-    },
-    Simulate {
-        schema: Schema,
-        index: Index,
-    },
-    Drill {
-        number: u32,
-    },
-    Grow {
-        secret: Secret,
-        protected: Vec<Protected>,
-    },
-    Explain {
-        schema: Schema,
-        index: Index,
-        store: Store,
-    },
-    Compact {
-        store: Store,
-    },
-    Restore {
-        secret: Secret,
-        protected: Vec<Protected>,
-    },
+    Init(Shape),
+    Serve(Schema, Index, Store, u8),
+    Twin(Schema, Index, Secret, Vec<Protected>, u8),
+    Audit(Schema, Store),
+    Simulate(Schema, Index),
+    Drill(u32),
+    Grow(Secret, Vec<Protected>),
+    Explain(Schema, Index, Store),
+    Compact(Store),
+    Restore(Secret, Vec<Protected>),
 }
 
 // Reads the files of a command that stands on a store, makes the groups ready, and opens the journal.
@@ -94,13 +61,8 @@ fn open_store<P: Source, B: Bench>(
     ensures later { (P.faults schema.old ≤ P.faults schema.new) × (P.faults table.old ≤ P.faults table.new) × (B.faults bench.old ≤ B.faults bench.new) }
 {
     groups_of_a_schema();
-    match open_table(alloc, schema, table) {
-        Ok(opened) => match start(alloc, opened, bench) {
-            Ok(started) => Ok(started),
-            Err(fault) => Err(Status::from(fault)),
-        },
-        Err(fault) => Err(Status::from(fault)),
-    }
+    let opened = open_table(alloc, schema, table)?;
+    Ok(start(alloc, opened, bench)?)
 }
 
 // Reads the files of a command that opens its journals in its last step, and makes the groups ready.
@@ -128,13 +90,8 @@ fn open_groups<P: Source, B: Bench>(
     ensures later { (P.faults schema.old ≤ P.faults schema.new) × (P.faults table.old ≤ P.faults table.new) }
 {
     groups_of_a_schema();
-    match open_table(alloc, schema, table) {
-        Ok(opened) => match make_ready(alloc, opened) {
-            Ok(grouped) => Ok(grouped),
-            Err(fault) => Err(Status::from(fault)),
-        },
-        Err(fault) => Err(Status::from(fault)),
-    }
+    let opened = open_table(alloc, schema, table)?;
+    Ok(make_ready(alloc, opened)?)
 }
 
 /// Reads the files that the command stands on, and opens the journal of its store.
@@ -164,97 +121,42 @@ pub fn open<P: Source, B: Bench>(
 {
     groups_of_a_schema();
     match command {
-        Command::Drill { number } => Ok(Ready::Drill { number }),
-        Command::Init => match open_table(alloc, schema, table) {
-            Ok(opened) => Ok(Ready::Init {
-                shape: opened.table.secret.shape(),
-            }),
-            Err(fault) => Err(Status::from(fault)),
-        },
-        Command::Simulate => match open_public(alloc, schema, table) {
-            Ok(OpenedPublic { schema, public }) => match Index::new(alloc, &schema, public) {
-                Ok(index) => Ok(Ready::Simulate { schema, index }),
-                Err(fault) => Err(Status::from(fault)),
-            },
-            Err(fault) => Err(Status::from(fault)),
-        },
-        Command::Serve { batch, twin: false } => match open_store(
-            alloc, command, schema, table, bench,
-        ) {
-            Ok(
-                Started {
-                    schema,
-                    index,
-                    store,
-                },
-            ) => Ok(Ready::Serve {
-                schema,
-                index,
-                store,
-                batch,
-            }),
-            Err(status) => Err(status),
-        },
-        Command::Serve { batch, twin: true } => match open_groups(
-            alloc, command, schema, table, bench,
-        ) {
-            Ok(
-                ReadyTable {
-                    schema,
-                    index,
-                    secret,
-                    protected,
-                },
-            ) => Ok(Ready::Twin {
-                schema,
-                index,
-                secret,
-                protected,
-                batch,
-            }),
-            Err(status) => Err(status),
-        },
-        Command::Audit => match open_store(alloc, command, schema, table, bench) {
-            Ok(Started { schema, store, .. }) => Ok(Ready::Audit { schema, store }),
-            Err(status) => Err(status),
-        },
-        Command::Explain => match open_store(alloc, command, schema, table, bench) {
-            Ok(
-                Started {
-                    schema,
-                    index,
-                    store,
-                },
-            ) => Ok(Ready::Explain {
-                schema,
-                index,
-                store,
-            }),
-            Err(status) => Err(status),
-        },
-        Command::Compact => match open_store(alloc, command, schema, table, bench) {
-            Ok(Started { store, .. }) => Ok(Ready::Compact { store }),
-            Err(status) => Err(status),
-        },
-        Command::Grow => match open_groups(alloc, command, schema, table, bench) {
-            Ok(
-                ReadyTable {
-                    secret,
-                    protected,
-                    ..
-                },
-            ) => Ok(Ready::Grow { secret, protected }),
-            Err(status) => Err(status),
-        },
-        Command::Restore => match open_groups(alloc, command, schema, table, bench) {
-            Ok(
-                ReadyTable {
-                    secret,
-                    protected,
-                    ..
-                },
-            ) => Ok(Ready::Restore { secret, protected }),
-            Err(status) => Err(status),
-        },
+        Command::Init => {
+            let opened = open_table(alloc, schema, table)?;
+            Ok(Ready::Init(opened.table.secret.shape()))
+        }
+        Command::Serve { batch, twin: false } => {
+            let started = open_store(alloc, command, schema, table, bench)?;
+            Ok(Ready::Serve(started.schema, started.index, started.store, batch))
+        }
+        Command::Serve { batch, twin: true } => {
+            let made = open_groups(alloc, command, schema, table, bench)?;
+            Ok(Ready::Twin(made.schema, made.index, made.secret, made.protected, batch))
+        }
+        Command::Audit => {
+            let started = open_store(alloc, command, schema, table, bench)?;
+            Ok(Ready::Audit(started.schema, started.store))
+        }
+        Command::Simulate => {
+            let OpenedPublic { schema, public } = open_public(alloc, schema, table)?;
+            let index = Index::new(alloc, &schema, public)?;
+            Ok(Ready::Simulate(schema, index))
+        }
+        Command::Drill { number } => Ok(Ready::Drill(number)),
+        Command::Grow => {
+            let made = open_groups(alloc, command, schema, table, bench)?;
+            Ok(Ready::Grow(made.secret, made.protected))
+        }
+        Command::Explain => {
+            let started = open_store(alloc, command, schema, table, bench)?;
+            Ok(Ready::Explain(started.schema, started.index, started.store))
+        }
+        Command::Compact => Ok(Ready::Compact(
+            open_store(alloc, command, schema, table, bench)?.store,
+        )),
+        Command::Restore => {
+            let made = open_groups(alloc, command, schema, table, bench)?;
+            Ok(Ready::Restore(made.secret, made.protected))
+        }
     }
 }

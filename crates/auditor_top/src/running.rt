@@ -33,6 +33,7 @@ use crate::words::{Command, WordFault, read_words};
 use answer_journal::Journal;
 use audit_store::Store;
 use bench_core::{Bench, Source};
+use journal_audit::audit;
 use schema_json::SchemaFault;
 use std::alloc::Global;
 use table_load::TableFault;
@@ -105,10 +106,8 @@ pub fn run<P: Source, I: Source, B: Bench>(
         → ((base : Database) → AreSoundFilesOf (P.left schema.old) (P.left table.old) base → IsReadyFor command (B.file bench.old) (table_in base) → ⊥)
         → LeavesOnly B.Bench bench.old bench.new (IsUntouched (B.file bench.old) (B.sent bench.old)) }
 
-    // If it ends without a failed call, a crash leaves the file that reads; so it does if the spare failed, but for `serve` with two
-    // journals, whose record says what then is left of both.
-    ensures quiet { B.told → IsQuiet B.Bench bench.old → result ≢ Status.BenchFault
-        → ((batch : ℕ) → NamesCommand words.now.items (Serve batch true) → result ≢ Status.SpareFault) → IsQuiet B.Bench bench.new }
+    // If it ends without a failed call of the bench, a crash leaves the file that reads.
+    ensures quiet { B.told → IsQuiet B.Bench bench.old → result ≢ Status.BenchFault → IsQuiet B.Bench bench.new }
 
     // What it doesn't come to, it doesn't call, and before the lines nothing is written or sent. A step that isn't one of the
     // command's leaves its object alone.
@@ -136,51 +135,30 @@ pub fn run<P: Source, I: Source, B: Bench>(
     };
     match open(alloc, command, schema, table, bench) {
         Err(status) => status,
-        Ok(Ready::Init { shape }) => made(Journal::make(bench, &shape)),
-        Ok(
-            Ready::Serve {
-                schema,
-                index,
-                mut store,
-                batch,
-            },
-        ) => answered(audit_session::serve(
+        Ok(Ready::Init(shape)) => made(Journal::make(bench, &shape)),
+        Ok(Ready::Serve(schema, index, mut store, batch)) => answered(audit_session::serve(
             alloc, &schema, &index, &mut store, input, bench, batch,
         )),
-        Ok(
-            Ready::Twin {
-                schema,
-                index,
-                secret,
-                protected,
-                batch,
-            },
-        ) => match TwinStore::start(alloc, secret, protected, bench, spare) {
+        Ok(Ready::Twin(schema, index, secret, protected, batch)) => match TwinStore::start(
+            alloc, secret, protected, bench, spare,
+        ) {
             Ok(mut twin) => twins_answered(serve_twin(
                 alloc, &schema, &index, &mut twin, input, bench, spare, batch,
             )),
             Err(fault) => Status::from(fault),
         },
-        Ok(Ready::Audit { schema, store }) => {
-            reported(journal_audit::audit(alloc, &schema, &store, bench))
-        }
-        Ok(Ready::Simulate { schema, index }) => judged(transcript_sim::simulate(
+        Ok(Ready::Audit(schema, store)) => reported(audit(alloc, &schema, &store, bench)),
+        Ok(Ready::Simulate(schema, index)) => judged(transcript_sim::simulate(
             alloc, &schema, &index, input, bench,
         )),
-        Ok(Ready::Drill { number }) => drill(alloc, number, bench),
-        Ok(Ready::Grow { secret, protected }) => {
-            grown(Store::grow(alloc, secret, protected, bench))
-        }
-        Ok(
-            Ready::Explain {
-                schema,
-                index,
-                store,
-            },
-        ) => explained(certificate_lines::explain(alloc, &schema, &index, &store, input, bench)),
-        Ok(Ready::Compact { store }) => compacted(compact(alloc, &store, bench, spare)),
-        Ok(Ready::Restore { secret, protected }) => {
-            restored(restore(alloc, secret, protected, bench, spare))
-        }
+        Ok(Ready::Drill(number)) => drill(alloc, number, bench),
+        Ok(Ready::Grow(secret, protected)) => grown(Store::grow(alloc, secret, protected, bench)),
+        Ok(Ready::Explain(schema, index, store)) => explained(certificate_lines::explain(
+            alloc, &schema, &index, &store, input, bench,
+        )),
+        Ok(Ready::Compact(store)) => compacted(compact(alloc, &store, bench, spare)),
+        Ok(Ready::Restore(secret, protected)) => restored(restore(
+            alloc, secret, protected, bench, spare,
+        )),
     }
 }

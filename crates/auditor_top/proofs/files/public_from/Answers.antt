@@ -1,7 +1,7 @@
 use Rattle.std.proofs.Common.{◌∙◌, ap, subst, refl}
 use Rattle.table_load.specs.Tables.{public_of}
 use Rattle.auditor_top.specs.Files.{GivesPublic}
-use Rattle.auditor_top.proofs.WholeFiles.{same_public, was_read, read_failed, read_wanted, failed_not_bad, wants_not_bad, wants_not_failed}
+use Rattle.auditor_top.proofs.WholeFiles.{same_public, was_read, read_failed, read_wanted, failed_not_bad, wants_not_bad, wants_not_failed, tells_so}
 use Rattle.auditor_top.proofs.files.public_from.Goals as goal
 
 -- the bytes were read
@@ -14,11 +14,7 @@ returns-in-Ok g c = record {
       ∙ same_public columns _ _ c.in-Ok.bytes.items (c.in-Ok.ensures.bytes told)) c.public_in.ensures.means;
   fits = c.public_in.ensures.fits;
   own = c.public_in.ensures.own;
-  within = λ told is. absurd (c.public_in.ensures.all_read is);
-  later = c.in-Ok.ensures.later;
-  failed = λ is. absurd (c.public_in.ensures.all_read is);
-  last_call = λ is. absurd (c.public_in.ensures.all_read is);
-  steady = λ other. c.in-Ok.ensures.steady (was_read _);
+  fault = tells_so g.P.Source _ _ _ (λ is. absurd (was_read _ is)) (λ is. absurd (c.public_in.ensures.all_read is)) c.in-Ok.ensures.fault;
 }
 
 -- a read failed
@@ -28,11 +24,7 @@ returns-in-Err-Failed g c = record {
   means = λ told. tt;
   fits = tt;
   own = failed_not_bad _;
-  within = λ told is. c.in-Err-Failed.ensures.within told (read_failed _ c.in-Err-Failed.field-0-is);
-  later = c.in-Err-Failed.ensures.later;
-  failed = λ is. c.in-Err-Failed.ensures.failed (read_failed _ c.in-Err-Failed.field-0-is);
-  last_call = λ is. c.in-Err-Failed.ensures.last_call (read_failed _ c.in-Err-Failed.field-0-is);
-  steady = λ other. absurd (other refl);
+  fault = tells_so g.P.Source _ _ _ (λ is. refl) (λ is. read_failed _ c.in-Err-Failed.field-0-is) c.in-Err-Failed.ensures.fault;
 }
 
 -- there was no memory for the bytes
@@ -42,9 +34,6 @@ returns-in-Err-NoMemory g c = record {
   means = λ told. tt;
   fits = tt;
   own = wants_not_bad _;
-  within = λ told is. absurd (wants_not_failed is);
-  later = c.in-Err-NoMemory.ensures.later;
-  failed = λ is. absurd (wants_not_failed is);
-  last_call = λ is. absurd (wants_not_failed is);
-  steady = λ other. c.in-Err-NoMemory.ensures.steady (read_wanted _ c.in-Err-NoMemory.field-0-is);
+  fault = tells_so g.P.Source _ _ _ (λ is. absurd (read_wanted _ c.in-Err-NoMemory.field-0-is is)) (λ is. absurd (wants_not_failed is))
+      c.in-Err-NoMemory.ensures.fault;
 }

@@ -21,6 +21,19 @@ returns-clause-left c = λ schema table file image before sent base batch histor
       },
     )
 
+pub returns-clause-twins : goal.returns-clause-twins
+returns-clause-twins c = λ schema table file spare image spare_image before sent spare_before spare_sent base batch main other whole lines over found beside.
+    let fit : MeaningsFit = record {
+      schema = c.columns_of_a_schema.ensures;
+      secret = c.secrets_of_a_table.ensures.secret;
+      public = c.secrets_of_a_table.ensures.public;
+      shape = c.secrets_of_a_table.ensures.shape;
+      entries = c.groups_of_a_schema.ensures.fit;
+    } in
+    let still = c.stay_together.ensures base batch file spare main other whole lines before sent image spare_before spare_sent spare_image
+    (is_database fit schema table base over.files) over.together found beside in
+    (still.1.0, still.1.1, still.0, record { files = over.files; together = still.1.2 })
+
 pub returns-clause-grown : goal.returns-clause-grown
 returns-clause-grown c = λ schema table file image before sent base rows history over found.
     elim found.1 [

@@ -1,6 +1,6 @@
 use Rattle.std.proofs.Common.{rules, ◌≡◌, ◌∙◌, ◌++◌, ◌≤◌, ℕ, List, take, inl, ap, refl, subst, sym, append_assoc}
 use Rattle.bench_core.specs.Causes.{Rose}
-use Rattle.auditor_top.proofs.WholeFiles.{was_read, read_wanted, read_within}
+use Rattle.auditor_top.proofs.WholeFiles.{was_read, read_wanted, read_within, unfailed}
 use Rattle.auditor_top.proofs.reading.read_all.Goals as goal
 
 -- a failed read gives no bytes for the whole, and its fault is reported
@@ -8,14 +8,16 @@ use Rattle.auditor_top.proofs.reading.read_all.Goals as goal
 pub returns-in-Err : goal.returns-in-Err
 returns-in-Err g c = record {
   bytes = λ told. tt;
-  within = λ told is.
-      read_within c.args.most (g.P.Source.left c.args.source.now) c.loop-piece.bytes.items (g.P.Source.left c.loop-piece.source)
-      (g.P.Source.left c.read.new.self)
-      (c.loop-piece.invariant.bytes told) (c.in-Err.ensures.bytes told) (search rules);
-  later = subst (λ (n : ℕ). n ≤ g.P.Source.faults c.read.new.self) c.loop-piece.invariant.steady c.in-Err.ensures.cause.later;
-  failed = λ is. subst (λ (n : ℕ). Rose n (g.P.Source.faults c.read.new.self)) c.loop-piece.invariant.steady c.in-Err.ensures.cause.failed;
-  last_call = λ is. c.in-Err.ensures.last_call;
-  steady = λ other. absurd (other refl);
+  fault = record {
+    within = λ told is.
+        read_within c.args.most (g.P.Source.left c.args.source.now) c.loop-piece.bytes.items (g.P.Source.left c.loop-piece.source)
+        (g.P.Source.left c.read.new.self)
+        (c.loop-piece.invariant.bytes told) (c.in-Err.ensures.bytes told) (search rules);
+    later = subst (λ (n : ℕ). n ≤ g.P.Source.faults c.read.new.self) c.loop-piece.invariant.steady c.in-Err.ensures.cause.later;
+    failed = λ is. subst (λ (n : ℕ). Rose n (g.P.Source.faults c.read.new.self)) c.loop-piece.invariant.steady c.in-Err.ensures.cause.failed;
+    last_call = λ is. c.in-Err.ensures.last_call;
+    steady = λ other. absurd (other refl);
+  };
 }
 
 -- at the end nothing more is read
@@ -30,11 +32,9 @@ returns-in-Ok-eq0 g c = record {
         split = c.loop-piece.invariant.bytes told ∙ ap (λ (left : List ℕ). c.loop-piece.bytes.items ++ left) none;
         end = inl (sym none ∙ read.1.0 c.in-Ok-eq0.field-0-test);
       };
-  within = λ told is. absurd (was_read _ is);
-  later = subst (λ (n : ℕ). n ≤ g.P.Source.faults c.read.new.self) c.loop-piece.invariant.steady c.read.ensures.cause.later;
-  failed = λ is. absurd (was_read _ is);
-  last_call = λ is. absurd (was_read _ is);
-  steady = λ fine. c.in-Ok-eq0.ensures.cause.steady ∙ c.loop-piece.invariant.steady;
+  fault = unfailed g.P.Source _ _ _ _ (was_read _)
+      (subst (λ (n : ℕ). n ≤ g.P.Source.faults c.read.new.self) c.loop-piece.invariant.steady c.read.ensures.cause.later)
+      (c.in-Ok-eq0.ensures.cause.steady ∙ c.loop-piece.invariant.steady);
 }
 
 -- there was no memory for what was read
@@ -42,11 +42,9 @@ returns-in-Ok-eq0 g c = record {
 pub returns-in-Err-extend_from_slice : goal.returns-in-Err-extend_from_slice
 returns-in-Err-extend_from_slice g c = record {
   bytes = λ told. tt;
-  within = λ told is. absurd (read_wanted _ refl is);
-  later = subst (λ (n : ℕ). n ≤ g.P.Source.faults c.read.new.self) c.loop-piece.invariant.steady c.read.ensures.cause.later;
-  failed = λ is. absurd (read_wanted _ refl is);
-  last_call = λ is. absurd (read_wanted _ refl is);
-  steady = λ fine. c.in-Ok.ensures.cause.steady ∙ c.loop-piece.invariant.steady;
+  fault = unfailed g.P.Source _ _ _ _ (read_wanted _ refl)
+      (subst (λ (n : ℕ). n ≤ g.P.Source.faults c.read.new.self) c.loop-piece.invariant.steady c.read.ensures.cause.later)
+      (c.in-Ok.ensures.cause.steady ∙ c.loop-piece.invariant.steady);
 }
 
 -- more was read than may be
@@ -54,11 +52,7 @@ returns-in-Err-extend_from_slice g c = record {
 pub returns : goal.returns
 returns g c = record {
   bytes = search rules;
-  within = λ told is. absurd (was_read _ is);
-  later = c.loop-piece.invariant.later;
-  failed = λ is. absurd (was_read _ is);
-  last_call = λ is. absurd (was_read _ is);
-  steady = λ fine. c.loop-piece.invariant.steady;
+  fault = unfailed g.P.Source _ _ _ _ (was_read _) c.loop-piece.invariant.later c.loop-piece.invariant.steady;
 }
 
 -- ---- what was read is put after the bytes before it

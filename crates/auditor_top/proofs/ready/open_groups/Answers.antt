@@ -10,53 +10,44 @@ use Rattle.table_load.specs.MeaningLaws.{read_means}
 use Rattle.table_load.specs.Tables.{table_of}
 use Rattle.set_index.specs.declared.index.IndexFault.{IndexFault}
 use Rattle.set_index.specs.declared.index.IndexFault.TheVariants as index
-use Rattle.auditor_top.specs.declared.opening.OpenFault.{OpenFault}
-use Rattle.auditor_top.specs.declared.opening.Opened.{Opened}
 use Rattle.auditor_top.specs.declared.starting.ReadyTable.{ReadyTable}
 use Rattle.auditor_top.specs.declared.status.Status.{Status}
 use Rattle.auditor_top.specs.Commands.{AreSoundFilesOf}
 use Rattle.auditor_top.specs.Ready.{Refuses}
-use Rattle.auditor_top.proofs.FileRefusals.{files_refused, gives_up_over}
+use Rattle.auditor_top.proofs.FileRefusals.{files_refused, gives_up_over, of_status}
 use Rattle.auditor_top.proofs.GroupRefusals.{groups_refused, growth_gives_up}
 use Rattle.auditor_top.proofs.OneTable.{table_is_ok}
 use Rattle.auditor_top.proofs.StoreRefusals.{given_files, not_public, opens_files, opens_groups}
 use Rattle.auditor_top.proofs.ready.open_groups.Goals as goal
-
-abbrev table_unopened : OpenFault → Result Opened OpenFault
-table_unopened fault = Err fault
 
 abbrev ungrouped : IndexFault → Result ReadyTable IndexFault
 ungrouped fault = Err fault
 
 -- ---- the files weren't opened
 
-pub returns-in-Err-clause-refusal : goal.returns-in-Err-clause-refusal
-returns-in-Err-clause-refusal g c =
-    let e = c.in-Err.ensures in
-    let fault = c.in-Err.fault in
+pub returns-in_err-opened-clause-refusal : goal.returns-in_err-opened-clause-refusal
+returns-in_err-opened-clause-refusal g c =
+    let e = c.in_err-opened.ensures.refused in
+    let fault = c.in_err-opened.field-0.0 in
     let asked = c.args.command in
-    subst (λ (s : Status). Refuses g.P.Source g.B.Bench asked s c.args.schema.now c.open_table.new.schema c.args.table.now c.open_table.new.table
-    c.args.bench.now c.args.bench.now) (sym c.from-in-Err.ensures)
+    of_status (λ (s : Status). Refuses g.P.Source g.B.Bench asked s c.args.schema.now c.open_table.new.schema c.args.table.now c.open_table.new.table
+    c.args.bench.now c.args.bench.now) c.from_residual.result _ c.from_residual.ensures
     (files_refused g.P.Source g.B.Bench asked c.args.schema.now c.open_table.new.schema c.args.table.now c.open_table.new.table c.args.bench.now fault
-    (opens_files asked c.requires.journal) e.schema_cause (λ is. e.own_schema_fault (ap table_unopened is)) (λ is. e.own_table_fault (ap table_unopened is))
-    (λ ptold is. e.schema_within ptold (ap table_unopened is)) (λ ptold is. e.table_within ptold (ap table_unopened is)) e.faults
-    (λ is. e.schema_last (ap table_unopened is)) (λ is. e.table_last (ap table_unopened is)) e.untouched
-    (λ ptold reads columns is. e.table_cause ptold columns is) (λ ptold simulates. not_public asked c.requires.journal simulates)
-    (λ ptold given. gives_up_over fault _ _ _ (given_files asked _ _ _ c.requires.journal c.requires.later given).1.files (e.schema_cause ptold)
-    (e.table_cause ptold)))
+    (opens_files asked c.requires.journal) table_of e (λ ptold reads. e.table ptold) (λ ptold simulates. not_public asked c.requires.journal simulates)
+    (λ ptold given. gives_up_over fault _ _ _ (given_files asked _ _ _ c.requires.journal c.requires.later given).1.files (e.schema ptold) (e.table ptold)))
 
 -- ---- the groups weren't made ready
 
-pub returns-in-Err-make_ready-clause-refusal : goal.returns-in-Err-make_ready-clause-refusal
-returns-in-Err-make_ready-clause-refusal g c =
-    let opened = c.in-Ok.opened in
-    let e = c.in-Ok.ensures in
+pub returns-in_err-make_ready-clause-refusal : goal.returns-in_err-make_ready-clause-refusal
+returns-in_err-make_ready-clause-refusal g c =
+    let opened = c.in_ok-opened.opened in
+    let e = c.in_ok-opened.ensures in
     let asked = c.args.command in
-    let fault = c.in-Err-make_ready.fault in
+    let fault = c.in_err-make_ready.field-0.0 in
     let meant = table_view opened.table in
-    let bad = λ (place : ℕ) (is : fault ≡ index.BadGroup place). c.in-Err-make_ready.ensures.bad place (ap ungrouped is) in
-    subst (λ (s : Status). Refuses g.P.Source g.B.Bench asked s c.args.schema.now c.open_table.new.schema c.args.table.now c.open_table.new.table
-    c.args.bench.now c.args.bench.now) (sym c.from.ensures)
+    let bad = λ (place : ℕ) (is : fault ≡ index.BadGroup place). c.in_err-make_ready.ensures.bad place (ap ungrouped is) in
+    of_status (λ (s : Status). Refuses g.P.Source g.B.Bench asked s c.args.schema.now c.open_table.new.schema c.args.table.now c.open_table.new.table
+    c.args.bench.now c.args.bench.now) c.from_residual-in_err-make_ready.result _ c.from_residual-in_err-make_ready.ensures
     (groups_refused g.P.Source g.B.Bench asked c.args.schema.now c.open_table.new.schema c.args.table.now c.open_table.new.table c.args.bench.now
     (opens_groups asked c.requires.journal) opened.schema e.schema_is e.steady.0 e.steady.1 fault bad
     (λ ptold reads other is. table_is_ok (λ (cs : List Column). table_of cs (g.P.Source.left c.args.table.now)) _ opened.schema other meant
@@ -67,12 +58,12 @@ returns-in-Err-make_ready-clause-refusal g c =
 
 -- ---- they were
 
-pub returns-in-Ok-make_ready : goal.returns-in-Ok-make_ready
-returns-in-Ok-make_ready g c =
-    let opened = c.in-Ok.opened in
-    let e = c.in-Ok.ensures in
-    let made = c.in-Ok-make_ready.grouped in
-    let a = c.in-Ok-make_ready.ensures in
+pub returns : goal.returns
+returns g c =
+    let opened = c.in_ok-opened.opened in
+    let e = c.in_ok-opened.ensures in
+    let made = c.in_ok-make_ready.field-0 in
+    let a = c.in_ok-make_ready.ensures in
     let shape : made.secret.shape ≡ shape_of opened.schema.columns opened.table.public.rows = ap (λ (v : SecretView). v.shape) a.same.2 ∙ e.shape in
     record {
       over = λ ptold.

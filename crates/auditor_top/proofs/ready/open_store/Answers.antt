@@ -1,60 +1,53 @@
-use Rattle.std.proofs.Common.{ℕ, List, Result, Err, sym, ◌∙◌, ap, subst}
+use Rattle.std.proofs.Common.{ℕ, List, sym, ◌∙◌, ap, subst}
 use Rattle.schema_json.specs.Columns.{SchemaView}
 use Rattle.schema_json.specs.SecretShape.{shape_of}
 use Rattle.table_load.specs.Cells.{FitsSchema, PublicView, SecretView}
 use Rattle.table_load.specs.Database.{base_of}
 use Rattle.table_load.specs.Loaded.{table_view}
 use Rattle.table_load.specs.MeaningLaws.{read_means}
+use Rattle.table_load.specs.Tables.{table_of}
 use Rattle.audit_store.specs.Stores.{IsAsLeft}
-use Rattle.auditor_top.specs.declared.opening.OpenFault.{OpenFault}
-use Rattle.auditor_top.specs.declared.opening.Opened.{Opened}
 use Rattle.auditor_top.specs.declared.status.Status.{Status}
 use Rattle.auditor_top.specs.Commands.{AreSoundFilesOf}
 use Rattle.auditor_top.specs.Ready.{Refuses}
-use Rattle.auditor_top.proofs.FileRefusals.{files_refused, gives_up_over}
+use Rattle.auditor_top.proofs.FileRefusals.{files_refused, gives_up_over, of_status}
 use Rattle.auditor_top.proofs.StepFaults.{not_both}
 use Rattle.auditor_top.proofs.StoreRefusals.{given_history, not_public, opens_files, opens_too, not_started}
 use Rattle.auditor_top.proofs.ready.open_store.Goals as goal
 
-abbrev table_unopened : OpenFault → Result Opened OpenFault
-table_unopened fault = Err fault
-
 -- ---- the files weren't opened
 
-pub returns-in-Err-clause-refusal : goal.returns-in-Err-clause-refusal
-returns-in-Err-clause-refusal g c =
-    let e = c.in-Err.ensures in
-    let fault = c.in-Err.fault in
+pub returns-in_err-opened-clause-refusal : goal.returns-in_err-opened-clause-refusal
+returns-in_err-opened-clause-refusal g c =
+    let e = c.in_err-opened.ensures.refused in
+    let fault = c.in_err-opened.field-0.0 in
     let asked = c.args.command in
-    subst (λ (s : Status). Refuses g.P.Source g.B.Bench asked s c.args.schema.now c.open_table.new.schema c.args.table.now c.open_table.new.table
-    c.args.bench.now c.args.bench.now) (sym c.from-in-Err.ensures)
+    of_status (λ (s : Status). Refuses g.P.Source g.B.Bench asked s c.args.schema.now c.open_table.new.schema c.args.table.now c.open_table.new.table
+    c.args.bench.now c.args.bench.now) c.from_residual.result _ c.from_residual.ensures
     (files_refused g.P.Source g.B.Bench asked c.args.schema.now c.open_table.new.schema c.args.table.now c.open_table.new.table c.args.bench.now fault
-    (opens_files asked (opens_too asked c.requires)) e.schema_cause (λ is. e.own_schema_fault (ap table_unopened is)) (λ is. e.own_table_fault (ap table_unopened is))
-    (λ ptold is. e.schema_within ptold (ap table_unopened is)) (λ ptold is. e.table_within ptold (ap table_unopened is)) e.faults
-    (λ is. e.schema_last (ap table_unopened is)) (λ is. e.table_last (ap table_unopened is)) e.untouched
-    (λ ptold reads columns is. e.table_cause ptold columns is) (λ ptold simulates. not_public asked (opens_too asked c.requires) simulates)
-    (λ ptold given. gives_up_over fault _ _ _ (given_history asked _ _ _ c.requires given).2.files.files (e.schema_cause ptold) (e.table_cause ptold)))
+    (opens_files asked (opens_too asked c.requires)) table_of e (λ ptold reads. e.table ptold) (λ ptold simulates. not_public asked (opens_too asked c.requires) simulates)
+    (λ ptold given. gives_up_over fault _ _ _ (given_history asked _ _ _ c.requires given).2.files.files (e.schema ptold) (e.table ptold)))
 
 -- ---- the groups weren't made ready, or the journal wasn't opened
 
-pub returns-in-Err-start-clause-refusal : goal.returns-in-Err-start-clause-refusal
-returns-in-Err-start-clause-refusal g c =
-    let opened = c.in-Ok.opened in
-    let e = c.in-Ok.ensures in
-    subst (λ (s : Status). Refuses g.P.Source g.B.Bench c.args.command s c.args.schema.now c.open_table.new.schema c.args.table.now c.open_table.new.table
-    c.args.bench.now c.start.new.bench) (sym c.from.ensures)
+pub returns-in_err-start-clause-refusal : goal.returns-in_err-start-clause-refusal
+returns-in_err-start-clause-refusal g c =
+    let opened = c.in_ok-opened.opened in
+    let e = c.in_ok-opened.ensures in
+    of_status (λ (s : Status). Refuses g.P.Source g.B.Bench c.args.command s c.args.schema.now c.open_table.new.schema c.args.table.now c.open_table.new.table
+    c.args.bench.now c.start.new.bench) c.from_residual-in_err-start.result _ c.from_residual-in_err-start.ensures
     (not_started g.P.Source g.B.Bench c.groups_of_a_schema.ensures.entries c.args.command c.args.schema.now c.open_table.new.schema c.args.table.now
     c.open_table.new.table c.args.bench.now c.start.new.bench c.requires opened.schema (table_view opened.table) e.schema_is e.table_is e.steady.0
-    e.steady.1 c.in-Err-start.fault c.in-Err-start.ensures.bad c.in-Err-start.ensures.cause c.in-Err-start.ensures.fault c.in-Err-start.ensures.uncalled)
+    e.steady.1 c.in_err-start.field-0.0 c.in_err-start.ensures.bad c.in_err-start.ensures.cause c.in_err-start.ensures.fault c.in_err-start.ensures.uncalled)
 
 -- ---- the store was opened
 
-pub returns-in-Ok-start : goal.returns-in-Ok-start
-returns-in-Ok-start g c =
-    let opened = c.in-Ok.opened in
-    let e = c.in-Ok.ensures in
-    let s = c.in-Ok-start.started in
-    let a = c.in-Ok-start.ensures in
+pub returns : goal.returns
+returns g c =
+    let opened = c.in_ok-opened.opened in
+    let e = c.in_ok-opened.ensures in
+    let s = c.in_ok-start.field-0 in
+    let a = c.in_ok-start.ensures in
     record {
       over = λ ptold.
           subst (λ (v : SchemaView). AreSoundFilesOf (g.P.Source.left c.args.schema.now) (g.P.Source.left c.args.table.now)

@@ -8,6 +8,8 @@ mod Explain
 mod Compact
 mod Restore
 mod TwinRefused
+mod TwinOpened
+mod TwinServed
 mod Twin
 use Rattle.std.proofs.Common.{◌≡◌, ◌≤◌, ◌+◌, ℕ, true, false, List, [], length, Option, Some, Result, Ok, Err, IsErr, IsErrOf, OnOk, OnErr, refl, sym, ◌∙◌, ap, subst, inr, map, string_bytes}
 use Rattle.audit_types.specs.declared.records.Answered.{Answered}
@@ -47,8 +49,7 @@ use Rattle.auditor_top.specs.Ready.{IsGiven, GivesUp, EndsEarly, IsReady, IsRead
 use Rattle.auditor_top.specs.Runs.{objects, faults_of, Making, Serving, Auditing, Simulating, Drilling}
 use Rattle.auditor_top.specs.Stages.{Before, reading_table, opening_journal, opening_spare, reading_lines}
 use Rattle.auditor_top.specs.Status.{making_status, session_status, audit_status, simulation_status}
-use Rattle.auditor_top.proofs.AuditEndings.{untouched_report, report_cause, report_ends, report_faults, report_wants}
-use Rattle.auditor_top.proofs.Calls.{making_done, session_done, report_done, simulation_done}
+use Rattle.auditor_top.proofs.AuditEndings.{untouched_report, report_ends, report_faults, report_wants}
 use Rattle.auditor_top.proofs.OneRunMore.{goes_on}
 use Rattle.auditor_top.proofs.OneCommand.{one_command, same_command, asked_for, not_asked, none_asked, refused_words, takes_step, lacks_step}
 use Rattle.auditor_top.proofs.OneTable.{one_base, same_given, carried, schema_is_ok, table_is_ok}
@@ -57,8 +58,8 @@ use Rattle.auditor_top.proofs.Refusals.{uncalled, as_quiet, refused}
 use Rattle.auditor_top.proofs.SpareCauses.{spare_unread}
 use Rattle.auditor_top.proofs.Sessions.{ends_so, stops_so, harmless_so, calls_so}
 use Rattle.auditor_top.proofs.SimulationEndings.{carried_public, simulation_ends, simulation_sends, simulation_reads, simulation_faults, simulation_wants}
-use Rattle.auditor_top.proofs.StepFaults.{moved, making_cause, making_failed, making_faults, making_wants, made_or_there, there_is, session_cause, session_ends, session_faults, session_reads, session_wants}
-use Rattle.auditor_top.proofs.StepStatuses.{always_before, before_so, never_fall, bad_words_say, no_memory_says, reads_nothing, EndsLastStep, schema_read, table_read, past_table, past_journal, no_schema_fault, no_table_fault, schema_was_read, table_was_read, making_last, session_last, report_last, simulation_last, making_words, session_words, report_words, simulation_words, session_bench, session_input, report_bench, report_no_input, simulation_bench, simulation_input, simulation_file, making_no_input, making_wants_no_memory, making_at_lines, session_at_lines, report_at_lines, simulation_at_lines}
+use Rattle.auditor_top.proofs.StepFaults.{moved, making_cause, making_faults, making_wants, made_or_there, there_is, session_ends, session_faults, session_reads, session_wants}
+use Rattle.auditor_top.proofs.StepStatuses.{always_before, before_so, never_fall, bad_words_say, no_memory_says, reads_nothing, EndsLastStep, schema_read, table_read, past_table, past_journal, no_schema_fault, no_table_fault, schema_was_read, table_was_read}
 use Rattle.auditor_top.proofs.running.run.Answers.Init.{init_ends}
 use Rattle.auditor_top.proofs.running.run.Answers.Serve.{serve_ends}
 use Rattle.auditor_top.proofs.running.run.Answers.Audit.{audit_ends}
@@ -103,7 +104,7 @@ returns-in-Err-Bad g c =
       lives = λ ptold told command asked. none_asked _ _ none asked;
       does = λ command asked. none_asked _ _ none asked;
       nothing_began = λ ptold told command asked. none_asked _ _ none asked;
-      quiet = λ told quiet fine other. quiet;
+      quiet = λ told quiet fine. quiet;
       before_table = refl;
       before_bench = refl;
       before_spare = λ other. refl;
@@ -124,6 +125,7 @@ returns-in-Err-NoMemory g c =
     let reads = uncalled g.B.Bench at.bench (λ image sent was. g.met.B.Bench.only_now at.bench image sent was) in
     let all = refused g.P.Source g.I.Source g.B.Bench at.schema at.schema at.table at.table at.input at.bench at.bench at.spare NoMemory tt reads refl
     (command_of (map string_bytes c.args.words.now.items)) (λ command asked ptold told given. tt) (λ command asked none. refl) c.stops_are_legal.ensures
+    c.lives.ensures.longer c.one_reading.ensures (λ batch twin is. c.read_words.ensures.batch batch twin is)
     (uncalled g.B.Bench at.spare (λ image sent was. g.met.B.Bench.only_now at.spare image sent was))
     (λ number asked. record {
       drilled = λ told. refl;
@@ -156,7 +158,7 @@ returns-in-Err-NoMemory g c =
           (λ batch twin is. c.read_words.ensures.batch batch twin (asked ∙ ap (λ (k : Command). Some k) is)) (all command asked) ptold told itold quiet;
       does = all;
       nothing_began = λ ptold told command asked opens quiet none. reads.untouched quiet;
-      quiet = λ told quiet fine other. quiet;
+      quiet = λ told quiet fine. quiet;
       before_table = tt;
       before_bench = tt;
       before_spare = λ other. tt;
@@ -187,6 +189,7 @@ returns-in-Err g c =
     → IsGiven k (g.P.Source.left old.schema) (g.P.Source.left old.table) (g.B.Bench.file old.bench) → GivesUp status) (one_command words _ command is_named asked)
     (says.gives_up ptold) told given)
     (λ command asked none. c.open.ensures.unopened (ap opens_store (one_command words _ command is_named asked) ∙ none)) c.stops_are_legal.ensures
+    c.lives.ensures.longer c.one_reading.ensures (λ batch twin is. c.read_words.ensures.batch batch twin is)
     (uncalled g.B.Bench old.spare (λ image sent was. g.met.B.Bench.only_now old.spare image sent was))
     (λ number asked. absurd (false≢true (c.in-Err.ensures.taken (ap reads_files (one_command words _ (command.Drill number) is_named asked))))) in
     record {
@@ -216,7 +219,7 @@ returns-in-Err g c =
           (λ batch twin is. c.read_words.ensures.batch batch twin (asked ∙ ap (λ (k : Command). Some k) is)) (all command asked) ptold told itold quiet;
       does = all;
       nothing_began = λ ptold told command asked opens quiet none. reads.untouched quiet;
-      quiet = λ told quiet fine other. as_quiet g.B.Bench old.bench new.bench reads quiet;
+      quiet = λ told quiet fine. as_quiet g.B.Bench old.bench new.bench reads quiet;
       before_table = says.before_table;
       before_bench = says.before_bench;
       before_spare = λ other. always_before opening_spare status refl;

@@ -11,11 +11,12 @@ use Rattle.auditor_top.specs.Drills.{DrillEnds}
 use Rattle.auditor_top.specs.Runs.{objects, Drilling}
 use Rattle.auditor_top.specs.Stages.{reading_table, opening_journal, reading_lines, opening_spare}
 use Rattle.auditor_top.proofs.OneCommand.{one_command, same_command, asked_for, not_asked, none_asked, lacks_step, spare_called}
-use Rattle.auditor_top.proofs.Openings.{stays, later_still}
+use Rattle.auditor_top.proofs.Openings.{stays}
 use Rattle.auditor_top.proofs.Refusals.{as_quiet}
 use Rattle.auditor_top.proofs.StepFaults.{moved}
 use Rattle.auditor_top.proofs.StepStatuses.{always_before, before_so}
 use Rattle.auditor_top.proofs.OneRunMore.{does_so, never_goes_on}
+use Rattle.auditor_top.proofs.LastSteps.{later_so}
 use Rattle.auditor_top.proofs.running.run.Given.{Over}
 use Rattle.auditor_top.proofs.running.run.Goals as goal
 
@@ -59,12 +60,12 @@ drill_ends g c =
     let unopened : c.open.new.bench ≡ c.args.bench.now = c.open.ensures.unopened (ap opens_store same) in
     let unread = c.open.ensures.unread (ap reads_files same) in
     let steady = c.in-Ok-Drill.ensures.steady in
-    let before = counts schema table input (g.B.Bench.faults c.args.bench.now) spare in
-    let faults = moved status before _ _ _ _ input (g.B.Bench.faults c.drill.new.bench) spare steady.0 steady.1
+    let faults = moved status (counts schema table input (g.B.Bench.faults c.args.bench.now) spare) _ _ _ _ input (g.B.Bench.faults c.drill.new.bench) spare steady.0 steady.1
     (subst (λ b. FaultCause status (counts schema table input (g.B.Bench.faults b) spare)
     (counts schema table input (g.B.Bench.faults c.drill.new.bench) spare)) unopened (c.drill.ensures.faults schema table input spare)) in
+    let words = subst (λ (asked : Option Command). WordCause status asked) (sym is_named) c.drill.ensures.word_cause in
     record {
-      words = subst (λ (asked : Option Command). WordCause status asked) (sym is_named) c.drill.ensures.word_cause;
+      words = words;
       schema = λ ptold command asked reads. lacks_step reads_files _ _ command is_named asked refl reads;
       table = λ ptold command asked reads. lacks_step reads_secrets _ _ command is_named asked refl reads;
       public = λ ptold asked. not_asked _ _ _ is_named asked refl;
@@ -79,21 +80,15 @@ drill_ends g c =
       table_last = λ is. absurd (c.drill.ensures.no_source _ is);
       input_last = λ is. absurd (c.drill.ensures.no_source _ is);
       bench_last = c.drill.ensures.bench_last;
-      spare_last = spare_called _ _ status is_named refl (subst (λ (asked : Option Command). WordCause status asked) (sym is_named) c.drill.ensures.word_cause);
+      spare_last = spare_called _ _ status is_named refl words;
       spare_file = λ told command asked calls. lacks_step calls_spare _ _ command is_named asked refl calls;
-      later = record {
-        schema = c.open.ensures.later.0;
-        table = c.open.ensures.later.1;
-        input = stays _;
-        bench = later_still _ _ _ c.open.ensures.later.2 (c.drill.ensures.later schema table input spare).bench;
-        spare = stays _;
-      };
+      later = later_so _ _ _ c.open.ensures.later (stays _) (c.drill.ensures.later schema table input spare).bench (stays _);
       schema_within = λ ptold is. absurd (c.drill.ensures.no_source _ is);
       table_within = λ ptold is. absurd (c.drill.ensures.no_source _ is);
       lives = λ ptold told command asked itold quiet base at goes. never_goes_on _ command _ _ _ _ _ at base is_named asked (λ none. none) goes;
       does = λ command asked. does_so g.P.Source g.I.Source g.B.Bench status _ _ _ _ command is_named asked (drilling g c);
       nothing_began = λ ptold told command asked opens. lacks_step opens_journal _ _ command is_named asked refl opens;
-      quiet = λ told quiet fine other. c.drill.ensures.quiet (as_quiet g.B.Bench _ _ c.open.ensures.reads quiet);
+      quiet = λ told quiet fine. c.drill.ensures.quiet (as_quiet g.B.Bench _ _ c.open.ensures.reads quiet);
       before_table = always_before reading_table status unread.1;
       before_bench = before_so opening_journal status (λ is. is ∙ unopened) c.drill.ensures.before_bench;
       before_spare = λ other. always_before opening_spare status refl;

@@ -1,14 +1,10 @@
 -- What `run` says of `explain`.
-use Rattle.std.proofs.Common.{◌≡◌, ◌+◌, ℕ, List, length, Option, Some, refl, sym, ◌∙◌, ap, subst, map, string_bytes}
+use Rattle.std.proofs.Common.{◌≡◌, ◌+◌, ℕ, List, length, Some, refl, sym, ◌∙◌, ap, subst, map, string_bytes}
 use Rattle.std.specs.List.{concat}
 use Rattle.audit_types.specs.declared.records.Answered.{Answered}
-use Rattle.bench_core.specs.Causes.{Rose}
 use Rattle.bench_core.specs.Calls.{IsQuiet, IsUntouched, LeavesOnly}
 use Rattle.bench_core.specs.Moments.{joins, weakens}
-use Rattle.schema_json.specs.Columns.{Column}
 use Rattle.table_load.specs.Database.{Database, base_of, table_in, secret_table}
-use Rattle.table_load.specs.MeaningLaws.{means_read}
-use Rattle.table_load.specs.Tables.{table_of}
 use Rattle.audit_store.specs.Stores.{IsAsLeft}
 use Rattle.line_wire.specs.Lines.{CountedLine, counted_lines}
 use Rattle.certificate_lines.specs.Ends.{EndSends, ExplainsMeanwhile}
@@ -16,26 +12,25 @@ use Rattle.certificate_lines.specs.Explained.{AreExplained}
 use Rattle.auditor_top.specs.declared.words.Command.{Command}
 use Rattle.auditor_top.specs.declared.words.Command.TheVariants as command
 use Rattle.auditor_top.specs.declared.status.Status.{Status}
-use Rattle.auditor_top.specs.Words.{command_of, NamesCommand}
-use Rattle.auditor_top.specs.Commands.{AreFilesOf, AreSoundFilesOf, ServesOver, opens_store, reads_files, reads_groups, reads_lines, calls_spare}
-use Rattle.auditor_top.specs.Causes.{WordCause, FileCause, InputCause, FaultCause, HoldsLegal, IsReadyFor, counts}
+use Rattle.auditor_top.specs.Words.{command_of}
+use Rattle.auditor_top.specs.Commands.{AreSoundFilesOf, ServesOver, opens_store, reads_files, reads_lines, calls_spare}
+use Rattle.auditor_top.specs.Causes.{InputCause, FaultCause, HoldsLegal, IsReadyFor}
 use Rattle.auditor_top.specs.Ends.{ExplainEnds, LeavesFile, SendsLines, public_part}
 use Rattle.auditor_top.specs.Ready.{IsReady, IsReadyOver}
 use Rattle.auditor_top.specs.Runs.{objects, faults_of, Explaining}
 use Rattle.auditor_top.specs.Stages.{opening_spare}
 use Rattle.auditor_top.specs.Status.{as_session, session_status}
-use Rattle.auditor_top.proofs.ExplainEndings.{explain_done, explain_ends, explain_reads, explain_sends, failed_bench, failed_input, untouched_lines}
+use Rattle.auditor_top.proofs.ExplainEndings.{explain_ends, explain_reads, explain_sends, untouched_lines, explain_says}
 use Rattle.auditor_top.proofs.OneRunMore.{does_so, never_goes_on}
 use Rattle.auditor_top.proofs.OneCommand.{one_command, same_command, asked_for, not_asked, none_asked, takes_step, lacks_step, spare_called}
-use Rattle.auditor_top.proofs.OneTable.{holds_for, same_given, carried, schema_is_ok, table_is_ok, groups_are_sound}
-use Rattle.auditor_top.proofs.Openings.{later_still, stays}
+use Rattle.auditor_top.proofs.OneTable.{same_given, carried}
+use Rattle.auditor_top.proofs.Openings.{stays}
 use Rattle.auditor_top.proofs.Refusals.{as_quiet}
-use Rattle.auditor_top.proofs.StepFaults.{moved, session_cause, session_faults, session_wants}
-use Rattle.auditor_top.proofs.StepStatuses.{always_before, at_lines, EndsLastStep, schema_read, table_read, groups_read, past_table, past_journal, no_schema_fault, no_table_fault, schema_was_read, table_was_read, session_last, session_words, session_bench, session_input, session_at_lines}
-use Rattle.std.specs.Bool.{OnTrue}
-use Rattle.set_index.specs.Groups.{AreEntries}
+use Rattle.auditor_top.proofs.StepFaults.{session_faults, session_wants, session_says}
+use Rattle.auditor_top.proofs.StepStatuses.{always_before, at_lines, EndsLastStep, past_table, past_journal, no_schema_fault, no_table_fault, schema_was_read, table_was_read}
 use Rattle.audit_types.specs.declared.records.Protected.{Protected}
 use Rattle.audit_types.specs.History.{IsLegal}
+use Rattle.auditor_top.proofs.LastSteps.{faults_so, file_so, groups_so, holds_over, later_so, schema_so, table_so, words_so}
 use Rattle.auditor_top.proofs.running.run.Given.{Over}
 use Rattle.auditor_top.proofs.running.run.Goals as goal
 
@@ -64,17 +59,12 @@ explained_faults : (g : Over) (c : goal.After-drop-schema-inside-in-Ok-Explain-2
     (faults_of g.P.Source g.I.Source g.B.Bench (objects c.args.schema.now c.args.table.now c.args.input.now c.args.bench.now c.args.spare.now))
     (faults_of g.P.Source g.I.Source g.B.Bench (objects c.open.new.schema c.open.new.table c.explain.new.source c.explain.new.bench c.args.spare.now))
 explained_faults g c =
-    let before = counts (g.P.Source.faults c.args.schema.now) (g.P.Source.faults c.args.table.now) (g.I.Source.faults c.args.input.now)
-    (g.B.Bench.faults c.args.bench.now) (g.B.Bench.faults c.args.spare.now) in
     let ended = c.explain.result in
-    let read = g.I.Source.faults c.explain.new.source in
-    let later = g.B.Bench.faults c.explain.new.bench in
-    let opened = c.in-Ok-Explain.ensures.steady in
     let does = c.explain.ensures in
-    moved c.explained.result before _ _ _ _ read later _ opened.0 opened.1
-    (subst (λ (status : Status). FaultCause status before (record before { input = read; bench = later })) (sym c.explained.ensures)
-    (session_faults (as_session ended) before read later (λ is. does.input (failed_input ended is)) (λ other. does.steady.0 (λ is. other (ap as_session is)))
-    (λ is. subst (λ (n : ℕ). Rose n later) opened.2 (does.bench (failed_bench ended is))) (λ other. does.steady.1 (λ is. other (ap as_session is)) ∙ opened.2)))
+    faults_so c.explained.result _ (faults_of g.P.Source g.I.Source g.B.Bench (objects c.args.schema.now c.args.table.now c.args.input.now c.args.bench.now c.args.spare.now)) _
+    _ c.explained.ensures c.in-Ok-Explain.ensures.steady
+    (session_faults (as_session ended) _ _ _ (λ is. does.input ((explain_says ended).input is)) (λ other. does.steady.0 (λ is. other (ap as_session is)))
+    (λ is. does.bench ((explain_says ended).bench is)) (λ other. does.steady.1 (λ is. other (ap as_session is))))
 
 explaining : (g : Over) (c : goal.After-drop-schema-inside-in-Ok-Explain-2 g) →
     Explaining g.P.Source g.I.Source g.B.Bench c.explained.result (objects c.args.schema.now c.args.table.now c.args.input.now c.args.bench.now c.args.spare.now)
@@ -129,31 +119,12 @@ explaining g c =
           (given ptold told base history over) (moments told quiet);
       undisturbed = λ told quiet. weakens g.B.Bench at later _ (LeavesFile file) (λ image bytes found. found.0) (moments told quiet);
       explain_calls = λ itold told done.
-          explain_done ended done (does.calls itold told) ∙ ap (λ (n : ℕ). n + length (counted_lines text)) (c.in-Ok-Explain.ensures.ticks told (ap opens_store same));
+          (explain_says ended).done _ done (does.calls itold told) ∙ ap (λ (n : ℕ). n + length (counted_lines text)) (c.in-Ok-Explain.ensures.ticks told (ap opens_store same));
       explains = λ ptold itold told base history over within none.
           session_wants (as_session ended) (faults_of g.P.Source g.I.Source g.B.Bench old) (faults_of g.P.Source g.I.Source g.B.Bench new) text left
           (subst (λ (s : Status). FaultCause s (faults_of g.P.Source g.I.Source g.B.Bench old) (faults_of g.P.Source g.I.Source g.B.Bench new)) c.explained.ensures
           (explained_faults g c)) none (explain_reads ended text left (does.reads itold)) within;
     })
-
-explained_words : (g : Over) (c : goal.After-drop-schema-inside-in-Ok-Explain-2 g) → WordCause c.explained.result (command_of (map string_bytes c.args.words.now.items))
-explained_words g c =
-    subst (λ (asked : Option Command). WordCause c.explained.result asked)
-    (sym (asked_for _ _ _ _ c.in-Ok.ensures.command c.in-Ok-Explain.field-0-is c.in-Ok-Explain.ensures.asked))
-    (subst (λ (s : Status). WordCause s (Some command.Explain)) (sym c.explained.ensures) (session_words (as_session c.explain.result) command.Explain refl))
-
-explained_file : (g : Over) (c : goal.After-drop-schema-inside-in-Ok-Explain-2 g) → g.P.Source.told → g.B.Bench.told → (asked : Command) → NamesCommand c.args.words.now.items asked → (base : Database) →
-    (files : AreFilesOf (g.P.Source.left c.args.schema.now) (g.P.Source.left c.args.table.now) base) →
-    OnTrue (reads_groups asked) (AreEntries base.columns base.public files.groups base.protected) →
-    FileCause c.explained.result asked (g.B.Bench.file c.args.bench.now) (table_in base)
-explained_file g c = λ ptold told other asked base files sound.
-    let file = g.B.Bench.file c.args.bench.now in
-    let is_named : command_of (map string_bytes c.args.words.now.items) ≡ Some command.Explain =
-    asked_for _ _ _ _ c.in-Ok.ensures.command c.in-Ok-Explain.field-0-is c.in-Ok-Explain.ensures.asked in
-    subst (λ (k : Command). FileCause c.explained.result k file (table_in base)) (one_command _ _ other is_named asked)
-    (subst (λ (s : Status). FileCause s command.Explain file (table_in base)) (sym c.explained.ensures)
-    (session_cause (as_session c.explain.result) command.Explain file (table_in base)
-    (holds_for c.groups_of_a_schema.ensures.entries _ _ other is_named asked refl _ _ file _ base (are g c ptold) (holds g c told) files sound)))
 
 pub explanation_ends : goal.returns-in-Ok-Explain
 explanation_ends g c =
@@ -162,39 +133,33 @@ explanation_ends g c =
     let reads = c.open.ensures.reads in
     let does = c.explain.ensures in
     let file = g.B.Bench.file c.args.bench.now in
-    let table = g.P.Source.left c.args.table.now in
     let store = c.in-Ok-Explain.store in
     let is_named : command_of (map string_bytes c.args.words.now.items) ≡ Some command.Explain =
     asked_for _ _ _ _ c.in-Ok.ensures.command c.in-Ok-Explain.field-0-is c.in-Ok-Explain.ensures.asked in
-    let last = subst EndsLastStep (sym c.explained.ensures) (session_last ended) in
+    let last = subst EndsLastStep (sym c.explained.ensures) ((session_says ended).last) in
+    let words = words_so _ command.Explain status _ is_named c.explained.ensures ((session_says ended).words command.Explain refl) in
     record {
-      words = explained_words g c;
-      schema = λ ptold command asked reads. schema_read status _ last (schema_is_ok _ _ (are g c ptold).files.schema_is);
-      table = λ ptold command asked reads meant is. table_read status _ last
-          (table_is_ok (λ (cs : List Column). table_of cs table) _ _ meant _ (are g c ptold).files.schema_is (means_read (are g c ptold).files.table_means) is);
+      words = words;
+      schema = λ ptold command asked reads. schema_so status _ _ _ last (are g c ptold).files;
+      table = λ ptold command asked reads. table_so status _ _ _ last (are g c ptold).files;
       public = λ ptold asked. not_asked _ _ _ is_named asked refl;
-      groups = λ ptold command asked reads meant is. groups_read status _ _ last
-          (groups_are_sound c.groups_of_a_schema.ensures.entries _ _ _ _ _ meant (are g c ptold).files.schema_is (are g c ptold).entries is);
+      groups = λ ptold command asked reads. groups_so c.groups_of_a_schema.ensures.entries status _ _ _ last (are g c ptold);
       own_schema_fault = no_schema_fault status last;
       own_table_fault = no_table_fault status last;
-      file = explained_file g c;
+      file = λ ptold told. file_so _ command.Explain status _ is_named c.explained.ensures refl _ _ file (λ base sound.
+          (session_says ended).file command.Explain file (table_in base)
+          (holds_over c.groups_of_a_schema.ensures.entries _ _ file _ base (are g c ptold) sound (holds g c told)));
       input = λ itold command asked reads.
           subst (λ (s : Status). InputCause s (g.I.Source.left c.args.input.now) (g.I.Source.left c.explain.new.source)) (sym c.explained.ensures)
           (explain_reads c.explain.result _ _ (does.reads itold));
       faults = explained_faults g c;
       schema_last = schema_was_read status last;
       table_last = table_was_read status last;
-      input_last = λ is. does.last_call.0 (failed_input c.explain.result (session_input ended (sym c.explained.ensures ∙ is)));
-      bench_last = λ is. does.last_call.1 (failed_bench c.explain.result (session_bench ended (sym c.explained.ensures ∙ is)));
-      spare_last = spare_called _ _ status is_named refl (explained_words g c);
+      input_last = λ is. does.last_call.0 ((explain_says c.explain.result).input ((session_says ended).input (sym c.explained.ensures ∙ is)));
+      bench_last = λ is. does.last_call.1 ((explain_says c.explain.result).bench ((session_says ended).bench (sym c.explained.ensures ∙ is)));
+      spare_last = spare_called _ _ status is_named refl words;
       spare_file = λ told command asked calls. lacks_step calls_spare _ _ command is_named asked refl calls;
-      later = record {
-        schema = c.open.ensures.later.0;
-        table = c.open.ensures.later.1;
-        input = does.later.0;
-        bench = later_still _ _ _ c.open.ensures.later.2 does.later.1;
-        spare = stays _;
-      };
+      later = later_so _ _ _ c.open.ensures.later does.later.0 does.later.1 (stays _);
       schema_within = λ ptold. schema_was_read status last;
       table_within = λ ptold. table_was_read status last;
       lives = λ ptold told command asked itold quiet base at goes. never_goes_on _ command _ _ _ _ _ at base is_named asked (λ none. none) goes;
@@ -202,12 +167,12 @@ explanation_ends g c =
       nothing_began = λ ptold told command asked opens quiet none.
           absurd (none _ (are g c ptold) (subst (λ (k : Command). IsReadyFor k file (secret_table store.secret c.in-Ok-Explain.index.protected))
           (one_command _ _ command is_named asked) (holds g c told)));
-      quiet = λ told quiet fine other image left. as_quiet g.B.Bench _ _ reads quiet image (does.crash image left) ∙ sym does.file;
+      quiet = λ told quiet fine image left. as_quiet g.B.Bench _ _ reads quiet image (does.crash image left) ∙ sym does.file;
       before_table = past_table _ status last;
       before_bench = past_journal _ status last;
       before_spare = λ other. always_before opening_spare status refl;
-      before_lines = at_lines _ _ _ c.explained.ensures (session_at_lines _ ended);
-      unwritten = λ told. at_lines _ _ _ c.explained.ensures (session_at_lines _ ended);
+      before_lines = at_lines _ _ _ c.explained.ensures ((session_says ended).at_lines _);
+      unwritten = λ told. at_lines _ _ _ c.explained.ensures ((session_says ended).at_lines _);
       unread = λ none. none_asked _ _ none is_named;
       no_files = λ command asked none. takes_step reads_files _ _ _ is_named asked refl none;
       no_lines = λ command asked none. takes_step reads_lines _ _ _ is_named asked refl none;

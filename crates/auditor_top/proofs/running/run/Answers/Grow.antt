@@ -1,14 +1,8 @@
-use Rattle.std.proofs.Common.{◌≡◌, ◌≢◌, ◌+◌, ℕ, List, Option, Some, Err, OnErr, refl, sym, ◌∙◌, ap, subst, map, string_bytes}
-use Rattle.std.specs.Bool.{OnTrue}
+use Rattle.std.proofs.Common.{◌≡◌, ◌≢◌, ◌+◌, ℕ, List, Some, Err, OnErr, refl, sym, ◌∙◌, ap, subst, map, string_bytes}
 use Rattle.audit_types.specs.declared.records.Answered.{Answered}
 use Rattle.audit_types.specs.Widening.{over, widened}
-use Rattle.bench_core.specs.Causes.{Rose}
 use Rattle.bench_core.specs.Calls.{IsQuiet, IsUntouched, LeavesOnly}
-use Rattle.schema_json.specs.Columns.{Column}
-use Rattle.set_index.specs.Groups.{AreEntries}
 use Rattle.table_load.specs.Database.{Database, base_of, table_in, secret_table}
-use Rattle.table_load.specs.MeaningLaws.{means_read}
-use Rattle.table_load.specs.Tables.{table_of}
 use Rattle.journal_form.specs.Journal.{StandsFor}
 use Rattle.answer_journal.specs.Moments.{IsBeforeOrGrown}
 use Rattle.audit_store.specs.Growing.{CanGrow}
@@ -16,21 +10,21 @@ use Rattle.audit_store.specs.declared.growing.GrowFault.TheVariants as grow
 use Rattle.auditor_top.specs.declared.words.Command.{Command}
 use Rattle.auditor_top.specs.declared.words.Command.TheVariants as command
 use Rattle.auditor_top.specs.declared.status.Status.{Status}
-use Rattle.auditor_top.specs.Words.{command_of, NamesCommand}
-use Rattle.auditor_top.specs.Commands.{AreFilesOf, AreSoundFilesOf, GrowsOver, opens_store, reads_files, reads_groups, reads_lines, writes, calls_spare}
-use Rattle.auditor_top.specs.Causes.{WordCause, FileCause, FaultCause, IsReadyFor, counts}
+use Rattle.auditor_top.specs.Words.{command_of}
+use Rattle.auditor_top.specs.Commands.{AreSoundFilesOf, GrowsOver, opens_store, reads_files, reads_lines, writes, calls_spare}
+use Rattle.auditor_top.specs.Causes.{FileCause, FaultCause, IsReadyFor}
 use Rattle.auditor_top.specs.Ends.{GrowEnds}
 use Rattle.auditor_top.specs.Ready.{IsReadyOver}
 use Rattle.auditor_top.specs.Runs.{objects, faults_of, Growing}
 use Rattle.auditor_top.specs.Stages.{reading_lines, opening_spare}
 use Rattle.auditor_top.specs.Status.{growing_status}
-use Rattle.auditor_top.proofs.GrowthEndings.{growth_last, growth_words, growth_file, growth_bench, growth_no_input, growth_faults, growth_ends, growth_wants, growth_kept, growth_at_lines, growth_done, done_so}
+use Rattle.auditor_top.proofs.GrowthEndings.{growth_file, growth_faults, growth_ends, growth_wants, growth_kept, done_so, growth_says}
 use Rattle.auditor_top.proofs.OneCommand.{one_command, same_command, asked_for, not_asked, none_asked, takes_step, lacks_step, spare_called}
 use Rattle.auditor_top.proofs.OneRunMore.{does_so, goes_on}
-use Rattle.auditor_top.proofs.OneTable.{one_base, schema_is_ok, table_is_ok, groups_are_sound}
-use Rattle.auditor_top.proofs.Openings.{stays, later_still}
-use Rattle.auditor_top.proofs.StepFaults.{moved}
-use Rattle.auditor_top.proofs.StepStatuses.{always_before, at_lines, schema_read, table_read, groups_read, past_table, past_journal, no_schema_fault, no_table_fault, schema_was_read, table_was_read, EndsLastStep}
+use Rattle.auditor_top.proofs.OneTable.{one_base}
+use Rattle.auditor_top.proofs.Openings.{stays}
+use Rattle.auditor_top.proofs.StepStatuses.{always_before, at_lines, past_table, past_journal, no_schema_fault, no_table_fault, schema_was_read, table_was_read, EndsLastStep}
+use Rattle.auditor_top.proofs.LastSteps.{faults_so, file_so, groups_so, later_so, schema_so, table_so, words_so}
 use Rattle.auditor_top.proofs.running.run.Given.{Over}
 use Rattle.auditor_top.proofs.running.run.Goals as goal
 
@@ -44,18 +38,28 @@ named g c = asked_for _ _ _ _ c.in-Ok.ensures.command c.in-Ok-Grow.field-0-is c.
 same_bench : (g : Over) (c : goal.After-grown g) → c.open.new.bench ≡ c.args.bench.now
 same_bench g c = c.open.ensures.unopened (ap opens_store (is_grow g c))
 
+-- the files are those of the table whose groups were made ready
+abbrev seen : (g : Over) (c : goal.After-grown g) → g.P.Source.told → Database
+seen g c ptold =
+    let over = subst (IsReadyOver (g.P.Source.left c.args.schema.now) (g.P.Source.left c.args.table.now)) c.in-Ok-Grow.field-0-is (c.in-Ok-Grow.ensures.over ptold) in
+    base_of over.0 over.1 c.in-Ok-Grow.protected.items c.in-Ok-Grow.secret
+
+are : (g : Over) (c : goal.After-grown g) (ptold : g.P.Source.told) →
+    AreSoundFilesOf (g.P.Source.left c.args.schema.now) (g.P.Source.left c.args.table.now) (seen g c ptold)
+are g c ptold =
+    (subst (IsReadyOver (g.P.Source.left c.args.schema.now) (g.P.Source.left c.args.table.now)) c.in-Ok-Grow.field-0-is (c.in-Ok-Grow.ensures.over ptold)).2
+
+-- every table that they mean is that one
+is_seen : (g : Over) (c : goal.After-grown g) (ptold : g.P.Source.told) (base : Database) →
+    AreSoundFilesOf (g.P.Source.left c.args.schema.now) (g.P.Source.left c.args.table.now) base → seen g c ptold ≡ base
+is_seen g c ptold base sound = one_base c.groups_of_a_schema.ensures.entries _ _ (seen g c ptold) base (are g c ptold) sound
+
 grew_faults : (g : Over) (c : goal.After-grown g) → FaultCause c.grown.result
     (faults_of g.P.Source g.I.Source g.B.Bench (objects c.args.schema.now c.args.table.now c.args.input.now c.args.bench.now c.args.spare.now))
     (faults_of g.P.Source g.I.Source g.B.Bench (objects c.open.new.schema c.open.new.table c.args.input.now c.grow.new.bench c.args.spare.now))
 grew_faults g c =
-    let before = counts (g.P.Source.faults c.args.schema.now) (g.P.Source.faults c.args.table.now) (g.I.Source.faults c.args.input.now)
-    (g.B.Bench.faults c.args.bench.now) (g.B.Bench.faults c.args.spare.now) in
-    let later = g.B.Bench.faults c.grow.new.bench in
-    let steady = c.in-Ok-Grow.ensures.steady in
-    moved c.grown.result before _ _ _ _ _ later _ steady.0 steady.1
-    (subst (λ (status : Status). FaultCause status before (record before { bench = later })) (sym c.grown.ensures)
-    (growth_faults c.grow.result before later (λ is. subst (λ (n : ℕ). Rose n later) steady.2 (c.grow.ensures.fault.failed is))
-    (λ other. c.grow.ensures.fault.steady other ∙ steady.2)))
+    faults_so c.grown.result _ (faults_of g.P.Source g.I.Source g.B.Bench (objects c.args.schema.now c.args.table.now c.args.input.now c.args.bench.now c.args.spare.now)) _
+    _ c.grown.ensures c.in-Ok-Grow.ensures.steady (growth_faults c.grow.result _ _ c.grow.ensures.fault.failed c.grow.ensures.fault.steady)
 
 grew : (g : Over) (c : goal.After-grown g) →
     Growing g.P.Source g.I.Source g.B.Bench c.grown.result (objects c.args.schema.now c.args.table.now c.args.input.now c.args.bench.now c.args.spare.now)
@@ -66,29 +70,24 @@ grew g c =
     let later = c.grow.new.bench in
     let same = same_bench g c in
     let secret = c.in-Ok-Grow.secret in
-    let protected = c.in-Ok-Grow.protected in
     let schema = g.P.Source.left c.args.schema.now in
     let table = g.P.Source.left c.args.table.now in
     let file = g.B.Bench.file opened in
     let sent = g.B.Bench.sent opened in
     let old = objects c.args.schema.now c.args.table.now c.args.input.now at c.args.spare.now in
     let new = objects c.open.new.schema c.open.new.table c.args.input.now later c.args.spare.now in
-    let are = λ (ptold : g.P.Source.told). subst (IsReadyOver schema table) c.in-Ok-Grow.field-0-is (c.in-Ok-Grow.ensures.over ptold) in
-    let seen : (g.P.Source.told → Database) = λ ptold. base_of (are ptold).0 (are ptold).1 protected.items secret in
-    let one : ((ptold : g.P.Source.told) (base : Database) → AreSoundFilesOf schema table base → seen ptold ≡ base) =
-    λ ptold base files. one_base c.groups_of_a_schema.ensures.entries schema table (seen ptold) base (are ptold).2 files in
     let given : ((ptold : g.P.Source.told) (base : Database) (rows : ℕ) (history : List Answered) → GrowsOver schema table (g.B.Bench.file at) base rows history →
-    GrowsOver schema table file (seen ptold) rows history) = λ ptold base rows history over.
-    subst (λ (b : Database). GrowsOver schema table file b rows history) (sym (one ptold base over.files))
+    GrowsOver schema table file (seen g c ptold) rows history) = λ ptold base rows history over.
+    subst (λ (b : Database). GrowsOver schema table file b rows history) (sym (is_seen g c ptold base over.files))
     (subst (λ (f : List ℕ). GrowsOver schema table f base rows history) (sym (ap g.B.Bench.file same)) over) in
-    let can : ((ptold : g.P.Source.told) (rows : ℕ) (history : List Answered) → GrowsOver schema table file (seen ptold) rows history →
-    CanGrow file (table_in (seen ptold))) = λ ptold rows history over.
+    let can : ((ptold : g.P.Source.told) (rows : ℕ) (history : List Answered) → GrowsOver schema table file (seen g c ptold) rows history →
+    CanGrow file (table_in (seen g c ptold))) = λ ptold rows history over.
     record { rows = rows; history = history; fewer = over.fewer; stands = over.stands; has = over.legal } in
     subst (λ (s : Status). Growing g.P.Source g.I.Source g.B.Bench s old new) (sym c.grown.ensures) (record {
       grown = λ ptold told base rows history over.
           let over_seen = given ptold base rows history over in
-          subst (λ (b : Database). GrowEnds (growing_status c.grow.result) b history (g.B.Bench.file at) (g.B.Bench.file later)) (one ptold base over.files)
-          (growth_ends c.grow.result (seen ptold) history (g.B.Bench.file at) (g.B.Bench.file later)
+          subst (λ (b : Database). GrowEnds (growing_status c.grow.result) b history (g.B.Bench.file at) (g.B.Bench.file later)) (is_seen g c ptold base over.files)
+          (growth_ends c.grow.result (seen g c ptold) history (g.B.Bench.file at) (g.B.Bench.file later)
           (done_so c.grow.result (λ grown. subst (λ (h : List Answered). StandsFor (g.B.Bench.file later) secret.shape (widened secret.shape.rows h))
           (c.one_reading.ensures file _ _ _ _ _ _ grown.0.stands.1 over_seen.stands.1).1 grown.1) (c.grow.ensures.done told))
           (c.grow.ensures.grows told (can ptold rows history over_seen))
@@ -97,11 +96,11 @@ grew g c =
           let over_seen = given ptold base rows history held in
           subst (λ (b : g.row.B.Denot). LeavesOnly g.B.Bench b later (IsBeforeOrGrown (over rows base.secret.shape) history base.secret.shape.rows (g.B.Bench.sent b))) same
           (subst (λ (b : Database). LeavesOnly g.B.Bench opened later (IsBeforeOrGrown (over rows b.secret.shape) history b.secret.shape.rows sent))
-          (one ptold base held.files)
+          (is_seen g c ptold base held.files)
           (c.grow.ensures.any_moment told (subst (λ b. IsQuiet g.B.Bench b) (sym same) quiet) (can ptold rows history over_seen)));
       unsent = c.grow.ensures.sent ∙ ap g.B.Bench.sent same;
       kept = λ undone fine. growth_kept c.grow.result undone fine c.grow.ensures.kept ∙ ap g.B.Bench.file same;
-      grow_calls = λ told done. growth_done c.grow.result done (c.grow.ensures.ticks told) ∙ ap (λ (n : ℕ). n + 6) (ap g.B.Bench.moment same);
+      grow_calls = λ told done. (growth_says c.grow.result).done _ done (c.grow.ensures.ticks told) ∙ ap (λ (n : ℕ). n + 6) (ap g.B.Bench.moment same);
       grows = λ ptold told base rows history over none.
           growth_wants c.grow.result (faults_of g.P.Source g.I.Source g.B.Bench old) (faults_of g.P.Source g.I.Source g.B.Bench new)
           (c.grow.ensures.grows told (can ptold rows history (given ptold base rows history over)))
@@ -109,32 +108,16 @@ grew g c =
           (grew_faults g c)) none;
     })
 
-grew_words : (g : Over) (c : goal.After-grown g) → WordCause c.grown.result (command_of (map string_bytes c.args.words.now.items))
-grew_words g c =
-    subst (λ (asked : Option Command). WordCause c.grown.result asked) (sym (named g c))
-    (subst (λ (s : Status). WordCause s (Some command.Grow)) (sym c.grown.ensures) (growth_words c.grow.result))
-
-grew_file : (g : Over) (c : goal.After-grown g) → g.P.Source.told → g.B.Bench.told → (asked : Command) → NamesCommand c.args.words.now.items asked →
-    (base : Database) → (files : AreFilesOf (g.P.Source.left c.args.schema.now) (g.P.Source.left c.args.table.now) base) →
-    OnTrue (reads_groups asked) (AreEntries base.columns base.public files.groups base.protected) →
-    FileCause c.grown.result asked (g.B.Bench.file c.args.bench.now) (table_in base)
-grew_file g c ptold told asked is_asked base files sound =
-    let file = g.B.Bench.file c.args.bench.now in
-    let secret = c.in-Ok-Grow.secret in
-    let protected = c.in-Ok-Grow.protected in
-    let are = subst (IsReadyOver (g.P.Source.left c.args.schema.now) (g.P.Source.left c.args.table.now)) c.in-Ok-Grow.field-0-is (c.in-Ok-Grow.ensures.over ptold) in
-    let is : asked ≡ command.Grow = one_command _ _ _ is_asked (named g c) in
-    let given : AreSoundFilesOf (g.P.Source.left c.args.schema.now) (g.P.Source.left c.args.table.now) base = record {
-      files = files;
-      entries = subst (λ (k : Command). OnTrue (reads_groups k) (AreEntries base.columns base.public files.groups base.protected)) is sound;
-    } in
-    subst (λ (k : Command). FileCause c.grown.result k file (table_in base)) (sym is)
-    (subst (λ (s : Status). FileCause s command.Grow file (table_in base)) (sym c.grown.ensures)
-    (subst (λ (b : Database). FileCause (growing_status c.grow.result) command.Grow file (table_in b))
-    (one_base c.groups_of_a_schema.ensures.entries _ _ (base_of are.0 are.1 protected.items secret) base are.2 given)
-    (subst (λ (f : List ℕ). FileCause (growing_status c.grow.result) command.Grow f (secret_table secret protected.items)) (ap g.B.Bench.file (same_bench g c))
-    (growth_file c.grow.result (g.B.Bench.file c.open.new.bench) (secret_table secret protected.items) (done_so c.grow.result (λ grown. grown.0) (c.grow.ensures.done told))
-    (λ fault is. c.grow.ensures.cause fault told is)))))
+-- the file's cause, by how it ended
+grew_file : (g : Over) (c : goal.After-grown g) → g.P.Source.told → g.B.Bench.told → (base : Database) →
+    AreSoundFilesOf (g.P.Source.left c.args.schema.now) (g.P.Source.left c.args.table.now) base →
+    FileCause (growing_status c.grow.result) command.Grow (g.B.Bench.file c.args.bench.now) (table_in base)
+grew_file g c ptold told base sound =
+    let table = secret_table c.in-Ok-Grow.secret c.in-Ok-Grow.protected.items in
+    subst (λ (b : Database). FileCause (growing_status c.grow.result) command.Grow (g.B.Bench.file c.args.bench.now) (table_in b)) (is_seen g c ptold base sound)
+    (subst (λ b. FileCause (growing_status c.grow.result) command.Grow (g.B.Bench.file b) table) (same_bench g c)
+    (growth_file c.grow.result (g.B.Bench.file c.open.new.bench) table (done_so c.grow.result (λ grown. grown.0) (c.grow.ensures.done told))
+    (λ fault is. c.grow.ensures.cause fault told is)))
 
 pub grow_ends : goal.returns-in-Ok-Grow
 grow_ends g c =
@@ -143,38 +126,28 @@ grow_ends g c =
     let opened = c.open.new.bench in
     let later = c.grow.new.bench in
     let same = same_bench g c in
-    let schema = g.P.Source.left c.args.schema.now in
-    let table = g.P.Source.left c.args.table.now in
-    let are = λ (ptold : g.P.Source.told). subst (IsReadyOver schema table) c.in-Ok-Grow.field-0-is (c.in-Ok-Grow.ensures.over ptold) in
     let is_named = named g c in
-    let last = subst EndsLastStep (sym c.grown.ensures) (growth_last c.grow.result) in
+    let last = subst EndsLastStep (sym c.grown.ensures) ((growth_says c.grow.result).last) in
+    let words = words_so _ command.Grow status _ is_named c.grown.ensures ((growth_says c.grow.result).words) in
     let quiet_then : (IsQuiet g.B.Bench c.args.bench.now → IsQuiet g.B.Bench opened) = λ quiet. subst (λ b. IsQuiet g.B.Bench b) (sym same) quiet in
     record {
-      words = grew_words g c;
-      schema = λ ptold command asked reads. schema_read status _ last (schema_is_ok _ _ (are ptold).2.files.schema_is);
-      table = λ ptold command asked reads meant is. table_read status _ last
-          (table_is_ok (λ (cs : List Column). table_of cs table) _ _ meant _ (are ptold).2.files.schema_is (means_read (are ptold).2.files.table_means) is);
+      words = words;
+      schema = λ ptold command asked reads. schema_so status _ _ _ last (are g c ptold).files;
+      table = λ ptold command asked reads. table_so status _ _ _ last (are g c ptold).files;
       public = λ ptold asked. not_asked _ _ _ is_named asked refl;
-      groups = λ ptold command asked reads meant is. groups_read status _ _ last
-          (groups_are_sound c.groups_of_a_schema.ensures.entries _ _ (are ptold).1 _ c.in-Ok-Grow.protected.items meant (are ptold).2.files.schema_is (are ptold).2.entries is);
+      groups = λ ptold command asked reads. groups_so c.groups_of_a_schema.ensures.entries status _ _ _ last (are g c ptold);
       own_schema_fault = no_schema_fault status last;
       own_table_fault = no_table_fault status last;
-      file = grew_file g c;
+      file = λ ptold told. file_so _ command.Grow status _ is_named c.grown.ensures refl _ _ _ (grew_file g c ptold told);
       input = λ itold command asked reads. lacks_step reads_lines _ _ command is_named asked refl reads;
       faults = grew_faults g c;
       schema_last = schema_was_read status last;
       table_last = table_was_read status last;
-      input_last = λ is. absurd (growth_no_input c.grow.result (sym c.grown.ensures ∙ is));
-      bench_last = λ is. c.grow.ensures.fault.last_call (growth_bench c.grow.result (sym c.grown.ensures ∙ is));
-      spare_last = spare_called _ _ status is_named refl (grew_words g c);
+      input_last = λ is. absurd ((growth_says c.grow.result).no_input (sym c.grown.ensures ∙ is));
+      bench_last = λ is. c.grow.ensures.fault.last_call ((growth_says c.grow.result).bench (sym c.grown.ensures ∙ is));
+      spare_last = spare_called _ _ status is_named refl words;
       spare_file = λ told command asked calls. lacks_step calls_spare _ _ command is_named asked refl calls;
-      later = record {
-        schema = c.open.ensures.later.0;
-        table = c.open.ensures.later.1;
-        input = stays _;
-        bench = later_still _ _ _ c.open.ensures.later.2 c.grow.ensures.fault.later;
-        spare = stays _;
-      };
+      later = later_so _ _ _ c.open.ensures.later (stays _) c.grow.ensures.fault.later (stays _);
       schema_within = λ ptold. schema_was_read status last;
       table_within = λ ptold. table_was_read status last;
       lives = λ ptold told command asked itold quiet. goes_on g.P.Source g.I.Source g.B.Bench status
@@ -185,16 +158,16 @@ grow_ends g c =
       does = λ command asked. does_so g.P.Source g.I.Source g.B.Bench status _ _ _ _ command is_named asked (grew g c);
       nothing_began = λ ptold told command asked opens quiet none.
           subst (λ (b : g.row.B.Denot). LeavesOnly g.B.Bench b later (IsUntouched (g.B.Bench.file b) (g.B.Bench.sent b))) same
-          (c.grow.ensures.untouched told (quiet_then quiet) (λ can. none _ (are ptold).2
+          (c.grow.ensures.untouched told (quiet_then quiet) (λ can. none _ (are g c ptold)
           (subst (λ (k : Command). IsReadyFor k (g.B.Bench.file c.args.bench.now) (secret_table c.in-Ok-Grow.secret c.in-Ok-Grow.protected.items))
           (one_command _ _ command is_named asked)
           (subst (λ (f : List ℕ). CanGrow f (secret_table c.in-Ok-Grow.secret c.in-Ok-Grow.protected.items)) (ap g.B.Bench.file same) can))));
-      quiet = λ told quiet fine other. c.grow.ensures.quiet told (quiet_then quiet) (λ is. fine (c.grown.ensures ∙ ap growing_status is));
+      quiet = λ told quiet fine. c.grow.ensures.quiet told (quiet_then quiet) (λ is. fine (c.grown.ensures ∙ ap growing_status is));
       before_table = past_table _ status last;
       before_bench = past_journal _ status last;
       before_spare = λ other. always_before opening_spare status refl;
       before_lines = always_before reading_lines status (refl, c.grow.ensures.sent ∙ reads.sent);
-      unwritten = λ told. at_lines _ _ _ c.grown.ensures (growth_at_lines c.grow.result (λ is. is ∙ reads.file) c.grow.ensures.kept);
+      unwritten = λ told. at_lines _ _ _ c.grown.ensures ((growth_says c.grow.result).at_lines _ _ (λ is. is ∙ reads.file) c.grow.ensures.kept);
       unread = λ none. none_asked _ _ none is_named;
       no_files = λ command asked none. takes_step reads_files _ _ _ is_named asked refl none;
       no_lines = λ command asked none. refl;

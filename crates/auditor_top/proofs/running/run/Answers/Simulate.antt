@@ -1,55 +1,49 @@
 -- What `run` says of `simulate`.
-use Rattle.std.proofs.Common.{◌≡◌, ◌+◌, ℕ, List, length, Option, Some, refl, sym, ◌∙◌, ap, subst, map, string_bytes}
+use Rattle.std.proofs.Common.{◌≡◌, ◌+◌, List, length, Some, refl, sym, ◌∙◌, ap, subst, map, string_bytes}
 use Rattle.audit_types.specs.declared.records.Answered.{Answered}
-use Rattle.bench_core.specs.Causes.{Rose}
 use Rattle.bench_core.specs.Calls.{IsQuiet, LeavesOnly}
 use Rattle.bench_core.specs.Moments.{weakens}
 use Rattle.schema_json.specs.Columns.{Column}
-use Rattle.table_load.specs.Database.{Database, table_in}
+use Rattle.table_load.specs.Database.{table_in}
 use Rattle.table_load.specs.Tables.{public_of}
 use Rattle.line_wire.specs.Lines.{counted_lines}
 use Rattle.question_plan.specs.Session.{Replied}
 use Rattle.transcript_sim.specs.Ends.{EndSends, EndVerdicts, SimulatesMeanwhile}
 use Rattle.transcript_sim.specs.Verdicts.{exchanges}
-use Rattle.auditor_top.specs.declared.words.Command.{Command}
 use Rattle.auditor_top.specs.declared.words.Command.TheVariants as command
 use Rattle.auditor_top.specs.declared.status.Status.{Status}
-use Rattle.auditor_top.specs.Words.{command_of, NamesCommand}
-use Rattle.auditor_top.specs.Commands.{AreFilesOf, opens_journal, opens_store, reads_files, reads_groups, reads_lines, reads_secrets, calls_spare}
-use Rattle.auditor_top.specs.Causes.{WordCause, FileCause, InputCause, FaultCause, counts}
+use Rattle.auditor_top.specs.Words.{command_of}
+use Rattle.auditor_top.specs.Commands.{opens_journal, opens_store, reads_files, reads_lines, reads_secrets, calls_spare, ArePublicFilesOf}
+use Rattle.auditor_top.specs.Causes.{InputCause, FaultCause}
 use Rattle.auditor_top.specs.Ready.{IsReadyOver}
 use Rattle.auditor_top.specs.Runs.{objects, faults_of, Simulating}
-use Rattle.auditor_top.proofs.Calls.{simulation_done}
-use Rattle.auditor_top.proofs.OneCommand.{one_command, same_command, asked_for, none_asked, takes_step, lacks_step, spare_called}
+use Rattle.auditor_top.proofs.OneCommand.{same_command, asked_for, none_asked, takes_step, lacks_step, spare_called}
 use Rattle.auditor_top.proofs.OneRunMore.{does_so, never_goes_on}
 use Rattle.auditor_top.proofs.OneTable.{schema_is_ok, table_is_ok}
-use Rattle.auditor_top.proofs.Openings.{later_still, stays}
+use Rattle.auditor_top.proofs.Openings.{stays}
 use Rattle.auditor_top.proofs.Refusals.{as_quiet}
-use Rattle.auditor_top.proofs.SimulationEndings.{carried_public, simulation_ends, simulation_sends, simulation_reads, simulation_faults, simulation_wants}
-use Rattle.auditor_top.proofs.StepFaults.{moved}
+use Rattle.auditor_top.proofs.SimulationEndings.{carried_public, simulation_ends, simulation_sends, simulation_reads, simulation_faults, simulation_wants, simulation_says}
 use Rattle.auditor_top.specs.Stages.{opening_spare}
-use Rattle.auditor_top.proofs.StepStatuses.{at_lines, EndsLastStep, schema_read, table_read, past_table, past_journal, no_schema_fault, no_table_fault, schema_was_read, table_was_read, simulation_last, simulation_words, simulation_bench, simulation_input, simulation_file, simulation_at_lines, always_before}
-use Rattle.std.specs.Bool.{OnTrue}
-use Rattle.set_index.specs.Groups.{AreEntries}
+use Rattle.auditor_top.proofs.StepStatuses.{at_lines, EndsLastStep, schema_read, table_read, past_table, past_journal, no_schema_fault, no_table_fault, schema_was_read, table_was_read, always_before}
 use Rattle.set_index.specs.Indexed.{IndexView}
 use Rattle.auditor_top.proofs.OneTable.{groups_are_sound}
 use Rattle.auditor_top.proofs.StepStatuses.{groups_read}
+use Rattle.auditor_top.proofs.LastSteps.{faults_so, file_so, later_so, words_so}
 use Rattle.auditor_top.proofs.running.run.Given.{Over}
 use Rattle.auditor_top.proofs.running.run.Goals as goal
+
+-- the files are those of the public columns whose groups were made ready
+are : (g : Over) (c : goal.After-drop-schema-inside-in-Ok-Simulate-2 g) → g.P.Source.told →
+    ArePublicFilesOf (g.P.Source.left c.args.schema.now) (g.P.Source.left c.args.table.now) c.in-Ok-Simulate.schema.columns c.in-Ok-Simulate.index
+are g c ptold = subst (IsReadyOver _ _) c.in-Ok-Simulate.field-0-is (c.in-Ok-Simulate.ensures.over ptold)
 
 judged_faults : (g : Over) (c : goal.After-drop-schema-inside-in-Ok-Simulate-2 g) → FaultCause c.judged.result
     (faults_of g.P.Source g.I.Source g.B.Bench (objects c.args.schema.now c.args.table.now c.args.input.now c.args.bench.now c.args.spare.now))
     (faults_of g.P.Source g.I.Source g.B.Bench (objects c.open.new.schema c.open.new.table c.simulate.new.source c.simulate.new.bench c.args.spare.now))
 judged_faults g c =
-    let before = counts (g.P.Source.faults c.args.schema.now) (g.P.Source.faults c.args.table.now) (g.I.Source.faults c.args.input.now)
-    (g.B.Bench.faults c.args.bench.now) (g.B.Bench.faults c.args.spare.now) in
-    let read = g.I.Source.faults c.simulate.new.source in
-    let later = g.B.Bench.faults c.simulate.new.bench in
-    let steady = c.in-Ok-Simulate.ensures.steady in
-    moved c.judged.result before _ _ _ _ read later _ steady.0 steady.1
-    (subst (λ (status : Status). FaultCause status before (record before { input = read; bench = later })) (sym c.judged.ensures)
-    (simulation_faults c.simulate.result before read later c.simulate.ensures.input c.simulate.ensures.steady.0
-    (λ is. subst (λ (n : ℕ). Rose n later) steady.2 (c.simulate.ensures.bench is)) (λ other. c.simulate.ensures.steady.1 other ∙ steady.2)))
+    let does = c.simulate.ensures in
+    faults_so c.judged.result _ (faults_of g.P.Source g.I.Source g.B.Bench (objects c.args.schema.now c.args.table.now c.args.input.now c.args.bench.now c.args.spare.now)) _
+    _ c.judged.ensures c.in-Ok-Simulate.ensures.steady (simulation_faults c.simulate.result _ _ _ does.input does.steady.0 does.bench does.steady.1)
 
 judging : (g : Over) (c : goal.After-drop-schema-inside-in-Ok-Simulate-2 g) →
     Simulating g.P.Source g.I.Source g.B.Bench c.judged.result (objects c.args.schema.now c.args.table.now c.args.input.now c.args.bench.now c.args.spare.now)
@@ -67,7 +61,6 @@ judging g c =
     let index = c.in-Ok-Simulate.index in
     let same : c.in-Ok.command ≡ command.Simulate = same_command _ _ _ c.in-Ok-Simulate.field-0-is c.in-Ok-Simulate.ensures.asked in
     let unopened : c.open.new.bench ≡ at = c.open.ensures.unopened (ap opens_store same) in
-    let are = λ (ptold : g.P.Source.told). subst (IsReadyOver schema table) c.in-Ok-Simulate.field-0-is (c.in-Ok-Simulate.ensures.over ptold) in
     let sends = subst (λ b. g.I.Source.told → (verdicts : List (Replied Answered)) × EndVerdicts c.simulate.result columns index text left verdicts
     × (g.B.Bench.told → EndSends c.simulate.result verdicts (g.B.Bench.sent b) (g.B.Bench.sent later))) unopened c.simulate.ensures.verdicts in
     let moments = subst (λ b. g.B.Bench.told → IsQuiet g.B.Bench b → LeavesOnly g.B.Bench b later
@@ -78,43 +71,25 @@ judging g c =
             all.0,
             simulation_ends c.simulate.result columns_given given text left all.0
                 (carried_public c.groups_of_a_schema.ensures.entries (λ (cs : List Column) (p : IndexView). EndVerdicts c.simulate.result cs p text left all.0) schema table columns columns_given index
-                given (are ptold) files all.1),
+                given (are g c ptold) files all.1),
             λ told. simulation_sends c.simulate.result all.0 (g.B.Bench.sent at) (g.B.Bench.sent later) (all.2 told),
           );
       simulating = λ ptold told quiet columns_given given files.
           carried_public c.groups_of_a_schema.ensures.entries (λ (cs : List Column) (p : IndexView). LeavesOnly g.B.Bench at later
           (SimulatesMeanwhile g.I.Source.told cs p (counted_lines text) (g.B.Bench.file at) (g.B.Bench.sent at))) schema table columns columns_given index given
-          (are ptold) files (moments told quiet);
+          (are g c ptold) files (moments told quiet);
       undisturbed = λ told quiet. weakens g.B.Bench at later _ _ (λ image sent found. found.0) (moments told quiet);
       simulate_calls = λ itold told done.
-          simulation_done c.simulate.result done (c.simulate.ensures.calls itold told)
+          (simulation_says c.simulate.result).done _ done (c.simulate.ensures.calls itold told)
           ∙ ap (λ b. g.B.Bench.moment b + length (exchanges (counted_lines text))) unopened;
       simulates = λ ptold itold columns_given given files verdicts agree within none.
           let all = sends itold in
           simulation_wants c.one_verdict.ensures.first c.simulate.result columns_given given text left all.0 verdicts
           (faults_of g.P.Source g.I.Source g.B.Bench old) (faults_of g.P.Source g.I.Source g.B.Bench new)
           (carried_public c.groups_of_a_schema.ensures.entries (λ (cs : List Column) (p : IndexView). EndVerdicts c.simulate.result cs p text left all.0) schema table columns columns_given index
-          given (are ptold) files all.1)
+          given (are g c ptold) files all.1)
           (c.simulate.ensures.reads itold) agree within (subst (λ (s : Status). FaultCause s (faults_of g.P.Source g.I.Source g.B.Bench old) (faults_of g.P.Source g.I.Source g.B.Bench new)) c.judged.ensures (judged_faults g c)) none;
     })
-
-judged_words : (g : Over) (c : goal.After-drop-schema-inside-in-Ok-Simulate-2 g) → WordCause c.judged.result (command_of (map string_bytes c.args.words.now.items))
-judged_words g c =
-    subst (λ (asked : Option Command). WordCause c.judged.result asked)
-    (sym (asked_for _ _ _ _ c.in-Ok.ensures.command c.in-Ok-Simulate.field-0-is c.in-Ok-Simulate.ensures.asked))
-    (subst (λ (s : Status). WordCause s (Some command.Simulate)) (sym c.judged.ensures) (simulation_words c.simulate.result))
-
-judged_file : (g : Over) (c : goal.After-drop-schema-inside-in-Ok-Simulate-2 g) → g.P.Source.told → g.B.Bench.told → (asked : Command) → NamesCommand c.args.words.now.items asked → (base : Database) →
-    (files : AreFilesOf (g.P.Source.left c.args.schema.now) (g.P.Source.left c.args.table.now) base) →
-    OnTrue (reads_groups asked) (AreEntries base.columns base.public files.groups base.protected) →
-    FileCause c.judged.result asked (g.B.Bench.file c.args.bench.now) (table_in base)
-judged_file g c = λ ptold told other asked base files sound.
-    let status = c.judged.result in
-    let file = g.B.Bench.file c.args.bench.now in
-    let is_named : command_of (map string_bytes c.args.words.now.items) ≡ Some command.Simulate =
-    asked_for _ _ _ _ c.in-Ok.ensures.command c.in-Ok-Simulate.field-0-is c.in-Ok-Simulate.ensures.asked in
-    subst (λ (k : Command). FileCause status k file (table_in base)) (one_command _ _ other is_named asked)
-    (subst (λ (s : Status). FileCause s command.Simulate file (table_in base)) (sym c.judged.ensures) (simulation_file c.simulate.result file (table_in base)))
 
 pub simulate_ends : goal.returns-in-Ok-Simulate
 simulate_ends g c =
@@ -123,50 +98,44 @@ simulate_ends g c =
     let file = g.B.Bench.file c.args.bench.now in
     let text = g.I.Source.left c.args.input.now in
     let left = g.I.Source.left c.simulate.new.source in
-    let are = λ (ptold : g.P.Source.told). subst (IsReadyOver (g.P.Source.left c.args.schema.now) (g.P.Source.left c.args.table.now)) c.in-Ok-Simulate.field-0-is
-    (c.in-Ok-Simulate.ensures.over ptold) in
     let is_named : command_of (map string_bytes c.args.words.now.items) ≡ Some command.Simulate =
     asked_for _ _ _ _ c.in-Ok.ensures.command c.in-Ok-Simulate.field-0-is c.in-Ok-Simulate.ensures.asked in
-    let last = subst EndsLastStep (sym c.judged.ensures) (simulation_last c.simulate.result) in
+    let last = subst EndsLastStep (sym c.judged.ensures) ((simulation_says c.simulate.result).last) in
+    let words = words_so _ command.Simulate status _ is_named c.judged.ensures ((simulation_says c.simulate.result).words) in
     record {
-      words = judged_words g c;
-      schema = λ ptold command asked reads. schema_read status _ last (schema_is_ok _ _ (are ptold).schema_is);
+      words = words;
+      schema = λ ptold command asked reads. schema_read status _ last (schema_is_ok _ _ (are g c ptold).schema_is);
       table = λ ptold command asked reads. lacks_step reads_secrets _ _ command is_named asked refl reads;
       public = λ ptold asked meant is. table_read status _ last
-          (table_is_ok (λ (cs : List Column). public_of cs (g.P.Source.left c.args.table.now)) _ _ meant _ (are ptold).schema_is (are ptold).public_is is);
+          (table_is_ok (λ (cs : List Column). public_of cs (g.P.Source.left c.args.table.now)) _ _ meant _ (are g c ptold).schema_is (are g c ptold).public_is is);
       groups = λ ptold command asked reads meant is. groups_read status _ _ last
-          (groups_are_sound c.groups_of_a_schema.ensures.entries _ _ _ _ _ meant (are ptold).schema_is (are ptold).entries is);
+          (groups_are_sound c.groups_of_a_schema.ensures.entries _ _ _ _ _ meant (are g c ptold).schema_is (are g c ptold).entries is);
       own_schema_fault = no_schema_fault status last;
       own_table_fault = no_table_fault status last;
-      file = judged_file g c;
+      file = λ ptold told. file_so _ command.Simulate status _ is_named c.judged.ensures refl _ _ file
+          (λ base sound. (simulation_says c.simulate.result).file file (table_in base));
       input = λ itold command asked reads. subst (λ (s : Status). InputCause s text left) (sym c.judged.ensures)
           (simulation_reads c.simulate.result text left (c.simulate.ensures.reads itold));
       faults = judged_faults g c;
       schema_last = schema_was_read status last;
       table_last = table_was_read status last;
-      input_last = λ is. c.simulate.ensures.last_call.0 (simulation_input c.simulate.result (sym c.judged.ensures ∙ is));
-      bench_last = λ is. c.simulate.ensures.last_call.1 (simulation_bench c.simulate.result (sym c.judged.ensures ∙ is));
-      spare_last = spare_called _ _ status is_named refl (judged_words g c);
+      input_last = λ is. c.simulate.ensures.last_call.0 ((simulation_says c.simulate.result).input (sym c.judged.ensures ∙ is));
+      bench_last = λ is. c.simulate.ensures.last_call.1 ((simulation_says c.simulate.result).bench (sym c.judged.ensures ∙ is));
+      spare_last = spare_called _ _ status is_named refl words;
       spare_file = λ told command asked calls. lacks_step calls_spare _ _ command is_named asked refl calls;
-      later = record {
-        schema = c.open.ensures.later.0;
-        table = c.open.ensures.later.1;
-        input = c.simulate.ensures.later.0;
-        bench = later_still _ _ _ c.open.ensures.later.2 c.simulate.ensures.later.1;
-        spare = stays _;
-      };
+      later = later_so _ _ _ c.open.ensures.later c.simulate.ensures.later.0 c.simulate.ensures.later.1 (stays _);
       schema_within = λ ptold. schema_was_read status last;
       table_within = λ ptold. table_was_read status last;
       lives = λ ptold told command asked itold quiet base at goes. never_goes_on _ command _ _ _ _ _ at base is_named asked (λ none. none) goes;
       does = λ command asked. does_so g.P.Source g.I.Source g.B.Bench status _ _ _ _ command is_named asked (judging g c);
       nothing_began = λ ptold told command asked opens. lacks_step opens_journal _ _ command is_named asked refl opens;
-      quiet = λ told quiet fine other image was.
+      quiet = λ told quiet fine image was.
           as_quiet g.B.Bench _ _ reads quiet image (c.simulate.ensures.crash image was) ∙ sym c.simulate.ensures.file;
       before_table = past_table _ status last;
       before_bench = past_journal _ status last;
       before_spare = λ other. always_before opening_spare status refl;
-      before_lines = at_lines _ _ _ c.judged.ensures (simulation_at_lines _ c.simulate.result);
-      unwritten = λ told. at_lines _ _ _ c.judged.ensures (simulation_at_lines _ c.simulate.result);
+      before_lines = at_lines _ _ _ c.judged.ensures ((simulation_says c.simulate.result).at_lines _);
+      unwritten = λ told. at_lines _ _ _ c.judged.ensures ((simulation_says c.simulate.result).at_lines _);
       unread = λ none. none_asked _ _ none is_named;
       no_files = λ command asked none. takes_step reads_files _ _ _ is_named asked refl none;
       no_lines = λ command asked none. takes_step reads_lines _ _ _ is_named asked refl none;
