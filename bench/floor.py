@@ -23,6 +23,7 @@ WORKLOADS = [
     ("maxima", 1024, "intervals", "max", 1000, "serve"),
     ("audit", 200, "intervals-or-groups", "both", 400, "audit"),
     ("simulate", 200, "intervals-or-groups", "both", 600, "simulate"),
+    ("explain", 200, "intervals-or-groups", "both", 400, "explain"),
 ]
 ABOVE = 1.1
 
@@ -55,6 +56,9 @@ def prepare(program, rows, sets, ask, questions, command):
     run(program, "serve", "questions.jsonl", "replies.jsonl")
     if command == "audit":
         return "none.jsonl"
+    if command == "explain":
+        leave_the_denied()
+        return "denied.jsonl"
     leave_the_public_part()
     return "transcript.jsonl"
 
@@ -68,6 +72,12 @@ def leave_the_public_part():
     with open("questions.jsonl") as asked, open("replies.jsonl") as said, open("transcript.jsonl", "w") as transcript:
         for question, reply in zip(asked, said, strict=True):
             transcript.write(question + reply)
+
+
+def leave_the_denied():
+    """Writes down the questions that were denied."""
+    with open("questions.jsonl") as asked, open("replies.jsonl") as said, open("denied.jsonl", "w") as denied:
+        denied.writelines(question for question, reply in zip(asked, said, strict=True) if "denied" in reply)
 
 
 def read_counts(path):
