@@ -27,6 +27,17 @@ use Rattle.sum_basis.proofs.Merges.{scaled_listed}
 use Rattle.sum_basis.proofs.Parallels.{same_listed, same_length}
 use Rattle.sum_basis.proofs.KeptRows.{stands_earlier, cleared_as_it_is, lone_list}
 
+-- what a row adds is within the limit, if its bound is sure
+pub within_limit : (by most sure bound : ℕ) → bound ≤ sure → sure * (by + most) ≤ 2 ^ 56 → by * bound + bound * most ≤ 2 ^ 56
+within_limit by most sure bound less enough =
+    let part = mul-le-mul_right (by + most) less in omega arith
+
+-- bounds that are at most one are at most any greater one
+pub bounded_by_more : (bound more : ℕ) → bound ≤ more → (rows : List SparseRow) → AllByRecursion (λ r. r.most ≤ bound) rows →
+    AllByRecursion (λ r. r.most ≤ more) rows
+bounded_by_more bound more less [] all = tt
+bounded_by_more bound more less (r ∷ rows) all = let first = all.0 in (omega arith, bounded_by_more bound more less rows all.1)
+
 -- a list has nothing above its bound
 pub bounded_at : (from n most : ℕ) (es : List FreeEntry) → IsListed from n es → AllByRecursion (λ (e : FreeEntry). unsigned_abs e.value ≤ most) es → (j : ℕ) →
     unsigned_abs (entry_at es j) ≤ most
@@ -190,4 +201,22 @@ module _ (n : ℕ) (r : SparseRow) (new : List FreeEntry) (kept : IsKept n r) (p
             let part = mul-le-mul_right most bound in
             by_bounds times b refl some (omega arith)
             (λ yes. absurd (some (no_entry r.free.items place (empty.0 yes))), λ same. absurd (other (same_length by times r.free.items new same)))
+      ]
+
+  -- if the bound suffices, it is small
+  pub stays_small : IsSmall (row_of n (entries_of r)) → unsigned_abs by * r.most + r.most * most ≤ 2 ^ 56
+      → (made : List ℤ) × IsCleared n (row_of n new) (row_of n (entries_of r)) made × IsSmall made
+  stays_small small enough =
+      let place = (get_or new 0 none).place in
+      let times = entry_at r.free.items place in
+      elim (zero_or_not times) [
+        | inl z ↦ (row_of n (entries_of r), cleared_as_it_is n r new kept is_new nothing primitive z, small)
+        | inr some ↦
+            let line = on_line n r new kept primitive is_new nothing (stands_earlier n r new kept is_new some) by times by_is refl in
+            let part = mul-le-mul_right most (bounded_at (r.pivot + 1) n r.most r.free.items kept.listed.3 kept.bounded.1 place) in (
+              line.0,
+              line.1.cleared,
+              within_bounds n r new kept primitive is_new nothing (stands_earlier n r new kept is_new some) by times by_is refl line.0 line.1 most
+                  (2 ^ 56) all (omega arith),
+            )
       ]

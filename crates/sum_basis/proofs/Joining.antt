@@ -87,9 +87,9 @@ within_limit n rows m j least more =
     omega arith
 
 -- the fields of the form with the row
-pub joined_form : (n : ℕ) (rows : List SparseRow) (m : ℕ) (common : ℤ) → 0 < n → n ≤ 2048 → AllByRecursion (IsKept n) rows → IsJoined n rows →
-    IsLeastCommonMultiple (heads rows) m → common ≡ pos m → 0 < m → m ≤ 2 ^ 56 → IsForm n common rows
-joined_form n rows m common some most kept j least e positive small = record {
+pub joined_form : (n : ℕ) (rows : List SparseRow) (m : ℕ) (common : ℤ) (greatest_bound : ℕ) → 0 < n → n ≤ 2048 → AllByRecursion (IsKept n) rows → IsJoined n rows →
+    IsLeastCommonMultiple (heads rows) m → common ≡ pos m → 0 < m → m ≤ 2 ^ 56 → AllByRecursion (λ r. r.most ≤ greatest_bound) rows → IsForm n common greatest_bound rows
+joined_form n rows m common greatest_bound some most kept j least e positive small bounded = record {
   some = some;
   at_most = most;
   kept = kept;
@@ -97,6 +97,7 @@ joined_form n rows m common some most kept j least e positive small = record {
   positive = positive_of m common e positive;
   small = rw e small;
   multiple = rw (e, j.same) least;
+  bounded = bounded;
 }
   where
     positive_of : (k : ℕ) (z : ℤ) → z ≡ pos k → 0 < k → pos 0 <ℤ z

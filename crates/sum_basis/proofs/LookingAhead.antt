@@ -1,5 +1,5 @@
 -- What is told of a form with a new row while its rows are cleared one after the other.
-use Rattle.std.proofs.Common.{◌≡◌, ◌↔◌, ℕ, ◌+◌, ◌*◌, ◌<◌, ◌≤◌, ◌^◌, Bool, true, ℤ, pos, List, [], ◌∷◌, ◌++◌, length, take, get_or, refl, sym, subst, arith, inl, inr, ◌⊎◌, IsTrue}
+use Rattle.std.proofs.Common.{◌≡◌, ◌↔◌, ℕ, zero, suc, ◌+◌, ◌*◌, ◌<◌, ◌≤◌, ◌^◌, Bool, true, ℤ, pos, List, [], ◌∷◌, ◌++◌, length, take, drop, get_or, refl, sym, subst, arith, inl, inr, ◌⊎◌, IsTrue}
 use Rattle.std.specs.Prelude.{◌<ℤ◌, unsigned_abs}
 use Rattle.std.specs.Int.{◌∣◌}
 use Rattle.std.specs.List.{AllByRecursion}
@@ -9,7 +9,7 @@ use Rattle.std.proofs.Math.Nat.{dvd-mul_right, mul-dvd-mul_left, mul-pos}
 use Rattle.std.proofs.Math.Seq.{take-length}
 use Rattle.std.proofs.lemmas.List.Elements.{All-from_recursion}
 use Rattle.audit_types.specs.Form.{InSpan, IsPrimitive, IsReducedForm, IsLeastCommonMultiple, pivot, pivot_entry, pivot_entries}
-use Rattle.audit_types.specs.ListLaws.{all-push, all-take, all-map, all-unmap}
+use Rattle.audit_types.specs.ListLaws.{all-append, all-push, all-take, all-map, all-unmap}
 use Rattle.audit_types.specs.Numbers.{size_positive}
 use Rattle.audit_types.specs.FormRows.{pivot_below}
 use Rattle.sum_basis.specs.Basis.{Echelon, HasUnitRow}
@@ -19,11 +19,11 @@ use Rattle.sum_basis.proofs.FormsAreUnique.{own, leads_from}
 use Rattle.sum_basis.proofs.LeastMultiples.{least-push, least_positive, least_exists, least_unique, entries_positive, pivot_entries-push}
 use Rattle.sum_basis.proofs.Placing.{placed, all_placed, parts_placed}
 use Rattle.sum_basis.proofs.Growing.{placed_is_reduced}
-use Rattle.sum_basis.proofs.ClearingFirst.{one_more_cleared, rest_cleared, too_large, no_rows}
+use Rattle.sum_basis.proofs.ClearingFirst.{cleared-append, one_more_cleared, rest_cleared, too_large, no_rows}
 use Rattle.sum_basis.proofs.Clearing.{primitives}
 use Rattle.sum_basis.proofs.WideForms.{row_too_large, is_narrow}
 use Rattle.sum_basis.proofs.UnitRowsInSpan.{unit_in_span, no_unit}
-use Rattle.std.proofs.lemmas.List.{take_all}
+use Rattle.std.proofs.lemmas.List.{take_all, take-append-drop}
 
 -- some row has one entry that is not 0
 abbrev pub SomeLone : List (List ℤ) → Type 0
@@ -146,6 +146,37 @@ glanced_at_once n form new made cleared small lone = record {
         heads_divide n new form made m cleared (all-unmap (λ r. unsigned_abs (pivot_entry r)) (λ x. x ∣ m) form all),
       );
   lone = λ yes. inl lone;
+  none = λ no. absurd (no refl);
+}
+
+-- a lone row stays lone among more
+some_before : (rows more : List (List ℤ)) → SomeLone rows → SomeLone (rows ++ more)
+some_before [] more none = absurd none
+some_before (r ∷ rows) more (inl is) = inl is
+some_before (r ∷ rows) more (inr some) = inr (some_before rows more some)
+
+-- what holds of a list holds of its items from a place on
+all_from : (P : List ℤ → Type 0) (k : ℕ) (rows : List (List ℤ)) → AllByRecursion P rows → AllByRecursion P (drop k rows)
+all_from P zero rows h = h
+all_from P (suc k) [] h = tt
+all_from P (suc k) (r ∷ rows) h = all_from P k rows h.1
+
+-- once a row is lone, the others needn't be looked at if they stay small
+pub glanced_to_end : (n : ℕ) (form : List (List ℤ)) (new : List ℤ) (k : ℕ) (rest : List (List ℤ)) → IsGlanced n form new k true
+    → AreCleared n new (drop k form) rest → AllByRecursion IsSmall rest → IsGlanced n form new (length form) true
+glanced_to_end n form new k rest g cleared small = record {
+  made = g.made ++ rest;
+  clears = record {
+    cleared =
+        rw (take-length form) (subst (λ rows. AreCleared n new rows (g.made ++ rest)) (take-append-drop k form)
+        (cleared-append n new (take k form) (drop k form) g.made rest g.clears.cleared cleared));
+    small = all-append IsSmall g.made rest g.clears.small small;
+  };
+  divides =
+      λ m all. all-append (λ r. unsigned_abs (pivot_entry r) ∣ (unsigned_abs (pivot_entry new) * m)) (new ∷ g.made) rest (g.divides m all)
+      (heads_divide n new (drop k form) rest m cleared (all_from (λ r. unsigned_abs (pivot_entry r) ∣ m) k form
+      (all-unmap (λ r. unsigned_abs (pivot_entry r)) (λ x. x ∣ m) form all)));
+  lone = λ yes. some_before (new ∷ g.made) rest (g.lone refl);
   none = λ no. absurd (no refl);
 }
 

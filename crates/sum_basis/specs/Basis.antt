@@ -30,8 +30,9 @@ IsLeastUnit form least = IsLeast (SpansUnit form) least
 abbrev pub HasUnitRow : Echelon → Type 0
 HasUnitRow form = (i : ℕ) × SpansUnit form i
 
--- what is true of the fields of every form: the kept rows are a reduced form, and `common` is the multiple that makes it narrow
-pub record IsForm (n : ℕ) (common : ℤ) (rows : List SparseRow) : Type 0 where
+-- what is true of the fields of every form: the kept rows are a reduced form, `common` is the multiple that makes it narrow, and no row has a
+-- bound above `greatest_bound`
+pub record IsForm (n : ℕ) (common : ℤ) (greatest_bound : ℕ) (rows : List SparseRow) : Type 0 where
   pub some : 0 < n
   pub at_most : n ≤ 2048
   pub kept : AllByRecursion (IsKept n) rows
@@ -39,6 +40,7 @@ pub record IsForm (n : ℕ) (common : ℤ) (rows : List SparseRow) : Type 0 wher
   pub positive : pos 0 <ℤ common
   pub small : unsigned_abs common ≤ 2 ^ 56
   pub multiple : IsLeastCommonMultiple (pivot_entries (rows_of n rows)) (unsigned_abs common)
+  pub bounded : AllByRecursion (λ r. r.most ≤ greatest_bound) rows
 
 -- the entries of a row that are not 0, at the columns that are the pivot of no row, in ascending places
 pub record IsFreeList (n : ℕ) (rows : List (List ℤ)) (row : List ℤ) (entries : List FreeEntry) : Type 0 where

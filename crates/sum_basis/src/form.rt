@@ -14,7 +14,7 @@ ghost use Rattle.sum_basis.specs.declared.form.Left.TheVariants.{Entries};
 
 use crate::cleared_list::value_at;
 use crate::elimination::{scale, write_bits};
-use crate::growth::{common_multiple, grow_rows};
+use crate::growth::{common_multiple, greatest_bound, grow_rows};
 use crate::looking::look_ahead;
 use crate::primitive_list::{are_small, make_primitive};
 use crate::sparse::{FreeEntry, SparseRow, copy_list, copy_rows, list_of, reduce};
@@ -29,6 +29,8 @@ pub struct Form {
     columns: u16,
     // The least common multiple of the pivot entries.
     common: i128,
+    // No row has a bound above it.
+    greatest_bound: u128,
     alloc: Global,
     rows: Vec<SparseRow>,
 }
@@ -41,7 +43,7 @@ impl Model for Form {
 
     ghost view = { λ f. record { n = f.columns; rows = rows_of f.columns f.rows.items } };
 
-    ghost invariant = { λ f. IsForm f.columns f.common f.rows.items };
+    ghost invariant = { λ f. IsForm f.columns f.common f.greatest_bound f.rows.items };
 }
 
 // What is left of a row when the rows of a form are taken from it.
@@ -72,6 +74,7 @@ impl Form {
         Ok(Form {
             columns,
             common: 1,
+            greatest_bound: 0,
             alloc,
             rows: Vec::new(alloc),
         })
@@ -138,7 +141,14 @@ impl Form {
             }),
             Left::Entries(new) => {
                 let mut room = Vec::with_capacity(self.alloc, self.columns as usize)?;
-                let prospect = look_ahead(&self.rows, self.columns, self.common, &new, &mut room);
+                let prospect = look_ahead(
+                    &self.rows,
+                    self.columns,
+                    self.common,
+                    self.greatest_bound,
+                    &new,
+                    &mut room,
+                );
                 Ok(Weighed {
                     prospect,
                     list: Some(new),
@@ -220,6 +230,7 @@ impl Form {
         // The new list's memory, and the room's, are used again for the next row. The row keeps a copy, in memory that nothing longer was in.
         let list = copy_list(self.alloc, &new, self.columns)?;
         grow_rows(&mut self.rows, self.columns, list, &mut room);
+        self.greatest_bound = greatest_bound(&self.rows);
         match common_multiple(&self.rows) {
             Some(common) => self.common = common,
             None => unreachable!(),
@@ -318,6 +329,7 @@ impl Form {
         Ok(Form {
             columns: self.columns,
             common: self.common,
+            greatest_bound: greatest_bound(&rows),
             alloc: self.alloc,
             rows,
         })

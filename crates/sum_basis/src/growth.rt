@@ -210,6 +210,17 @@ pub fn grow_rows(
     .unwrap();
 }
 
+/// The greatest bound of a row, 0 if there is none.
+pub fn greatest_bound(rows: &[SparseRow]) -> u128
+    ensures { AllByRecursion (λ r. r.most ≤ result) rows.now }
+{
+    let mut greatest = 0;
+    for row in rows {
+        greatest = row.most.max(greatest);
+    }
+    greatest
+}
+
 /// The least common multiple of the pivot entries, if it is within the limit.
 pub fn common_multiple(rows: &[SparseRow]) -> Option<i128>
     requires { AllByRecursion (λ r. (pos 0 <ℤ r.head) × (unsigned_abs r.head ≤ 2 ^ 56)) rows.now }

@@ -225,16 +225,18 @@ fn look_at(
 }
 
 // Tells what the form would become with a new row, if the multiple of the pivot entries is surely within the limit: few rows
-// have to be cleared.
+// have to be cleared. If no row can get a greater entry, the first one that is left with one entry decides.
 fn look_by_bounds(
     rows: &[SparseRow],
     columns: u16,
+    greatest_bound: u128,
     new: &[FreeEntry],
     room: &mut Vec<FreeEntry>,
 ) -> Prospect
     requires room { columns ≤ vec_capacity room.old }
     requires kept { AllByRecursion (IsKept columns) rows.now }
     requires form { IsSmallForm columns (rows_of columns rows.now) }
+    requires greatest_bound { AllByRecursion (λ r. r.most ≤ greatest_bound) rows.now }
     requires new { IsNew columns new.now }
     requires zero { IsZeroAtPivots (rows_of columns rows.now) (row_of columns new.now) }
     requires multiple { (common : ℕ) × AllByRecursion (λ x. x ∣ common) (pivot_entries (rows_of columns rows.now)) × (0 < common) × (unsigned_abs (slice_index_or new.now 0 (record { place = 0; value = pos 0 })).value * common ≤ 2 ^ 56) }
@@ -252,6 +254,9 @@ fn look_by_bounds(
         let Some(lone) = look_at(row, columns, new, most, sure, room) else {
             return Prospect::Wide;
         };
+        if lone && greatest_bound <= sure {
+            return Prospect::Fixing;
+        }
         fixing = either(fixing, lone);
     }
     if fixing {
@@ -266,6 +271,7 @@ pub fn look_ahead(
     rows: &[SparseRow],
     columns: u16,
     common: i128,
+    greatest_bound: u128,
     new: &[FreeEntry],
     room: &mut Vec<FreeEntry>,
 ) -> Prospect
@@ -275,13 +281,14 @@ pub fn look_ahead(
     requires positive { pos 0 <ℤ common }
     requires within { unsigned_abs common ≤ 2 ^ 56 }
     requires multiple { IsLeastCommonMultiple (pivot_entries (rows_of columns rows.now)) (unsigned_abs common) }
+    requires greatest_bound { AllByRecursion (λ r. r.most ≤ greatest_bound) rows.now }
     requires new { IsNew columns new.now }
     requires zero { IsZeroAtPivots (rows_of columns rows.now) (row_of columns new.now) }
     ensures foresees { Foresees (record { n = columns; rows = rows_of columns rows.now }) (row_of columns new.now) result }
     ensures room { columns ≤ vec_capacity room.new }
 {
     if product(new[0].value, common) <= LIMIT as i128 {
-        look_by_bounds(rows, columns, new, room)
+        look_by_bounds(rows, columns, greatest_bound, new, room)
     } else if widest_is_too_large(rows, columns, new, room) {
         Prospect::Wide
     } else {

@@ -1,13 +1,7 @@
-use Rattle.std.proofs.Common.{ℕ, ◌+◌, ◌*◌, ◌≤◌, ◌^◌, refl, sym, ◌∙◌, IsTrue, subst, arith}
-use Rattle.std.proofs.Math.Nat.{mul-le-mul_right}
+use Rattle.std.proofs.Common.{refl, sym, ◌∙◌, IsTrue, subst}
 use Rattle.std.proofs.lemmas.Bool.{eqb-true, eq-eqb}
-use Rattle.sum_basis.proofs.BoundedRows.{by_length}
+use Rattle.sum_basis.proofs.BoundedRows.{by_length, within_limit}
 use Rattle.sum_basis.proofs.looking.look_at.Goals as goal
-
--- what a row adds is within the limit, if its bound is sure
-within_limit : (by most sure bound : ℕ) → bound ≤ sure → sure * (by + most) ≤ 2 ^ 56 → by * bound + bound * most ≤ 2 ^ 56
-within_limit by most sure bound less enough =
-    let part = mul-le-mul_right (by + most) less in omega arith
 
 pub returns-then-row-sure-clause-cleared : goal.returns-then-row-sure-clause-cleared
 returns-then-row-sure-clause-cleared c =

@@ -1,4 +1,4 @@
-use Rattle.std.proofs.Common.{◌≡◌, ℕ, ◌*◌, ◌<◌, ◌≤◌, ◌^◌, Bool, true, ℤ, pos, List, length, get_or, nat_eq, refl, sym, ◌∙◌, subst, arith, rules}
+use Rattle.std.proofs.Common.{◌≡◌, ℕ, ◌+◌, ◌*◌, ◌<◌, ◌≤◌, ◌^◌, Bool, true, ℤ, pos, List, length, inr, get_or, nat_eq, refl, sym, ◌∙◌, subst, arith, rules}
 use Rattle.std.specs.Prelude.{unsigned_abs, ◌<ℤ◌, FitsSigned}
 use Rattle.std.specs.Int.{◌∣◌, w128}
 use Rattle.std.specs.List.{AllByRecursion}
@@ -15,8 +15,10 @@ use Rattle.sum_basis.specs.Sparse.{row_of, rows_of, entries_of, IsKept, IsNew}
 use Rattle.sum_basis.proofs.ListContents.{none}
 use Rattle.sum_basis.proofs.ClearedLists.{is_led}
 use Rattle.sum_basis.proofs.KeptRows.{of_row, of_whole_row, nothing_at, lone_new, cleared_at, row_within}
-use Rattle.sum_basis.proofs.LookingAhead.{IsLooked, IsGlanced, nothing_glanced, one_more_glanced, glanced_is_looked, glanced_at_once, looked_large, foreseen, looked_grows, looked_fixing, looked_open}
+use Rattle.sum_basis.proofs.LookingAhead.{IsLooked, IsGlanced, nothing_glanced, one_more_glanced, glanced_is_looked, glanced_at_once, glanced_to_end, looked_large, foreseen, looked_grows, looked_fixing, looked_open}
 use Rattle.sum_basis.proofs.LoneRows.{all_cleared_small}
+use Rattle.sum_basis.proofs.BoundedRows.{bounded_by_more}
+use Rattle.sum_basis.proofs.SureRows.{rest_stays_small}
 use Rattle.sum_basis.proofs.looking.look_by_bounds.Goals as goal
 
 -- at the start
@@ -100,6 +102,29 @@ returns-then-fixing-clause-foresees c =
       looked_grows form new c.requires.form c.requires.new.primitive c.requires.zero c.loop-row.row-index l.0 c.loop-row.fixing past l.1 c.requires.new.small,
       looked_fixing form new c.requires.form c.requires.new.primitive c.requires.zero c.loop-row.row-index l.0 c.loop-row.fixing past l.1 c.requires.new.small
           c.if-fixing.true,
+    )
+
+pub returns-then-greatest_bound-sure-clause-foresees : goal.returns-then-greatest_bound-sure-clause-foresees
+returns-then-greatest_bound-sure-clause-foresees c =
+    let n = c.args.columns in
+    let rows = c.args.rows.now in
+    let form : Echelon = record { n = n; rows = rows_of n rows } in
+    let new = row_of n c.args.new.now in
+    let k = c.loop-row.row-index in
+    let all = rw c.in-Some.is at c.look_at.ensures.cleared in
+    let first = one_more_glanced n form.rows new k c.loop-row.fixing all.0 c.in-Some.lone true (row_within n rows k c.loop-row-test.true)
+    c.loop-row.invariant.glanced (cleared_at n new rows k c.row-item.result all.0 c.loop-row-test.true c.row-item.is all.1) all.2.0 all.2.1
+    (λ yes. inr c.if-lone.true, λ either. refl) in
+    let fits : FitsSigned w128 (get_or c.args.new.now 0 (record { place = 0; value = pos 0 })).value = search rules in
+    let enough = rw (to_z-of_z w128 (get_or c.args.new.now 0 none).value fits) at c.sure_bound-sure.ensures in
+    let rest = rest_stays_small n c.args.new.now c.requires.new c.bound_of-most.result c.bound_of-most.ensures.values c.sure_bound-sure.result
+    enough (k + 1) rows c.requires.kept c.requires.form.primitive c.requires.form.entries c.requires.zero
+    (bounded_by_more c.args.greatest_bound c.sure_bound-sure.result c.if-greatest_bound-sure.true rows c.requires.greatest_bound) in
+    let end = length form.rows in
+    let l = looked n form.rows c.args.new.now end true c.requires.new c.requires.multiple (glanced_to_end n form.rows new (k + 1) rest.0 first rest.1 rest.2) in (
+      foreseen form new c.requires.form c.requires.new.primitive c.requires.zero end l.0 true (omega arith) l.1 c.requires.new.small,
+      looked_grows form new c.requires.form c.requires.new.primitive c.requires.zero end l.0 true (omega arith) l.1 c.requires.new.small,
+      looked_fixing form new c.requires.form c.requires.new.primitive c.requires.zero end l.0 true (omega arith) l.1 c.requires.new.small refl,
     )
 
 pub returns-then-new-eq1-clause-foresees : goal.returns-then-new-eq1-clause-foresees

@@ -1,4 +1,4 @@
-use Rattle.std.proofs.Common.{ℤ, List, sym, ap, ◌∙◌, subst, rules}
+use Rattle.std.proofs.Common.{ℤ, ◌≤◌, List, sym, ap, ◌∙◌, subst, rules}
 use Rattle.std.specs.Prelude.{FitsSigned}
 use Rattle.std.specs.Int.{w128}
 use Rattle.std.specs.List.{AllByRecursion}
@@ -22,6 +22,7 @@ invariant_of-result c =
       positive = rw common c.self.invariant.positive;
       small = rw common c.self.invariant.small;
       multiple = rw (common, rows) c.self.invariant.multiple;
+      bounded = subst (AllByRecursion (λ r. r.most ≤ c.greatest_bound.result)) c.deref-2.ensures.value c.greatest_bound.ensures;
     }
 
 pub returns : goal.returns

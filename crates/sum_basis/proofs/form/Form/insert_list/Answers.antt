@@ -9,7 +9,6 @@ use Rattle.sum_basis.specs.declared.sparse.SparseRow.{SparseRow}
 use Rattle.sum_basis.specs.Basis.{Echelon, IsForm}
 use Rattle.sum_basis.proofs.LeastMultiples.{heads}
 use Rattle.sum_basis.proofs.Joining.{after_growth, grown_rows, within_limit, joined_form}
-use Rattle.std.specs.Vec.{vec_capacity}
 use Rattle.sum_basis.specs.Elimination.{IsSmallForm}
 use Rattle.sum_basis.specs.Sparse.{row_of, rows_of, IsKept, IsNew}
 use Rattle.sum_basis.proofs.form.Form.insert_list.Goals as goal
@@ -24,7 +23,7 @@ common_multiple-requires c =
     let j = after_growth c.args.self.now c.self.inside.columns c.self.inside.rows.items c.reserve.new.self.items c.grow_rows.new.rows.items c.args.new.items
     c.self.view_is c.reserve.ensures.items c.requires.narrow
     (grown_from _ _ _ _ _ (c.in_ok-list.ensures.same ∙ c.deref.ensures.value) c.grow_rows.ensures.reduced) c.grow_rows.ensures.kept in
-    subst (AllByRecursion (λ (r : SparseRow). (pos 0 <ℤ r.head) × (unsigned_abs r.head ≤ 2 ^ 56))) (sym c.deref-2.ensures.value) j.small
+    subst (AllByRecursion (λ (r : SparseRow). (pos 0 <ℤ r.head) × (unsigned_abs r.head ≤ 2 ^ 56))) (sym c.deref-3.ensures.value) j.small
 
 pub invariant_of-self-in-Some : goal.invariant_of-self-in-Some
 invariant_of-self-in-Some c =
@@ -33,9 +32,10 @@ invariant_of-self-in-Some c =
     c.self.view_is c.reserve.ensures.items c.requires.narrow
     (grown_from _ _ _ _ _ (c.in_ok-list.ensures.same ∙ c.deref.ensures.value) c.grow_rows.ensures.reduced) c.grow_rows.ensures.kept in
     let least = rw c.in-Some.is at c.common_multiple.ensures in
-    joined_form c.self.inside.columns c.grow_rows.new.rows.items least.0 _ c.self.invariant.some c.self.invariant.at_most c.grow_rows.ensures.kept j
-    (subst (λ (l : List SparseRow). IsLeastCommonMultiple (heads l) least.0) c.deref-2.ensures.value least.1)
+    joined_form c.self.inside.columns c.grow_rows.new.rows.items least.0 _ c.greatest_bound-self-inside.result c.self.invariant.some c.self.invariant.at_most c.grow_rows.ensures.kept j
+    (subst (λ (l : List SparseRow). IsLeastCommonMultiple (heads l) least.0) c.deref-3.ensures.value least.1)
     (to_z-of_z w128 c.in-Some.common fits ∙ least.2.0) least.2.1 least.2.2
+    (subst (AllByRecursion (λ r. r.most ≤ c.greatest_bound-self-inside.result)) c.deref-2.ensures.value c.greatest_bound-self-inside.ensures)
 
 pub unreachable-requires : goal.unreachable-requires
 unreachable-requires c =
@@ -44,7 +44,7 @@ unreachable-requires c =
     (grown_from _ _ _ _ _ (c.in_ok-list.ensures.same ∙ c.deref.ensures.value) c.grow_rows.ensures.reduced) c.grow_rows.ensures.kept in
     let least = rw c.in-None.is at c.common_multiple.ensures in
     within_limit c.self.inside.columns c.grow_rows.new.rows.items least.0 j
-    (subst (λ (l : List SparseRow). IsLeastCommonMultiple (heads l) least.0) c.deref-2.ensures.value least.1) least.2
+    (subst (λ (l : List SparseRow). IsLeastCommonMultiple (heads l) least.0) c.deref-3.ensures.value least.1) least.2
 
 pub returns : goal.returns
 returns c =
@@ -60,10 +60,10 @@ returns c =
     }
 
 pub invariant_of-self : goal.invariant_of-self
-invariant_of-self c = subst (IsForm c.self.inside.columns c.self.inside.common) (sym c.reserve.ensures.items) c.self.invariant
+invariant_of-self c = subst (IsForm c.self.inside.columns c.self.inside.common c.self.inside.greatest_bound) (sym c.reserve.ensures.items) c.self.invariant
 
 pub invariant_of-self-in_err-room : goal.invariant_of-self-in_err-room
-invariant_of-self-in_err-room c = subst (IsForm c.self.inside.columns c.self.inside.common) (sym c.reserve.ensures.items) c.self.invariant
+invariant_of-self-in_err-room c = subst (IsForm c.self.inside.columns c.self.inside.common c.self.inside.greatest_bound) (sym c.reserve.ensures.items) c.self.invariant
 
 pub grow_rows-requires-clause-space : goal.grow_rows-requires-clause-space
 grow_rows-requires-clause-space c = omega (arith, c.in_ok-reserve.ensures)

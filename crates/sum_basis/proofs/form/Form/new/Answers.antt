@@ -4,7 +4,7 @@ use Rattle.sum_basis.specs.Basis.{IsForm}
 use Rattle.sum_basis.proofs.LeastMultiples.{least-nil}
 use Rattle.sum_basis.proofs.form.Form.new.Goals as goal
 
-no_rows : (n : ℕ) → 0 < n → n ≤ 2048 → IsForm n (pos 1) []
+no_rows : (n : ℕ) → 0 < n → n ≤ 2048 → IsForm n (pos 1) 0 []
 no_rows n some most = record {
   some = some;
   at_most = most;
@@ -13,7 +13,8 @@ no_rows n some most = record {
   positive = omega (arith, ints);
   small = omega arith;
   multiple = least-nil;
+  bounded = tt;
 }
 
 pub invariant_of-result : goal.invariant_of-result
-invariant_of-result c = subst (IsForm c.args.columns (pos 1)) (sym c.new.ensures.items) (no_rows c.args.columns c.requires.some c.requires.at_most)
+invariant_of-result c = subst (IsForm c.args.columns (pos 1) 0) (sym c.new.ensures.items) (no_rows c.args.columns c.requires.some c.requires.at_most)
