@@ -2,11 +2,14 @@
 import asyncio
 import json
 import random
+import time
 import unittest
 
 import aiohttp
 
-from kit import SECRETS, SEED, Door, Folder, ask
+from kit import PATIENCE, SECRETS, SEED, Door, Folder, ask, health
+
+WORK = 0.1                          # seconds of work within which it is killed
 
 
 class DoorCase(unittest.IsolatedAsyncioTestCase):
@@ -18,7 +21,6 @@ class DoorCase(unittest.IsolatedAsyncioTestCase):
         self.folder = Folder(self.rows, protect=self.protect)
         self.door = self.make_door()
         self.told = []                      # question, line, reply
-        self.unanswered = 0
 
     def make_door(self):
         return Door(self.folder, *self.words)
@@ -34,20 +36,71 @@ class DoorCase(unittest.IsolatedAsyncioTestCase):
             self.told.append((question, line, body))
         return status, body
 
-    async def client(self, session, number, count, patient=False):
-        """Asks random questions one after the other. A patient one asks each until it gets a reply."""
-        chance = random.Random(f"{SEED} {self.id()} {number}")
-        for _ in range(count):
+    async def client(self, session, number, count, patient=False, enough=lambda: True):
+        """Asks random questions one after the other, at least so many, and on until it's enough. A patient one asks each until it
+        gets a reply."""
+        chance, asked = random.Random(f"{SEED} {self.id()} {number}"), 0
+        while asked < count or not enough():
             question, line = self.folder.draw(chance)
             while not await self.once(session, question, line) and patient:
-                self.unanswered += 1
                 await asyncio.sleep(0.03)
+            asked += 1
 
     async def once(self, session, question, line):
         try:
             return (await self.ask(session, question, line))[0] == 200
         except (aiohttp.ClientError, OSError):
             return False
+
+    async def until(self, holds):
+        """Waits until something holds."""
+        end = time.monotonic() + PATIENCE
+        while not holds():
+            self.assertLess(time.monotonic(), end, self.folder.said())
+            await asyncio.sleep(0.02)
+
+    async def until_health(self, session, name, least=1):
+        """Waits until the door counts so many, `waiting` or `asked`, say."""
+        end = time.monotonic() + PATIENCE
+        while (await health(session))[name] < least:
+            self.assertLess(time.monotonic(), end, self.folder.said())
+            await asyncio.sleep(0.02)
+
+    async def under_kills(self, kill, kills, clients, questions):
+        """Patient clients that ask on until all kills were made and each has so many replies. Then what was told is checked.
+
+        `kill` gives whether there was something to kill.
+        """
+        self.door.start()
+        async with self.door.session() as session:
+            await self.door.ready(session)
+            killing = asyncio.ensure_future(self.kill_again_and_again(session, kill, kills))
+            asking = (self.client(session, number, questions, patient=True, enough=killing.done) for number in range(clients))
+            await asyncio.gather(killing, *asking)
+            await self.door.ready(session)
+        self.assertEqual(killing.result(), kills)
+        self.assertGreaterEqual(len(self.told), clients * questions)
+        self.end_and_check()
+
+    async def kill_again_and_again(self, session, kill, kills):
+        """Kills in turn in the midst of work, once a question that was asked since the last kill has its reply, and on the way back
+        to work, at a moment of the time that the last way back took. So a faster or a slower machine sees the same kills."""
+        chance, back, made = random.Random(f"{SEED} {self.id()}"), 0, 0
+        for number in range(kills):
+            at_work = number % 2 == 0
+            if at_work:
+                began = time.monotonic()
+                await self.client(session, f"before kill {number}", 1, patient=True)
+                back = time.monotonic() - began
+            await asyncio.sleep(chance.random() * (WORK if at_work else back))
+            made += bool(await kill())
+        return made
+
+    async def kill_the_program(self):
+        """Kills the run that there is, or the next one."""
+        while not self.door.kill_programs():
+            await asyncio.sleep(0.002)
+        return True
 
     def check_told(self, torn=False):
         """Each reply is that of the asker's own question, by the rows; each that was decided is in the transcript, and
@@ -69,6 +122,11 @@ class DoorCase(unittest.IsolatedAsyncioTestCase):
         self.check_told()
         self.assertEqual(self.folder.simulate(), (0, ""))
         self.assertEqual(self.folder.replay(), [reply for _, reply in self.folder.transcript()])
+
+    async def ends(self, status=1):
+        """The door's own end."""
+        code = await asyncio.to_thread(self.door.process.wait, PATIENCE)
+        self.assertEqual(code, status, self.folder.said())
 
     def end_and_check(self):
         """The door ends with 0 if it is told to, and what it told was right."""

@@ -5,6 +5,7 @@ with the program or the door.
 """
 import asyncio
 import atexit
+import contextlib
 import csv
 import json
 import logging
@@ -29,6 +30,8 @@ DOOR = pathlib.Path(os.environ.get("DOOR", FRONT / "door.py"))
 AUDITOR = os.environ.get("AUDITOR", str(FRONT.parent / "crates" / "auditor" / "out" / "auditor"))
 SEED = int(os.environ.get("SEED", "1"))
 NOBODY = 65534
+PATIENCE = 120                      # seconds after which what a test waits for doesn't come any more; no test is to depend on it
+HOLDERS = []                        # the sockets of `free_port`
 COLUMNS = [{"name": "team", "is": "text"}, {"name": "k", "is": "number"},
            {"name": "salary", "is": "sum"}, {"name": "bonus", "is": "max"}]
 TEAMS = ["QA", "OPS", "DEV", "Bob's"]
@@ -154,15 +157,13 @@ class Door:
         return aiohttp.ClientSession("http://door", connector=aiohttp.UnixConnector(self.socket, limit=0),
                                      timeout=aiohttp.ClientTimeout(120))
 
-    async def ready(self, session, state="serving", patience=120, path="/health"):
-        end = time.monotonic() + patience
+    async def ready(self, session, state="serving", path="/health", **headers):
+        end = time.monotonic() + PATIENCE
         while time.monotonic() < end:
-            try:
-                async with session.get(path) as response:
+            with contextlib.suppress(aiohttp.ClientError, OSError):
+                async with session.get(path, headers=headers) as response:
                     if (await response.json())["state"].startswith(state):
                         return
-            except (aiohttp.ClientError, OSError):
-                pass
             await asyncio.sleep(0.02)
         raise AssertionError(f"the door isn't {state}: {self.folder.said()}")
 
@@ -178,18 +179,24 @@ class Door:
         return found
 
     def signal_programs(self, how):
+        """Sends them a signal, and gives the numbers of those that it reached."""
+        reached = []
         for number in self.programs():
-            try:
+            with contextlib.suppress(ProcessLookupError):
                 os.kill(number, how)
-            except ProcessLookupError:
-                pass
+                reached.append(number)
+        return reached
 
     def kill_programs(self):
-        self.signal_programs(signal.SIGKILL)
+        """Kills them, waits until they are gone, and gives how many there were."""
+        killed = self.signal_programs(signal.SIGKILL)
+        while not set(killed).isdisjoint(self.programs()):
+            time.sleep(0.001)
+        return len(killed)
 
     def stop(self, how=signal.SIGTERM):
         self.process.send_signal(how)
-        return self.process.wait(60)
+        return self.process.wait(PATIENCE)
 
 
 def slow_syncs():
@@ -197,10 +204,13 @@ def slow_syncs():
     return {"LD_PRELOAD": os.environ["SLOW"]} if "SLOW" in os.environ else {}
 
 
-def free_port():
-    with socket.socket() as probe:
-        probe.bind(("127.0.0.1", 0))
-        return probe.getsockname()[1]
+def free_port(address="127.0.0.1"):
+    """A port that nobody else is given until this process ends: a socket that doesn't listen has it, and lets a server share it."""
+    holder = socket.socket()
+    holder.setsockopt(socket.SOL_SOCKET, socket.SO_REUSEADDR, 1)
+    holder.bind((address, 0))
+    HOLDERS.append(holder)
+    return holder.getsockname()[1]
 
 
 async def ask(session, line, path="/ask", **headers):

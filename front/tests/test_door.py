@@ -3,7 +3,6 @@ import asyncio
 import json
 import os
 import pathlib
-import random
 import shutil
 import signal
 import subprocess
@@ -11,12 +10,12 @@ import time
 import unittest
 
 from case import DoorCase
-from kit import AUDITOR, FRONT, NOBODY, SEED, Door, ask, health, line_of
+from kit import AUDITOR, FRONT, NOBODY, PATIENCE, Door, ask, health, line_of
 
 
 class Doors(DoorCase):
-    clients, questions, kills = 64, 30, 12
-    patient_clients, patient_questions = 24, 10
+    clients, questions, kills = 64, 30, 8
+    patient_clients, patient_questions = 24, 10             # at most, under kills
 
     async def test_each_asker_gets_its_own_reply(self):
         self.door.start()
@@ -28,40 +27,26 @@ class Doors(DoorCase):
         self.assertEqual(said["restarts"], 0)
         self.end_and_check()
 
-    async def under_kills(self, kill):
-        """Patient askers, and a kill now and then until all have their replies."""
-        self.door.start()
-        chance, kills = random.Random(f"{SEED} {self.id()}"), 0
-        async with self.door.session() as session:
-            await self.door.ready(session)
-            clients, questions = min(self.clients, self.patient_clients), min(self.questions, self.patient_questions)
-            asking = asyncio.gather(*(self.client(session, number, questions, patient=True) for number in range(clients)))
-            while not asking.done() and kills < self.kills:
-                await asyncio.sleep(chance.uniform(0.005, 0.12))
-                kill()
-                kills += 1
-            await asking
-            await self.door.ready(session)
-        self.assertGreaterEqual(kills, min(self.kills, 3))
-        self.assertEqual(len(self.told), clients * questions)
-        self.end_and_check()
+    async def killed_by(self, kill):
+        await self.under_kills(kill, self.kills, min(self.clients, self.patient_clients), min(self.questions, self.patient_questions))
 
     async def test_nothing_told_is_lost_when_the_program_is_killed(self):
-        await self.under_kills(self.door.kill_programs)
+        await self.killed_by(self.kill_the_program)
 
-    def kill_the_door(self):
-        self.door.stop(signal.SIGKILL)
+    async def kill_the_door(self):
+        ended = self.door.stop(signal.SIGKILL)
         self.door.start()
+        return ended == -signal.SIGKILL
 
     async def test_nothing_told_is_lost_when_the_door_is_killed(self):
-        await self.under_kills(self.kill_the_door)
+        await self.killed_by(self.kill_the_door)
 
-    def kill_both(self):
+    async def kill_both(self):
         self.door.kill_programs()
-        self.kill_the_door()
+        return await self.kill_the_door()
 
     async def test_nothing_told_is_lost_when_both_are_killed(self):
-        await self.under_kills(self.kill_both)
+        await self.killed_by(self.kill_both)
 
 
 class ShortRuns(Doors):
@@ -167,7 +152,7 @@ class OfAnotherUser(Doors):
         process = subprocess.Popen(
             ["socat", f"UNIX-LISTEN:{path},fork,max-children=1,user={NOBODY},unlink-early", f"EXEC:{command}"],
             cwd=self.folder.path, stderr=subprocess.DEVNULL, start_new_session=True)
-        end = time.monotonic() + 120
+        end = time.monotonic() + PATIENCE
         while not pathlib.Path(path).exists() and time.monotonic() < end:
             time.sleep(0.01)
         return process
@@ -198,13 +183,9 @@ class OfAnotherUser(Doors):
             await self.door.ready(session)
             await self.client(session, 0, 5)
             owner = pathlib.Path(f"/proc/{self.door.process.pid}").stat().st_uid
-            end = time.monotonic() + 120
-            while not (self.folder.public / "report.jsonl").exists() and time.monotonic() < end:
-                await asyncio.sleep(0.05)
+            await self.until((self.folder.public / "report.jsonl").exists)
         self.assertEqual(owner, NOBODY)
-        self.assertEqual(self.door.stop(), 0)
-        self.assertTrue((self.folder.public / "report.jsonl").exists())
-        self.check_all()
+        self.end_and_check()
 
 
 if __name__ == "__main__":

@@ -3,17 +3,15 @@ import asyncio
 import json
 import os
 import pathlib
-import random
 import re
 import shutil
-import signal
 import subprocess
 import sys
 import tempfile
 import unittest
 
 from case import DoorCase
-from kit import AUDITOR, FRONT, SEED, Door, Folder, ask, health, line_of
+from kit import AUDITOR, FRONT, Door, Folder, ask, health, line_of
 
 sys.path.insert(0, str(FRONT))
 from doorway import settings  # noqa: E402
@@ -40,7 +38,7 @@ class Twins(DoorCase):
     def setUp(self):
         self.folder = TwinFolder(self.rows)
         self.door = Door(self.folder, *self.words)
-        self.told, self.unanswered = [], 0
+        self.told = []
 
     def check_all(self):
         super().check_all()
@@ -54,16 +52,7 @@ class Twins(DoorCase):
         self.end_and_check()
 
     async def test_a_program_that_is_killed_again_and_again_leaves_them_in_both(self):
-        chance = random.Random(SEED)
-        async with self.door.start().session() as session:
-            await self.door.ready(session)
-            asking = asyncio.gather(*(self.client(session, number, 20, patient=True) for number in range(16)))
-            while not asking.done():
-                await asyncio.sleep(chance.random() * 0.2)
-                self.door.signal_programs(signal.SIGKILL)
-            await asking
-            await self.door.ready(session)
-        self.end_and_check()
+        await self.under_kills(self.kill_the_program, kills=8, clients=16, questions=20)
 
     async def stopped(self, session, text):
         """What the door says while nothing is served."""
