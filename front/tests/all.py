@@ -15,7 +15,7 @@ import unittest
 
 HERE = pathlib.Path(__file__).resolve().parent
 AT_ONCE = max(2, min(4, os.cpu_count() or 2))
-PATIENCE = 600                      # seconds for a class; on a quiet machine none takes a minute
+PATIENCE = 1800                     # seconds for a class, in case that it hangs; on a quiet machine none takes a minute
 # What may be missing; everything else must run.
 MAY_BE_MISSING = ("no Chromium", "no R ", "no systemd")
 

@@ -3,6 +3,8 @@ import shutil
 import tempfile
 import unittest
 
+from kit import PATIENCE
+
 try:
     from selenium import webdriver
     from selenium.webdriver.chrome.service import Service
@@ -42,8 +44,8 @@ class Browser:
             self.driver.refresh()
         self.wait(lambda: self.text("holds"))
 
-    def wait(self, holds, seconds=20):
-        WebDriverWait(self.driver, seconds, poll_frequency=0.05).until(lambda _: holds())
+    def wait(self, holds):
+        WebDriverWait(self.driver, PATIENCE, poll_frequency=0.05).until(lambda _: holds())
 
     def find(self, selector):
         return self.driver.find_element(By.CSS_SELECTOR, selector)

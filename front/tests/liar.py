@@ -1,9 +1,11 @@
 #!/usr/bin/python3
 """A program that lies: `serve` of the real one, with the replies of each group of three questions or more altered.
 
-LIE says how. All other commands are the real program's, which AUDITOR names. A group is 64 lines.
+LIE says how. Once it has lied there is a file `lied` in its folder. All other commands are the real program's, which AUDITOR names. A
+group is 64 lines.
 """
 import os
+import pathlib
 import subprocess
 import sys
 
@@ -65,7 +67,10 @@ def main():
         replies = [real.stdout.readline() for _ in range(GROUP)]
         # The last line is a filler too.
         several = sum(line != b"x\n" for line in questions) > 3
-        sys.stdout.buffer.write(b"".join(lie(replies, questions) if several else replies))
+        said = lie(list(replies), questions) if several else replies
+        if said != replies:
+            pathlib.Path("lied").touch()
+        sys.stdout.buffer.write(b"".join(said))
         sys.stdout.buffer.flush()
     real.stdin.close()
     sys.exit(real.wait())

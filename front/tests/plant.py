@@ -14,7 +14,7 @@ import tempfile
 from kit import FRONT
 
 AT_ONCE = 2
-PATIENCE = 120                      # seconds; a test that hangs has failed
+PATIENCE = 300                      # seconds; a test that hangs has failed
 
 # What is wrong, the file, what stands there, what is put in its place, and the test that refuses it.
 PLANTS = [
@@ -172,7 +172,7 @@ PLANTS = [
      "                self.taken = dict(self.waiting)\n                if all(said.done() for said in self.taken.values()):\n                    break\n",
      "test_why.Certificates.test_it_goes_by_the_history_as_it_is_when_somebody_asks"),
     ("answers wait for certificates", "why.py", '        run = await self.opener.open("explain")\n',
-     '        run = await self.opener.open("explain")\n        __import__("time").sleep(5)\n',
+     '        run = await self.opener.open("explain")\n        __import__("time").sleep(600)\n',
      "test_why.Odd.test_answers_go_on_while_a_certificate_takes_long"),
     ("whatever explain says is handed on", "why.py", " or not all(map(is_explained, lines))", "",
      "test_why.Odd.test_a_run_that_ends_or_says_something_else_is_told_of"),

@@ -2,20 +2,17 @@
 import collections
 import csv
 import json
-import os
 import pathlib
 import random
 import shutil
-import socket
 import subprocess
 import sys
 import tempfile
 import time
 import urllib.request
 
-FRONT = pathlib.Path(__file__).resolve().parent.parent
-DOOR = pathlib.Path(os.environ.get("DOOR", FRONT / "door.py"))
-AUDITOR = os.environ.get("AUDITOR", str(FRONT.parent / "crates" / "auditor" / "out" / "auditor"))
+from kit import AUDITOR, DOOR, PATIENCE, free_port
+
 COLUMNS = {"team": "text", "site": "text", "age": "number", "height": "number", "salary": "sum", "balance": "sum", "bonus": "max"}
 PUBLIC = 4
 NOTES = {"title": "Staff of <i>the</i> office", "columns": {
@@ -49,12 +46,6 @@ def write_table(folder, columns, rows, public, notes=None):
     subprocess.run([AUDITOR, "init"], cwd=folder, check=True)
 
 
-def free_port():
-    with socket.socket() as probe:
-        probe.bind(("127.0.0.1", 0))
-        return probe.getsockname()[1]
-
-
 class Office:
     """The door over one table, or over tables by their names, in a folder that is removed at the end."""
 
@@ -76,7 +67,7 @@ class Office:
 
     def ready(self, ask):
         """Waits until `ask` no longer fails because nobody listens."""
-        deadline = time.monotonic() + 120
+        deadline = time.monotonic() + PATIENCE
         while True:
             try:
                 return ask()
@@ -87,7 +78,7 @@ class Office:
                 time.sleep(0.05)
 
     def get(self, path):
-        with urllib.request.urlopen(f"{self.url}/{path}", timeout=20) as response:
+        with urllib.request.urlopen(f"{self.url}/{path}", timeout=PATIENCE) as response:
             return response.read().decode()
 
     def public(self, name=""):

@@ -1,14 +1,16 @@
 """Hostile bodies and streams, and that the door changes no line."""
 import asyncio
+import contextlib
 import gzip
 import json
 import random
 import subprocess
 import tempfile
+import time
 import unittest
 
 from case import DoorCase
-from kit import AUDITOR, SEED, ask, free_port, health, line_of
+from kit import AUDITOR, PATIENCE, SEED, ask, free_port, health, line_of
 
 GOOD = line_of("count", 0, 9)
 LINE = b'{"refused":"line"}\n'
@@ -106,8 +108,8 @@ class Streams(DoorCase):
         self.port = free_port()
         self.door.words[self.door.words.index("--listen") + 1] = f"127.0.0.1:{self.port}"
 
-    async def send(self, *pieces, wait=0.2):
-        """What comes back to some bytes, until the door closes or nothing more comes."""
+    async def send(self, *pieces, wait=PATIENCE):
+        """What comes back to some bytes, until the door closes or nothing more comes for so many seconds."""
         reader, writer = await asyncio.open_connection("127.0.0.1", self.port)
         got = b""
         try:
@@ -128,15 +130,15 @@ class Streams(DoorCase):
 
     async def count(self, **changes):
         """What a good question gets, the last of its stream."""
-        return await self.send(self.request(GOOD, last=True, **changes), wait=5)
+        return await self.send(self.request(GOOD, last=True, **changes))
 
     async def until_serving(self):
-        for _ in range(200):
-            try:
+        end = time.monotonic() + PATIENCE
+        while time.monotonic() < end:
+            with contextlib.suppress(OSError):
                 if b'{"count":10}' in await self.count():
                     return
-            except OSError:
-                await asyncio.sleep(0.05)
+            await asyncio.sleep(0.05)
         self.fail(self.folder.said())
 
     def broken(self, chance):
@@ -174,9 +176,9 @@ class Streams(DoorCase):
         head, body = self.request(GOOD, last=True).replace(b"Host:", b"Expect: 100-continue\r\nHost:").split(b"\r\n\r\n")
         reader, writer = await asyncio.open_connection("127.0.0.1", self.port)
         writer.write(head + b"\r\n\r\n")
-        self.assertEqual(await asyncio.wait_for(reader.readline(), 10), b"HTTP/1.1 100 Continue\r\n")
+        self.assertEqual(await asyncio.wait_for(reader.readline(), PATIENCE), b"HTTP/1.1 100 Continue\r\n")
         writer.write(body)
-        self.assertIn(b'{"count":10}', await asyncio.wait_for(reader.read(), 10))
+        self.assertIn(b'{"count":10}', await asyncio.wait_for(reader.read(), PATIENCE))
         writer.close()
 
     async def test_no_address_leads_out_of_the_public_files(self):
@@ -184,7 +186,7 @@ class Streams(DoorCase):
         await self.until_serving()
         secret = (self.folder.path / "table.csv").read_bytes()
         for path in ("/../table.csv", "/%2e%2e/table.csv", "//table.csv", "/./../answers.journal", "/table.csv/../../table.csv"):
-            got = await self.send(f"GET {path} HTTP/1.1\r\nHost: 127.0.0.1:{self.port}\r\nConnection: close\r\n\r\n".encode(), wait=5)
+            got = await self.send(f"GET {path} HTTP/1.1\r\nHost: 127.0.0.1:{self.port}\r\nConnection: close\r\n\r\n".encode())
             self.assertTrue(got.startswith(b"HTTP/1.1 "), path)
             self.assertNotIn(secret[:200], got, path)
             self.assertNotIn(b"SQAJRNL", got, path)
@@ -193,7 +195,7 @@ class Streams(DoorCase):
         self.door.start()
         await self.until_serving()
         lines = [line_of("count", 0, high) for high in range(50)]
-        got = await self.send(b"".join(self.request(line, last=line == lines[-1]) for line in lines), wait=5)
+        got = await self.send(b"".join(self.request(line, last=line == lines[-1]) for line in lines))
         bodies = [part.split(b"\r\n\r\n", 1)[1] for part in got.split(b"HTTP/1.1 200 OK\r\n")[1:]]
         self.assertEqual(bodies, [b'{"count":%d}\n' % (high + 1) for high in range(50)])
 
@@ -205,9 +207,9 @@ class Streams(DoorCase):
         self.assertIn(b" 200 ", await self.count(host=f"localhost:{self.port}"))
         for site, status in (("cross-site", b" 403 "), ("same-site", b" 403 "), ("same-origin", b" 200 "), ("none", b" 200 ")):
             text = self.request(GOOD, last=True).replace(b"Host:", b"Sec-Fetch-Site: %s\r\nHost:" % site.encode())
-            self.assertIn(status, await self.send(text, wait=5), site)
-        link = f"GET / HTTP/1.1\r\nHost: 127.0.0.1:{self.port}\r\nSec-Fetch-Site: cross-site\r\n\r\n".encode()
-        self.assertNotIn(b" 403 ", await self.send(link))
+            self.assertIn(status, await self.send(text), site)
+        link = f"GET / HTTP/1.1\r\nHost: 127.0.0.1:{self.port}\r\nSec-Fetch-Site: cross-site\r\nConnection: close\r\n\r\n".encode()
+        self.assertIn(b" 200 ", await self.send(link))
 
 
 if __name__ == "__main__":

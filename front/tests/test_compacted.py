@@ -1,12 +1,10 @@
 """A compacted journal in the journal's place: the door goes on with it if it is told how many records were left out."""
-import asyncio
 import json
 import pathlib
 import shutil
 import subprocess
 import sys
 import tempfile
-import time
 import unittest
 
 from case import DoorCase
@@ -51,8 +49,7 @@ class Compacted(DoorCase):
 
     SUMS = [(0, 99), (100, 199), (0, 199)]
     MORE = [(50, 149), (20, 179)]
-
-    words = ("--report-every", 0.1)
+    REPORTS = ["--report-every", "0.1"]
 
     async def ask_sums(self):
         """Asks the three sums and ends the door."""
@@ -73,6 +70,7 @@ class Compacted(DoorCase):
         return run.stdout
 
     async def test_the_door_goes_on_with_the_line_that_was_printed(self):
+        self.door.words += self.REPORTS
         await self.ask_sums()
         line = self.compact()
         self.assertEqual(line, b'{"records":3,"kept":2}\n')
@@ -85,7 +83,7 @@ class Compacted(DoorCase):
             for asked in self.SUMS + self.MORE:
                 _, reply = await ask(session, line_of("sum", *asked))
                 self.assertEqual(json.loads(reply), self.folder.due("sum", *asked))
-            await self.report_over(4)
+            await self.until(lambda: self.audited() == 4)
         self.assertEqual(self.door.stop(), 0)
         self.assertFalse((self.folder.public / "stopped.txt").exists())
         self.assertEqual(self.folder.simulate(), (0, ""))
@@ -97,19 +95,17 @@ class Compacted(DoorCase):
         async with self.door.session() as session:
             await self.door.ready(session)
             await ask(session, line_of("sum", 50, 149))
-        self.assertEqual(self.door.process.wait(60), 1)
+        self.assertEqual(self.door.stop(), 0)
+        self.door.words += self.REPORTS
+        self.door.start()
+        await self.ends()
         self.assertIn("the journal holds 3 answers and 4 were given: it is an older copy, or a compacted one that compacted.jsonl doesn't have",
                       (self.folder.public / "stopped.txt").read_text())
 
-    async def report_over(self, audited, patience=60):
-        """Waits for a whole report over so many records."""
-        path, end = self.folder.public / "report.jsonl", time.monotonic() + patience
-        while time.monotonic() < end:
-            lines = path.read_bytes().splitlines() if path.exists() else []
-            if lines and json.loads(lines[-1])["audited"] == audited:
-                return
-            await asyncio.sleep(0.02)
-        self.fail(f"no report over {audited} records: {self.folder.said()}")
+    def audited(self):
+        """How many records the last whole report is over."""
+        path = self.folder.public / "report.jsonl"
+        return json.loads(path.read_bytes().splitlines()[-1])["audited"] if path.exists() else 0
 
 
 if __name__ == "__main__":

@@ -5,11 +5,10 @@ import os
 import resource
 import shutil
 import signal
-import time
 import unittest
 
 from case import DoorCase
-from kit import AUDITOR, FRONT, HERE, Door, Folder, ask, health, line_of
+from kit import AUDITOR, FRONT, HERE, PATIENCE, Door, Folder, ask, health, line_of
 
 
 def question(kind, low, high):
@@ -21,11 +20,6 @@ class Faults(DoorCase):
         self.door.words += [str(word) for word in words]
         self.door.start()
         await self.door.ready(session)
-
-    async def ends(self, status=1):
-        """The door's own end."""
-        code = await asyncio.to_thread(self.door.process.wait, 120)
-        self.assertEqual(code, status, self.folder.said())
 
     async def test_a_full_disk_of_the_transcript_loses_nothing(self):
         async with self.door.session() as session:
@@ -124,7 +118,7 @@ class Faults(DoorCase):
             await self.start(session)
             second = Door(self.folder)
             second.start()
-            self.assertEqual(await asyncio.to_thread(second.process.wait, 120), 1)
+            self.assertEqual(await asyncio.to_thread(second.process.wait, PATIENCE), 1)
             self.assertIn("another door keeps", self.folder.said())
             await self.client(session, 0, 5)
         self.end_and_check()
@@ -135,22 +129,16 @@ class Faults(DoorCase):
         async with self.door.session() as session:
             await self.start(session)
             await self.ask(session, *question("sum", 0, 99))
-            end = time.monotonic() + 120
-            while not (self.folder.public / "report.jsonl.new").exists() and time.monotonic() < end:
-                await asyncio.sleep(0.02)
-            began = time.monotonic()
-            status, _ = await self.ask(session, *question("sum", 0, 199))
-            self.assertEqual(status, 200)
-            self.assertLess(time.monotonic() - began, 10)
+            await self.until((self.folder.public / "report.jsonl.new").exists)
+            # The report goes on until it is ended.
+            self.assertEqual((await self.ask(session, *question("sum", 0, 199)))[0], 200)
             async with session.get("/report.jsonl") as response:
                 self.assertEqual((response.status, await response.json()), (404, {"error": "not made yet"}))
         self.door.stop(signal.SIGKILL)
         self.door = Door(self.folder, "--report-every", 0.1)
         async with self.door.session() as session:
             await self.start(session)
-            end = time.monotonic() + 120
-            while not (self.folder.public / "report.jsonl").exists() and time.monotonic() < end:
-                await asyncio.sleep(0.02)
+            await self.until((self.folder.public / "report.jsonl").exists)
             async with session.get("/report.jsonl") as response:
                 text = await response.text()
         last = json.loads(text.strip().rsplit("\n", 1)[-1])
@@ -192,8 +180,7 @@ class Faults(DoorCase):
             await self.start(session, "--waiting", 4)
             self.door.signal_programs(signal.SIGSTOP)
             asking = [asyncio.create_task(ask(session, line_of("count", 0, high))) for high in range(12)]
-            while sum(one.done() for one in asking) < 8:
-                await asyncio.sleep(0.02)
+            await self.until(lambda: sum(one.done() for one in asking) == 8)
             self.door.signal_programs(signal.SIGCONT)
             replies = await asyncio.gather(*asking)
         self.assertEqual(sorted(status for status, _ in replies), [200] * 4 + [503] * 8)
@@ -206,9 +193,7 @@ class Faults(DoorCase):
             line = line_of("sum", 0, 99)
             self.assertEqual((await ask(session, line))[0], 504)
             self.door.signal_programs(signal.SIGCONT)
-            while not self.folder.transcript(torn=True):
-                await asyncio.sleep(0.02)
-            await asyncio.sleep(0.2)
+            await self.until_health(session, "asked")
             self.told.append((("sum", 0, 99), line, (await ask(session, line))[1]))
             self.assertEqual((await health(session))["repeats"], 1)
         self.end_and_check()
@@ -217,8 +202,11 @@ class Faults(DoorCase):
         async with self.door.session() as session:
             await self.start(session)
             self.door.signal_programs(signal.SIGSTOP)
-            with self.assertRaises(asyncio.TimeoutError):
-                await asyncio.wait_for(ask(session, line_of("sum", 0, 99)), 0.3)
+            asking = asyncio.create_task(ask(session, line_of("sum", 0, 99)))
+            await self.until_health(session, "waiting")
+            asking.cancel()
+            with self.assertRaises(asyncio.CancelledError):
+                await asking
             self.door.signal_programs(signal.SIGCONT)
             await self.ask(session, *question("sum", 0, 199))
         self.assertEqual(self.door.stop(), 0)
@@ -325,8 +313,7 @@ class Known(DoorCase):
             await self.door.ready(session)
             self.door.signal_programs(signal.SIGSTOP)
             asking = [asyncio.create_task(ask(session, line_of("sum", 0, 99))) for _ in range(100)]
-            while (await health(session))["waiting"] < 100:
-                await asyncio.sleep(0.02)
+            await self.until_health(session, "waiting", 100)
             self.door.signal_programs(signal.SIGCONT)
             replies = await asyncio.gather(*asking)
         self.assertEqual(self.door.stop(), 0)

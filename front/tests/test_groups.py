@@ -1,7 +1,6 @@
 """Groups of lines over a run that says what the test wants: the group's number, and replies that are missing."""
 import asyncio
 import sys
-import time
 import unittest
 
 from kit import FRONT, line_of
@@ -89,12 +88,12 @@ class GroupsOfLines(unittest.IsolatedAsyncioTestCase):
             await groups.ask([])
 
     async def test_a_lost_reply_is_seen_soon(self):
+        """The group may take an hour, and the last reply is there at once."""
         calls = []
         groups = await self.start(lambda replies: calls.append(1) or (replies if len(calls) == 1 else replies[1:]))
-        began = time.monotonic()
+        groups.patience = 3600
         with self.assertRaises(Ended):
-            await groups.ask([SUM])
-        self.assertLess(time.monotonic() - began, 20)
+            await asyncio.wait_for(groups.ask([SUM]), 60)
 
     async def test_a_run_that_says_too_much_is_ended(self):
         calls = []

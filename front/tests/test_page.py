@@ -66,7 +66,7 @@ class PageCase(unittest.TestCase):
         self.browser.choose("#chart-kind", number)
         self.browser.choose("#by", by)
         self.browser.click("#draw")
-        self.browser.wait(lambda: self.browser.text("draw") == "Draw" and len(self.browser.all(".bars tr")) == groups, 20)
+        self.browser.wait(lambda: self.browser.text("draw") == "Draw" and len(self.browser.all(".bars tr")) == groups)
 
 
 class OverTheProgram(PageCase):
@@ -249,7 +249,7 @@ class OverTheProgram(PageCase):
 
     def test_a_row_of_the_report_is_free_by_a_click(self):
         self.browser.ask()
-        self.browser.wait(self.reported, 30)
+        self.browser.wait(self.reported)
         self.browser.click("#report")
         self.browser.wait(lambda: len(self.browser.all("#free details")) == 3)
         summaries = [one.text for one in self.browser.all("#free summary")]
@@ -331,7 +331,7 @@ class OverTheProgram(PageCase):
         self.browser.tab_to("#draw")
         keys("Enter")
         self.browser.wait(lambda: self.browser.all(".bars .bar"))
-        self.browser.wait(self.reported, 30)
+        self.browser.wait(self.reported)
         self.browser.tab_to("#report")
         keys("Enter")
         self.browser.wait(lambda: self.browser.all("#free summary"))
@@ -348,7 +348,7 @@ class OverTheProgram(PageCase):
         self.browser.click("#add")
         self.browser.choose("#parts li:nth-child(2) select", "age")
         self.browser.ask()
-        self.browser.wait(self.reported, 30)
+        self.browser.wait(self.reported)
         self.browser.click("#report")
         self.browser.wait(lambda: self.browser.all("#free summary"))
         self.browser.click("#free summary")

@@ -1,5 +1,6 @@
 """The blocks for nginx, before a real nginx on loopback: two parts of a table on two doors, and one door with a login."""
 import asyncio
+import contextlib
 import json
 import os
 import pathlib
@@ -14,7 +15,7 @@ import unittest
 
 import aiohttp
 
-from kit import FRONT, SEED, Door, Folder, ask, free_port, line_of
+from kit import FRONT, PATIENCE, SEED, Door, Folder, ask, free_port, line_of
 
 NGINX = shutil.which("nginx") or shutil.which("/usr/sbin/nginx")
 NAME = "auditor.example.org"
@@ -47,13 +48,13 @@ class Nginx:
         (self.folder / "block.conf").write_text(text)
         (self.folder / "nginx.conf").write_text(SHELL.format(folder=self.folder))
         self.process = subprocess.Popen([NGINX, "-c", self.folder / "nginx.conf", "-e", self.folder / "nginx.err"])
-        end = time.monotonic() + 120
+        end = time.monotonic() + PATIENCE
         while not listens(port) and time.monotonic() < end:
             time.sleep(0.05)
 
     def close(self):
         self.process.send_signal(signal.SIGTERM)
-        self.process.wait(20)
+        self.process.wait(PATIENCE)
         shutil.rmtree(self.folder)
 
 
@@ -66,13 +67,14 @@ class TwoDoors(unittest.IsolatedAsyncioTestCase):
         for place, name in enumerate(("north", "south")):
             part = self.parts[name] = Folder(80 + 40 * place, SEED + place, self.path / name / "parts" / name)
             part.path.parent.parent.chmod(0o755)
-            where = f"127.0.0.{place + 1}:{free_port()}"
+            address = f"127.0.0.{place + 1}"
+            where = f"{address}:{free_port(address)}"
             places[f"10.0.0.1{place + 1}:8087"] = where
             door = Door(part, "--table", name, "--folder", f"{part.path.parent}/{{table}}", "--host", NAME, plain=True)
             door.words[door.words.index("--listen") + 1] = where
             self.doors[name] = door.start()
-        # Two doors: that north has its answers, and south as well, is seen through one address alone.
-        self.nginx = Nginx("nginx-parts.conf", self.port, {**places, "rate=20r/s": "rate=2000r/s"})
+        # Two doors: that north has its answers, and south as well, is seen through one address alone. No machine asks faster than this.
+        self.nginx = Nginx("nginx-parts.conf", self.port, {**places, "rate=20r/s": "rate=1000000r/s"})
 
     def tearDown(self):
         self.nginx.close()
@@ -85,14 +87,12 @@ class TwoDoors(unittest.IsolatedAsyncioTestCase):
                                      auth=aiohttp.BasicAuth(user, "secret") if user else None)
 
     async def ready(self, session, name, status=200):
-        end = time.monotonic() + 120
+        end = time.monotonic() + PATIENCE
         while time.monotonic() < end:
-            try:
+            with contextlib.suppress(aiohttp.ClientError, OSError):
                 async with session.get(f"/{name}/health") as response:
                     if response.status == status:
                         return
-            except (aiohttp.ClientError, OSError):
-                pass
             await asyncio.sleep(0.05)
         self.fail(self.parts[name].said())
 
@@ -148,10 +148,11 @@ class OneDoor(unittest.IsolatedAsyncioTestCase):
         folder.path.chmod(0o755)
         port, path = free_port(), f"{folder.path}/door.sock"
         door = Door(folder, "--host", NAME).start()
-        nginx = Nginx("nginx.conf", port, {"/run/auditor-door/http.sock": path})
+        # So low that hardly one more is let in while they ask.
+        nginx = Nginx("nginx.conf", port, {"/run/auditor-door/http.sock": path, "rate=20r/s": "rate=1r/m"})
         try:
             async with door.session() as session:
-                await self.wait(session)
+                await door.ready(session, Host=NAME)
                 os.chmod(path, 0o666)
             async with aiohttp.ClientSession(f"http://127.0.0.1:{port}", headers={"Host": NAME}) as session:
                 self.assertEqual((await ask(session, line_of("count", 0, 9)))[0], 401)
@@ -163,17 +164,6 @@ class OneDoor(unittest.IsolatedAsyncioTestCase):
         finally:
             nginx.close()
             door.end()
-
-    async def wait(self, session):
-        for _ in range(300):
-            try:
-                async with session.get("/health", headers={"Host": NAME}) as response:
-                    if response.status == 200:
-                        return
-            except (aiohttp.ClientError, OSError):
-                pass
-            await asyncio.sleep(0.05)
-        self.fail("the door isn't serving")
 
     async def count(self, session, who):
         async with session.post("/ask", data=line_of("count", 0, 9), headers={"Content-Type": "application/json"}, auth=who) as response:

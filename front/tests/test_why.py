@@ -8,13 +8,12 @@ import shutil
 import subprocess
 import sys
 import tempfile
-import time
 import unittest
 
 import aiohttp
 
 from case import DoorCase
-from kit import AUDITOR, FRONT, HERE, SEED, Door, Folder, ask, health, line_of
+from kit import AUDITOR, FRONT, HERE, PATIENCE, SEED, Door, Folder, ask, health, line_of
 
 SCRIPT = FRONT.parent / "demo" / "check_certificate.py"
 ODD = str(HERE / "odd_explain.py")
@@ -53,10 +52,7 @@ class WhyCase(DoorCase):
         await self.door.ready(session)
 
     async def nothing_is_left(self):
-        end = time.monotonic() + 20
-        while list(self.copies.iterdir()) and time.monotonic() < end:
-            await asyncio.sleep(0.05)
-        self.assertEqual(list(self.copies.iterdir()), [])
+        await self.until(lambda: not list(self.copies.iterdir()))
 
     async def why(self, session, line, status=200, **headers):
         found, body = await ask(session, line, "/why", **headers)
@@ -137,21 +133,36 @@ class Certificates(WhyCase):
 class Odd(WhyCase):
     """Over an `explain` that takes long, ends, or says something else."""
 
+    def setUp(self):
+        super().setUp()
+        self.go = self.folder.path / "go"
+        os.environ.update(EXPLAIN="wait", GO=str(self.go))
+
     def make_door(self):
         return Door(self.folder, auditor=ODD)
 
+    async def explaining(self):
+        """Waits until a certificate is being made."""
+        await self.until(lambda: list(self.copies.iterdir()))
+
     async def test_answers_go_on_while_a_certificate_takes_long(self):
-        os.environ["EXPLAIN"] = "wait"
         async with self.door.session() as session:
-            await self.start(session, "--explain-patience", 3)
-            asking = asyncio.ensure_future(self.why(session, line_of("sum", 0, 0), 503))
-            await asyncio.sleep(0.3)
-            began = time.monotonic()
-            await asyncio.gather(*(self.client(session, number, 10) for number in range(8)))
-            self.assertLess(time.monotonic() - began, 3)
+            await self.start(session, "--explain-patience", 10 * PATIENCE)
+            asking = asyncio.ensure_future(self.why(session, line_of("sum", 0, 0)))
+            await self.explaining()
+            await asyncio.wait_for(asyncio.gather(*(self.client(session, number, 10) for number in range(8))), PATIENCE / 2)
             self.assertFalse(asking.done())
-            self.assertIn(b"auditor explain: it took too long", await asking)
+            self.go.touch()
+            self.assertEqual(json.loads(await asking)["row"], 0)
             self.assertEqual((await health(session))["restarts"], 0)
+            await self.nothing_is_left()
+        self.end_and_check()
+
+    async def test_a_certificate_that_takes_too_long_is_given_up(self):
+        async with self.door.session() as session:
+            await self.start(session, "--explain-patience", 0.3)
+            self.assertIn(b"auditor explain: it took too long", await self.why(session, line_of("sum", 0, 0), 503))
+            await self.client(session, 0, 5)
             await self.nothing_is_left()
         self.end_and_check()
 
@@ -167,27 +178,28 @@ class Odd(WhyCase):
             await self.nothing_is_left()
 
     async def test_too_many_askers_are_turned_away(self):
-        os.environ["EXPLAIN"] = "wait"
         async with self.door.session() as session:
-            await self.start(session, "--explain-patience", 2)
-            found = await asyncio.gather(*(ask(session, line_of("sum", 0, number % 60), "/why") for number in range(80)))
-            self.assertEqual(sum(b"too many certificates are wanted" in body for _, body in found), 16)
+            await self.start(session, "--explain-patience", 10 * PATIENCE)
+            asking = [asyncio.ensure_future(ask(session, line_of("sum", 0, number % 60), "/why")) for number in range(80)]
+            await self.until(lambda: sum(one.done() for one in asking) == 16)
+            self.go.touch()
+            found = await asyncio.gather(*asking)
+        self.assertEqual(sorted(status for status, _ in found), [200] * 64 + [503] * 16)
+        self.assertEqual(sum(b"too many certificates are wanted" in body for _, body in found), 16)
         self.assertEqual(self.door.stop(), 0)
         await self.nothing_is_left()
 
     async def test_a_door_that_ends_tells_those_who_wait(self):
-        os.environ["EXPLAIN"] = "wait"
+        """The one whose certificate is being made. The others may have come when the door was closed."""
         async with self.door.session() as session:
-            await self.start(session)
-            asking = [asyncio.ensure_future(ask(session, line_of("sum", 0, number), "/why")) for number in range(3)]
-            await asyncio.sleep(0.5)
-            began = time.monotonic()
-            stopped = asyncio.to_thread(self.door.stop)
-            ended, *found = await asyncio.gather(stopped, *asking, return_exceptions=True)
-            self.assertEqual(ended, 0)
-            self.assertLess(time.monotonic() - began, 10)
-            for one in found:
-                self.assertTrue(isinstance(one, (aiohttp.ClientError, OSError)) or one[0] == 503, one)
+            await self.start(session, "--explain-patience", 10 * PATIENCE)
+            first = asyncio.ensure_future(ask(session, line_of("sum", 0, 0), "/why"))
+            await self.explaining()
+            others = [asyncio.ensure_future(ask(session, line_of("sum", 0, number), "/why")) for number in (1, 2)]
+            ended, told, *found = await asyncio.gather(asyncio.to_thread(self.door.stop), first, *others, return_exceptions=True)
+        self.assertEqual((ended, told), (0, (503, b'{"error": "the door is closing"}')))
+        for one in found:
+            self.assertTrue(isinstance(one, (aiohttp.ClientError, OSError)) or one[0] == 503, one)
         await self.nothing_is_left()
 
 
