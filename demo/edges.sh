@@ -34,8 +34,8 @@ if [ -d /proc/self/fd ]; then
     "$program" serve <lines >&- 2>said &
     run=$!
     exec 4>lines
-    turns=0
-    while ! ls -l "/proc/$run/fd" | grep -q 'answers.journal$' && [ $((turns += 1)) -le 200 ]; do sleep 0.05; done
+    has_journal() { ls -l "/proc/$run/fd" | grep -q 'answers.journal$'; }
+    await has_journal
     number_1=$(readlink "/proc/$run/fd/1")
     exec 4>&-
     wait "$run"

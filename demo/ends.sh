@@ -60,13 +60,18 @@ open_run() {
     run=$!
     exec 4>lines
     head -n 3 questions.jsonl >&4
-    await_lines 3 first
+    await has_lines 3 first
 }
 
-# Waits until a file has so many lines, for ten seconds at most.
-await_lines() {
+# Waits until a command succeeds, for a minute or two at most.
+await() {
     turns=0
-    while [ "$(wc -l <"$2")" -lt "$1" ] && [ $((turns += 1)) -le 200 ]; do sleep 0.05; done
+    until "$@" || [ $((turns += 1)) -gt 1200 ]; do sleep 0.05; done
+}
+
+# Whether a file has so many lines.
+has_lines() {
+    [ "$(wc -l <"$2")" -ge "$1" ]
 }
 
 # Asks the open run for a sum more, ends its input, and sets `status` to what it ends with.
