@@ -153,7 +153,7 @@ class Door:
                 extra_groups=[] if self.user else None, env={**os.environ, **slow_syncs()})
         return self
 
-    def session(self, prefix=""):
+    def session(self):
         return aiohttp.ClientSession("http://door", connector=aiohttp.UnixConnector(self.socket, limit=0),
                                      timeout=aiohttp.ClientTimeout(120))
 

@@ -7,7 +7,6 @@ import decimal
 import fractions
 import json
 import os
-import pathlib
 import shutil
 import subprocess
 import sys

@@ -8,7 +8,7 @@ import tempfile
 import unittest
 
 from case import DoorCase
-from kit import AUDITOR, FRONT, Door, Folder, ask, health, line_of
+from kit import AUDITOR, FRONT, ask, health, line_of
 
 sys.path.insert(0, str(FRONT))
 from doorway.compacted import left_out  # noqa: E402

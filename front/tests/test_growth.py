@@ -13,7 +13,7 @@ import unittest
 from unittest import mock
 
 from case import DoorCase
-from kit import AUDITOR, FRONT, SEED, TEAMS, Folder, ask, health, line_of
+from kit import AUDITOR, FRONT, SEED, TEAMS, ask, health, line_of
 
 sys.path.insert(0, str(FRONT))
 from doorway import files, growth  # noqa: E402

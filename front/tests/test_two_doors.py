@@ -86,12 +86,12 @@ class TwoDoors(unittest.IsolatedAsyncioTestCase):
         return aiohttp.ClientSession(f"http://127.0.0.1:{self.port}", headers={"Host": NAME},
                                      auth=aiohttp.BasicAuth(user, "secret") if user else None)
 
-    async def ready(self, session, name, status=200):
+    async def ready(self, session, name):
         end = time.monotonic() + PATIENCE
         while time.monotonic() < end:
             with contextlib.suppress(aiohttp.ClientError, OSError):
                 async with session.get(f"/{name}/health") as response:
-                    if response.status == status:
+                    if response.status == 200:
                         return
             await asyncio.sleep(0.05)
         self.fail(self.parts[name].said())
