@@ -6,7 +6,8 @@ ghost use Rattle.denial_proof.specs.Certificates.{IsProof};
 
 use crate::lone_rows::shows_row;
 use crate::proof_parts::Proof;
-use crate::totals::shows_total;
+use crate::public_facts::PublicFacts;
+use crate::totals::{Total, shows_total};
 use audit_types::{Answered, Asked, Kind, Protected, Shape};
 
 /// Whether this is a proof that the question is dangerous after these records. It takes no memory.
@@ -30,17 +31,19 @@ pub fn check_proof(
             terms,
             asked: own,
         } => {
-            shape.kind(asked.column) == Kind::Sum
-                && shows_total(
-                    shape.rows,
-                    history,
-                    protected,
-                    asked,
-                    *target,
-                    *times,
-                    &terms.list,
-                    *own,
-                )
+            let facts = PublicFacts {
+                n: shape.rows,
+                history,
+                protected,
+                asked,
+            };
+            let total = Total {
+                target: *target,
+                times: *times,
+                terms: &terms.list,
+                own: *own,
+            };
+            shape.kind(asked.column) == Kind::Sum && shows_total(&facts, &total)
         }
         Proof::Max {
             answer,

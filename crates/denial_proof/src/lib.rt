@@ -20,6 +20,7 @@ mod outlook;
 mod proof_parts;
 mod prover;
 mod proving;
+mod public_facts;
 mod sums;
 mod targets;
 mod terms;

@@ -12,6 +12,7 @@ use crate::denied::{denied_maxima, denied_sums, legal_sums};
 use crate::marks::{Marks, marks_of};
 use crate::maxima::prove_max;
 use crate::proof_parts::{Proof, ProveFault};
+use crate::public_facts::PublicFacts;
 use crate::sums::prove_sum;
 use audit_core::{ColumnRef, Core};
 use audit_types::{Asked, NoMemory};
@@ -84,7 +85,13 @@ impl Prover {
         let protected = core.protected();
         match (core.column(asked.column), &self.preparation) {
             (ColumnRef::Sum(sums), Preparation::Sums(marks)) => {
-                prove_sum(self.alloc, sums, marks, history, protected, asked)
+                let facts = PublicFacts {
+                    n: sums.n(),
+                    history,
+                    protected,
+                    asked,
+                };
+                prove_sum(self.alloc, sums, marks, &facts)
             }
             (ColumnRef::Max(maxima), Preparation::Maxima(candidates)) => {
                 Ok(prove_max(self.alloc, maxima, candidates, history, asked)?)

@@ -16,42 +16,42 @@ use Rattle.denial_proof.proofs.sums.prove_target.Goals as goal
 
 pub overflow_cast-kept : goal.overflow_cast-kept
 overflow_cast-kept c =
-    let fewer = few c.args.n c.args.history.now c.args.protected.now c.args.asked.now c.args.places.now c.args.form.now c.args.target c.requires.marks c.requires.independent in
+    let fewer = few c.args.facts.now.n c.args.facts.now.history.now c.args.facts.now.protected.now c.args.facts.now.asked.now c.args.places.now c.args.form.now c.args.target c.requires.marks c.requires.independent in
     let most = c.requires.at_most in
     omega arith
 
 pub overflow_add-kept : goal.overflow_add-kept
 overflow_add-kept c =
-    let fewer = few c.args.n c.args.history.now c.args.protected.now c.args.asked.now c.args.places.now c.args.form.now c.args.target c.requires.marks c.requires.independent in
+    let fewer = few c.args.facts.now.n c.args.facts.now.history.now c.args.facts.now.protected.now c.args.facts.now.asked.now c.args.places.now c.args.form.now c.args.target c.requires.marks c.requires.independent in
     let most = c.requires.at_most in
     omega arith
 
 pub multipliers-requires-clause-below : goal.multipliers-requires-clause-below
 multipliers-requires-clause-below c =
     subst (λ (k : ℕ). AllByRecursion (λ row. pivot row < k) c.args.form.now.rows) (sym c.rows_of-rows.ensures.n)
-    (below c.args.n c.args.history.now c.args.protected.now c.args.asked.now c.args.places.now c.args.form.now c.args.target c.requires.marks c.requires.independent)
+    (below c.args.facts.now.n c.args.facts.now.history.now c.args.facts.now.protected.now c.args.facts.now.asked.now c.args.places.now c.args.form.now c.args.target c.requires.marks c.requires.independent)
 
 pub returns-then-not-are_small-clause-wide : goal.returns-then-not-are_small-clause-wide
 returns-then-not-are_small-clause-wide c = λ fault.
-    let n = c.args.n in
+    let n = c.args.facts.now.n in
     let places = c.args.places.now in
     let form = c.args.form.now in
-    let group = rows_of c.args.protected.now c.args.target in
+    let group = rows_of c.args.facts.now.protected.now c.args.target in
     let items = c.in_ok-numbers.numbers.items in
     let mark : length places ≡ length places = refl in
     let are : AreMultipliers form.rows (set_row n group) n (length places + 1) items
     = as_asked form.rows n c.rows_of-rows.result.n group c.rows_of-rows.result.list (length places) (length places) items c.rows_of-rows.ensures.n c.rows_of-rows.ensures.rows mark c.in_ok-numbers.ensures.are in
     let split = head_and_tail form.rows (set_row n group) n (length places + 1) items are in
-    too_wide n c.args.history.now c.args.protected.now c.args.asked.now places form c.args.target c.requires.marks c.requires.independent c.requires.first c.requires.spanned c.columns.ensures.narrow
+    too_wide n c.args.facts.now.history.now c.args.facts.now.protected.now c.args.facts.now.asked.now places form c.args.target c.requires.marks c.requires.independent c.requires.first c.requires.spanned c.columns.ensures.narrow
     (number_at items 0) split.0 (subst (AreMultipliers form.rows (set_row n group) n (length places + 1)) split.1 are)
     (λ all. true≢false (sym (c.are_small.ensures.1 (subst (AllByRecursion IsSmall) (sym (c.deref.ensures.value ∙ split.1)) all)) ∙ c.if-not-are_small.true))
 
 pub returns-clause-is : goal.returns-clause-is
 returns-clause-is c =
-    let n = c.args.n in
+    let n = c.args.facts.now.n in
     let places = c.args.places.now in
     let form = c.args.form.now in
-    let group = rows_of c.args.protected.now c.args.target in
+    let group = rows_of c.args.facts.now.protected.now c.args.target in
     let items = c.in_ok-numbers.numbers.items in
     let mark : length places ≡ length places = refl in
     let are : AreMultipliers form.rows (set_row n group) n (length places + 1) items
@@ -74,9 +74,9 @@ returns-clause-is c =
     = c.in_ok-list.ensures
     ∙ ap (λ (list : List ℤ). terms_of places (take (length list - 1) (drop 1 list))) (c.deref-2.ensures.value ∙ split.1) ∙ ap (terms_of places) (the_rest times rest) in
     let Shown : ℤ → List Term → ℤ → Type 0
-    = λ t list o. IsCanonicalSum n c.args.history.now c.args.protected.now c.args.asked.now c.args.target t list o × ShowsTotal n c.args.history.now c.args.protected.now c.args.asked.now c.args.target t list o in
+    = λ t list o. IsCanonicalSum n c.args.facts.now.history.now c.args.facts.now.protected.now c.args.facts.now.asked.now c.args.target t list o × ShowsTotal n c.args.facts.now.history.now c.args.facts.now.protected.now c.args.facts.now.asked.now c.args.target t list o in
     let shown : Shown times (terms_of places rest) own
-    = shows n c.args.history.now c.args.protected.now c.args.asked.now places form c.args.target c.requires.marks c.requires.independent c.requires.first c.requires.is_target c.requires.spanned times rest
+    = shows n c.args.facts.now.history.now c.args.facts.now.protected.now c.args.facts.now.asked.now places form c.args.target c.requires.marks c.requires.independent c.requires.first c.requires.is_target c.requires.spanned times rest
     (subst (AreMultipliers form.rows (set_row n group) n (length places + 1)) split.1 are) c.requires.at_most small in
     subst (λ t. Shown t c.in_ok-list.list.items (to_z w128 (of_z w128 c.index-2.result.now))) (sym times_is)
     (subst (λ list. Shown times list (to_z w128 (of_z w128 c.index-2.result.now))) (sym terms_is) (subst (λ o. Shown times (terms_of places rest) o) (sym asked_is) shown))

@@ -12,13 +12,21 @@ use Rattle.denial_proof.proofs.ByKind.{of_column, sum_is, sum_is_narrow, sum_is_
 use Rattle.denial_proof.proofs.UnsafeSums.{records_same_n, records_are_rows, entries_same_n}
 use Rattle.denial_proof.proofs.prover.Prover.prove.Goals as goal
 
-pub prove_sum-requires-clause-same_n : goal.prove_sum-requires-clause-same_n
-prove_sum-requires-clause-same_n c = c.requires.question.same_n ∙ sym c.in-Sum-Sums.ensures.n
-
-pub prove_sum-requires-clause-records : goal.prove_sum-requires-clause-records
-prove_sum-requires-clause-records c =
-    subst (λ (n : ℕ). AllByRecursion (λ (r : Answered). r.rows.n ≡ n) c.history-history.result.now) (sym c.in-Sum-Sums.ensures.n)
+pub invariant_of-facts-clause-records : goal.invariant_of-facts-clause-records
+invariant_of-facts-clause-records c =
+    subst (λ (n : ℕ). AllByRecursion (λ (r : Answered). r.rows.n ≡ n) c.history-history.result.now) (sym (c.n.ensures.n ∙ c.in-Sum-Sums.ensures.n))
     (records_same_n c.args.core.now.setting c.history-history.result.now c.history-history.ensures.fit)
+
+pub invariant_of-facts-clause-entries : goal.invariant_of-facts-clause-entries
+invariant_of-facts-clause-entries c =
+    subst (λ (n : ℕ). AllByRecursion (λ (p : Protected). p.rows.n ≡ n) c.protected-protected.result.now) (sym (c.n.ensures.n ∙ c.in-Sum-Sums.ensures.n))
+    (entries_same_n c.args.core.now.setting.shape c.protected-protected.result.now c.protected-protected.ensures.fit)
+
+pub invariant_of-facts-clause-same_n : goal.invariant_of-facts-clause-same_n
+invariant_of-facts-clause-same_n c = c.requires.question.same_n ∙ sym (c.n.ensures.n ∙ c.in-Sum-Sums.ensures.n)
+
+pub prove_sum-requires-clause-same_n : goal.prove_sum-requires-clause-same_n
+prove_sum-requires-clause-same_n c = c.n.ensures.n
 
 pub prove_sum-requires-clause-rows : goal.prove_sum-requires-clause-rows
 prove_sum-requires-clause-rows c =
@@ -27,11 +35,6 @@ prove_sum-requires-clause-rows c =
 
 pub prove_sum-requires-clause-answers : goal.prove_sum-requires-clause-answers
 prove_sum-requires-clause-answers c = c.in-Sum-Sums.ensures.answers ∙ ap (answers_of c.args.asked.now.column) (sym c.history-history.ensures.is)
-
-pub prove_sum-requires-clause-entries : goal.prove_sum-requires-clause-entries
-prove_sum-requires-clause-entries c =
-    subst (λ (n : ℕ). AllByRecursion (λ (p : Protected). p.rows.n ≡ n) c.protected-protected.result.now) (sym c.in-Sum-Sums.ensures.n)
-    (entries_same_n c.args.core.now.setting.shape c.protected-protected.result.now c.protected-protected.ensures.fit)
 
 pub prove_sum-requires-clause-few_groups : goal.prove_sum-requires-clause-few_groups
 prove_sum-requires-clause-few_groups c = c.protected-protected.ensures.fit.1
