@@ -1,5 +1,5 @@
 -- A lost journal that is written from a kept one: what a crash leaves, and why it isn't written.
-use Rattle.std.proofs.Common.{◌≡◌, inl, ℕ, List, ◌++◌, get_or, length, Result, Err, refl, sym, ap, subst, ◌∙◌, arith, length-append}
+use Rattle.std.proofs.Common.{◌≡◌, inl, ℕ, List, Result, Err, refl, sym, ap, subst, ◌∙◌}
 use Rattle.std.specs.Prelude.{IsErrOf}
 use Rattle.audit_types.specs.declared.records.Answered.{Answered}
 use Rattle.audit_types.specs.declared.shapes.Shape.{Shape}
@@ -7,7 +7,7 @@ use Rattle.audit_types.specs.History.{Table}
 use Rattle.bench_core.specs.declared.bench.Bench.{Ghosts}
 use Rattle.bench_core.specs.Calls.{IsQuiet, IsUntouched, LeavesOnly, OnlyReads}
 use Rattle.bench_core.specs.Moments.{joins, still_quiet, then_reads, weakens}
-use Rattle.journal_form.specs.Journal.{texts, StandsFor}
+use Rattle.journal_form.specs.Journal.{StandsFor}
 use Rattle.answer_journal.specs.Moments.{IsMade}
 use Rattle.journal_compact.specs.Whole.{IsUnmadeOrWhole}
 use Rattle.audit_store.specs.Starting.{StartCause, GivesUp}
@@ -20,22 +20,6 @@ use Rattle.twin_journal.specs.declared.restoring.RestoreFault.TheVariants.{Main,
 use Rattle.twin_journal.specs.Copying.{GivesUpCopying, IsKeptFor, fault_of_kept}
 use Rattle.twin_journal.specs.Restoring.{GivesUpRestoring, IsLost, IsLostOf, RestoreCause, StandForTheSame, fault_from_main, fault_from_spare}
 use Rattle.twin_journal.proofs.TwinCauses.{OneHistory}
-
--- a file that stands for a history is made
-pub stands_is_made : (file : List ℕ) (shape : Shape) (history : List Answered) → StandsFor file shape history → IsMade file
-stands_is_made file shape history is =
-    let stands = is.1 in
-    let rest = texts stands.groups ++ stands.behind in (
-      omega (
-        arith,
-        ap length stands.begins.file_is,
-        stands.begins.shaped.eight,
-        length-append shape.kinds rest,
-        length-append (texts stands.groups) stands.behind,
-        ap length stands.ends.bytes_are,
-      ),
-      ap (λ l. get_or l 0 0) stands.begins.file_is,
-    )
 
 -- files that stand for one history stand for the same
 pub stand_alike : (once : OneHistory) (file spare : List ℕ) (shape : Shape) (history : List Answered) → StandsFor file shape history → StandsFor spare shape history →

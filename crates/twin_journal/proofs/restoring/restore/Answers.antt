@@ -3,6 +3,7 @@ use Rattle.std.proofs.lemmas.Bool.{true≢false}
 use Rattle.bench_core.specs.Calls.{IsUntouched, LeavesOnly}
 use Rattle.bench_core.specs.Moments.{then_reads}
 use Rattle.journal_form.specs.Journal.{StandsFor}
+use Rattle.answer_journal.specs.MadeFiles.{stands_is_made}
 use Rattle.answer_journal.specs.Moments.{IsMade}
 use Rattle.table_load.specs.Database.{secret_table}
 use Rattle.audit_store.specs.Starting.{GivesUp, StartCause}
@@ -11,7 +12,7 @@ use Rattle.twin_journal.specs.declared.copying.CopyFault.{CopyFault}
 use Rattle.twin_journal.specs.declared.copying.CopyFault.TheVariants.{Kept}
 use Rattle.twin_journal.specs.declared.restoring.RestoreFault.{RestoreFault}
 use Rattle.twin_journal.specs.Restoring.{GivesUpRestoring, IsLost, RestoreCause, fault_from_main, fault_from_spare}
-use Rattle.twin_journal.proofs.Copies.{err, is_kept, is_lost_of, journal_only_read, main_refused, never_from_main, never_from_spare, read_and_write, read_lost, spare_only_read, spare_refused, stand_alike, stands_is_made}
+use Rattle.twin_journal.proofs.Copies.{err, is_kept, is_lost_of, journal_only_read, main_refused, never_from_main, never_from_spare, read_and_write, read_lost, spare_only_read, spare_refused, stand_alike}
 use Rattle.twin_journal.proofs.restoring.restore.Goals as goal
 
 -- ---- it wasn't found whether the spare is made

@@ -4,9 +4,10 @@ use Rattle.audit_types.specs.declared.records.Answered.{Answered}
 use Rattle.audit_types.specs.History.{FitsShape}
 use Rattle.journal_form.specs.Journal.{StandsAt}
 use Rattle.answer_journal.specs.Contents.{IsJournal, JournalContents}
+use Rattle.answer_journal.specs.MadeFiles.{stands_is_made}
 use Rattle.answer_journal.proofs.Histories.{is_journal}
 use Rattle.answer_journal.proofs.RecordsFit.{history_fits, shape_is_valid}
-use Rattle.answer_journal.proofs.DueIsAnswered.{stands_is_made, damage_is_due, whole_has_no_fault}
+use Rattle.answer_journal.proofs.DueIsAnswered.{damage_is_due, whole_has_no_fault}
 use Rattle.answer_journal.proofs.journal.Journal.read_back.Goals as goal
 
 pub ending_at-requires : goal.ending_at-requires
@@ -38,7 +39,7 @@ returns g c = record {
   not_made = search rules;
   made = λ told unmade.
       let contents = c.in_ok-shape.field-0 in
-      unmade (stands_is_made (g.B.Bench.file c.args.bench.now) contents.shape contents.list.items contents.gate (c.in_ok-shape.ensures.ok told));
+      unmade (stands_is_made (g.B.Bench.file c.args.bench.now) contents.shape contents.list.items (contents.gate, c.in_ok-shape.ensures.ok told));
   damaged = search rules;
   damaged_only = λ at told made breaks.
       let contents = c.in_ok-shape.field-0 in
