@@ -6,7 +6,8 @@ use Rattle.audit_types.specs.declared.records.Answered.{Answered}
 use Rattle.journal_form.specs.Header.{named, IsWholeShape}
 use Rattle.journal_form.specs.Group.{IsGroup}
 use Rattle.journal_form.specs.Journal.{Written, texts, records, StandsFor}
-use Rattle.answer_journal.specs.Moments.{IsMade, IsOpened, IsShort}
+use Rattle.answer_journal.specs.Append.{appended}
+use Rattle.answer_journal.specs.Moments.{IsMade, IsShort}
 use Rattle.journal_compact.specs.declared.whole.Found.{Found}
 use Rattle.journal_compact.specs.declared.whole.Found.TheVariants.{Made, Closed, Short}
 
@@ -24,11 +25,11 @@ pub record AreBehindGate (shape : Shape) (list : List Answered) (bytes : List �
   pub fewest : 64 * length groups < length list + 64
   pub bytes_are : bytes ≡ named shape ++ (texts groups ++ 0 ∷ [])
 
--- the file begins with a whole journal of the list
-pub record HoldsWhole (shape : Shape) (list : List Answered) (file : List ℕ) : Type 0 where
+-- the new file begins with a whole journal of the list, and what stood after its place in the old one stays
+pub record HoldsWhole (shape : Shape) (list : List Answered) (old new : List ℕ) : Type 0 where
   pub behind : List ℕ
   pub are : AreBehindGate shape list behind
-  pub opened : IsOpened behind file
+  pub file_is : new ≡ appended 0 behind old
 
 -- nothing was sent, and the image isn't a made journal, or stands for the list
 abbrev pub IsUnmadeOrWhole : Shape → List Answered → List ℕ → List ℕ → List ℕ → Type 0

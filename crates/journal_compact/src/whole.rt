@@ -144,7 +144,7 @@ pub fn write_whole<B: Bench>(
     // A crash at any moment leaves a file that isn't made, or the whole journal.
     ensures any_moment { B.told → (IsMade (B.file bench.old) → ⊥) → IsQuiet B.Bench bench.old → LeavesOnly B.Bench bench.old bench.new (IsUnmadeOrWhole shape.now list.now (B.sent bench.old)) }
     ensures done { B.told → OnOk result (StandsFor (B.file bench.new) shape.now list.now) }
-    ensures written { B.told → OnOk result (HoldsWhole shape.now list.now (B.file bench.new)) }
+    ensures written { B.told → OnOk result (HoldsWhole shape.now list.now (B.file bench.old) (B.file bench.new)) }
     ensures ticks { B.told → OnOk result (B.moment bench.new ≡ B.moment bench.old + calls_to_make (B.file bench.old)) }
     ensures quiet { B.told → OnOk result (IsQuiet B.Bench bench.new) }
     ensures sent { B.sent bench.new ≡ B.sent bench.old }

@@ -1,5 +1,6 @@
-use Rattle.std.proofs.Common.{Result, Ok, sym, subst, ap}
+use Rattle.std.proofs.Common.{Result, Ok, sym, subst, ap, ◌∙◌}
 use Rattle.bench_core.specs.Moments.{still_quiet}
+use Rattle.answer_journal.specs.Append.{appended}
 use Rattle.bench_core.specs.declared.source.Failed.{Failed}
 use Rattle.journal_compact.specs.Whole.{AreBehindGate, IsFound}
 use Rattle.journal_compact.specs.declared.whole.Found.{Found}
@@ -39,6 +40,15 @@ returns-in-Closed-clause-done g c = λ told.
     stands_appended shape list c.deref.result.now c.requires.few c.requires.fit are (g.B.Bench.file c.look.new.bench) (g.B.Bench.file c.open_over_closed.new.bench)
     (c.in_ok-open_over_closed-in-Closed.ensures.done told)
 
+pub returns-in-Closed-clause-written : goal.returns-in-Closed-clause-written
+returns-in-Closed-clause-written g c = λ told.
+    let behind = c.deref.result.now in
+    record {
+      behind = behind;
+      are = subst (AreBehindGate c.args.shape.now c.args.list.now) (sym c.deref.ensures.value) c.in_ok-behind.ensures;
+      file_is = c.in_ok-open_over_closed-in-Closed.ensures.done told ∙ ap (λ file. appended 0 behind file) c.look.ensures.reads.file;
+    }
+
 pub returns-in-Closed-clause-ticks : goal.returns-in-Closed-clause-ticks
 returns-in-Closed-clause-ticks g c = λ told.
     let file = g.B.Bench.file c.args.bench.now in
@@ -74,6 +84,15 @@ returns-clause-done g c = λ told.
     let are = subst (AreBehindGate shape list) (sym c.deref-in-Short.ensures.value) c.in_ok-behind.ensures in
     stands_appended shape list c.deref-in-Short.result.now c.requires.few c.requires.fit are (g.B.Bench.file c.look.new.bench) (g.B.Bench.file c.open_over_short.new.bench)
     (c.in_ok-open_over_short-in-Short.ensures.done told)
+
+pub returns-clause-written : goal.returns-clause-written
+returns-clause-written g c = λ told.
+    let behind = c.deref-in-Short.result.now in
+    record {
+      behind = behind;
+      are = subst (AreBehindGate c.args.shape.now c.args.list.now) (sym c.deref-in-Short.ensures.value) c.in_ok-behind.ensures;
+      file_is = c.in_ok-open_over_short-in-Short.ensures.done told ∙ ap (λ file. appended 0 behind file) c.look.ensures.reads.file;
+    }
 
 pub returns-clause-ticks : goal.returns-clause-ticks
 returns-clause-ticks g c = λ told.
