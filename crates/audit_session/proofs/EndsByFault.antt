@@ -19,12 +19,13 @@ pub ends_by : {X : Type 0} (batch : ℕ) (base : Database) (history : List Answe
     → (IsErrOf {T = X} (Err fault) end.Input → ServesWhole base history batch input left now before after)
     → (IsErrOf {T = X} (Err fault) end.Limit → ServesWhole base history batch (limited input) [] now before after) →
     (IsErrOf {T = X} (Err fault) end.NoMemory → ServesSome base history batch (counted_lines input) now before after)
+    → (IsErrOf {T = X} (Err fault) end.Spare → ServesSome base history batch (counted_lines input) now before after)
     → Ends batch (Err fault) base history input left now before after
-ends_by batch base history input left now before after end.Input whole limit some = whole refl
-ends_by batch base history input left now before after end.Limit whole limit some = limit refl
-ends_by batch base history input left now before after end.NoMemory whole limit some = some refl
-ends_by batch base history input left now before after end.Bench whole limit some = tt
-ends_by batch base history input left now before after end.Spare whole limit some = tt
+ends_by batch base history input left now before after end.Input whole limit some spare = whole refl
+ends_by batch base history input left now before after end.Limit whole limit some spare = limit refl
+ends_by batch base history input left now before after end.NoMemory whole limit some spare = some refl
+ends_by batch base history input left now before after end.Bench whole limit some spare = tt
+ends_by batch base history input left now before after end.Spare whole limit some spare = spare refl
 
 pub reads_by : {X : Type 0} (input left : List ℕ) (fault : TwinEnd) → (IsErrOf {T = X} (Err fault) end.Input → length input ≤ most_input + length left) →
     (IsErrOf {T = X} (Err fault) end.Limit → most_input + length left < length input) → Reads (Err fault) input left

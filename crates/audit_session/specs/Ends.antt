@@ -46,7 +46,7 @@ Ends batch (Err end.Input) base history input left now before after = ServesWhol
 Ends batch (Err end.Limit) base history input left now before after = ServesWhole base history batch (limited input) [] now before after
 Ends batch (Err end.NoMemory) base history input left now before after = ServesSome base history batch (counted_lines input) now before after
 Ends batch (Err end.Bench) base history input left now before after = Unit {0}
-Ends batch (Err end.Spare) base history input left now before after = Unit {0}
+Ends batch (Err end.Spare) base history input left now before after = ServesSome base history batch (counted_lines input) now before after
 
 -- the calls of the bench: one for each line's reply, and four for each group in which some reply makes a record
 pub record TakesCalls (base : Database) (history : List Answered) (batch : ℕ) (lines : List CountedLine) (before after : ℕ) : Type 0 where

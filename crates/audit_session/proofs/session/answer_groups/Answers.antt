@@ -158,7 +158,8 @@ returns-in_err-more g c =
           passes.over (e.cuts.taken t ∙ s.taken t))
           (λ is. some_served g.P.Source g.B.Bench c.args.schema.now.columns c.args.index.now.public c.args.batch c.loop-more.planner
           (g.K.Keeper.store c.args.keeper.now) (g.K.Keeper.store c.loop-more.keeper)
-          c.args.source.now c.loop-more.source c.args.bench.now c.loop-more.bench s t u));
+          c.args.source.now c.loop-more.source c.args.bench.now c.loop-more.bench s t u)
+          (λ is. absurd (of_fault {X = Bool} fault end.Spare Ungathered why is)));
       reads = λ t.
           subst (λ (r : Result (Unit {0}) TwinEnd). Reads r input left) (sym same)
           (reads_by {X = Bool} input left fault
@@ -229,6 +230,15 @@ returns-in_err-answer g c =
           some_served g.P.Source g.B.Bench c.args.schema.now.columns c.args.index.now.public c.args.batch c.loop-more.planner
           (g.K.Keeper.store c.args.keeper.now) (g.K.Keeper.store c.loop-more.keeper)
           c.args.source.now c.loop-more.source c.args.bench.now c.loop-more.bench c.loop-more.invariant.served t u in
+          let unanswered : c.answer.new.bench ≡ c.loop-more.bench → (g.K.Keeper.store c.answer.new.keeper).history ≡ (g.K.Keeper.store c.loop-more.keeper).history
+          → ServesSome base (g.K.Keeper.store c.args.keeper.now).history c.args.batch (counted_lines input) (g.K.Keeper.store c.answer.new.keeper).history before
+          (g.B.Bench.sent c.answer.new.bench) =
+          λ same_bench same_history. subst (λ (h : List Answered). ServesSome base (g.K.Keeper.store c.args.keeper.now).history c.args.batch (counted_lines input) h
+          before (g.B.Bench.sent c.answer.new.bench))
+          (sym same_history)
+          (subst (λ b. ServesSome base (g.K.Keeper.store c.args.keeper.now).history c.args.batch (counted_lines input)
+          (g.K.Keeper.store c.loop-more.keeper).history before (g.B.Bench.sent b))
+          (sym same_bench) some) in
           subst
           (λ (r : Result (Unit {0}) TwinEnd). Ends c.args.batch r base (g.K.Keeper.store c.args.keeper.now).history input left
           (g.K.Keeper.store c.answer.new.keeper).history before
@@ -238,14 +248,8 @@ returns-in_err-answer g c =
           before
           (g.B.Bench.sent c.answer.new.bench) fault
           (λ is. absurd (e.others.0 is)) (λ is. absurd (e.others.1 is))
-          (λ is.
-          let still = e.no_memory is in
-          subst (λ (h : List Answered). ServesSome base (g.K.Keeper.store c.args.keeper.now).history c.args.batch (counted_lines input) h before
-          (g.B.Bench.sent c.answer.new.bench))
-          (sym still.2)
-          (subst (λ b. ServesSome base (g.K.Keeper.store c.args.keeper.now).history c.args.batch (counted_lines input)
-          (g.K.Keeper.store c.loop-more.keeper).history before (g.B.Bench.sent b))
-          (sym still.0) some)));
+          (λ is. let still = e.no_memory is in unanswered still.0 still.2)
+          (λ is. let still = e.spare_first is in unanswered still.0 still.1));
       reads = search rules;
       rests = λ no.
           let served = c.loop-more.invariant.served in

@@ -29,6 +29,7 @@ returns-in_err-planner g c =
           serves_none (base_of c.args.schema.now.columns c.args.index.now.public c.args.index.now.protected (g.K.Keeper.store c.args.keeper.now).secret)
           c.args.batch
           (g.K.Keeper.store c.args.keeper.now).history (counted_lines (g.P.Source.left c.args.source.now)) (g.B.Bench.sent c.args.bench.now);
+      spare_end = λ t u is. absurd (memory_no_spare _ same is);
       stands = λ u no. ((g.K.Keeper.store c.args.keeper.now).journal.gate, c.requires.stands u);
       quiet = λ u quiet no. quiet;
       again = IfOk-from_err _ _ c.from_residual.ensures.0;
@@ -135,6 +136,7 @@ returns g c =
       input_end = λ t u is. ends_as (refused end.Input) is t u;
       limit_end = λ t u is. ends_as (refused end.Limit) is t u;
       memory_end = λ t u is. ends_as (refused end.NoMemory) is t u;
+      spare_end = λ t u is. ends_as (refused end.Spare) is t u;
       stands = λ u no. (c.answer_groups.ensures.rests no).stands u;
       quiet = λ u quiet no. (c.answer_groups.ensures.rests no).quiet u quiet;
       again = c.answer_groups.ensures.again;
