@@ -50,12 +50,6 @@ pub within_by : (answer : Result (Unit {0}) TwinEnd) (input left : List ℕ) →
 within_by (Ok done) input left reads = reads.1
 within_by (Err fault) input left reads = tt
 
--- nothing is left of an input that was read within the limit
-pub all_read : (input pending left : List ℕ) (taken : ℕ) → pending ++ left ≡ [] → taken + length left ≡ length input → taken ≤ most_input + length pending
-    → (left ≡ []) × (length input ≤ most_input)
-all_read input [] left taken none read within = (none, omega (arith, read, within, ap (λ (l : List ℕ). length l) none))
-all_read input (byte ∷ pending) left taken none read within = let never : ⊥ = cc in absurd never
-
 -- a fault is one of five
 uncalled : {X Claim : Type 0} (fault : TwinEnd) → (IsErrOf {T = X} (Err fault) end.Input → ⊥) → (IsErrOf {T = X} (Err fault) end.Limit → ⊥) →
     (IsErrOf {T = X} (Err fault) end.Bench → ⊥) → (IsErrOf {T = X} (Err fault) end.NoMemory → Claim) → (IsErrOf {T = X} (Err fault) end.Spare → Claim) → Claim

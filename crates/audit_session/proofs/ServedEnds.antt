@@ -24,11 +24,6 @@ use Rattle.audit_session.proofs.GroupStops.{first_groups}
 use Rattle.audit_session.proofs.EndsByFault.{limited_is}
 use Rattle.audit_session.proofs.Served.{Served}
 
--- bytes are left where a group was cut short at the limit
-pub cut_not_over : (batch : ℕ) (rest pending left : List ℕ) → CutsShort batch rest (pending ++ left) → 0 < length pending → rest ≡ [] → ⊥
-cut_not_over batch rest pending left cut some none =
-    omega (arith, ap (λ (l : List ℕ). length l) (sym none ∙ cut.split), length-append cut.read (pending ++ left), length-append pending left, some)
-
 module _ {P B : Type 0} (source : SourceGhosts P) (bench : Ghosts B) (columns : List Column) (public : PublicView) (batch : ℕ) (lines : Cutter)
     (first_store store : StoreContents) (first_source from : P) (first at : B)
     (served : Served source bench columns public batch lines first_store store first_source from first at) where

@@ -6,18 +6,19 @@ use Rattle.audit_types.specs.declared.records.Answered.{Answered}
 use Rattle.schema_json.specs.Columns.{Column}
 use Rattle.set_index.specs.Indexed.{IndexView}
 use Rattle.bench_core.specs.Calls.{IsUntouched}
-use Rattle.line_wire.specs.Lines.{CountedLine}
+use Rattle.line_wire.specs.Lines.{CountedLine, counted_lines}
+use Rattle.line_wire.specs.WhichLines.{AreFirst}
 use Rattle.audit_session.specs.declared.serving.EndFault.TheVariants as end
 use Rattle.certificate_lines.specs.declared.explaining.ExplainFault.{ExplainFault}
 use Rattle.certificate_lines.specs.declared.explaining.ExplainFault.TheVariants as explain
-use Rattle.certificate_lines.specs.Ends.{AreFirst, EndLines, EndReads, EndSends, ExplainsMeanwhile}
+use Rattle.certificate_lines.specs.Ends.{EndLines, EndReads, EndSends, ExplainsMeanwhile}
 use Rattle.auditor_top.specs.declared.status.Status.TheVariants.{Done}
 use Rattle.auditor_top.specs.Causes.{InputCause}
 use Rattle.auditor_top.specs.Ends.{ExplainEnds, SendsLines}
 use Rattle.auditor_top.specs.Status.{as_session, session_status}
 
 -- before the first line none is explained
-pub none_first : (input : List ℕ) → AreFirst input []
+pub none_first : (input : List ℕ) → AreFirst (counted_lines input) []
 none_first input = record { count = 0; are = refl }
 
 -- and a file that is left as it was is what a crash may find then

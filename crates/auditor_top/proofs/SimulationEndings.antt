@@ -59,7 +59,7 @@ carried_public law P schema table opened columns shown index read files holds =
 
 -- there is no verdict yet
 pub none_begun : (columns : List Column) (public : IndexView) (lines : List CountedLine) → BeginVerdicts columns public lines []
-none_begun columns public lines = record { count = 0; are = tt }
+none_begun columns public lines = ([], record { count = 0; are = refl }, tt)
 
 -- and nothing was sent
 pub no_verdict : (told : Type 0) (columns : List Column) (public : IndexView) (lines : List CountedLine) (file before image sent : List ℕ) → image ≡ file →

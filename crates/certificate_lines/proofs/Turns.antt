@@ -12,7 +12,6 @@ use Rattle.set_index.specs.Indexed.{IndexView}
 use Rattle.line_wire.specs.Lines.{CountedLine}
 use Rattle.line_wire.specs.Calls.{Cuts, GivesNone}
 use Rattle.line_wire.specs.Cutter.{Cutter}
-use Rattle.line_wire.specs.ReadLines.{MoreLinesAreRead}
 use Rattle.question_plan.specs.declared.planning.Plan.{Plan}
 use Rattle.question_plan.specs.declared.planner.PlanStop.{PlanStop}
 use Rattle.question_plan.specs.Planned.{GivesPlan, IsUnplanned}
@@ -29,7 +28,7 @@ pub record Turn {P B : Type 0} (source : SourceGhosts P) (bench : Ghosts B) (col
   pub so_far : SoFar source bench columns index history first_source first cutter from at asked lines
 
 module _ {P B : Type 0} (source : SourceGhosts P) (bench : Ghosts B) (columns : List Column) (index : IndexView) (history : List Answered)
-    (first_source : P) (first : B) (more_read : MoreLinesAreRead) (cutter : Cutter) (from : P) (at : B)
+    (first_source : P) (first : B) (cutter : Cutter) (from : P) (at : B)
     (turn : Turn source bench columns index history first_source first cutter from at) (new : Cutter) (after : P) (cuts : Cuts source cutter new from after) where
   -- ---- a line
 
@@ -37,7 +36,7 @@ module _ {P B : Type 0} (source : SourceGhosts P) (bench : Ghosts B) (columns : 
     -- there was no memory for what is due to it
     pub unwritten : Explains source bench columns index history first_source after first at (Err fault.NoMemory)
     unwritten =
-        wants_memory source bench columns index history first_source first more_read cutter from at turn.asked turn.lines turn.so_far after gives.gives.steady
+        wants_memory source bench columns index history first_source first cutter from at turn.asked turn.lines turn.so_far after gives.gives.steady
 
     module _ (line : List ℕ) (line_of : IsLineOf (setting_of (shape_of columns index.public.rows) index.protected) history plan line) (sending : B)
         (file : bench.file sending ≡ bench.file at) (crash : (image : List ℕ) → bench.leaves sending image → bench.leaves at image)
@@ -53,7 +52,7 @@ module _ {P B : Type 0} (source : SourceGhosts P) (bench : Ghosts B) (columns : 
         asked = turn.asked ++ gives.line ∷ [];
         lines = turn.lines ++ line ∷ [];
         so_far =
-            line_sent source bench columns index history first_source first more_read cutter from at turn.asked turn.lines turn.so_far new after gives.line line
+            line_sent source bench columns index history first_source first cutter from at turn.asked turn.lines turn.so_far new after gives.line line
             gives.gives cuts explained sending file crash time all ticks still;
       }
 
@@ -62,7 +61,7 @@ module _ {P B : Type 0} (source : SourceGhosts P) (bench : Ghosts B) (columns : 
           → bench.last_failed sending ≡ true → bench.faults at ≤ bench.faults sending
           → Explains source bench columns index history first_source after first sending (Err fault.Bench)
       unsent part rose last later =
-          line_unsent source bench columns index history first_source first more_read cutter from at turn.asked turn.lines turn.so_far new after gives.line line
+          line_unsent source bench columns index history first_source first cutter from at turn.asked turn.lines turn.so_far new after gives.line line
           gives.gives cuts explained sending file crash time part rose last later
 
   -- ---- no line
@@ -71,9 +70,9 @@ module _ {P B : Type 0} (source : SourceGhosts P) (bench : Ghosts B) (columns : 
   pub unplanned : (why : PlanStop) → IsUnplanned source cutter new from after why →
       Explains source bench columns index history first_source after first at (Err (stop_end why))
   unplanned why short =
-      cut_short source bench columns index history first_source first more_read cutter from at turn.asked turn.lines turn.so_far new after why short cuts
+      cut_short source bench columns index history first_source first cutter from at turn.asked turn.lines turn.so_far new after cuts why short
 
   -- none is left
   pub none_left : GivesNone source cutter new from after → Explains source bench columns index history first_source after first at (Ok tt)
   none_left none =
-      all_read source bench columns index history first_source first more_read cutter from at turn.asked turn.lines turn.so_far new after none cuts
+      all_read source bench columns index history first_source first cutter from at turn.asked turn.lines turn.so_far new after cuts none

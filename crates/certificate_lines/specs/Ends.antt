@@ -1,5 +1,5 @@
 -- How explaining the lines of an input ends.
-use Rattle.std.specs.Prelude.{◌≡◌, ◌≢◌, ◌<◌, ◌≤◌, ◌+◌, ℕ, true, List, [], ◌++◌, length, take, Result, Ok, Err, OnOk}
+use Rattle.std.specs.Prelude.{◌≡◌, ◌≢◌, ◌<◌, ◌≤◌, ◌+◌, ℕ, true, List, [], ◌++◌, length, Result, Ok, Err, OnOk}
 use Rattle.std.specs.List.{concat}
 use Rattle.audit_types.specs.declared.records.Answered.{Answered}
 use Rattle.bench_core.specs.declared.bench.Bench.{Ghosts}
@@ -9,7 +9,8 @@ use Rattle.bench_core.specs.Calls.{IsQuiet, LeavesOnly}
 use Rattle.bench_core.specs.Causes.{Rose}
 use Rattle.schema_json.specs.Columns.{Column}
 use Rattle.set_index.specs.Indexed.{IndexView}
-use Rattle.line_wire.specs.Lines.{CountedLine, counted_lines, whole_lines, most_input}
+use Rattle.line_wire.specs.Lines.{CountedLine, counted_lines, most_input}
+use Rattle.line_wire.specs.WhichLines.{AreFirst, AreRead, AreWithin}
 use Rattle.question_plan.specs.declared.planner.PlanStop.{PlanStop}
 use Rattle.question_plan.specs.declared.planner.PlanStop.TheVariants as stop
 use Rattle.certificate_lines.specs.declared.explaining.ExplainFault.{ExplainFault}
@@ -22,34 +23,13 @@ stop_end stop.Input = fault.Input
 stop_end stop.Limit = fault.Limit
 stop_end stop.NoMemory = fault.NoMemory
 
--- ---- which lines are explained
-
--- some first lines of the input
-pub record AreFirst (input : List ℕ) (asked : List CountedLine) : Type 0 where
-  pub count : ℕ
-  pub are : asked ≡ take count (counted_lines input)
-
--- every line whose line feed stands among the bytes that were read, and no other
-pub record AreRead (input left : List ℕ) (asked : List CountedLine) : Type 0 where
-  pub read : List ℕ
-  pub split : input ≡ read ++ left
-  pub are : asked ≡ whole_lines read
-
--- every line whose line feed stands among the first 2^30 bytes, and no other
-pub record AreWithin (input : List ℕ) (asked : List CountedLine) : Type 0 where
-  pub read : List ℕ
-  pub behind : List ℕ
-  pub split : input ≡ read ++ behind
-  pub size : length read ≡ most_input
-  pub are : asked ≡ whole_lines read
-
--- by the end
+-- which lines are explained, by the end
 abbrev pub EndLines : Result (Unit {0}) ExplainFault → List ℕ → List ℕ → List CountedLine → Type 0
 EndLines (Ok done) input left asked = asked ≡ counted_lines input
 EndLines (Err fault.Input) input left asked = AreRead input left asked
 EndLines (Err fault.Limit) input left asked = AreWithin input asked
-EndLines (Err fault.Bench) input left asked = AreFirst input asked
-EndLines (Err fault.NoMemory) input left asked = AreFirst input asked
+EndLines (Err fault.Bench) input left asked = AreFirst (counted_lines input) asked
+EndLines (Err fault.NoMemory) input left asked = AreFirst (counted_lines input) asked
 
 -- ---- what was sent
 
@@ -64,7 +44,7 @@ EndSends (Err fault.NoMemory) lines before after = after ≡ before ++ concat li
 -- a front of what is due to some first lines of the input was sent
 pub record SendsFront (columns : List Column) (index : IndexView) (history : List Answered) (input before sent : List ℕ) : Type 0 where
   pub asked : List CountedLine
-  pub first : AreFirst input asked
+  pub first : AreFirst (counted_lines input) asked
   pub lines : List (List ℕ)
   pub are : AreExplained columns index history asked lines
   pub front : AppendsFront before (concat lines) sent

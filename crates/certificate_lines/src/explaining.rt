@@ -17,7 +17,6 @@ use audit_core::Core;
 use audit_store::Store;
 use audit_types::NoMemory;
 use bench_core::{Bench, Failed, Source};
-use line_wire::laws::lines_in_turn;
 use question_plan::{PlanStop, Planner};
 use schema_json::Schema;
 use set_index::Index;
@@ -80,7 +79,6 @@ fn explain_lines<P: Source, B: Bench>(
     requires legal { IsLegalIn core.now.setting core.now.history }
     ensures { Explains P.Source B.Bench schema.now.columns index.now core.now.history source.old source.new bench.old bench.new result }
 {
-    lines_in_turn();
     let mut provers = Provers::new();
     let mut line = Vec::new(alloc);
     while let Some(plan) = planner.next(alloc, schema, index, source)? {

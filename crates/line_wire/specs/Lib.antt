@@ -11,6 +11,9 @@ pub mod Answers
 pub mod Texts
 pub mod CommaLists
 pub mod ReadLines
+pub mod WhichLines
 pub mod Calls
 pub mod LineLaws
 pub mod LinesInTurn
+pub mod LinesSoFar
+pub mod SentSoFar

@@ -28,7 +28,7 @@ reads_one rest left ended line takes counts = by takes.ends
     by (inr last) = record { read = rest; split = sym (append-nil rest) ∙ ap (λ (l : List ℕ). rest ++ l) (sym last.1); counted = counts; whole = inr (last.2, last.1) }
 
 -- if two parts together are nothing, so is each
-nil_parts : (a b : List ℕ) → [] ≡ a ++ b → (a ≡ []) × (b ≡ [])
+pub nil_parts : (a b : List ℕ) → [] ≡ a ++ b → (a ≡ []) × (b ≡ [])
 nil_parts [] b is = (refl, sym is)
 nil_parts (x ∷ a) b is = absurd (let e : [] ≡ x ∷ (a ++ b) = is in cc)
 

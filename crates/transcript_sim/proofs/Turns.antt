@@ -13,8 +13,10 @@ use Rattle.schema_json.specs.SecretShape.{shape_of}
 use Rattle.set_index.specs.Indexed.{IndexView}
 use Rattle.line_wire.specs.Lines.{CountedLine, counted_lines, whole_lines}
 use Rattle.line_wire.specs.Cutter.{Cutter}
-use Rattle.line_wire.specs.ReadLines.{IsRead, ReadsLines, MoreLinesAreRead}
-use Rattle.question_plan.specs.Session.{Replied, records_of, AreReplies}
+use Rattle.line_wire.specs.ReadLines.{IsRead, ReadsLines}
+use Rattle.line_wire.specs.LinesSoFar.{LinesSoFar, one_line_more}
+use Rattle.line_wire.specs.SentSoFar.{SentSoFar}
+use Rattle.question_plan.specs.Session.{Replied, records_of, bytes_of, AreReplies}
 use Rattle.question_plan.specs.InTurn.{replies-append, none_behind}
 use Rattle.transcript_sim.specs.declared.expecting.Expected.{Expected}
 use Rattle.transcript_sim.specs.declared.shown.Shown.{Shown}
@@ -27,7 +29,7 @@ use Rattle.line_wire.specs.Calls.{Cuts, GivesLine, GivesNone}
 use Rattle.transcript_sim.specs.Steps.{IsCutShort, GivesQuestion, ShowsNext, records_shown, goes_on, SendsVerdict, FailsSending, IsUnjudged}
 use Rattle.transcript_sim.specs.Ends.{DisagreesAt, IsWithinLimit, Simulates}
 use Rattle.transcript_sim.proofs.Exchanges.{exchanges-append}
-use Rattle.transcript_sim.proofs.SoFar.{SoFar, sent_for, with_record, ends, bytes-push, records-push, reads_now, counts_now, question_sent, question_unsent, all_read, cut_short}
+use Rattle.transcript_sim.proofs.SoFar.{Meanwhile, SoFar, sent_for, with_record, ends, bytes-push, records-push, question_sent, question_unsent, all_read, cut_short}
 
 -- before a question: whole exchanges were read, every reply agreed, and the core has the answers that were shown
 pub record Turn {P B : Type 0} (source : SourceGhosts P) (bench : Ghosts B) (columns : List Column) (index : IndexView) (first_source : P) (first : B)
@@ -55,7 +57,7 @@ pub record Half {P B : Type 0} (source : SourceGhosts P) (bench : Ghosts B) (col
   pub setting : core.setting ≡ setting_of (shape_of columns index.public.rows) index.protected
 
 module _ {P B : Type 0} (source : SourceGhosts P) (bench : Ghosts B) (columns : List Column) (index : IndexView) (first_source : P) (first : B)
-    (more_read : MoreLinesAreRead) (cutter : Cutter) (from : P) (at : B) (core : Audited) (line : ℕ) (expected : Expected)
+    (cutter : Cutter) (from : P) (at : B) (core : Audited) (line : ℕ) (expected : Expected)
     (half : Half source bench columns index first_source first cutter from at core line expected) (new : Cutter) (after : P) (shown : CountedLine)
     (gives : GivesLine source cutter new from after shown) (cuts : Cuts source cutter new from after) where
   abbrev asked : List CountedLine
@@ -63,6 +65,9 @@ module _ {P B : Type 0} (source : SourceGhosts P) (bench : Ghosts B) (columns : 
 
   abbrev whole : List CountedLine
   whole = asked ++ shown ∷ []
+
+  read_whole : LinesSoFar source first_source after new whole
+  read_whole = one_line_more source first_source from cutter asked half.so_far.read after new cuts shown gives
 
   -- the exchange of the question and this line, after the others
   exchanges_are : exchanges whole ≡ exchanges half.lines ++ record { question = half.question; shown = Some shown } ∷ []
@@ -81,33 +86,16 @@ module _ {P B : Type 0} (source : SourceGhosts P) (bench : Ghosts B) (columns : 
     lines = whole;
     verdicts = verdicts_now;
     so_far = record {
-      reads =
-          reads_now source bench columns index first_source first more_read cutter from at asked
-          (half.verdicts ++ sent_for expected ∷ []) half.so_far new after shown gives cuts;
+      read = read_whole;
       are = subst (λ (es : List Exchange). AreReplies (IsVerdict columns index) [] es verdicts_now) (sym exchanges_are)
           (replies-append (IsVerdict columns index) [] (exchanges half.lines) (exchange ∷ []) half.verdicts (with_record expected added ∷ []) half.before
           (verdict, tt));
-      sent =
-          λ told. half.so_far.sent told ∙ ap (λ (l : List ℕ). bench.sent first ++ l)
-          (bytes-push half.verdicts (sent_for expected) ∙ sym (bytes-push half.verdicts (with_record expected added)));
-      file = half.so_far.file;
-      crash = half.so_far.crash;
-      moments = half.so_far.moments;
-      ticks =
-          λ told. omega (
-            arith,
-            half.so_far.ticks told,
-            length-append half.verdicts (sent_for expected ∷ []),
-            length-append half.verdicts (with_record expected added ∷ []),
-          );
-      same = cuts.same;
-      taken = λ told. cuts.taken told ∙ half.so_far.taken told;
-      within = cuts.within;
-      counts =
-          counts_now source bench columns index first_source first more_read cutter from at asked
-          (half.verdicts ++ sent_for expected ∷ []) half.so_far new after shown gives cuts;
-      source_steady = gives.steady ∙ half.so_far.source_steady;
-      bench_steady = half.so_far.bench_steady;
+      sends =
+          subst (λ (n : ℕ). SentSoFar bench first at (Meanwhile source bench columns index first_source first) (bytes_of verdicts_now) n)
+          (length-append half.verdicts (sent_for expected ∷ []) ∙ sym (length-append half.verdicts (with_record expected added ∷ [])))
+          (subst (λ (bytes : List ℕ). SentSoFar bench first at (Meanwhile source bench columns index first_source first) bytes
+          (length (half.verdicts ++ sent_for expected ∷ [])))
+          (bytes-push half.verdicts (sent_for expected) ∙ sym (bytes-push half.verdicts (with_record expected added))) half.so_far.sends);
     };
     even = omega (arith, many, half.even, length-append half.verdicts (with_record expected added ∷ []));
     line_is = omega (arith, many, half.line_is);
@@ -140,9 +128,7 @@ module _ {P B : Type 0} (source : SourceGhosts P) (bench : Ghosts B) (columns : 
       behind = counted_lines (new.pending ++ source.left after)
 
       abbrev reads : ReadsLines (source.left first_source) (new.pending ++ source.left after) new.ended whole
-      reads =
-          reads_now source bench columns index first_source first more_read cutter from at asked
-          (half.verdicts ++ sent_for expected ∷ []) half.so_far new after shown gives cuts t
+      reads = read_whole.reads t
 
       all_are : counted_lines (source.left first_source) ≡ whole ++ behind
       all_are = reads.counted
@@ -178,9 +164,8 @@ module _ {P B : Type 0} (source : SourceGhosts P) (bench : Ghosts B) (columns : 
               ap (λ (l : List ℕ). length l) reads.split,
               length-append reads.read (new.pending ++ source.left after),
               length-append new.pending (source.left after),
-              cuts.within,
-              cuts.taken t,
-              half.so_far.taken t,
+              read_whole.within,
+              read_whole.taken t,
             );
         inside =
             ⊎_elim (λ (is : IsRead reads.read whole). inl (omega (
@@ -194,14 +179,14 @@ module _ {P B : Type 0} (source : SourceGhosts P) (bench : Ghosts B) (columns : 
 
     pub disagreed : Simulates source bench columns index first_source after first at (Err (fault.Disagrees line (due_of expected)))
     disagreed =
-        ends source bench columns index first_source first more_read cutter from at asked (half.verdicts ++ sent_for expected ∷ []) half.so_far after
+        ends source bench columns index first_source first cutter from at asked (half.verdicts ++ sent_for expected ∷ []) half.so_far after
         (Err (fault.Disagrees line (due_of expected))) (search rules)
-        disagrees_at half.so_far.sent (λ t told. tt) within_limit cuts.later (λ is. absurd (search rules)) (λ is. absurd (search rules)) (λ other. gives.steady)
+        disagrees_at half.so_far.sends.sent (λ t told. tt) within_limit cuts.later (λ is. absurd (search rules)) (λ is. absurd (search rules)) (λ other. gives.steady)
 
 -- ---- a question, and the sending of its verdict
 
 module _ {P B : Type 0} (source : SourceGhosts P) (bench : Ghosts B) (columns : List Column) (index : IndexView) (first_source : P) (first : B)
-    (more_read : MoreLinesAreRead) (cutter : Cutter) (from : P) (at : B) (core : Audited) (line : ℕ)
+    (cutter : Cutter) (from : P) (at : B) (core : Audited) (line : ℕ)
     (turn : Turn source bench columns index first_source first cutter from at core line) (new : Cutter) (after : P) (cuts : Cuts source cutter new from after)
     (sending : B) where
   module _ (expected : Expected) (question : GivesQuestion source cutter new from after columns index core.history expected) where
@@ -216,9 +201,9 @@ module _ {P B : Type 0} (source : SourceGhosts P) (bench : Ghosts B) (columns : 
       verdicts = turn.verdicts;
       question = question.line;
       so_far =
-          question_sent source bench columns index first_source first more_read cutter from at turn.lines turn.verdicts turn.so_far new after question.line
+          question_sent source bench columns index first_source first cutter from at turn.lines turn.verdicts turn.so_far new after question.line
           question.gives cuts
-          (length turn.verdicts) turn.even expected expects sending sends.file sends.crash sends.time sends.all sends.ticks question.gives.steady sends.steady;
+          (length turn.verdicts) turn.even expected expects sending sends.file sends.crash sends.time sends.all sends.ticks sends.steady;
       before = turn.so_far.are;
       expects = expects;
       even = turn.even;
@@ -230,16 +215,16 @@ module _ {P B : Type 0} (source : SourceGhosts P) (bench : Ghosts B) (columns : 
     -- it couldn't be
     asked_unsent : FailsSending bench at sending (due_of expected) → Simulates source bench columns index first_source after first sending (Err fault.Bench)
     asked_unsent fails =
-        question_unsent source bench columns index first_source first more_read cutter from at turn.lines turn.verdicts turn.so_far new after question.line
+        question_unsent source bench columns index first_source first cutter from at turn.lines turn.verdicts turn.so_far new after question.line
         question.gives cuts
-        (length turn.verdicts) turn.even expected expects sending fails.file fails.crash fails.time fails.part question.gives.steady fails.rose fails.last
+        (length turn.verdicts) turn.even expected expects sending fails.file fails.crash fails.time fails.part fails.rose fails.last
         fails.later
 
   unasked : (why : SimulationFault) → IsCutShort source cutter new from after why → sending ≡ at →
       Simulates source bench columns index first_source after first sending (Err why)
   unasked why short same =
       subst (λ (b : B). Simulates source bench columns index first_source after first b (Err why)) (sym same)
-      (cut_short source bench columns index first_source first more_read cutter from at turn.lines turn.verdicts turn.so_far new after why short cuts)
+      (cut_short source bench columns index first_source first cutter from at turn.lines turn.verdicts turn.so_far new after cuts why short)
 
   -- no verdict was sent
   pub unjudged : (why : SimulationFault) → IsUnjudged source bench cutter new from after at sending columns index core.history why →
@@ -253,28 +238,28 @@ module _ {P B : Type 0} (source : SourceGhosts P) (bench : Ghosts B) (columns : 
   pub none_left : GivesNone source cutter new from after → sending ≡ at → Simulates source bench columns index first_source after first sending (Ok tt)
   none_left none same =
       subst (λ (b : B). Simulates source bench columns index first_source after first b (Ok tt)) (sym same)
-      (all_read source bench columns index first_source first more_read cutter from at turn.lines turn.verdicts turn.so_far new after none cuts)
+      (all_read source bench columns index first_source first cutter from at turn.lines turn.verdicts turn.so_far new after cuts none)
 
 -- ---- the line that was shown to it
 
 module _ {P B : Type 0} (source : SourceGhosts P) (bench : Ghosts B) (columns : List Column) (index : IndexView) (first_source : P) (first : B)
-    (more_read : MoreLinesAreRead) (cutter : Cutter) (from : P) (at : B) (core : Audited) (line : ℕ) (expected : Expected)
+    (cutter : Cutter) (from : P) (at : B) (core : Audited) (line : ℕ) (expected : Expected)
     (half : Half source bench columns index first_source first cutter from at core line expected) (new : Cutter) (after : P)
     (cuts : Cuts source cutter new from after) where
   -- no line was given
   pub unshown : (why : SimulationFault) → IsCutShort source cutter new from after why →
       Simulates source bench columns index first_source after first at (Err why)
   unshown why short =
-      cut_short source bench columns index first_source first more_read cutter from at (half.lines ++ half.question ∷ [])
+      cut_short source bench columns index first_source first cutter from at (half.lines ++ half.question ∷ [])
       (half.verdicts ++ sent_for expected ∷ [])
-      half.so_far new after why short cuts
+      half.so_far new after cuts why short
 
   -- the transcript goes on
   pub went_on : (shown : Option Shown) → ShowsNext source cutter new from after expected shown → Ok true ≡ goes_on shown line (due_of expected)
       → (core_now : Audited) → core_now.history ≡ core.history ++ records_shown shown → core_now.setting ≡ core.setting
       → Turn source bench columns index first_source first new after at core_now line
   went_on (Some (Agrees added)) shows is core_now history setting =
-      agreed source bench columns index first_source first more_read cutter from at core line expected half new after shows.line shows.gives cuts added
+      agreed source bench columns index first_source first cutter from at core line expected half new after shows.line shows.gives cuts added
       shows.comes_to core_now history setting
   went_on (Some Disagrees) shows is core_now history setting = absurd (search rules)
   went_on None shows is core_now history setting = absurd (search rules)
@@ -285,9 +270,9 @@ module _ {P B : Type 0} (source : SourceGhosts P) (bench : Ghosts B) (columns : 
   ended (Some (Agrees added)) shows is = absurd (search rules)
   ended (Some Disagrees) shows is = absurd (search rules)
   ended None shows is =
-      all_read source bench columns index first_source first more_read cutter from at (half.lines ++ half.question ∷ [])
+      all_read source bench columns index first_source first cutter from at (half.lines ++ half.question ∷ [])
       (half.verdicts ++ sent_for expected ∷ [])
-      half.so_far new after shows cuts
+      half.so_far new after cuts shows
 
   -- it ends with a reply that doesn't agree
   pub refused : OneReplyIsCalledFor → OneVerdictIsDue → (shown : Option Shown) → ShowsNext source cutter new from after expected shown
@@ -296,6 +281,6 @@ module _ {P B : Type 0} (source : SourceGhosts P) (bench : Ghosts B) (columns : 
   refused called due (Some (Agrees added)) shows why is = absurd (search rules)
   refused called due (Some Disagrees) shows why is =
       subst (λ (r : Result (Unit {0}) SimulationFault). Simulates source bench columns index first_source after first at r) (search rules)
-      (disagreed source bench columns index first_source first more_read cutter from at core line expected half new after shows.line shows.gives cuts called
+      (disagreed source bench columns index first_source first cutter from at core line expected half new after shows.line shows.gives cuts called
       due shows.comes_to)
   refused called due None shows why is = absurd (search rules)

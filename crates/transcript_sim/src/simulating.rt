@@ -18,7 +18,6 @@ use crate::laws::one_verdict;
 use audit_types::NoMemory;
 use bench_core::{Bench, Failed, Source};
 use line_wire::LineStop;
-use line_wire::laws::lines_in_turn;
 use question_plan::{Due, PlanStop};
 use schema_json::Schema;
 use set_index::Index;
@@ -93,7 +92,6 @@ fn judge<P: Source, B: Bench>(
     requires nothing { simulation.old.core.history ≡ [] }
     ensures { Simulates P.Source B.Bench schema.now.columns index.now source.old source.new bench.old bench.new result }
 {
-    lines_in_turn();
     one_verdict();
     let mut line = 0;
     while let Some(expected) = simulation.judge_question(alloc, schema, index, source, bench)? {

@@ -10,14 +10,15 @@ use Rattle.table_load.specs.Cells.{SecretView}
 use Rattle.audit_types.specs.declared.records.Answered.{Answered}
 use Rattle.table_load.specs.Database.{base_of}
 use Rattle.line_wire.specs.Lines.{counted_lines}
+use Rattle.line_wire.specs.LinesSoFar.{not_over}
 use Rattle.audit_session.specs.declared.session.TwinEnd.{TwinEnd}
 use Rattle.audit_session.specs.declared.session.TwinEnd.TheVariants as end
 use Rattle.audit_session.specs.Ends.{Ends, Reads, ServesSome}
 use Rattle.audit_session.specs.Groups.{IsUngathered}
-use Rattle.audit_session.proofs.EndsByFault.{all_read, ends_by, reads_by, rests_by}
+use Rattle.audit_session.proofs.EndsByFault.{ends_by, reads_by, rests_by}
 use Rattle.audit_session.proofs.GatheredLines.{still_ended, unfailed, whole_or_last}
 use Rattle.audit_session.proofs.Served.{spare_unserved, spare_turn, spare_calls_now, both_turn, nothing_served, turn_moments, next_turn, all_served, all_calls, all_kept}
-use Rattle.audit_session.proofs.ServedEnds.{both_kept, some_served, served_whole, served_limited, cut_not_over}
+use Rattle.audit_session.proofs.ServedEnds.{both_kept, some_served, served_whole, served_limited}
 use Rattle.audit_store.specs.Refusals.{no_refusal}
 use Rattle.audit_session.proofs.Refusals.{of_fault, only_memory, still_later}
 use Rattle.audit_session.proofs.session.answer_groups.Answers.LastTurn.{last_turn}
@@ -154,7 +155,7 @@ returns-in_err-more g c =
           served_limited g.P.Source g.B.Bench c.args.schema.now.columns c.args.index.now.public c.args.batch c.loop-more.planner
           (g.K.Keeper.store c.args.keeper.now)
           (g.K.Keeper.store c.loop-more.keeper) c.args.source.now c.loop-more.source c.args.bench.now c.loop-more.bench s t u (now.pending ++ left)
-          (λ ended none. cut_not_over c.args.batch rest now.pending left (passes.short t) passes.some none) (passes.short t) now.pending left now.taken refl
+          (λ ended. not_over rest (passes.short t).read now.pending left (passes.short t).split passes.some) (passes.short t) now.pending left now.taken refl
           passes.over (e.cuts.taken t ∙ s.taken t))
           (λ is. some_served g.P.Source g.B.Bench c.args.schema.now.columns c.args.index.now.public c.args.batch c.loop-more.planner
           (g.K.Keeper.store c.args.keeper.now) (g.K.Keeper.store c.loop-more.keeper)

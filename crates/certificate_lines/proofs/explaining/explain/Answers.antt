@@ -27,8 +27,8 @@ returns-in_err-planner-clause-explains g c = λ t.
 
 pub returns-in_err-planner-clause-any_moment : goal.returns-in_err-planner-clause-any_moment
 returns-in_err-planner-clause-any_moment g c = λ told quiet.
-    nothing_sent g.P.Source g.B.Bench c.args.schema.now.columns c.args.index.now c.args.store.now.history c.args.source.now c.args.bench.now
-    (λ image bytes was. g.met.B.Bench.only_now c.args.bench.now image bytes was) quiet
+    (nothing_sent g.P.Source g.B.Bench c.args.schema.now.columns c.args.index.now c.args.store.now.history c.args.source.now c.args.bench.now
+    (λ image bytes was. g.met.B.Bench.only_now c.args.bench.now image bytes was)).moments told quiet
 
 pub explain_lines-requires-clause-legal : goal.explain_lines-requires-clause-legal
 explain_lines-requires-clause-legal g c =

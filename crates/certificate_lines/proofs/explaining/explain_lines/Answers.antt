@@ -21,7 +21,7 @@ loop-line-init g c = record {
     lines = [];
     so_far =
         nothing_yet g.P.Source g.B.Bench c.args.schema.now.columns c.args.index.now c.args.core.now.history c.args.source.now c.args.bench.now
-        c.lines_in_turn.ensures.none c.args.planner.now c.requires.fresh (λ image bytes was. g.met.B.Bench.only_now c.args.bench.now image bytes was);
+        c.args.planner.now c.requires.fresh (λ image bytes was. g.met.B.Bench.only_now c.args.bench.now image bytes was);
   };
   provers = c.new-provers.ensures c.args.core.now.setting c.args.core.now.history;
 }
@@ -35,7 +35,7 @@ returns-in_err-plan g c =
     c.next.new.source c.args.bench.now c.loop-line.bench r)
     (sym same)
     (unplanned g.P.Source g.B.Bench c.args.schema.now.columns c.args.index.now c.args.core.now.history c.args.source.now c.args.bench.now
-    c.lines_in_turn.ensures.more c.loop-line.planner c.loop-line.source c.loop-line.bench c.loop-line.invariant.turn c.next.new.self c.next.new.source
+    c.loop-line.planner c.loop-line.source c.loop-line.bench c.loop-line.invariant.turn c.next.new.self c.next.new.source
     c.in_err-plan.ensures.cuts why c.in_err-plan.ensures.unplanned)
 
 pub returns : goal.returns
@@ -43,7 +43,7 @@ returns g c =
     let none = subst (λ (o : Option Plan). PlansNext g.P.Source c.loop-line.planner c.next.new.self c.loop-line.source c.next.new.source
     c.args.schema.now.columns c.args.index.now.public o) c.in_default.is c.in_ok-plan.ensures.plans in
     none_left g.P.Source g.B.Bench c.args.schema.now.columns c.args.index.now c.args.core.now.history c.args.source.now c.args.bench.now
-    c.lines_in_turn.ensures.more c.loop-line.planner c.loop-line.source c.loop-line.bench c.loop-line.invariant.turn c.next.new.self c.next.new.source
+    c.loop-line.planner c.loop-line.source c.loop-line.bench c.loop-line.invariant.turn c.next.new.self c.next.new.source
     c.in_ok-plan.ensures.cuts none
 
 pub returns-in_err-write_line : goal.returns-in_err-write_line
@@ -56,7 +56,7 @@ returns-in_err-write_line g c =
     c.next.new.source c.args.bench.now c.loop-line.bench r)
     (sym same)
     (unwritten g.P.Source g.B.Bench c.args.schema.now.columns c.args.index.now c.args.core.now.history c.args.source.now c.args.bench.now
-    c.lines_in_turn.ensures.more c.loop-line.planner c.loop-line.source c.loop-line.bench c.loop-line.invariant.turn c.next.new.self c.next.new.source
+    c.loop-line.planner c.loop-line.source c.loop-line.bench c.loop-line.invariant.turn c.next.new.self c.next.new.source
     c.in_ok-plan.ensures.cuts c.in-Some.plan plan)
 
 pub loop-line-preserved : goal.loop-line-preserved
@@ -71,7 +71,7 @@ loop-line-preserved g c =
     record {
       turn =
           went_on g.P.Source g.B.Bench c.args.schema.now.columns c.args.index.now c.args.core.now.history c.args.source.now c.args.bench.now
-          c.lines_in_turn.ensures.more c.loop-line.planner c.loop-line.source c.loop-line.bench c.loop-line.invariant.turn c.next.new.self c.next.new.source
+          c.loop-line.planner c.loop-line.source c.loop-line.bench c.loop-line.invariant.turn c.next.new.self c.next.new.source
           c.in_ok-plan.ensures.cuts c.in-Some.plan plan line line_of c.send.new.self said.file said.crash said.time said.all said.ticks said.cause.steady;
       provers = c.in_ok-write_line.ensures.provers;
     }
@@ -91,6 +91,6 @@ returns-in_err-send g c =
     c.next.new.source c.args.bench.now c.send.new.self r)
     (sym same)
     (unsent g.P.Source g.B.Bench c.args.schema.now.columns c.args.index.now c.args.core.now.history c.args.source.now c.args.bench.now
-    c.lines_in_turn.ensures.more c.loop-line.planner c.loop-line.source c.loop-line.bench c.loop-line.invariant.turn c.next.new.self c.next.new.source
+    c.loop-line.planner c.loop-line.source c.loop-line.bench c.loop-line.invariant.turn c.next.new.self c.next.new.source
     c.in_ok-plan.ensures.cuts c.in-Some.plan plan line line_of c.send.new.self said.file said.crash said.time said.part said.cause.failed said.last_call
     said.cause.later)

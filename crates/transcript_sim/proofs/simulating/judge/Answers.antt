@@ -17,7 +17,7 @@ loop-expected-init g c = record {
   lines = [];
   verdicts = [];
   so_far =
-      nothing_yet g.P.Source g.B.Bench c.args.schema.now.columns c.args.index.now c.args.source.now c.args.bench.now c.lines_in_turn.ensures.none
+      nothing_yet g.P.Source g.B.Bench c.args.schema.now.columns c.args.index.now c.args.source.now c.args.bench.now
       c.args.simulation.now.lines c.requires.fresh (λ image bytes was. g.met.B.Bench.only_now c.args.bench.now image bytes was);
   even = refl;
   line_is = refl;
@@ -35,7 +35,7 @@ returns-in_err-expected g c =
     (λ (r : Result (Unit {0}) SimulationFault). Simulates g.P.Source g.B.Bench c.args.schema.now.columns c.args.index.now c.args.source.now
     c.judge_question.new.source c.args.bench.now c.judge_question.new.bench r)
     (sym same)
-    (unjudged g.P.Source g.B.Bench c.args.schema.now.columns c.args.index.now c.args.source.now c.args.bench.now c.lines_in_turn.ensures.more
+    (unjudged g.P.Source g.B.Bench c.args.schema.now.columns c.args.index.now c.args.source.now c.args.bench.now
     c.loop-expected.simulation.lines c.loop-expected.source c.loop-expected.bench c.loop-expected.simulation.core c.loop-expected.line c.loop-expected.invariant
     c.judge_question.new.self.lines c.judge_question.new.source c.in_err-expected.ensures.cuts c.judge_question.new.bench why
     c.in_err-expected.ensures.unjudged)
@@ -47,7 +47,7 @@ returns g c =
     c.in_ok-expected.ensures.asks in
     let nothing = subst (λ (o : Option Expected). SendsFor g.B.Bench c.loop-expected.bench c.judge_question.new.bench o) c.in_default.is
     c.in_ok-expected.ensures.sends in
-    none_left g.P.Source g.B.Bench c.args.schema.now.columns c.args.index.now c.args.source.now c.args.bench.now c.lines_in_turn.ensures.more
+    none_left g.P.Source g.B.Bench c.args.schema.now.columns c.args.index.now c.args.source.now c.args.bench.now
     c.loop-expected.simulation.lines c.loop-expected.source c.loop-expected.bench c.loop-expected.simulation.core c.loop-expected.line c.loop-expected.invariant
     c.judge_question.new.self.lines c.judge_question.new.source c.in_ok-expected.ensures.cuts c.judge_question.new.bench none nothing
 
@@ -61,7 +61,7 @@ returns-in_err-shown g c =
     let sends = subst (λ (o : Option Expected). SendsFor g.B.Bench c.loop-expected.bench c.judge_question.new.bench o) c.in-Some.is
     c.in_ok-expected.ensures.sends in
     let half =
-    asked_half g.P.Source g.B.Bench c.args.schema.now.columns c.args.index.now c.args.source.now c.args.bench.now c.lines_in_turn.ensures.more
+    asked_half g.P.Source g.B.Bench c.args.schema.now.columns c.args.index.now c.args.source.now c.args.bench.now
     c.loop-expected.simulation.lines c.loop-expected.source c.loop-expected.bench c.loop-expected.simulation.core c.loop-expected.line c.loop-expected.invariant
     c.judge_question.new.self.lines c.judge_question.new.source c.in_ok-expected.ensures.cuts c.judge_question.new.bench
     c.in-Some.expected question sends in
@@ -71,7 +71,7 @@ returns-in_err-shown g c =
     (λ (r : Result (Unit {0}) SimulationFault). Simulates g.P.Source g.B.Bench c.args.schema.now.columns c.args.index.now c.args.source.now
     c.take_shown.new.source c.args.bench.now c.judge_question.new.bench r)
     (sym same)
-    (unshown g.P.Source g.B.Bench c.args.schema.now.columns c.args.index.now c.args.source.now c.args.bench.now c.lines_in_turn.ensures.more
+    (unshown g.P.Source g.B.Bench c.args.schema.now.columns c.args.index.now c.args.source.now c.args.bench.now
     c.judge_question.new.self.lines c.judge_question.new.source c.judge_question.new.bench c.loop-expected.simulation.core
     (c.loop-expected.line + 2) c.in-Some.expected half c.take_shown.new.self.lines c.take_shown.new.source c.in_err-shown.ensures.cuts why
     c.in_err-shown.ensures.short)
@@ -84,7 +84,7 @@ returns-in_err-goes_on g c =
     let sends = subst (λ (o : Option Expected). SendsFor g.B.Bench c.loop-expected.bench c.judge_question.new.bench o) c.in-Some.is
     c.in_ok-expected.ensures.sends in
     let half =
-    asked_half g.P.Source g.B.Bench c.args.schema.now.columns c.args.index.now c.args.source.now c.args.bench.now c.lines_in_turn.ensures.more
+    asked_half g.P.Source g.B.Bench c.args.schema.now.columns c.args.index.now c.args.source.now c.args.bench.now
     c.loop-expected.simulation.lines c.loop-expected.source c.loop-expected.bench c.loop-expected.simulation.core c.loop-expected.line c.loop-expected.invariant
     c.judge_question.new.self.lines c.judge_question.new.source c.in_ok-expected.ensures.cuts c.judge_question.new.bench
     c.in-Some.expected question sends in
@@ -95,7 +95,7 @@ returns-in_err-goes_on g c =
     (λ (r : Result (Unit {0}) SimulationFault). Simulates g.P.Source g.B.Bench c.args.schema.now.columns c.args.index.now c.args.source.now
     c.take_shown.new.source c.args.bench.now c.judge_question.new.bench r)
     (sym same)
-    (refused g.P.Source g.B.Bench c.args.schema.now.columns c.args.index.now c.args.source.now c.args.bench.now c.lines_in_turn.ensures.more
+    (refused g.P.Source g.B.Bench c.args.schema.now.columns c.args.index.now c.args.source.now c.args.bench.now
     c.judge_question.new.self.lines c.judge_question.new.source c.judge_question.new.bench c.loop-expected.simulation.core
     (c.loop-expected.line + 2) c.in-Some.expected half c.take_shown.new.self.lines c.take_shown.new.source c.in_ok-shown.ensures.cuts
     c.one_verdict.ensures.called c.one_verdict.ensures.due c.in_ok-shown.shown c.in_ok-shown.ensures.shows why is)
@@ -108,12 +108,12 @@ returns-then-not-branch g c =
     let sends = subst (λ (o : Option Expected). SendsFor g.B.Bench c.loop-expected.bench c.judge_question.new.bench o) c.in-Some.is
     c.in_ok-expected.ensures.sends in
     let half =
-    asked_half g.P.Source g.B.Bench c.args.schema.now.columns c.args.index.now c.args.source.now c.args.bench.now c.lines_in_turn.ensures.more
+    asked_half g.P.Source g.B.Bench c.args.schema.now.columns c.args.index.now c.args.source.now c.args.bench.now
     c.loop-expected.simulation.lines c.loop-expected.source c.loop-expected.bench c.loop-expected.simulation.core c.loop-expected.line c.loop-expected.invariant
     c.judge_question.new.self.lines c.judge_question.new.source c.in_ok-expected.ensures.cuts c.judge_question.new.bench
     c.in-Some.expected question sends in
     let is : Ok false ≡ goes_on c.in_ok-shown.shown (c.loop-expected.line + 2) (due_of c.in-Some.expected) = search rules in
-    ended g.P.Source g.B.Bench c.args.schema.now.columns c.args.index.now c.args.source.now c.args.bench.now c.lines_in_turn.ensures.more
+    ended g.P.Source g.B.Bench c.args.schema.now.columns c.args.index.now c.args.source.now c.args.bench.now
     c.judge_question.new.self.lines c.judge_question.new.source c.judge_question.new.bench c.loop-expected.simulation.core
     (c.loop-expected.line + 2) c.in-Some.expected half c.take_shown.new.self.lines c.take_shown.new.source c.in_ok-shown.ensures.cuts c.in_ok-shown.shown
     c.in_ok-shown.ensures.shows is
@@ -126,14 +126,14 @@ loop-expected-preserved g c =
     let sends = subst (λ (o : Option Expected). SendsFor g.B.Bench c.loop-expected.bench c.judge_question.new.bench o) c.in-Some.is
     c.in_ok-expected.ensures.sends in
     let half =
-    asked_half g.P.Source g.B.Bench c.args.schema.now.columns c.args.index.now c.args.source.now c.args.bench.now c.lines_in_turn.ensures.more
+    asked_half g.P.Source g.B.Bench c.args.schema.now.columns c.args.index.now c.args.source.now c.args.bench.now
     c.loop-expected.simulation.lines c.loop-expected.source c.loop-expected.bench c.loop-expected.simulation.core c.loop-expected.line c.loop-expected.invariant
     c.judge_question.new.self.lines c.judge_question.new.source c.in_ok-expected.ensures.cuts c.judge_question.new.bench
     c.in-Some.expected question sends in
     let is : Ok true ≡ goes_on c.in_ok-shown.shown (c.loop-expected.line + 2) (due_of c.in-Some.expected) = search rules in
     let same : c.judge_question.new.self.core ≡ c.loop-expected.simulation.core = c.in_ok-expected.ensures.same in
     let shown = records_shown c.in_ok-shown.shown in
-    went_on g.P.Source g.B.Bench c.args.schema.now.columns c.args.index.now c.args.source.now c.args.bench.now c.lines_in_turn.ensures.more
+    went_on g.P.Source g.B.Bench c.args.schema.now.columns c.args.index.now c.args.source.now c.args.bench.now
     c.judge_question.new.self.lines c.judge_question.new.source c.judge_question.new.bench c.loop-expected.simulation.core
     (c.loop-expected.line + 2) c.in-Some.expected half c.take_shown.new.self.lines c.take_shown.new.source c.in_ok-shown.ensures.cuts c.in_ok-shown.shown
     c.in_ok-shown.ensures.shows is c.take_shown.new.self.core (c.in_ok-shown.ensures.takes ∙ ap (λ (k : Audited). k.history ++ shown) same)

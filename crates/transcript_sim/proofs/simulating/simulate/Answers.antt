@@ -1,4 +1,4 @@
-use Rattle.std.proofs.Common.{rules, ◌≡◌, List, [], Result, Err, sym, subst}
+use Rattle.std.proofs.Common.{rules, ◌≡◌, List, [], Result, Err, refl, sym, subst}
 use Rattle.std.proofs.lemmas.List.{append-nil}
 use Rattle.audit_types.specs.declared.records.Answered.{Answered}
 use Rattle.question_plan.specs.Session.{Replied}
@@ -20,12 +20,12 @@ returns-in_err-simulation-clause-verdicts g c = λ t.
     (λ (r : Result (Unit {0}) SimulationFault). (verdicts : List (Replied Answered)) ×
     EndVerdicts r c.args.schema.now.columns c.args.index.now input input verdicts × (g.B.Bench.told → EndSends r verdicts sent sent))
     (sym same)
-    ([], record { count = 0; are = tt }, λ u. sym (append-nil sent))
+    ([], ([], record { count = 0; are = refl }, tt), λ u. sym (append-nil sent))
 
 pub returns-in_err-simulation-clause-any_moment : goal.returns-in_err-simulation-clause-any_moment
 returns-in_err-simulation-clause-any_moment g c = λ told quiet.
-    nothing_sent g.P.Source g.B.Bench c.args.schema.now.columns c.args.index.now c.args.source.now c.args.bench.now
-    (λ image bytes was. g.met.B.Bench.only_now c.args.bench.now image bytes was) quiet
+    (nothing_sent g.P.Source g.B.Bench c.args.schema.now.columns c.args.index.now c.args.source.now c.args.bench.now
+    (λ image bytes was. g.met.B.Bench.only_now c.args.bench.now image bytes was)).moments told quiet
 
 pub returns : goal.returns
 returns g c =

@@ -1,8 +1,8 @@
 -- The end of the loop after the last group.
 use Rattle.std.proofs.Common.{◌≡◌, ◌++◌, ◌||◌, Bool, false, not, Result, Ok, refl, ◌∙◌, ap, rules}
 use Rattle.line_wire.specs.Lines.{counted_lines}
+use Rattle.line_wire.specs.LinesSoFar.{all_within}
 use Rattle.audit_session.specs.declared.session.TwinEnd.{TwinEnd}
-use Rattle.audit_session.proofs.EndsByFault.{all_read}
 use Rattle.audit_session.proofs.GatheredLines.{still_ended, whole_or_last}
 use Rattle.audit_session.proofs.Served.{spare_turn, spare_calls_now, both_turn, turn_moments, all_served, all_calls, all_kept}
 use Rattle.audit_store.specs.Refusals.{no_refusal}
@@ -28,7 +28,7 @@ last_turn g c =
           c.in_ok-answer.ensures.answers
           t u (ap counted_lines (e.last t (ap given more_is))) (g.K.Keeper.store c.answer.new.keeper).history refl;
       reads = λ t.
-          all_read (g.P.Source.left c.args.source.now) c.gather.new.planner.pending (g.P.Source.left c.gather.new.source) c.gather.new.planner.taken
+          all_within (g.P.Source.left c.args.source.now) c.gather.new.planner.pending (g.P.Source.left c.gather.new.source) c.gather.new.planner.taken
           (e.last t (ap given more_is))
           (e.cuts.taken t ∙ c.loop-more.invariant.served.taken t) e.cuts.within;
       rests = λ no. record {
