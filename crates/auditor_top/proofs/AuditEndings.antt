@@ -10,7 +10,7 @@ use Rattle.journal_audit.specs.declared.faults.AuditFault.{AuditFault}
 use Rattle.journal_audit.specs.declared.faults.AuditFault.TheVariants as report
 use Rattle.journal_audit.specs.SendLaws.{none_front}
 use Rattle.auditor_top.specs.declared.words.Command.TheVariants as command
-use Rattle.auditor_top.specs.Status.{audit_status}
+use Rattle.auditor_top.specs.Faults.{audit_status}
 use Rattle.auditor_top.specs.Ends.{AuditEnds, audit_over}
 use Rattle.auditor_top.specs.Causes.{FaultCounts, FaultCause, FileCause, HoldsLegal, NothingFailed, IsDoneOrWants, WordCause}
 use Rattle.auditor_top.specs.declared.status.Which.TheVariants.{Input}

@@ -14,7 +14,7 @@ use Rattle.auditor_top.specs.declared.status.Status.TheVariants.{Done, SourceFau
 use Rattle.auditor_top.specs.Causes.{FaultCounts, FaultCause, WordCause, FileCause, SpareCause, HoldsLegal, NothingFailed, IsDoneOrWants}
 use Rattle.auditor_top.specs.Compactions.{CompactEnds, Compacts, CompactsFront}
 use Rattle.auditor_top.specs.Stages.{Before, opening_spare, reading_lines}
-use Rattle.auditor_top.specs.Status.{compacting_status}
+use Rattle.auditor_top.specs.Faults.{compacting_status}
 use Rattle.auditor_top.proofs.StepStatuses.{EndsLastStep}
 
 -- what its status says by itself

@@ -15,7 +15,7 @@ use Rattle.certificate_lines.specs.Ends.{EndLines, EndReads, EndSends, ExplainsM
 use Rattle.auditor_top.specs.declared.status.Status.TheVariants.{Done}
 use Rattle.auditor_top.specs.Causes.{InputCause}
 use Rattle.auditor_top.specs.Ends.{ExplainEnds, SendsLines}
-use Rattle.auditor_top.specs.Status.{as_session, session_status}
+use Rattle.auditor_top.specs.Faults.{as_session, session_status}
 
 -- before the first line none is explained
 pub none_first : (input : List ℕ) → AreFirst (counted_lines input) []

@@ -24,7 +24,7 @@ use Rattle.auditor_top.specs.declared.status.Which.TheVariants.{Schema, Table}
 use Rattle.auditor_top.specs.declared.status.Status.{Status}
 use Rattle.auditor_top.specs.declared.status.Status.TheVariants.{BadSchema, BadTable, SourceFault, BenchFault}
 use Rattle.auditor_top.specs.Openings.{LeavesUnopened}
-use Rattle.auditor_top.specs.Status.{open_status}
+use Rattle.auditor_top.specs.Faults.{open_status}
 use Rattle.auditor_top.specs.Causes.{WordCause, SchemaCause, TableCause, GroupCause, FileCause}
 use Rattle.auditor_top.specs.Commands.{AreFilesOf, ArePublicFilesOf, reads_files, reads_secrets}
 use Rattle.auditor_top.specs.Ready.{EndsEarly, GivesUp, IsGiven, Refuses}

@@ -20,7 +20,7 @@ use Rattle.auditor_top.specs.declared.words.Command.{Command}
 use Rattle.auditor_top.specs.declared.words.Command.TheVariants.{Simulate}
 use Rattle.auditor_top.specs.declared.status.Status.{Status}
 use Rattle.auditor_top.specs.declared.status.Status.TheVariants.{BadGroup, NoMemory}
-use Rattle.auditor_top.specs.Status.{index_status}
+use Rattle.auditor_top.specs.Faults.{index_status}
 use Rattle.auditor_top.specs.Causes.{FaultCounts, FaultCause, WordCause, SchemaCause, TableCause, GroupCause, FileCause, counts}
 use Rattle.auditor_top.specs.Commands.{AreSoundFilesOf, ArePublicFilesOf, opens_store, reads_groups, reads_secrets}
 use Rattle.auditor_top.specs.Ready.{EndsEarly, GivesUp, IsGiven, Refuses}

@@ -15,7 +15,7 @@ use Rattle.auditor_top.specs.declared.status.Status.TheVariants.{Done, SourceFau
 use Rattle.auditor_top.specs.Causes.{FaultCounts, FaultCause, WordCause, FileCause, NothingFailed, IsDoneOrWants}
 use Rattle.auditor_top.specs.Ends.{GrowEnds}
 use Rattle.auditor_top.specs.Stages.{Before, reading_lines}
-use Rattle.auditor_top.specs.Status.{growing_status}
+use Rattle.auditor_top.specs.Faults.{growing_status}
 use Rattle.auditor_top.proofs.StepFaults.{same_counts}
 use Rattle.auditor_top.proofs.StepStatuses.{EndsLastStep}
 

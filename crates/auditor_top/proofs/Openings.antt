@@ -12,7 +12,7 @@ use Rattle.table_load.specs.declared.faults.TableFault.{TableFault}
 use Rattle.auditor_top.specs.declared.files.FileFault.{FileFault}
 use Rattle.auditor_top.specs.declared.files.FileFault.TheVariants as file
 use Rattle.auditor_top.specs.declared.opening.OpenFault.TheVariants as opening
-use Rattle.auditor_top.specs.Status.{open_status}
+use Rattle.auditor_top.specs.Faults.{open_status}
 use Rattle.auditor_top.specs.Files.{IsFaultOf}
 use Rattle.auditor_top.specs.Causes.{FaultCause, SchemaCause, TableCause, counts}
 use Rattle.auditor_top.specs.Openings.{LeavesUnopened}

@@ -13,7 +13,7 @@ use Rattle.auditor_top.specs.declared.status.Which.TheVariants.{Input}
 use Rattle.auditor_top.specs.declared.status.Status.TheVariants.{Done, SourceFault, BenchFault, SpareFault}
 use Rattle.auditor_top.specs.Causes.{BothCause, FaultCounts, FaultCause, WordCause, FileCause, SpareCause, NothingFailed, IsDoneOrWants}
 use Rattle.auditor_top.specs.Stages.{Before, opening_journal, reading_lines}
-use Rattle.auditor_top.specs.Status.{restoring_status, start_status}
+use Rattle.auditor_top.specs.Faults.{restoring_status, start_status}
 use Rattle.auditor_top.proofs.CompactEndings.{both_same}
 use Rattle.auditor_top.proofs.StartEndings.{never_bench, never_done, never_input, never_spare, own_steady, start_at_journal, start_at_lines, start_file, start_last, start_spare}
 use Rattle.auditor_top.proofs.StepStatuses.{EndsLastStep}

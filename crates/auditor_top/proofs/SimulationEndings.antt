@@ -19,7 +19,7 @@ use Rattle.transcript_sim.specs.Laws.{FirstLinesHaveVerdicts}
 use Rattle.transcript_sim.specs.Ends.{BeginVerdicts, EndVerdicts, EndSends, EndReads, SimulatesMeanwhile}
 use Rattle.audit_types.specs.History.{Table as Guarded}
 use Rattle.auditor_top.specs.declared.words.Command.TheVariants as command
-use Rattle.auditor_top.specs.Status.{simulation_status}
+use Rattle.auditor_top.specs.Faults.{simulation_status}
 use Rattle.auditor_top.specs.Ends.{SimulateEnds, SendsLines}
 use Rattle.auditor_top.specs.Commands.{ArePublicFilesOf}
 use Rattle.auditor_top.specs.Causes.{FaultCounts, FaultCause, InputCause, NothingFailed, IsDoneOrWants, WordCause, FileCause}

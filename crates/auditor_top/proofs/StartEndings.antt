@@ -9,7 +9,7 @@ use Rattle.auditor_top.specs.declared.status.Which.TheVariants.{Input}
 use Rattle.auditor_top.specs.declared.status.Status.TheVariants.{Done, SourceFault, BenchFault, SpareFault}
 use Rattle.auditor_top.specs.Causes.{FaultCounts, FaultCause, FileCause, OpeningCause, SpareCause}
 use Rattle.auditor_top.specs.Stages.{Before, opening_journal, reading_lines}
-use Rattle.auditor_top.specs.Status.{start_status}
+use Rattle.auditor_top.specs.Faults.{start_status}
 use Rattle.auditor_top.proofs.StepStatuses.{EndsLastStep}
 
 pub start_last : (fault : StartFault) → EndsLastStep (start_status fault)

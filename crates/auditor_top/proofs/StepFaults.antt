@@ -17,7 +17,7 @@ use Rattle.auditor_top.specs.declared.words.Command.{Command}
 use Rattle.auditor_top.specs.declared.words.Command.TheVariants.{Init}
 use Rattle.auditor_top.specs.declared.status.Status.{Status}
 use Rattle.auditor_top.specs.declared.status.Status.TheVariants.{Done, BenchFault, SourceFault, NoMemory}
-use Rattle.auditor_top.specs.Status.{making_status, session_status}
+use Rattle.auditor_top.specs.Faults.{making_status, session_status}
 use Rattle.auditor_top.specs.Ends.{Outside, ServeEnds}
 use Rattle.auditor_top.specs.Causes.{FaultCounts, counts, FaultCause, FileCause, IsReadyFor, InputCause, NothingFailed, IsDoneOrWants, WordCause}
 use Rattle.auditor_top.specs.declared.status.Which.TheVariants.{Input}

@@ -30,7 +30,7 @@ use Rattle.auditor_top.specs.declared.starting.NotStarted.TheVariants as began
 use Rattle.auditor_top.specs.declared.words.Command.{Command}
 use Rattle.auditor_top.specs.declared.words.Command.TheVariants.{Init, Serve, Audit, Simulate, Drill, Grow, Explain, Compact, Restore}
 use Rattle.auditor_top.specs.declared.status.Status.TheVariants.{BenchFault}
-use Rattle.auditor_top.specs.Status.{index_status, start_status, started_status}
+use Rattle.auditor_top.specs.Faults.{index_status, start_status, started_status}
 use Rattle.auditor_top.specs.Causes.{FaultCounts, FaultCause, WordCause, FileCause, OpeningCause, counts}
 use Rattle.auditor_top.specs.Commands.{AreSoundFilesOf, ServesOver, opens_journal, opens_store, reads_files, reads_groups}
 use Rattle.auditor_top.specs.Ready.{EndsEarly, GivesUp, IsGiven, Refuses}

@@ -24,7 +24,7 @@ use Rattle.auditor_top.specs.declared.status.Status.TheVariants.{Done, SourceFau
 use Rattle.auditor_top.specs.Causes.{BothCause, FaultCounts, FaultCause, WordCause, FileCause, HoldsLegal, InputCause, SpareCause, NothingFailed, IsDoneOrWants}
 use Rattle.auditor_top.specs.Ends.{Outside}
 use Rattle.auditor_top.specs.Stages.{Before, opening_spare, reading_lines}
-use Rattle.auditor_top.specs.Status.{start_status, twin_session_status, twin_status}
+use Rattle.auditor_top.specs.Faults.{start_status, twin_session_status, twin_status}
 use Rattle.auditor_top.specs.Twins.{BothCatchUp, TwinEnds}
 use Rattle.auditor_top.proofs.CompactEndings.{both_same}
 use Rattle.auditor_top.proofs.StartEndings.{never_bench, never_done, never_input, never_spare, own_steady, start_at_lines, start_file, start_last, start_spare}

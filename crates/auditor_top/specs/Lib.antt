@@ -3,6 +3,7 @@ pub mod Commands
 pub mod Compactions
 pub mod Drills
 pub mod Ends
+pub mod Faults
 pub mod Files
 pub mod Promise
 pub mod Reading

@@ -12,7 +12,7 @@ use Rattle.auditor_top.specs.declared.opening.OpenFault.{OpenFault}
 use Rattle.auditor_top.specs.declared.opening.OpenFault.TheVariants.{Schema, Table}
 use Rattle.auditor_top.specs.Causes.{FaultCause, SchemaCause, TableCause, counts}
 use Rattle.auditor_top.specs.Stages.{Before, reading_table}
-use Rattle.auditor_top.specs.Status.{open_status}
+use Rattle.auditor_top.specs.Faults.{open_status}
 
 -- the fault is the first that there is, by what the table's bytes are to mean, or the call that failed, the last one; the table is read
 -- only over a schema without fault

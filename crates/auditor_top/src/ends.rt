@@ -1,6 +1,6 @@
 //! The status of the last step of a command, by how it ended.
 ghost use Rattle.std.specs.Prelude.{◌≡◌};
-ghost use Rattle.auditor_top.specs.Status.{making_status, session_status, audit_status, simulation_status, growing_status, compacting_status, as_session, twin_session_status, restoring_status};
+ghost use Rattle.auditor_top.specs.Faults.{making_status, session_status, audit_status, simulation_status, growing_status, compacting_status, as_session, twin_session_status, restoring_status};
 
 use crate::compacting::CompactFault;
 use crate::status::Status;

@@ -6,6 +6,7 @@
 mod compacting;
 mod drilling;
 mod ends;
+mod faults;
 mod files;
 pub mod laws;
 mod opening;

@@ -1,5 +1,5 @@
 use Rattle.std.proofs.Common.{sym, ap}
-use Rattle.auditor_top.specs.Status.{making_status}
+use Rattle.auditor_top.specs.Faults.{making_status}
 use Rattle.auditor_top.proofs.ends.made.Goals as goal
 
 pub returns-in-Ok : goal.returns-in-Ok

@@ -1,5 +1,5 @@
 use Rattle.std.proofs.Common.{sym, ap}
-use Rattle.auditor_top.specs.Status.{audit_status}
+use Rattle.auditor_top.specs.Faults.{audit_status}
 use Rattle.auditor_top.proofs.ends.reported.Goals as goal
 
 pub returns-in-Ok : goal.returns-in-Ok

@@ -48,7 +48,7 @@ use Rattle.auditor_top.specs.Ends.{ServeEnds, AuditEnds, SimulateEnds, SendsLine
 use Rattle.auditor_top.specs.Ready.{IsGiven, GivesUp, EndsEarly, IsReady, IsReadyOver, command_for}
 use Rattle.auditor_top.specs.Runs.{objects, faults_of, Making, Serving, Auditing, Simulating, Drilling}
 use Rattle.auditor_top.specs.Stages.{Before, reading_table, opening_journal, opening_spare, reading_lines}
-use Rattle.auditor_top.specs.Status.{making_status, session_status, audit_status, simulation_status}
+use Rattle.auditor_top.specs.Faults.{making_status, session_status, audit_status, simulation_status}
 use Rattle.auditor_top.proofs.AuditEndings.{untouched_report, report_ends, report_faults, report_wants}
 use Rattle.auditor_top.proofs.OneRunMore.{goes_on}
 use Rattle.auditor_top.proofs.OneCommand.{one_command, same_command, asked_for, not_asked, none_asked, refused_words, takes_step, lacks_step}

@@ -16,7 +16,7 @@ use Rattle.auditor_top.specs.Causes.{FaultCause, IsReadyFor}
 use Rattle.auditor_top.specs.Ends.{AuditEnds, audit_over}
 use Rattle.auditor_top.specs.Ready.{IsReady, IsReadyOver, IsOpened}
 use Rattle.auditor_top.specs.Runs.{objects, faults_of, Auditing}
-use Rattle.auditor_top.specs.Status.{audit_status}
+use Rattle.auditor_top.specs.Faults.{audit_status}
 use Rattle.auditor_top.proofs.AuditEndings.{untouched_report, report_ends, report_faults, report_wants, report_says}
 use Rattle.auditor_top.proofs.OneCommand.{one_command, same_command, asked_for, not_asked, none_asked, takes_step, lacks_step, spare_called}
 use Rattle.auditor_top.proofs.OneRunMore.{does_so, never_goes_on}

@@ -18,7 +18,7 @@ use Rattle.auditor_top.specs.Ends.{LeavesFile}
 use Rattle.auditor_top.specs.Ready.{IsReady, IsReadyOver, IsOpened}
 use Rattle.auditor_top.specs.Runs.{objects, faults_of, Compacting}
 use Rattle.auditor_top.specs.Stages.{reading_lines, Before, opening_spare}
-use Rattle.auditor_top.specs.Status.{compacting_status}
+use Rattle.auditor_top.specs.Faults.{compacting_status}
 use Rattle.auditor_top.proofs.CompactEndings.{compact_spare, compact_faults, compact_ends, compact_wants, unsent_so, compact_says}
 use Rattle.auditor_top.proofs.OneCommand.{one_command, same_command, asked_for, not_asked, none_asked, takes_step, lacks_step}
 use Rattle.auditor_top.proofs.OneRunMore.{does_so, never_goes_on}

@@ -19,7 +19,7 @@ use Rattle.auditor_top.specs.Ends.{ExplainEnds, LeavesFile, SendsLines, public_p
 use Rattle.auditor_top.specs.Ready.{IsReady, IsReadyOver}
 use Rattle.auditor_top.specs.Runs.{objects, faults_of, Explaining}
 use Rattle.auditor_top.specs.Stages.{opening_spare}
-use Rattle.auditor_top.specs.Status.{as_session, session_status}
+use Rattle.auditor_top.specs.Faults.{as_session, session_status}
 use Rattle.auditor_top.proofs.ExplainEndings.{explain_ends, explain_reads, explain_sends, untouched_lines, explain_says}
 use Rattle.auditor_top.proofs.OneRunMore.{does_so, never_goes_on}
 use Rattle.auditor_top.proofs.OneCommand.{one_command, same_command, asked_for, not_asked, none_asked, takes_step, lacks_step, spare_called}

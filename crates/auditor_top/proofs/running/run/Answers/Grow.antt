@@ -17,7 +17,7 @@ use Rattle.auditor_top.specs.Ends.{GrowEnds}
 use Rattle.auditor_top.specs.Ready.{IsReadyOver}
 use Rattle.auditor_top.specs.Runs.{objects, faults_of, Growing}
 use Rattle.auditor_top.specs.Stages.{reading_lines, opening_spare}
-use Rattle.auditor_top.specs.Status.{growing_status}
+use Rattle.auditor_top.specs.Faults.{growing_status}
 use Rattle.auditor_top.proofs.GrowthEndings.{growth_file, growth_faults, growth_ends, growth_wants, growth_kept, done_so, growth_says}
 use Rattle.auditor_top.proofs.OneCommand.{one_command, same_command, asked_for, not_asked, none_asked, takes_step, lacks_step, spare_called}
 use Rattle.auditor_top.proofs.OneRunMore.{does_so, goes_on}

@@ -17,7 +17,7 @@ use Rattle.auditor_top.specs.Commands.{AreSoundFilesOf, calls_spare, opens_store
 use Rattle.auditor_top.specs.Causes.{BothCause, FaultCause, SpareCause, IsReadyFor}
 use Rattle.auditor_top.specs.Ready.{IsReadyOver}
 use Rattle.auditor_top.specs.Runs.{objects, faults_of, Restoring}
-use Rattle.auditor_top.specs.Status.{restoring_status}
+use Rattle.auditor_top.specs.Faults.{restoring_status}
 use Rattle.auditor_top.proofs.RestoreEndings.{restore_last, restore_words, restore_file, restore_cause, restore_bench, restore_spare, restore_no_input, restore_faults, restore_wants, restore_at_lines, restore_at_journal, restore_done, restore_takes_spare}
 use Rattle.auditor_top.proofs.OneCommand.{one_command, same_command, asked_for, not_asked, none_asked, takes_step, lacks_step}
 use Rattle.auditor_top.proofs.OneRunMore.{does_so, never_goes_on}

@@ -15,7 +15,7 @@ use Rattle.auditor_top.specs.Causes.{InputCause, FaultCause, HoldsLegal, IsReady
 use Rattle.auditor_top.specs.Ends.{outside}
 use Rattle.auditor_top.specs.Ready.{IsReady, IsReadyOver, IsOpened}
 use Rattle.auditor_top.specs.Runs.{objects, faults_of, Serving}
-use Rattle.auditor_top.specs.Status.{session_status}
+use Rattle.auditor_top.specs.Faults.{session_status}
 use Rattle.auditor_top.proofs.OneRunMore.{does_so, goes_on}
 use Rattle.auditor_top.proofs.OneCommand.{one_command, same_command, asked_for, not_asked, none_asked, takes_step, lacks_step, spare_called}
 use Rattle.auditor_top.proofs.OneTable.{same_given}

@@ -3,7 +3,7 @@ use Rattle.std.proofs.Common.{◌≡◌, ℕ, Some, refl, sym, ◌∙◌, ap, su
 use Rattle.bench_core.specs.Causes.{Rose}
 use Rattle.table_load.specs.Database.{table_in}
 use Rattle.line_wire.specs.Lines.{counted_lines}
-use Rattle.auditor_top.specs.Status.{twin_session_status}
+use Rattle.auditor_top.specs.Faults.{twin_session_status}
 use Rattle.auditor_top.proofs.TwinEndings.{twins_at_lines, twins_at_spare, twins_bench, twins_cause, twins_faults, twins_file, twins_input, twins_last, twins_reads, twins_spare, twins_take_spare, twins_want, twins_words}
 use Rattle.auditor_top.specs.declared.words.Command.{Command}
 use Rattle.auditor_top.specs.declared.words.Command.TheVariants as command

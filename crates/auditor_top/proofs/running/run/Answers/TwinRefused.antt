@@ -9,7 +9,7 @@ use Rattle.twin_journal.specs.Twins.{CatchesUp, KeepApart, KeepTogether, TwinCau
 use Rattle.twin_journal.specs.declared.starting.TwinFault.TheVariants as twin
 use Rattle.auditor_top.specs.Ends.{outside}
 use Rattle.line_wire.specs.Lines.{counted_lines}
-use Rattle.auditor_top.specs.Status.{twin_status}
+use Rattle.auditor_top.specs.Faults.{twin_status}
 use Rattle.auditor_top.specs.Twins.{BothCatchUp}
 use Rattle.auditor_top.proofs.TwinEndings.{IsOwn, own_fault, refusal, refused_status, twin_at_lines, twin_at_spare, twin_bench, twin_cause, twin_faults, twin_file, front_is_legal, twin_gave_up, twin_input, twin_last, twin_never_done, twin_no_input, twin_spare, twin_takes_spare, twin_wants, twin_words}
 use Rattle.auditor_top.specs.declared.words.Command.{Command}

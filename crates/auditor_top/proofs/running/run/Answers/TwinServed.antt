@@ -13,7 +13,7 @@ use Rattle.audit_session.specs.Ends.{KeepsCalls, TakesCalls}
 use Rattle.audit_session.specs.Stops.{IsHarmless, LeavesBoth, SpareStops, StopsOver}
 use Rattle.twin_journal.specs.Twins.{CatchesUpOrStops, SpareCatchesUpOrStops, calls_to_open}
 use Rattle.auditor_top.specs.Ends.{Outside, outside}
-use Rattle.auditor_top.specs.Status.{twin_session_status}
+use Rattle.auditor_top.specs.Faults.{twin_session_status}
 use Rattle.auditor_top.specs.Twins.{LeavesTwins, TwinEnds}
 use Rattle.auditor_top.proofs.TwinEndings.{twins_done, twins_end}
 use Rattle.auditor_top.specs.declared.status.Status.TheVariants.{Done}
