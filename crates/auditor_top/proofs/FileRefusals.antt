@@ -7,14 +7,13 @@ use Rattle.schema_json.specs.Reading.{schema_of}
 use Rattle.schema_json.specs.declared.faults.SchemaFault.{SchemaFault}
 use Rattle.schema_json.specs.declared.faults.SchemaFault.TheVariants as schema_fault
 use Rattle.table_load.specs.Cells.{PublicView, TableView}
-use Rattle.table_load.specs.Database.{Database}
+use Rattle.table_load.specs.Database.{Database, table_in}
 use Rattle.table_load.specs.MeaningLaws.{means_read}
 use Rattle.table_load.specs.Tables.{table_of, public_of}
 use Rattle.table_load.specs.declared.faults.TableFault.{TableFault}
 use Rattle.table_load.specs.declared.faults.TableFault.TheVariants as table_fault
 use Rattle.audit_types.specs.History.{Table as Guarded}
 use Rattle.set_index.specs.Indexed.{IndexView}
-use Rattle.table_load.specs.Database.{table_in}
 use Rattle.auditor_top.specs.declared.files.FileFault.TheVariants as file
 use Rattle.auditor_top.specs.declared.opening.OpenFault.{OpenFault}
 use Rattle.auditor_top.specs.declared.opening.OpenFault.TheVariants as opening

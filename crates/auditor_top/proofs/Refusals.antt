@@ -96,10 +96,13 @@ module _ {P I B : Type 0} (files : source.Ghosts P) (lines : source.Ghosts I) (b
       by_giving_up (λ (s : Status). FaultCause s (faults_of files lines bench old) (faults_of files lines bench new) → IsDoneOrWants s) status gave_up
       (λ rose. absurd (none.schema rose.0)) (λ rose. absurd (none.table rose.0)) (λ rose. absurd (none.bench rose.0)) (λ same. inr refl) cause
 
-  -- and the file stays
+  -- a crash finds the file as it was, and nothing sent
+  still : {Found : List ℕ → List ℕ → Type 0} → IsQuiet bench at →
+      ((image sent : List ℕ) → IsUntouched (bench.file at) (bench.sent at) image sent → Found image sent) → LeavesOnly bench at later Found
+  still quiet so = weakens bench at later (IsUntouched (bench.file at) (bench.sent at)) _ so (reads.untouched quiet)
+
   left_alone : bench.told → IsQuiet bench at → LeavesOnly bench at later (LeavesFile (bench.file at))
-  left_alone told quiet =
-      weakens bench at later (IsUntouched (bench.file at) (bench.sent at)) (LeavesFile (bench.file at)) (λ image sent same. same.1) (reads.untouched quiet)
+  left_alone told quiet = still quiet (λ image sent same. same.1)
 
   unmade : asked ≡ Some Init → Making files lines bench status old new
   unmade is = record {
@@ -108,8 +111,7 @@ module _ {P I B : Type 0} (files : source.Ghosts P) (lines : source.Ghosts I) (b
     unsent = reads.sent;
     untouched = λ told there quiet. reads.untouched quiet;
     making = λ ptold told absent quiet base given.
-        weakens bench at later (IsUntouched (bench.file at) (bench.sent at)) _
-        (λ image sent same. (same.0, inl (subst (λ (bytes : List ℕ). IsMade bytes → ⊥) (sym same.1) (not_made _ absent)))) (reads.untouched quiet);
+        still quiet (λ image sent same. (same.0, inl (subst (λ (bytes : List ℕ). IsMade bytes → ⊥) (sym same.1) (not_made _ absent))));
     unmade = λ wanted. unopened Init is refl;
     init_calls = λ told done. never_done status early done;
     makes = λ ptold told base given absent none. wants (gives_up Init is ptold (λ opens. told) (base, given)) none;
@@ -127,9 +129,7 @@ module _ {P I B : Type 0} (files : source.Ghosts P) (lines : source.Ghosts I) (b
         (subst (λ (sent : List ℕ). some (bench.file at) sent) (sym reads.sent)
         (nothing_served base batch history text (bench.sent at) (bench.file at) over.stands)));
     any_moment = λ ptold itold told quiet base history over.
-        weakens bench at later (IsUntouched (bench.file at) (bench.sent at)) _
-        (λ image sent same. untouched_stops base batch history (counted_lines (lines.left input)) (bench.file at) (bench.sent at) image sent over.stands same)
-        (reads.untouched quiet);
+        still quiet (λ image sent. untouched_stops base batch history (counted_lines (lines.left input)) (bench.file at) (bench.sent at) image sent over.stands);
     undisclosed = λ ptold told quiet base history over image sent now was stands.
         legal _ _ _ image sent base batch history now [] over.files over.legal
         (untouched_stops base batch history [] (bench.file at) (bench.sent at) image sent over.stands
@@ -152,8 +152,7 @@ module _ {P I B : Type 0} (files : source.Ghosts P) (lines : source.Ghosts I) (b
               at_first base.secret.shape other whole over.together.spare_stands over.together.spare_front (bench.file spare) refl,
             ));
         twin_moment = λ ptold itold told quiet base main other whole over.
-            weakens bench at later (IsUntouched (bench.file at) (bench.sent at)) _
-            (λ image sent same. inl (same.0, at_first base.secret.shape main whole over.together.main_stands over.together.main_front image same.1)) (reads.untouched quiet);
+            still quiet (λ image sent same. inl (same.0, at_first base.secret.shape main whole over.together.main_stands over.together.main_front image same.1));
         spare_moment = λ ptold itold told quiet base main other whole over.
             weakens bench spare spare (IsUntouched (bench.file spare) (bench.sent spare)) _
             (λ image sent same. inl (same.0, at_first base.secret.shape other whole over.together.spare_stands over.together.spare_front image same.1))
@@ -195,8 +194,7 @@ module _ {P I B : Type 0} (files : source.Ghosts P) (lines : source.Ghosts I) (b
         cause = λ ptold told base sound.
             by_giving_up (λ (s : Status). BothCause s Restore (bench.file at) (bench.file spare) (table_in base)) status (gave ptold told (base, sound)) tt tt tt tt;
         restoring = λ ptold told quiet base history sound lost.
-            weakens bench at later (IsUntouched (bench.file at) (bench.sent at)) _
-            (λ image sent same. (same.0, inl (λ made. lost.unmade (subst IsMade same.1 made)))) (reads.untouched quiet);
+            still quiet (λ image sent same. (same.0, inl (λ made. lost.unmade (subst IsMade same.1 made))));
         spare_restoring = λ ptold told quiet base history sound lost.
             weakens bench spare spare (IsUntouched (bench.file spare) (bench.sent spare)) _
             (λ image sent same. (same.0, inl (λ made. lost.unmade (subst IsMade same.1 made)))) (spared.untouched quiet);
@@ -219,9 +217,7 @@ module _ {P I B : Type 0} (files : source.Ghosts P) (lines : source.Ghosts I) (b
         by_giving_up (λ (s : Status). AuditEnds s base history (bench.sent at) (bench.sent later)) status
         (gives_up Audit is ptold (λ opens. told) (base, history, over)) reads.sent reads.sent none none;
     auditing = λ ptold told quiet base history over.
-        weakens bench at later (IsUntouched (bench.file at) (bench.sent at)) _
-        (λ image sent same. untouched_report (audit_over base history) (subjects base.secret.shape) (bench.file at) (bench.sent at) image sent same)
-        (reads.untouched quiet);
+        still quiet (untouched_report (audit_over base history) (subjects base.secret.shape) (bench.file at) (bench.sent at));
     audit_calls = λ ptold told done base given. never_done status early done;
     audits = λ ptold told base history over none. wants (gives_up Audit is ptold (λ opens. told) (base, history, over)) none;
   }
@@ -238,9 +234,7 @@ module _ {P I B : Type 0} (files : source.Ghosts P) (lines : source.Ghosts I) (b
           λ told. by_giving_up (λ (s : Status). SendsLines s [] (bench.sent at) (bench.sent later)) status gave_up same same (0, same) same,
         );
     simulating = λ ptold told quiet columns public given.
-        weakens bench at later (IsUntouched (bench.file at) (bench.sent at)) _
-        (λ image sent same. no_verdict lines.told columns public (counted_lines (lines.left input)) (bench.file at) (bench.sent at) image sent same.1 same.0)
-        (reads.untouched quiet);
+        still quiet (λ image sent same. no_verdict lines.told columns public (counted_lines (lines.left input)) (bench.file at) (bench.sent at) image sent same.1 same.0);
     undisturbed = left_alone;
     simulate_calls = λ itold told done. never_done status early done;
     simulates = λ ptold itold columns public given verdicts agree within none.
@@ -253,9 +247,7 @@ module _ {P I B : Type 0} (files : source.Ghosts P) (lines : source.Ghosts I) (b
         by_giving_up (λ (s : Status). GrowEnds s base history (bench.file at) (bench.file later)) status
         (gives_up Grow is ptold (λ opens. told) (base, given.files)) reads.file reads.file tt reads.file;
     growing = λ ptold told quiet base rows history given.
-        weakens bench at later (IsUntouched (bench.file at) (bench.sent at)) _
-        (λ image sent same. (same.0, inl (subst (λ (f : List ℕ). StandsFor f (over rows base.secret.shape) history) (sym same.1) given.stands)))
-        (reads.untouched quiet);
+        still quiet (λ image sent same. (same.0, inl (subst (λ (f : List ℕ). StandsFor f (over rows base.secret.shape) history) (sym same.1) given.stands)));
     unsent = reads.sent;
     kept = λ undone fine. reads.file;
     grow_calls = λ told done. never_done status early done;
@@ -276,8 +268,7 @@ module _ {P I B : Type 0} (files : source.Ghosts P) (lines : source.Ghosts I) (b
           by_giving_up (λ (s : Status). SendsLines s [] (bench.sent at) (bench.sent later)) status gave_up same same (0, same) same,
         );
     explaining = λ ptold told quiet base history over.
-        weakens bench at later (IsUntouched (bench.file at) (bench.sent at)) _
-        (untouched_lines lines.told base.columns (public_part base) history (lines.left input) (bench.file at) (bench.sent at)) (reads.untouched quiet);
+        still quiet (untouched_lines lines.told base.columns (public_part base) history (lines.left input) (bench.file at) (bench.sent at));
     undisturbed = left_alone;
     explain_calls = λ itold told done. never_done status early done;
     explains = λ ptold itold told base history over within none. wants (gives_up Explain is ptold (λ opens. told) (base, history, over)) none;
@@ -285,23 +276,21 @@ module _ {P I B : Type 0} (files : source.Ghosts P) (lines : source.Ghosts I) (b
 
   uncompacted : OnlyReads bench spare spare → asked ≡ Some Compact → Compacting files lines bench status old new
   uncompacted spared is =
-      let still : IsQuiet bench spare → LeavesOnly bench spare spare (IsUntouched (bench.file spare) (bench.sent spare)) = spared.untouched in
       record {
         compacted = λ ptold told base history over.
             by_giving_up (λ (s : Status). CompactEnds s base.secret.shape history (bench.file spare) (bench.sent at) (bench.sent later)) status
             (gives_up Compact is ptold (λ opens. told) (base, history, over)) reads.sent reads.sent (inl reads.sent) reads.sent;
         compacting = λ ptold told unmade quiet base history over.
             weakens bench spare spare (IsUntouched (bench.file spare) (bench.sent spare)) _
-            (λ image sent same. (same.0, inl (λ made. unmade (subst IsMade same.1 made)))) (still quiet);
+            (λ image sent same. (same.0, inl (λ made. unmade (subst IsMade same.1 made)))) (spared.untouched quiet);
         stable = λ told done. never_done status early done;
         unsent_yet = λ failed. reads.sent;
         alike = λ ptold told unmade quiet base history over image sent found was made stands.
-            absurd (unmade (subst IsMade ((still quiet).each image sent was).1 made));
-        sending = λ ptold told quiet base history over.
-            weakens bench at later (IsUntouched (bench.file at) (bench.sent at)) _ (λ image sent same. (same.1, inl same.0)) (reads.untouched quiet);
+            absurd (unmade (subst IsMade ((spared.untouched quiet).each image sent was).1 made));
+        sending = λ ptold told quiet base history over. still quiet (λ image sent same. (same.1, inl same.0));
         undisturbed = left_alone;
         kept = λ told made. (reads.sent, refl);
-        untouched = λ told made quiet. still quiet;
+        untouched = λ told made quiet. spared.untouched quiet;
         unsent = λ told made quiet. reads.untouched quiet;
         uncalled = λ ptold told none. (refl, reads.sent);
         no_memory = λ wanted. refl;

@@ -15,31 +15,46 @@ use Rattle.auditor_top.specs.Causes.{BothCause, FaultCounts, FaultCause, WordCau
 use Rattle.auditor_top.specs.Stages.{Before, opening_journal, reading_lines}
 use Rattle.auditor_top.specs.Faults.{restoring_status, start_status}
 use Rattle.auditor_top.proofs.CompactEndings.{both_same}
-use Rattle.auditor_top.proofs.StartEndings.{never_bench, never_done, never_input, never_spare, own_steady, start_at_journal, start_at_lines, start_file, start_last, start_spare}
+use Rattle.auditor_top.proofs.StartEndings.{start_says, start_steady}
 use Rattle.auditor_top.proofs.StepStatuses.{EndsLastStep}
-use Rattle.auditor_top.proofs.StoreRefusals.{start_words}
 
 -- a fault of the journal is its own
 abbrev pub IsOwn : {X : Type 0} → Result X RestoreFault → Type 0
 IsOwn ended = (fault : StartFault) → GivesUp fault → (ended ≢ Err (restore.Main fault)) × (ended ≢ Err (restore.Spare fault))
 
-pub restore_last : {X : Type 0} (ended : Result X RestoreFault) → EndsLastStep (restoring_status ended)
-restore_last (Err (restore.Main fault)) = start_last fault
-restore_last ended = tt
+pub own_fault : {X : Type 0} (fault : StartFault) → IsOwn {X = X} (Err (restore.Main fault)) → fault ≢ start.Failed
+own_fault fault own is = (own fault (subst GivesUp (sym is) tt)).0 refl
 
-pub restore_words : {X : Type 0} (ended : Result X RestoreFault) → WordCause (restoring_status ended) (Some Restore)
-restore_words (Ok done) = refl
-restore_words (Err (restore.Main fault)) = start_words fault Restore refl
-restore_words (Err restore.MainFailed) = tt
-restore_words (Err restore.NoMemory) = tt
-restore_words ended = refl
+-- what its status says by itself
+pub record RestoreSays {X : Type 0} (ended : Result X RestoreFault) : Type 1 where
+  pub last : EndsLastStep (restoring_status ended)
+  pub words : WordCause (restoring_status ended) (Some Restore)
+  pub spare_file : (file : List ℕ) → SpareCause (restoring_status ended) Restore file
+  pub bench : IsOwn ended → restoring_status ended ≡ BenchFault → IsErrOf ended restore.MainFailed
+  pub spare : restoring_status ended ≡ SpareFault → IsErrOf ended restore.SpareFailed
+  pub no_input : restoring_status ended ≢ SourceFault Input
+  pub done : (P : Type 0) → restoring_status ended ≡ Done → OnOk ended P → P
+  pub at_journal : (P : Type 0) → Before opening_journal (restoring_status ended) P
+
+pub restore_says : {X : Type 0} (ended : Result X RestoreFault) → RestoreSays ended
+restore_says (Err (restore.Main fault)) = let says = start_says fault in record {
+  last = says.last;
+  words = says.words Restore refl;
+  spare_file = says.spare Restore;
+  bench = λ own is. absurd (own_fault fault own (says.bench is));
+  spare = λ is. absurd (says.no_spare is);
+  no_input = says.no_input;
+  done = λ P is holds. absurd (says.undone is);
+  at_journal = says.at_journal;
+}
+restore_says ended = search rules
 
 -- each refusal has its cause in the journal's file, and in both
 pub restore_file : {X : Type 0} (ended : Result X RestoreFault) (file spare : List ℕ) (table : Guarded) →
     ((fault : RestoreFault) → ended ≡ Err fault → RestoreCause fault file spare table) → FileCause (restoring_status ended) Restore file table
 restore_file (Ok done) file spare table cause = tt
 restore_file (Err restore.BothLost) file spare table cause = (cause restore.BothLost refl).0
-restore_file (Err (restore.Main fault)) file spare table cause = start_file fault Restore file table (cause (restore.Main fault) refl).3
+restore_file (Err (restore.Main fault)) file spare table cause = (start_says fault).file Restore file table (cause (restore.Main fault) refl).3
 restore_file (Err fault) file spare table cause = tt
 
 pub restore_cause : {X : Type 0} (ended : Result X RestoreFault) (file spare : List ℕ) (table : Guarded) → IsOwn ended →
@@ -55,21 +70,6 @@ restore_cause (Err (restore.Main fault)) file spare table own cause = of_main fa
 restore_cause (Err (restore.Spare fault)) file spare table own cause = cause (restore.Spare fault) refl
 restore_cause (Err fault) file spare table own cause = tt
 
--- which object failed, and that the input isn't read
-pub restore_bench : {X : Type 0} (ended : Result X RestoreFault) → IsOwn ended → restoring_status ended ≡ BenchFault → IsErrOf ended restore.MainFailed
-restore_bench (Err (restore.Main fault)) own is = absurd (never_bench fault (λ gave. (own fault gave).0 refl) is)
-restore_bench (Err restore.MainFailed) own is = refl
-restore_bench ended own is = cc
-
-pub restore_spare : {X : Type 0} (ended : Result X RestoreFault) → restoring_status ended ≡ SpareFault → IsErrOf ended restore.SpareFailed
-restore_spare (Err (restore.Main fault)) is = absurd (never_spare fault is)
-restore_spare (Err restore.SpareFailed) is = refl
-restore_spare ended is = cc
-
-pub restore_no_input : {X : Type 0} (ended : Result X RestoreFault) → restoring_status ended ≢ SourceFault Input
-restore_no_input (Err (restore.Main fault)) is = never_input fault is
-restore_no_input ended is = cc
-
 -- the count of the object that failed rose, and no other count changed
 pub restore_faults : {X : Type 0} (ended : Result X RestoreFault) (before : FaultCounts) (bench spare : ℕ) → IsOwn ended →
     (IsErrOf ended restore.MainFailed → Rose before.bench bench) → ((IsErrOf ended restore.MainFailed → ⊥) → bench ≡ before.bench) →
@@ -81,7 +81,7 @@ restore_faults (Err restore.SpareFailed) before bench spare own rose same spare_
     (spare_rose refl, ap (λ (n : ℕ). record before { bench = n; spare = spare }) (same (search rules)))
 restore_faults (Err (restore.Main fault)) before bench spare own rose same spare_rose spare_same =
     subst (λ (after : FaultCounts). FaultCause (start_status fault) before after) (sym (both_same before bench spare (same (search rules)) (spare_same (search rules))))
-    (own_steady fault before (λ gave. (own fault gave).0 refl))
+    (start_steady fault before (own_fault fault own))
 restore_faults ended before bench spare own rose same spare_rose spare_same = both_same before bench spare (same (search rules)) (spare_same (search rules))
 
 -- if one can be restored and nothing failed, it is done, or there was no memory
@@ -99,20 +99,6 @@ pub restore_at_lines : {X : Type 0} (P : Type 0) (ended : Result X RestoreFault)
     ((fault : RestoreFault) → ended ≡ Err fault → (GivesUpRestoring fault → ⊥) → P) → Before reading_lines (restoring_status ended) P
 restore_at_lines P (Err restore.NothingLost) holds = holds restore.NothingLost refl (λ gave. gave)
 restore_at_lines P (Err restore.BothLost) holds = holds restore.BothLost refl (λ gave. gave)
-restore_at_lines P (Err (restore.Main fault)) holds = start_at_lines P fault (holds (restore.Main fault) refl (λ gave. gave))
+restore_at_lines P (Err (restore.Main fault)) holds = (start_says fault).at_lines P (holds (restore.Main fault) refl (λ gave. gave))
 restore_at_lines P (Err (restore.Spare fault)) holds = holds (restore.Spare fault) refl (λ gave. gave)
 restore_at_lines P ended holds = tt
-
-pub restore_at_journal : {X : Type 0} (P : Type 0) (ended : Result X RestoreFault) → Before opening_journal (restoring_status ended) P
-restore_at_journal P (Err (restore.Main fault)) = start_at_journal P fault
-restore_at_journal P ended = tt
-
--- it takes any spare
-pub restore_takes_spare : {X : Type 0} (ended : Result X RestoreFault) (file : List ℕ) → SpareCause (restoring_status ended) Restore file
-restore_takes_spare (Err (restore.Main fault)) file = start_spare fault Restore file
-restore_takes_spare ended file = tt
-
-pub restore_done : {X P : Type 0} (ended : Result X RestoreFault) → restoring_status ended ≡ Done → OnOk ended P → P
-restore_done (Ok done) is holds = holds
-restore_done (Err (restore.Main fault)) is holds = absurd (never_done fault is)
-restore_done (Err fault) is holds = cc

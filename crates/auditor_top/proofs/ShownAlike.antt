@@ -9,7 +9,7 @@ use Rattle.table_load.specs.Database.{Database, AreTwins}
 use Rattle.journal_audit.specs.Reports.{Audit, Reports, ReportsFront, SendsMeanwhile, subjects}
 use Rattle.certificate_lines.specs.Explained.{AreExplained}
 use Rattle.transcript_sim.specs.Verdicts.{AreVerdicts}
-use Rattle.auditor_top.specs.declared.status.Which.TheVariants.{Schema, Table, Input}
+use Rattle.auditor_top.specs.declared.status.Which.TheVariants.{Input}
 use Rattle.auditor_top.specs.declared.status.Status.{Status}
 use Rattle.auditor_top.specs.declared.status.Status.TheVariants.{Done, SourceFault, BenchFault, NoMemory}
 use Rattle.auditor_top.specs.Commands.{ArePublicFilesOf}
@@ -32,8 +32,6 @@ same_report : (status : Status) (base other : Database) (history : List Answered
 same_report Done base other history same before after = same_said (λ (a : Audit). Reports a before after) (audit_over base history) (audit_over other history) same
 same_report BenchFault base other history same before after = same_said (λ (a : Audit). ReportsFront a before after) (audit_over base history) (audit_over other history) same
 same_report NoMemory base other history same before after = same_said (λ (a : Audit). ReportsFront a before after) (audit_over base history) (audit_over other history) same
-same_report (SourceFault Schema) base other history same before after = (λ x. x, λ x. x)
-same_report (SourceFault Table) base other history same before after = (λ x. x, λ x. x)
 same_report (SourceFault Input) base other history same before after = (λ x. x, λ x. x)
 same_report status base other history same before after = (λ x. x, λ x. x)
 

@@ -1,5 +1,5 @@
--- What the fault of a journal comes to that is opened in the last step of a command, by cases on it.
-use Rattle.std.proofs.Common.{◌≢◌, ℕ, List, refl}
+-- What the fault of a journal comes to that is opened, by cases on it.
+use Rattle.std.proofs.Common.{rules, ◌≡◌, ◌≢◌, ℕ, List, Some, true, refl}
 use Rattle.audit_types.specs.History.{Table as Guarded}
 use Rattle.audit_store.specs.Starting.{GivesUp}
 use Rattle.audit_store.specs.declared.starting.StartFault.{StartFault}
@@ -7,53 +7,37 @@ use Rattle.audit_store.specs.declared.starting.StartFault.TheVariants as start
 use Rattle.auditor_top.specs.declared.words.Command.{Command}
 use Rattle.auditor_top.specs.declared.status.Which.TheVariants.{Input}
 use Rattle.auditor_top.specs.declared.status.Status.TheVariants.{Done, SourceFault, BenchFault, SpareFault}
-use Rattle.auditor_top.specs.Causes.{FaultCounts, FaultCause, FileCause, OpeningCause, SpareCause}
-use Rattle.auditor_top.specs.Stages.{Before, opening_journal, reading_lines}
+use Rattle.auditor_top.specs.Causes.{FaultCounts, FaultCause, FileCause, InputCause, OpeningCause, SpareCause, WordCause}
+use Rattle.auditor_top.specs.Commands.{opens_journal}
+use Rattle.auditor_top.specs.Ready.{EndsEarly}
+use Rattle.auditor_top.specs.Ready as ready
+use Rattle.auditor_top.specs.Stages.{Before, opening_journal, opening_spare, reading_lines}
 use Rattle.auditor_top.specs.Faults.{start_status}
 use Rattle.auditor_top.proofs.StepStatuses.{EndsLastStep}
 
-pub start_last : (fault : StartFault) → EndsLastStep (start_status fault)
-start_last start.NotMade = tt
-start_last fault = tt
+-- what its status says by itself
+pub record StartSays (fault : StartFault) : Type 1 where
+  pub early : EndsEarly (start_status fault)
+  pub last : EndsLastStep (start_status fault)
+  pub words : (asked : Command) → opens_journal asked ≡ true → WordCause (start_status fault) (Some asked)
+  pub file : (asked : Command) (file : List ℕ) (table : Guarded) → OpeningCause fault asked file table → FileCause (start_status fault) asked file table
+  pub spare : (asked : Command) (file : List ℕ) → SpareCause (start_status fault) asked file
+  pub input : (bytes : List ℕ) → InputCause (start_status fault) bytes bytes
+  pub undone : start_status fault ≢ Done
+  pub gives_up : GivesUp fault → ready.GivesUp (start_status fault)
+  pub no_spare : start_status fault ≢ SpareFault
+  pub no_input : start_status fault ≢ SourceFault Input
+  pub bench : start_status fault ≡ BenchFault → fault ≡ start.Failed
+  -- it came to the journal, and to nothing later
+  pub at_journal : (P : Type 0) → Before opening_journal (start_status fault) P
+  pub at_spare : (P : Type 0) → P → Before opening_spare (start_status fault) P
+  pub at_lines : (P : Type 0) → P → Before reading_lines (start_status fault) P
 
--- it isn't a failed call of the spare or of the input, nor, if it is one of the journal's own, of the bench
-pub never_spare : (fault : StartFault) → start_status fault ≢ SpareFault
-never_spare start.NotMade is = cc
-never_spare fault is = cc
+pub start_says : (fault : StartFault) → StartSays fault
+start_says start.Failed = search rules
+start_says fault = search rules
 
-pub never_input : (fault : StartFault) → start_status fault ≢ SourceFault Input
-never_input start.NotMade is = cc
-never_input fault is = cc
-
-pub never_done : (fault : StartFault) → start_status fault ≢ Done
-never_done start.NotMade is = cc
-never_done fault is = cc
-
-pub never_bench : (fault : StartFault) → (GivesUp fault → ⊥) → start_status fault ≢ BenchFault
-never_bench start.Failed own is = absurd (own tt)
-never_bench fault own is = cc
-
--- so no count changed
-pub own_steady : (fault : StartFault) (before : FaultCounts) → (GivesUp fault → ⊥) → FaultCause (start_status fault) before before
-own_steady start.Failed before own = absurd (own tt)
-own_steady fault before own = refl
-
--- the file is its cause
-pub start_file : (fault : StartFault) (command : Command) (file : List ℕ) (table : Guarded) → OpeningCause fault command file table →
-    FileCause (start_status fault) command file table
-start_file start.Failed command file table cause = tt
-start_file start.NoMemory command file table cause = tt
-start_file fault command file table cause = cause
-
-pub start_spare : (fault : StartFault) (command : Command) (file : List ℕ) → SpareCause (start_status fault) command file
-start_spare start.NotMade command file = tt
-start_spare fault command file = tt
-
-pub start_at_lines : (P : Type 0) (fault : StartFault) → P → Before reading_lines (start_status fault) P
-start_at_lines P start.Failed holds = tt
-start_at_lines P start.NoMemory holds = tt
-start_at_lines P fault holds = holds
-
-pub start_at_journal : (P : Type 0) (fault : StartFault) → Before opening_journal (start_status fault) P
-start_at_journal P start.NotMade = tt
-start_at_journal P fault = tt
+-- no count changed if no call failed
+pub start_steady : (fault : StartFault) (before : FaultCounts) → fault ≢ start.Failed → FaultCause (start_status fault) before before
+start_steady start.Failed before other = absurd (other refl)
+start_steady fault before other = refl

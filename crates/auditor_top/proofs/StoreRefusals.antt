@@ -1,10 +1,9 @@
 -- What a refusal says if the journal wasn't opened, or there was no memory to open it.
-use Rattle.std.proofs.Common.{rules, ◌≡◌, ℕ, Bool, true, false, List, Some, Result, Ok, Err, IsErrOf, refl, sym, ap, subst}
+use Rattle.std.proofs.Common.{rules, ◌≡◌, ℕ, Bool, true, false, List, Result, Ok, Err, IsErrOf, refl, sym, ap, subst}
 use Rattle.std.proofs.lemmas.Bool.{false≢true, true≢false}
 use Rattle.audit_types.specs.declared.records.Answered.{Answered}
-use Rattle.audit_types.specs.History.{IsLegal}
+use Rattle.audit_types.specs.History.{IsLegal, Table as Guarded}
 use Rattle.std.specs.Bool.{OnTrue}
-use Rattle.audit_types.specs.History.{Table as Guarded}
 use Rattle.audit_types.specs.declared.records.Protected.{Protected}
 use Rattle.bench_core.specs.Causes.{Rose}
 use Rattle.bench_core.specs.Calls.{TellsFault}
@@ -29,21 +28,16 @@ use Rattle.auditor_top.specs.declared.starting.NotStarted.{NotStarted}
 use Rattle.auditor_top.specs.declared.starting.NotStarted.TheVariants as began
 use Rattle.auditor_top.specs.declared.words.Command.{Command}
 use Rattle.auditor_top.specs.declared.words.Command.TheVariants.{Init, Serve, Audit, Simulate, Drill, Grow, Explain, Compact, Restore}
-use Rattle.auditor_top.specs.declared.status.Status.TheVariants.{BenchFault}
 use Rattle.auditor_top.specs.Faults.{index_status, start_status, started_status}
-use Rattle.auditor_top.specs.Causes.{FaultCounts, FaultCause, WordCause, FileCause, OpeningCause, counts}
+use Rattle.auditor_top.specs.Causes.{FaultCounts, FaultCause, FileCause, OpeningCause, counts}
 use Rattle.auditor_top.specs.Commands.{AreSoundFilesOf, ServesOver, opens_journal, opens_store, reads_files, reads_groups}
-use Rattle.auditor_top.specs.Ready.{EndsEarly, GivesUp, IsGiven, Refuses}
+use Rattle.auditor_top.specs.Ready.{GivesUp, IsGiven, Refuses}
 use Rattle.auditor_top.proofs.GroupRefusals.{groups_refused, group_gives_up}
 use Rattle.auditor_top.proofs.OneTable.{same_ok, one_base, table_is_ok}
 use Rattle.auditor_top.proofs.LastSteps.{groups_so, schema_so, table_so}
-use Rattle.auditor_top.proofs.StartEndings.{start_file, start_last}
+use Rattle.auditor_top.proofs.StartEndings.{start_says}
 use Rattle.auditor_top.proofs.StepFaults.{moved, same_counts}
 use Rattle.auditor_top.proofs.StepStatuses.{no_schema_fault, no_table_fault, past_journal, past_table, schema_was_read, table_was_read}
-
-start_early : (fault : StartFault) → EndsEarly (start_status fault)
-start_early start.NotMade = tt
-start_early fault = tt
 
 -- a command that opens a store opens the journal, and refuses it as a start does
 pub opens_too : (asked : Command) → opens_store asked ≡ true → opens_journal asked ≡ true
@@ -59,20 +53,6 @@ refused_so fault Simulate file table opens cause = absurd (false≢true opens)
 refused_so fault (Drill number) file table opens cause = absurd (false≢true opens)
 refused_so fault Grow file table opens cause = absurd (false≢true opens)
 refused_so fault asked file table opens cause = cause
-
-pub start_words : (fault : StartFault) (asked : Command) → opens_journal asked ≡ true → WordCause (start_status fault) (Some asked)
-start_words start.Failed asked opens = tt
-start_words start.NoMemory asked opens = tt
-start_words fault asked opens = opens
-
-start_gives_up : (fault : StartFault) → starting.GivesUp fault → GivesUp (start_status fault)
-start_gives_up start.Failed gave_up = tt
-start_gives_up start.NoMemory gave_up = tt
-start_gives_up fault gave_up = absurd gave_up
-
-start_failed : {X : Type 0} (fault : StartFault) → start_status fault ≡ BenchFault → IsErrOf {T = X} (Err fault) start.Failed
-start_failed start.Failed is = refl
-start_failed fault is = cc
 
 start_faults : {X : Type 0} (fault : StartFault) (before : FaultCounts) (bench : ℕ) → (IsErrOf {T = X} (Err fault) start.Failed → Rose before.bench bench) →
     ((IsErrOf {T = X} (Err fault) start.Failed → ⊥) → bench ≡ before.bench) → FaultCause (start_status fault) before (record before { bench = bench })
@@ -137,10 +117,11 @@ module _ {P B : Type 0} (files : source.Ghosts P) (bench : Ghosts B) (law : OneL
       Refuses files bench asked (start_status fault) schema later_schema table later_table at later
   store_refused fault protected entries cause tells =
       let status = start_status fault in
-      let last = start_last fault in
+      let says = start_says fault in
+      let last = says.last in
       let are = λ (ptold : files.told). sound_files ptold protected entries in
       record {
-        words = start_words fault asked (opens_too asked opens);
+        words = says.words asked (opens_too asked opens);
         schema = λ ptold reads. schema_so status _ _ _ last (are ptold).files;
         table = λ ptold reads. table_so status _ _ _ last (are ptold).files;
         public = λ ptold is. not_public asked (opens_too asked opens) is;
@@ -151,23 +132,23 @@ module _ {P B : Type 0} (files : source.Ghosts P) (bench : Ghosts B) (law : OneL
               entries = subst (λ (b : Bool). OnTrue b (AreEntries base.columns base.public given.groups base.protected)) grouped sound;
             }) in
             subst (λ (b : Database). FileCause status asked (bench.file at) (table_in b)) one
-            (start_file fault asked (bench.file at) (table_in (seen protected)) (refused_so fault asked _ _ opens (cause told).0));
+            (says.file asked (bench.file at) (table_in (seen protected)) (refused_so fault asked _ _ opens (cause told).0));
         own_schema_fault = no_schema_fault status last;
         own_table_fault = no_table_fault status last;
         schema_within = λ ptold. schema_was_read status last;
         table_within = λ ptold. table_was_read status last;
-        early = start_early fault;
+        early = says.early;
         gives_up = λ ptold told given.
             let all = given_history asked _ _ _ opens given in
             let one = sym (one_base law _ _ (seen protected) all.0 (are ptold) all.2.files) in
-            start_gives_up fault ((cause (told opens)).1 all.1 (subst (λ (b : Database). StandsFor (bench.file at) b.secret.shape all.1) one all.2.stands)
+            says.gives_up ((cause (told opens)).1 all.1 (subst (λ (b : Database). StandsFor (bench.file at) b.secret.shape all.1) one all.2.stands)
             (subst (λ (b : Database). IsLegal (table_in b) all.1) one all.2.legal));
         faults = λ input spare.
             moved status (counts (files.faults schema) (files.faults table) input (bench.faults at) spare) _ _ _ _ input (bench.faults later) spare
             same_schema same_table (start_faults fault _ (bench.faults later) tells.failed tells.steady);
         schema_last = schema_was_read status last;
         table_last = table_was_read status last;
-        bench_last = λ is. tells.last_call (start_failed fault is);
+        bench_last = λ is. tells.last_call (ap (λ (f : StartFault). Err f) (says.bench is));
         before_table = past_table _ status last;
         before_bench = past_journal _ status last;
       }

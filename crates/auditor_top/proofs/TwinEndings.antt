@@ -1,5 +1,5 @@
 -- What it comes to that two journals weren't opened, and how a session over them ended, by cases on each.
-use Rattle.std.proofs.Common.{◌≡◌, ◌≢◌, ◌+◌, ◌<◌, ◌≤◌, ℕ, List, [], length, take, true, Some, Result, Ok, Err, IsErrOf, OnOk, ap, refl, sym, ◌∙◌, subst, inl, inr, arith}
+use Rattle.std.proofs.Common.{rules, ◌≡◌, ◌≢◌, ◌+◌, ◌<◌, ◌≤◌, ℕ, List, [], length, take, true, Some, Result, Ok, Err, IsErrOf, OnOk, ap, refl, sym, ◌∙◌, subst, inl, inr, arith}
 use Rattle.std.proofs.lemmas.List.{take_all, take-append-le}
 use Rattle.audit_types.specs.declared.records.Answered.{Answered}
 use Rattle.audit_types.specs.History.{Table as Guarded, IsLegal}
@@ -27,16 +27,15 @@ use Rattle.auditor_top.specs.Stages.{Before, opening_spare, reading_lines}
 use Rattle.auditor_top.specs.Faults.{start_status, twin_session_status, twin_status}
 use Rattle.auditor_top.specs.Twins.{BothCatchUp, TwinEnds}
 use Rattle.auditor_top.proofs.CompactEndings.{both_same}
-use Rattle.auditor_top.proofs.StartEndings.{never_bench, never_done, never_input, never_spare, own_steady, start_at_lines, start_file, start_last, start_spare}
+use Rattle.auditor_top.proofs.StartEndings.{start_says, start_steady}
 use Rattle.auditor_top.proofs.StepFaults.{not_both}
 use Rattle.auditor_top.proofs.StepStatuses.{EndsLastStep}
-use Rattle.auditor_top.proofs.StoreRefusals.{start_words}
 
 -- ---- they weren't opened
 
 -- a fault of the journal or of the spare's is its own
 abbrev pub IsOwn : TwinFault → Type 0
-IsOwn (twin.Main fault) = GivesUp fault → ⊥
+IsOwn (twin.Main fault) = fault ≢ start.Failed
 IsOwn fault = Unit {0}
 
 abbrev pub refusal : {X : Type 0} → TwinFault → Result X TwinFault
@@ -44,7 +43,7 @@ refusal fault = Err fault
 
 pub own_fault : {X : Type 0} (fault : TwinFault) → ((f : StartFault) → GivesUp f → ◌≢◌ {A = Result X TwinFault} (Err fault) (Err (twin.Main f)) ×
     ◌≢◌ {A = Result X TwinFault} (Err fault) (Err (twin.Spare f))) → IsOwn fault
-own_fault (twin.Main fault) own = λ gave. (own fault gave).0 refl
+own_fault (twin.Main fault) own = λ is. (own fault (subst GivesUp (sym is) tt)).0 refl
 own_fault fault own = tt
 
 -- the status that a refusal to open them makes
@@ -52,22 +51,42 @@ abbrev pub refused_status : {X : Type 0} → Result X TwinFault → Status
 refused_status (Ok done) = Done
 refused_status (Err fault) = twin_status fault
 
-pub twin_last : (fault : TwinFault) → EndsLastStep (twin_status fault)
-twin_last (twin.Main fault) = start_last fault
-twin_last fault = tt
+-- what its status says by itself
+pub record TwinSays (fault : TwinFault) : Type 1 where
+  pub last : EndsLastStep (twin_status fault)
+  pub spare_file : (batch : ℕ) (file : List ℕ) → SpareCause (twin_status fault) (Serve batch true) file
+  pub input : (bytes : List ℕ) → InputCause (twin_status fault) bytes bytes
+  pub bench : IsOwn fault → twin_status fault ≡ BenchFault → fault ≡ twin.MainFailed
+  pub spare : twin_status fault ≡ SpareFault → fault ≡ twin.SpareFailed
+  pub no_input : twin_status fault ≢ SourceFault Input
+  pub undone : twin_status fault ≢ Done
+  -- before the lines what was only read is as it was, and the spare isn't called before the journal was found sound
+  pub at_lines : (P : Type 0) → ((TwinGivesUp fault → ⊥) → P) → Before reading_lines (twin_status fault) P
+  pub at_spare : (P : Type 0) → ((f : StartFault) → fault ≡ twin.Main f → P) → Before opening_spare (twin_status fault) P
+
+pub twin_says : (fault : TwinFault) → TwinSays fault
+twin_says (twin.Main fault) = let says = start_says fault in record {
+  last = says.last;
+  spare_file = λ batch file. says.spare (Serve batch true) file;
+  input = says.input;
+  bench = λ own is. absurd (own (says.bench is));
+  spare = λ is. absurd (says.no_spare is);
+  no_input = says.no_input;
+  undone = says.undone;
+  at_lines = λ P holds. says.at_lines P (holds (λ gave. gave));
+  at_spare = λ P first. says.at_spare P (first fault refl);
+}
+twin_says fault = search rules
 
 pub twin_words : (fault : TwinFault) (batch : ℕ) → WordCause (twin_status fault) (Some (Serve batch true))
-twin_words (twin.Main fault) batch = start_words fault (Serve batch true) refl
-twin_words (twin.Spare fault) batch = refl
+twin_words (twin.Main fault) batch = (start_says fault).words (Serve batch true) refl
 twin_words (twin.Differ place) batch = (batch, refl)
-twin_words twin.MainFailed batch = tt
-twin_words twin.SpareFailed batch = refl
-twin_words twin.NoMemory batch = tt
+twin_words fault batch = search rules
 
 -- the cause of each stands in the journal's file, and in both
 pub twin_file : (fault : TwinFault) (batch : ℕ) (file spare : List ℕ) (table : Guarded) → TwinCause fault file spare table →
     FileCause (twin_status fault) (Serve batch true) file table
-twin_file (twin.Main fault) batch file spare table cause = start_file fault (Serve batch true) file table cause.1
+twin_file (twin.Main fault) batch file spare table cause = (start_says fault).file (Serve batch true) file table cause.1
 twin_file (twin.Spare fault) batch file spare table cause = cause.0
 twin_file (twin.Differ place) batch file spare table cause = (cause.0, cause.1, cause.2.0)
 twin_file twin.MainFailed batch file spare table cause = tt
@@ -85,21 +104,6 @@ twin_cause (twin.Spare fault) batch file spare table cause = cause
 twin_cause (twin.Differ place) batch file spare table cause = cause
 twin_cause fault batch file spare table cause = tt
 
--- which object failed, and that the input isn't read
-pub twin_bench : {X : Type 0} (fault : TwinFault) → IsOwn fault → twin_status fault ≡ BenchFault → IsErrOf {T = X} (Err fault) twin.MainFailed
-twin_bench (twin.Main fault) own is = absurd (never_bench fault own is)
-twin_bench twin.MainFailed own is = refl
-twin_bench fault own is = cc
-
-pub twin_spare : {X : Type 0} (fault : TwinFault) → twin_status fault ≡ SpareFault → IsErrOf {T = X} (Err fault) twin.SpareFailed
-twin_spare (twin.Main fault) is = absurd (never_spare fault is)
-twin_spare twin.SpareFailed is = refl
-twin_spare fault is = cc
-
-pub twin_no_input : (fault : TwinFault) → twin_status fault ≢ SourceFault Input
-twin_no_input (twin.Main fault) is = never_input fault is
-twin_no_input fault is = cc
-
 -- the count of the object that failed rose, and no other count changed
 pub twin_faults : {X : Type 0} (fault : TwinFault) (before : FaultCounts) (bench spare : ℕ) → IsOwn fault →
     (IsErrOf {T = X} (Err fault) twin.MainFailed → Rose before.bench bench) → ((IsErrOf {T = X} (Err fault) twin.MainFailed → ⊥) → bench ≡ before.bench) →
@@ -111,7 +115,7 @@ twin_faults twin.SpareFailed before bench spare own rose same spare_rose spare_s
     (spare_rose refl, ap (λ (n : ℕ). record before { bench = n; spare = spare }) (same (λ is. cc)))
 twin_faults (twin.Main fault) before bench spare own rose same spare_rose spare_same =
     subst (λ (after : FaultCounts). FaultCause (start_status fault) before after) (sym (both_same before bench spare (same (λ is. cc)) (spare_same (λ is. cc))))
-    (own_steady fault before own)
+    (start_steady fault before own)
 twin_faults fault before bench spare own rose same spare_rose spare_same = both_same before bench spare (same (λ is. cc)) (spare_same (λ is. cc))
 
 -- if the files keep together, a call failed or memory ran out, and nothing was sent
@@ -125,47 +129,12 @@ twin_gave_up twin.MainFailed batch base main other whole before after spare gave
 twin_gave_up twin.SpareFailed batch base main other whole before after spare gave catch = tt
 twin_gave_up twin.NoMemory batch base main other whole before after spare gave catch = inl (catch refl)
 
-pub twin_never_done : (fault : TwinFault) → twin_status fault ≢ Done
-twin_never_done (twin.Main fault) is = never_done fault is
-twin_never_done fault is = cc
-
 pub twin_wants : (fault : TwinFault) (before after : FaultCounts) → TwinGivesUp fault → FaultCause (twin_status fault) before after → NothingFailed before after →
     (Rose before.spare after.spare → ⊥) → IsDoneOrWants (twin_status fault)
 twin_wants twin.MainFailed before after gave rose none fine = absurd (none.bench rose.0)
 twin_wants twin.SpareFailed before after gave rose none fine = absurd (fine rose.0)
 twin_wants twin.NoMemory before after gave rose none fine = inr refl
 twin_wants fault before after gave rose none fine = absurd gave
-
--- before the lines what was only read is as it was, and the spare isn't called before the journal was found sound
-pub twin_at_lines : (P : Type 0) (fault : TwinFault) → ((TwinGivesUp fault → ⊥) → P) → Before reading_lines (twin_status fault) P
-twin_at_lines P (twin.Main fault) holds = start_at_lines P fault (holds (λ gave. gave))
-twin_at_lines P (twin.Spare fault) holds = holds (λ gave. gave)
-twin_at_lines P (twin.Differ place) holds = holds (λ gave. gave)
-twin_at_lines P fault holds = tt
-
-pub twin_at_spare : (P : Type 0) (fault : TwinFault) → ((f : StartFault) → fault ≡ twin.Main f → P) → Before opening_spare (twin_status fault) P
-twin_at_spare P (twin.Main fault) first = of_main fault (first fault refl)
-  where
-    of_main : (f : StartFault) → P → Before opening_spare (start_status f) P
-    of_main start.Failed holds = tt
-    of_main start.NoMemory holds = tt
-    of_main f holds = holds
-twin_at_spare P fault first = tt
-
-pub twin_takes_spare : (fault : TwinFault) (batch : ℕ) (file : List ℕ) → SpareCause (twin_status fault) (Serve batch true) file
-twin_takes_spare (twin.Main fault) batch file = start_spare fault (Serve batch true) file
-twin_takes_spare fault batch file = tt
-
-pub twin_input : (fault : TwinFault) (bytes : List ℕ) → InputCause (twin_status fault) bytes bytes
-twin_input (twin.Main fault) bytes = of_main fault
-  where
-    of_main : (f : StartFault) → InputCause (start_status f) bytes bytes
-    of_main start.Failed = tt
-    of_main start.NoMemory = tt
-    of_main f = refl
-twin_input (twin.Spare fault) bytes = refl
-twin_input (twin.Differ place) bytes = refl
-twin_input fault bytes = tt
 
 -- ---- the lines were answered
 
@@ -181,37 +150,23 @@ front_is_legal table file spare whole keeps =
           (legal_front table whole (length main) all.legal),
     )
 
-pub twins_last : {X : Type 0} (ended : Result X TwinEnd) → EndsLastStep (twin_session_status ended)
-twins_last (Err end.Bench) = tt
-twins_last ended = tt
+-- what its status says by itself
+pub record TwinsSay {X : Type 0} (ended : Result X TwinEnd) : Type 1 where
+  pub last : EndsLastStep (twin_session_status ended)
+  pub words : (batch : ℕ) → WordCause (twin_session_status ended) (Some (Serve batch true))
+  pub file : (batch : ℕ) (file : List ℕ) (table : Guarded) → HoldsLegal file table → FileCause (twin_session_status ended) (Serve batch true) file table
+  pub spare_file : (batch : ℕ) (file : List ℕ) → SpareCause (twin_session_status ended) (Serve batch true) file
+  pub cause : (batch : ℕ) (file spare : List ℕ) (table : Guarded) → BothCause (twin_session_status ended) (Serve batch true) file spare table
+  pub bench : twin_session_status ended ≡ BenchFault → ended ≡ Err end.Bench
+  pub spare : twin_session_status ended ≡ SpareFault → ended ≡ Err end.Spare
+  pub input : twin_session_status ended ≡ SourceFault Input → ended ≡ Err end.Input
+  pub done : (P : Type 0) → twin_session_status ended ≡ Done → OnOk ended P → P
+  pub at_lines : (P : Type 0) → Before reading_lines (twin_session_status ended) P
+  pub at_spare : (P : Type 0) → Before opening_spare (twin_session_status ended) P
 
-pub twins_words : {X : Type 0} (ended : Result X TwinEnd) (batch : ℕ) → WordCause (twin_session_status ended) (Some (Serve batch true))
-twins_words (Err end.Bench) batch = tt
-twins_words (Err end.NoMemory) batch = tt
-twins_words ended batch = refl
-
-pub twins_file : {X : Type 0} (ended : Result X TwinEnd) (batch : ℕ) (file : List ℕ) (table : Guarded) → HoldsLegal file table →
-    FileCause (twin_session_status ended) (Serve batch true) file table
-twins_file (Err end.Bench) batch file table legal = tt
-twins_file (Err end.NoMemory) batch file table legal = tt
-twins_file ended batch file table legal = legal
-
-pub twins_cause : {X : Type 0} (ended : Result X TwinEnd) (batch : ℕ) (file spare : List ℕ) (table : Guarded) →
-    BothCause (twin_session_status ended) (Serve batch true) file spare table
-twins_cause (Err end.Bench) batch file spare table = tt
-twins_cause ended batch file spare table = tt
-
-pub twins_bench : {X : Type 0} (ended : Result X TwinEnd) → twin_session_status ended ≡ BenchFault → ended ≡ Err end.Bench
-twins_bench (Err end.Bench) is = refl
-twins_bench ended is = cc
-
-pub twins_spare : {X : Type 0} (ended : Result X TwinEnd) → twin_session_status ended ≡ SpareFault → ended ≡ Err end.Spare
-twins_spare (Err end.Spare) is = refl
-twins_spare ended is = cc
-
-pub twins_input : {X : Type 0} (ended : Result X TwinEnd) → twin_session_status ended ≡ SourceFault Input → ended ≡ Err end.Input
-twins_input (Err end.Input) is = refl
-twins_input ended is = cc
+pub twins_say : {X : Type 0} (ended : Result X TwinEnd) → TwinsSay ended
+twins_say (Err end.Bench) = search rules
+twins_say ended = search rules
 
 -- three counts that are as they were
 all_same : (before : FaultCounts) (input bench spare : ℕ) → input ≡ before.input → bench ≡ before.bench → spare ≡ before.spare →
@@ -260,12 +215,6 @@ twins_end (Err end.NoMemory) base batch main other whole now before after spare 
     let both = stands (λ is. cc) (λ is. cc) in inr (now, some refl, both.0, both.1)
 twins_end ended base batch main other whole now before after spare all read below some stands = tt
 
--- a session that is done ended well
-pub twins_done : {X P : Type 0} (ended : Result X TwinEnd) → twin_session_status ended ≡ Done → OnOk ended P → P
-twins_done (Ok done) is holds = holds
-twins_done (Err end.Bench) is holds = cc
-twins_done ended is holds = cc
-
 pub twins_reads : {X : Type 0} (ended : Result X TwinEnd) (before after : List ℕ) → OnOk ended (after ≡ []) → OnOk ended (length before ≤ most_input) →
     (ended ≡ Err end.Input → length before ≤ most_input + length after) → (ended ≡ Err end.Limit → most_input + length after < length before) →
     InputCause (twin_session_status ended) before after
@@ -283,15 +232,3 @@ twins_want (Err end.Bench) before after input left rose none fine cause within =
 twins_want (Err end.Spare) before after input left rose none fine cause within = absurd (fine rose.0)
 twins_want (Err end.Limit) before after input left rose none fine cause within = absurd (omega (arith, cause, within))
 twins_want (Err end.NoMemory) before after input left rose none fine cause within = inr refl
-
-pub twins_at_lines : {X : Type 0} (P : Type 0) (ended : Result X TwinEnd) → Before reading_lines (twin_session_status ended) P
-twins_at_lines P (Err end.Bench) = tt
-twins_at_lines P ended = tt
-
-pub twins_at_spare : {X : Type 0} (P : Type 0) (ended : Result X TwinEnd) → Before opening_spare (twin_session_status ended) P
-twins_at_spare P (Err end.Bench) = tt
-twins_at_spare P ended = tt
-
-pub twins_take_spare : {X : Type 0} (ended : Result X TwinEnd) (batch : ℕ) (file : List ℕ) → SpareCause (twin_session_status ended) (Serve batch true) file
-twins_take_spare (Err end.Bench) batch file = tt
-twins_take_spare ended batch file = tt

@@ -62,15 +62,8 @@ same_public columns before after bytes read = same_meaning (public_of columns) 1
 -- a fault that isn't running out of memory is the table's own
 pub own_table_fault : {X : Type 0} (fault : TableFault) (meant : Result X TableFault) → (fault ≡ table_fault.NoMemory → ⊥) →
     UnlessMemory fault (meant ≡ Err fault) → meant ≡ Err fault
-own_table_fault table_fault.TooLong meant other is = is
-own_table_fault table_fault.Header meant other is = is
-own_table_fault (table_fault.Length line) meant other is = is
-own_table_fault (table_fault.NotText line) meant other is = is
-own_table_fault (table_fault.NotNumber line column) meant other is = is
-own_table_fault (table_fault.OutOfRange line column) meant other is = is
-own_table_fault table_fault.TooManyRows meant other is = is
-own_table_fault table_fault.NoRows meant other is = is
 own_table_fault table_fault.NoMemory meant other is = absurd (other refl)
+own_table_fault fault meant other is = is
 
 -- ---- the faults of a read and of a file are told apart
 

@@ -5,7 +5,8 @@ ghost use Rattle.audit_types.specs.History.{IsLegal, IsUndisclosed};
 ghost use Rattle.journal_form.specs.Journal.{StandsFor};
 ghost use Rattle.line_wire.specs.Lines.{CountedLine};
 ghost use Rattle.answer_journal.specs.Moments.{IsMade};
-ghost use Rattle.table_load.specs.Database.{Database, table_in};
+ghost use Rattle.table_load.specs.Cells.{IsSecret};
+ghost use Rattle.table_load.specs.Database.{Database, IsDatabase, table_in};
 ghost use Rattle.audit_session.specs.Stops.{StopsOver, IsBatch};
 ghost use Rattle.auditor_top.specs.Commands.{AreSoundFilesOf};
 ghost use Rattle.auditor_top.specs.Compactions.{DecideAlike, IsUnmadeOrKept};
@@ -13,6 +14,16 @@ ghost use Rattle.auditor_top.specs.declared.words.Command.TheVariants.{Init, Ser
 ghost use Rattle.auditor_top.specs.Words.{command_of, number_of};
 ghost use Rattle.auditor_top.specs.Promise.{LivesKeepPromise, LivesGoOn, LivesGrow, GrowthsAreTaken, MadeIsTaken, StopsAreTaken, TwinStopsAreTaken, RunsMakeLives};
 ghost use Rattle.auditor_top.specs.Shown.{TwinsAreShownAlike, TwinsHaveOneReport, LivesTellNothingMore};
+
+// What files without fault mean is a database, and its secrets are those of a table.
+fn sound_files()
+    ensures database { (schema table : List ℕ) (base : Database) → AreSoundFilesOf schema table base → IsDatabase base }
+    ensures secret { (schema table : List ℕ) (base : Database) → AreSoundFilesOf schema table base → IsSecret base.secret }
+{
+    schema_json::laws::columns_of_a_schema();
+    table_load::laws::secrets_of_a_table();
+    set_index::groups_of_a_schema();
+}
 
 /// Every history for which a stop over a legal history of a table leaves an image is a legal history of it, and discloses nothing of
 /// it that is guarded.
@@ -22,9 +33,7 @@ pub fn stops_are_legal()
         → StopsOver base batch history lines before image sent → StandsFor image base.secret.shape now
         → IsLegal (table_in base) now × IsUndisclosed (table_in base) now }
 {
-    schema_json::laws::columns_of_a_schema();
-    table_load::laws::secrets_of_a_table();
-    set_index::groups_of_a_schema();
+    sound_files();
     audit_session::laws::stops();
 }
 
@@ -35,10 +44,8 @@ pub fn compactions()
         → AreSoundFilesOf schema table base → IsLegal (table_in base) history → IsUnmadeOrKept base.secret.shape history before image sent
         → IsMade image → StandsFor image base.secret.shape found → DecideAlike (table_in base) history found }
 {
-    schema_json::laws::columns_of_a_schema();
-    table_load::laws::secrets_of_a_table();
+    sound_files();
     table_load::lists_of_secrets();
-    set_index::groups_of_a_schema();
     journal_form::laws::one_reading();
     journal_compact::laws::kept_of_legal();
 }
@@ -51,9 +58,7 @@ pub fn lives()
     ensures go_on { LivesGoOn }
     ensures longer { RunsMakeLives }
 {
-    schema_json::laws::columns_of_a_schema();
-    table_load::laws::secrets_of_a_table();
-    set_index::groups_of_a_schema();
+    sound_files();
     table_load::lists_of_secrets();
     audit_session::laws::lives();
     audit_session::laws::hidden();
@@ -68,9 +73,7 @@ pub fn nothing_more()
     ensures one { TwinsHaveOneReport }
     ensures lives { LivesTellNothingMore }
 {
-    schema_json::laws::columns_of_a_schema();
-    table_load::laws::secrets_of_a_table();
-    set_index::groups_of_a_schema();
+    sound_files();
     audit_types::laws::canonical_direction();
     sum_basis::laws::forms_are_unique();
     audit_session::laws::hidden();
@@ -89,9 +92,7 @@ pub fn never_refused()
 {
     stops_are_legal();
     twin_journal::laws::stay_together();
-    schema_json::laws::columns_of_a_schema();
-    table_load::laws::secrets_of_a_table();
-    set_index::groups_of_a_schema();
+    sound_files();
     audit_core::laws::growing_tables();
     lives();
 }

@@ -2,19 +2,11 @@ use Rattle.std.proofs.Common.{List, subst, inl, inr}
 use Rattle.audit_types.specs.declared.records.Answered.{Answered}
 use Rattle.table_load.specs.Database.{table_in}
 use Rattle.auditor_top.specs.Compactions.{DecideAlike}
-use Rattle.auditor_top.proofs.SoundFiles.{MeaningsFit, is_secret}
 use Rattle.auditor_top.proofs.laws.compactions.Goals as goal
 
 pub returns : goal.returns
 returns c = λ schema table before image sent base history found files legal left made stands.
-    let fit : MeaningsFit = record {
-      schema = c.columns_of_a_schema.ensures;
-      secret = c.secrets_of_a_table.ensures.secret;
-      public = c.secrets_of_a_table.ensures.public;
-      shape = c.secrets_of_a_table.ensures.shape;
-      entries = c.groups_of_a_schema.ensures.fit;
-    } in
-    let secrets = c.lists_of_secrets.ensures base.secret (is_secret fit schema table base files) in
+    let secrets = c.lists_of_secrets.ensures base.secret (c.sound_files.ensures.secret schema table base files) in
     let law = c.kept_of_legal.ensures in
     elim left.1 [
       | inl unmade ↦ absurd (unmade made)

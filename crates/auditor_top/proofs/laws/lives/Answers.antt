@@ -3,33 +3,18 @@ use Rattle.audit_types.specs.History.{IsLegal, Table}
 use Rattle.table_load.specs.Database.{table_in}
 use Rattle.audit_session.specs.Lives.{over_all}
 use Rattle.auditor_top.proofs.OneRunMore.{lead_push}
-use Rattle.auditor_top.proofs.SoundFiles.{MeaningsFit, is_database, is_secret}
 use Rattle.auditor_top.proofs.WholeTables.{whole_table}
 use Rattle.auditor_top.proofs.laws.lives.Goals as goal
 
 pub returns-clause-keep : goal.returns-clause-keep
 returns-clause-keep c = λ schema table base runs last files life.
-    let fit : MeaningsFit = record {
-      schema = c.columns_of_a_schema.ensures;
-      secret = c.secrets_of_a_table.ensures.secret;
-      public = c.secrets_of_a_table.ensures.public;
-      shape = c.secrets_of_a_table.ensures.shape;
-      entries = c.groups_of_a_schema.ensures.fit;
-    } in
-    c.lives.ensures base runs last (is_database fit schema table last.base files)
-    (c.lists_of_secrets.ensures last.base.secret (is_secret fit schema table last.base files)) life
+    c.lives.ensures base runs last (c.sound_files.ensures.database schema table last.base files)
+    (c.lists_of_secrets.ensures last.base.secret (c.sound_files.ensures.secret schema table last.base files)) life
 
 pub returns-clause-go_on : goal.returns-clause-go_on
 returns-clause-go_on c = λ schema table image base now runs history files life stands.
-    let fit : MeaningsFit = record {
-      schema = c.columns_of_a_schema.ensures;
-      secret = c.secrets_of_a_table.ensures.secret;
-      public = c.secrets_of_a_table.ensures.public;
-      shape = c.secrets_of_a_table.ensures.shape;
-      entries = c.groups_of_a_schema.ensures.fit;
-    } in
-    let numbers = is_secret fit schema table now files in
-    let database = is_database fit schema table now files in
+    let numbers = c.sound_files.ensures.secret schema table now files in
+    let database = c.sound_files.ensures.database schema table now files in
     let are = c.lists_of_secrets.ensures now.secret numbers in
     let whole = whole_table (table_in now) are database.protected in
     record {
@@ -40,15 +25,8 @@ returns-clause-go_on c = λ schema table image base now runs history files life 
 
 pub returns-clause-longer : goal.returns-clause-longer
 returns-clause-longer c = λ schema table base runs at run files life goes.
-    let fit : MeaningsFit = record {
-      schema = c.columns_of_a_schema.ensures;
-      secret = c.secrets_of_a_table.ensures.secret;
-      public = c.secrets_of_a_table.ensures.public;
-      shape = c.secrets_of_a_table.ensures.shape;
-      entries = c.groups_of_a_schema.ensures.fit;
-    } in
-    let numbers = is_secret fit schema table run.left.base files in
-    let database = is_database fit schema table run.left.base files in
+    let numbers = c.sound_files.ensures.secret schema table run.left.base files in
+    let database = c.sound_files.ensures.database schema table run.left.base files in
     let longer = lead_push (over_all base []) runs at run life goes in
     record {
       life = longer;

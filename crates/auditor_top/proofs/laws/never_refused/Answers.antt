@@ -4,7 +4,6 @@ use Rattle.audit_session.specs.Lives.{Run, GoesFrom, grows}
 use Rattle.journal_form.specs.Journal.{StandsFor}
 use Rattle.table_load.specs.Database.{Database, table_in}
 use Rattle.auditor_top.proofs.OneRunMore.{nothing_is_legal}
-use Rattle.auditor_top.proofs.SoundFiles.{MeaningsFit, is_database}
 use Rattle.auditor_top.proofs.laws.never_refused.Goals as goal
 
 pub returns-clause-made : goal.returns-clause-made
@@ -23,15 +22,8 @@ returns-clause-left c = λ schema table file image before sent base batch histor
 
 pub returns-clause-twins : goal.returns-clause-twins
 returns-clause-twins c = λ schema table file spare image spare_image before sent spare_before spare_sent base batch main other whole lines over found beside.
-    let fit : MeaningsFit = record {
-      schema = c.columns_of_a_schema.ensures;
-      secret = c.secrets_of_a_table.ensures.secret;
-      public = c.secrets_of_a_table.ensures.public;
-      shape = c.secrets_of_a_table.ensures.shape;
-      entries = c.groups_of_a_schema.ensures.fit;
-    } in
     let still = c.stay_together.ensures base batch file spare main other whole lines before sent image spare_before spare_sent spare_image
-    (is_database fit schema table base over.files) over.together found beside in
+    (c.sound_files.ensures.database schema table base over.files) over.together found beside in
     (still.1.0, still.1.1, still.0, record { files = over.files; together = still.1.2 })
 
 pub returns-clause-grown : goal.returns-clause-grown
@@ -44,13 +36,6 @@ returns-clause-grown c = λ schema table file image before sent base rows histor
 -- a growth that was stopped before it began makes the life one run longer, over the new table
 pub returns-clause-grows : goal.returns-clause-grows
 returns-clause-grows c = λ schema table image base now runs last files life extends more stands.
-    let fit : MeaningsFit = record {
-      schema = c.columns_of_a_schema.ensures;
-      secret = c.secrets_of_a_table.ensures.secret;
-      public = c.secrets_of_a_table.ensures.public;
-      shape = c.secrets_of_a_table.ensures.shape;
-      entries = c.groups_of_a_schema.ensures.fit;
-    } in
     let here : StandsFor image (over last.rows now.secret.shape) last.history = elim extends [
       | inl same ↦ subst (λ (b : Database). StandsFor image (over last.rows b.secret.shape) last.history) (sym same) stands
       | inr longer ↦ subst (λ (b : Database). StandsFor image (over last.rows b.secret.shape) last.history) longer.1 stands
@@ -62,5 +47,5 @@ returns-clause-grows c = λ schema table image base now runs last files life ext
       fewer = more;
       stands = here;
       legal = c.growing_tables.ensures.legal (first_rows last.rows (table_in now)) (table_in now) last.history
-          (is_database fit schema table now files).protected (more, refl) (c.lives.ensures.longer schema table base runs last run files life goes).keeps.legal;
+          (c.sound_files.ensures.database schema table now files).protected (more, refl) (c.lives.ensures.longer schema table base runs last run files life goes).keeps.legal;
     }

@@ -6,7 +6,6 @@ use Rattle.auditor_top.specs.declared.status.Status.TheVariants.{Done}
 use Rattle.auditor_top.specs.Ends.{audit_over}
 use Rattle.auditor_top.proofs.OneReport.{one_report, rows_of_legal}
 use Rattle.auditor_top.proofs.ShownAlike.{twins_alike}
-use Rattle.auditor_top.proofs.SoundFiles.{MeaningsFit, is_database, is_secret}
 use Rattle.auditor_top.proofs.WholeTables.{whole_lists}
 use Rattle.auditor_top.proofs.laws.nothing_more.Goals as goal
 
@@ -20,15 +19,8 @@ returns-clause-one c = λ base other history before after sent twins legal here 
 
 pub returns-clause-lives : goal.returns-clause-lives
 returns-clause-lives c = λ schema table base runs last column value files life below guarded.
-    let fit : MeaningsFit = record {
-      schema = c.columns_of_a_schema.ensures;
-      secret = c.secrets_of_a_table.ensures.secret;
-      public = c.secrets_of_a_table.ensures.public;
-      shape = c.secrets_of_a_table.ensures.shape;
-      entries = c.groups_of_a_schema.ensures.fit;
-    } in
-    let database = is_database fit schema table last.base files in
-    let twin = c.hidden.ensures base runs last database (is_secret fit schema table last.base files) life column value below guarded in
+    let database = c.sound_files.ensures.database schema table last.base files in
+    let twin = c.hidden.ensures base runs last database (c.sound_files.ensures.secret schema table last.base files) life column value below guarded in
     let shape = last.base.secret.shape in
     let there : IsDatabase (with_secrets twin.lists last.base) = record { schema = database.schema; shape = database.shape; protected = database.protected } in
     let are : AreSecrets shape (map (take shape.rows) twin.lists) =

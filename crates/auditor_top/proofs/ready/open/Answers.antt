@@ -2,7 +2,7 @@ use Rattle.std.proofs.Common.{◌≡◌, ℕ, List, [], Result, Err, refl, sym, 
 use Rattle.table_load.specs.Database.{base_of}
 use Rattle.auditor_top.specs.declared.words.Command.{Command}
 use Rattle.auditor_top.specs.declared.status.Status.{Status}
-use Rattle.auditor_top.specs.Commands.{reads_files, reads_secrets}
+use Rattle.auditor_top.specs.Commands.{reads_files, reads_secrets, AreSoundFilesOf, reads_groups}
 use Rattle.auditor_top.specs.Ready.{IsGiven, Refuses}
 use Rattle.auditor_top.proofs.FileRefusals.{files_refused, gives_up_over, gives_up_public, of_status}
 use Rattle.audit_types.specs.declared.records.Protected.{Protected}
@@ -12,7 +12,6 @@ use Rattle.table_load.specs.Tables.{public_of, table_of}
 use Rattle.set_index.specs.Indexed.{IndexView}
 use Rattle.set_index.specs.declared.index.IndexFault.{IndexFault}
 use Rattle.set_index.specs.declared.index.IndexFault.TheVariants as index
-use Rattle.auditor_top.specs.Commands.{AreSoundFilesOf, reads_groups}
 use Rattle.auditor_top.proofs.OneTable.{table_is_ok}
 use Rattle.auditor_top.proofs.GroupRefusals.{no_step, lacks, groups_refused, public_gives_up}
 use Rattle.auditor_top.proofs.ready.open.Goals as goal

@@ -11,55 +11,24 @@ mod TwinRefused
 mod TwinOpened
 mod TwinServed
 mod Twin
-use Rattle.std.proofs.Common.{◌≡◌, ◌≤◌, ◌+◌, ℕ, true, false, List, [], length, Option, Some, Result, Ok, Err, IsErr, IsErrOf, OnOk, OnErr, refl, sym, ◌∙◌, ap, subst, inr, map, string_bytes}
-use Rattle.audit_types.specs.declared.records.Answered.{Answered}
-use Rattle.audit_types.specs.declared.shapes.Shape.{Shape}
-use Rattle.audit_types.specs.History.{IsLegal}
+use Rattle.std.proofs.Common.{◌≡◌, true, false, Option, Some, refl, sym, ◌∙◌, ap, subst, inr, map, string_bytes}
 use Rattle.std.proofs.lemmas.Bool.{false≢true}
-use Rattle.bench_core.specs.Causes.{Rose}
-use Rattle.bench_core.specs.Calls.{IsQuiet, LeavesOnly}
-use Rattle.bench_core.specs.Moments.{joins, weakens}
-use Rattle.schema_json.specs.Columns.{Column}
-use Rattle.table_load.specs.Cells.{PublicView, SecretView}
-use Rattle.table_load.specs.Database.{Database, base_of, secret_table}
-use Rattle.table_load.specs.Tables.{table_of, public_of}
-use Rattle.journal_form.specs.Journal.{StandsFor}
-use Rattle.answer_journal.specs.Make.{calls_to_make}
-use Rattle.answer_journal.specs.Moments.{IsAlready, IsUnmadeOrEmpty}
-use Rattle.answer_journal.specs.declared.make.MakeFault.TheVariants as make
-use Rattle.audit_store.specs.Stores.{IsAsLeft}
-use Rattle.line_wire.specs.Lines.{counted_lines}
-use Rattle.question_plan.specs.Session.{Replied}
-use Rattle.audit_session.specs.Ends.{TakesCalls}
-use Rattle.audit_session.specs.Stops.{IsHarmless, StopsOver}
-use Rattle.journal_audit.specs.Reports.{audit_of, subjects, Reports, ReportsFront, SendsMeanwhile}
-use Rattle.transcript_sim.specs.Ends.{EndSends, EndVerdicts, SimulatesMeanwhile}
-use Rattle.transcript_sim.specs.Verdicts.{exchanges}
+use Rattle.table_load.specs.Database.{table_in}
 use Rattle.auditor_top.specs.declared.words.Command.{Command}
 use Rattle.auditor_top.specs.declared.words.Command.TheVariants as command
-use Rattle.auditor_top.specs.declared.ready.Ready.{Ready}
-use Rattle.auditor_top.specs.declared.status.Status.{Status}
 use Rattle.auditor_top.specs.declared.status.Status.TheVariants.{NoMemory}
 use Rattle.auditor_top.specs.Words.{command_of}
-use Rattle.auditor_top.specs.Commands.{AreFilesOf, ServesOver, opens_store, reads_files, reads_groups, reads_secrets, reads_lines, writes}
-use Rattle.auditor_top.specs.Causes.{WordCause, FileCause, InputCause, FaultCause, HoldsLegal, counts}
-use Rattle.auditor_top.specs.Drills.{DrillEnds}
-use Rattle.auditor_top.specs.Ends.{ServeEnds, AuditEnds, SimulateEnds, SendsLines, audit_over, outside}
-use Rattle.auditor_top.specs.Ready.{IsGiven, GivesUp, EndsEarly, IsReady, IsReadyOver, command_for}
-use Rattle.auditor_top.specs.Runs.{objects, faults_of, Making, Serving, Auditing, Simulating, Drilling}
-use Rattle.auditor_top.specs.Stages.{Before, reading_table, opening_journal, opening_spare, reading_lines}
-use Rattle.auditor_top.specs.Faults.{making_status, session_status, audit_status, simulation_status}
-use Rattle.auditor_top.proofs.AuditEndings.{untouched_report, report_ends, report_faults, report_wants}
+use Rattle.auditor_top.specs.Commands.{opens_store, reads_files, reads_groups, reads_secrets}
+use Rattle.auditor_top.specs.Causes.{WordCause, FileCause}
+use Rattle.auditor_top.specs.Ready.{IsGiven, GivesUp, EndsEarly, IsReady}
+use Rattle.auditor_top.specs.Runs.{objects}
+use Rattle.auditor_top.specs.Stages.{opening_spare, reading_lines}
 use Rattle.auditor_top.proofs.OneRunMore.{goes_on}
-use Rattle.auditor_top.proofs.OneCommand.{one_command, same_command, asked_for, not_asked, none_asked, refused_words, takes_step, lacks_step}
-use Rattle.auditor_top.proofs.OneTable.{one_base, same_given, carried, schema_is_ok, table_is_ok}
-use Rattle.auditor_top.proofs.Openings.{stays, one_more, later_still}
+use Rattle.auditor_top.proofs.OneCommand.{one_command, asked_for, none_asked, refused_words}
+use Rattle.auditor_top.proofs.Openings.{stays, one_more}
 use Rattle.auditor_top.proofs.Refusals.{uncalled, as_quiet, refused}
 use Rattle.auditor_top.proofs.SpareCauses.{spare_unread}
-use Rattle.auditor_top.proofs.Sessions.{ends_so, stops_so, harmless_so, calls_so}
-use Rattle.auditor_top.proofs.SimulationEndings.{carried_public, simulation_ends, simulation_sends, simulation_reads, simulation_faults, simulation_wants}
-use Rattle.auditor_top.proofs.StepFaults.{moved, making_cause, making_faults, making_wants, made_or_there, there_is, session_ends, session_faults, session_reads, session_wants}
-use Rattle.auditor_top.proofs.StepStatuses.{always_before, before_so, never_fall, bad_words_say, no_memory_says, reads_nothing, EndsLastStep, schema_read, table_read, past_table, past_journal, no_schema_fault, no_table_fault, schema_was_read, table_was_read}
+use Rattle.auditor_top.proofs.StepStatuses.{always_before, never_fall, bad_words_say, no_memory_says, reads_nothing}
 use Rattle.auditor_top.proofs.running.run.Answers.Init.{init_ends}
 use Rattle.auditor_top.proofs.running.run.Answers.Serve.{serve_ends}
 use Rattle.auditor_top.proofs.running.run.Answers.Audit.{audit_ends}
@@ -73,7 +42,6 @@ use Rattle.auditor_top.proofs.running.run.Answers.TwinRefused.{twin_refused}
 use Rattle.auditor_top.proofs.running.run.Answers.Twin.{twin_ends}
 use Rattle.std.specs.Bool.{OnTrue}
 use Rattle.set_index.specs.Groups.{AreEntries}
-use Rattle.table_load.specs.Database.{table_in}
 use Rattle.auditor_top.proofs.running.run.Goals as goal
 
 -- ---- the arguments are no command

@@ -1,11 +1,10 @@
 -- What `run` says of `audit`.
 use Rattle.std.proofs.Common.{◌≡◌, ◌+◌, ℕ, List, length, Some, OnOk, OnErr, refl, sym, ◌∙◌, ap, subst, map, string_bytes}
 use Rattle.audit_types.specs.declared.records.Answered.{Answered}
-use Rattle.bench_core.specs.Calls.{LeavesOnly}
+use Rattle.bench_core.specs.Calls.{LeavesOnly, IsUntouched}
 use Rattle.bench_core.specs.Moments.{joins, weakens}
 use Rattle.table_load.specs.Cells.{SecretView, PublicView}
 use Rattle.table_load.specs.Database.{Database, base_of, table_in, secret_table}
-use Rattle.bench_core.specs.Calls.{IsUntouched}
 use Rattle.journal_audit.specs.Reports.{audit_of, subjects, Reports, ReportsFront, SendsMeanwhile}
 use Rattle.auditor_top.specs.declared.words.Command.{Command}
 use Rattle.auditor_top.specs.declared.words.Command.TheVariants as command
@@ -20,12 +19,11 @@ use Rattle.auditor_top.specs.Faults.{audit_status}
 use Rattle.auditor_top.proofs.AuditEndings.{untouched_report, report_ends, report_faults, report_wants, report_says}
 use Rattle.auditor_top.proofs.OneCommand.{one_command, same_command, asked_for, not_asked, none_asked, takes_step, lacks_step, spare_called}
 use Rattle.auditor_top.proofs.OneRunMore.{does_so, never_goes_on}
-use Rattle.auditor_top.proofs.OneTable.{same_given, carried}
+use Rattle.auditor_top.proofs.OneTable.{same_given, carried, one_secret}
 use Rattle.auditor_top.proofs.Openings.{stays}
 use Rattle.auditor_top.proofs.Refusals.{as_quiet}
 use Rattle.auditor_top.specs.Stages.{opening_spare}
 use Rattle.auditor_top.proofs.StepStatuses.{at_lines, EndsLastStep, past_table, past_journal, no_schema_fault, no_table_fault, schema_was_read, table_was_read, always_before}
-use Rattle.auditor_top.proofs.OneTable.{one_secret}
 use Rattle.auditor_top.proofs.LastSteps.{faults_so, file_so, groups_so, holds_over, holds_so, later_so, schema_so, stands_so, table_so, words_so}
 use Rattle.auditor_top.proofs.running.run.Given.{Over}
 use Rattle.auditor_top.proofs.running.run.Goals as goal

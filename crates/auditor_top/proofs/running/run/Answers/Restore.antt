@@ -18,7 +18,7 @@ use Rattle.auditor_top.specs.Causes.{BothCause, FaultCause, SpareCause, IsReadyF
 use Rattle.auditor_top.specs.Ready.{IsReadyOver}
 use Rattle.auditor_top.specs.Runs.{objects, faults_of, Restoring}
 use Rattle.auditor_top.specs.Faults.{restoring_status}
-use Rattle.auditor_top.proofs.RestoreEndings.{restore_last, restore_words, restore_file, restore_cause, restore_bench, restore_spare, restore_no_input, restore_faults, restore_wants, restore_at_lines, restore_at_journal, restore_done, restore_takes_spare}
+use Rattle.auditor_top.proofs.RestoreEndings.{restore_at_lines, restore_cause, restore_faults, restore_file, restore_says, restore_wants}
 use Rattle.auditor_top.proofs.OneCommand.{one_command, same_command, asked_for, not_asked, none_asked, takes_step, lacks_step}
 use Rattle.auditor_top.proofs.OneRunMore.{does_so, never_goes_on}
 use Rattle.auditor_top.proofs.OneTable.{one_base}
@@ -81,7 +81,7 @@ done_so g c ptold told done base sound =
     subst (λ (b : Database). (history : List Answered) × (Restored (table_in b) spare file spare_later later history ⊎ Restored (table_in b) file spare later spare_later history))
     (is_seen g c ptold base sound)
     (subst (λ b. (history : List Answered) × (Restored (table g c) spare (g.B.Bench.file b) spare_later later history
-    ⊎ Restored (table g c) (g.B.Bench.file b) spare later spare_later history)) (unopened g c) (restore_done c.restore.result done (c.restore.ensures.done told told)))
+    ⊎ Restored (table g c) (g.B.Bench.file b) spare later spare_later history)) (unopened g c) ((restore_says c.restore.result).done _ done (c.restore.ensures.done told told)))
 
 moments : (g : Over) (c : goal.After-restored g) → g.P.Source.told → g.B.Bench.told → IsQuiet g.B.Bench c.args.bench.now → (base : Database) (history : List Answered) →
     AreSoundFilesOf (g.P.Source.left c.args.schema.now) (g.P.Source.left c.args.table.now) base →
@@ -119,7 +119,7 @@ calls_so g c told done =
     let spare_later = g.B.Bench.moment c.restore.new.spare in
     subst (λ b. (IsLost (g.B.Bench.file c.args.spare.now) × TakeCalls spare spare_later (g.B.Bench.moment b) later)
     ⊎ (IsLost (g.B.Bench.file b) × TakeCalls (g.B.Bench.moment b) later spare spare_later)) (unopened g c)
-    (restore_done c.restore.result done (c.restore.ensures.ticks told told))
+    ((restore_says c.restore.result).done _ done (c.restore.ensures.ticks told told))
 
 restoring : (g : Over) (c : goal.After-restored g) →
     Restoring g.P.Source g.I.Source g.B.Bench c.restored.result (objects c.args.schema.now c.args.table.now c.args.input.now c.args.bench.now c.args.spare.now)
@@ -140,7 +140,7 @@ restoring g c =
     λ can. subst (λ b. CanRestore (table g c) (g.B.Bench.file b) spare) same can in
     subst (λ (s : Status). Restoring g.P.Source g.I.Source g.B.Bench s old new) (sym c.restored.ensures) (record {
       restored = done_so g c;
-      same = λ told done. restore_done ended done (does.alike told told);
+      same = λ told done. (restore_says ended).done _ done (does.alike told told);
       cause = λ ptold told base sound.
           subst (λ (b : Database). BothCause (restoring_status ended) command.Restore file spare (table_in b)) (is_seen g c ptold base sound)
           (restore_cause ended file spare (table g c) does.own (cause g c told));
@@ -153,7 +153,7 @@ restoring g c =
       spare_untouched = λ ptold told quiet none. does.spare_untouched told told quiet (λ can. none (seen g c ptold) (are_of g c ptold) (can_restore can));
       spare_quiet = λ told quiet fine. does.spare_quiet told quiet (λ is. fine (ap restoring_status is));
       unsent = (does.sent ∙ ap g.B.Bench.sent same, does.spare_sent);
-      uncalled = restore_at_journal _ ended;
+      uncalled = (restore_says ended).at_journal _;
       restore_calls = calls_so g c;
       restores = λ ptold told base sound can none fine.
           restore_wants ended (faults_of g.P.Source g.I.Source g.B.Bench old) (faults_of g.P.Source g.I.Source g.B.Bench new)
@@ -174,9 +174,9 @@ restoration_ends g c =
     let same = unopened g c in
     let is_named : command_of (map string_bytes c.args.words.now.items) ≡ Some command.Restore =
     asked_for _ _ _ _ c.in-Ok.ensures.command c.in-Ok-Restore.field-0-is c.in-Ok-Restore.ensures.asked in
-    let last = subst EndsLastStep (sym c.restored.ensures) (restore_last ended) in
+    let last = subst EndsLastStep (sym c.restored.ensures) ((restore_says ended).last) in
     record {
-      words = words_so _ command.Restore status _ is_named c.restored.ensures (restore_words ended);
+      words = words_so _ command.Restore status _ is_named c.restored.ensures (restore_says ended).words;
       schema = λ ptold command asked reads. schema_so status _ _ _ last (are_of g c ptold).files;
       table = λ ptold command asked reads. table_so status _ _ _ last (are_of g c ptold).files;
       public = λ ptold asked. not_asked _ _ _ is_named asked refl;
@@ -190,11 +190,11 @@ restoration_ends g c =
       faults = restored_faults g c;
       schema_last = schema_was_read status last;
       table_last = table_was_read status last;
-      input_last = λ is. absurd (restore_no_input ended (sym c.restored.ensures ∙ is));
-      bench_last = λ is. does.fault.last_call (restore_bench ended does.own (sym c.restored.ensures ∙ is));
-      spare_last = λ is. does.spare_fault.last_call (restore_spare ended (sym c.restored.ensures ∙ is));
+      input_last = λ is. absurd ((restore_says ended).no_input (sym c.restored.ensures ∙ is));
+      bench_last = λ is. does.fault.last_call ((restore_says ended).bench does.own (sym c.restored.ensures ∙ is));
+      spare_last = λ is. does.spare_fault.last_call ((restore_says ended).spare (sym c.restored.ensures ∙ is));
       spare_file = λ told asked is_asked calls. named_so _ command.Restore status _ is_named c.restored.ensures (λ (s : Status) (k : Command). SpareCause s k spare)
-          (restore_takes_spare ended spare) asked is_asked;
+          ((restore_says ended).spare_file spare) asked is_asked;
       later = later_so _ _ _ c.open.ensures.later (stays _) does.fault.later does.spare_fault.later;
       schema_within = λ ptold. schema_was_read status last;
       table_within = λ ptold. table_was_read status last;

@@ -19,15 +19,13 @@ use Rattle.auditor_top.specs.Ready.{IsReadyOver}
 use Rattle.auditor_top.specs.Runs.{objects, faults_of, Simulating}
 use Rattle.auditor_top.proofs.OneCommand.{same_command, asked_for, none_asked, takes_step, lacks_step, spare_called}
 use Rattle.auditor_top.proofs.OneRunMore.{does_so, never_goes_on}
-use Rattle.auditor_top.proofs.OneTable.{schema_is_ok, table_is_ok}
+use Rattle.auditor_top.proofs.OneTable.{schema_is_ok, table_is_ok, groups_are_sound}
 use Rattle.auditor_top.proofs.Openings.{stays}
 use Rattle.auditor_top.proofs.Refusals.{as_quiet}
 use Rattle.auditor_top.proofs.SimulationEndings.{carried_public, simulation_ends, simulation_sends, simulation_reads, simulation_faults, simulation_wants, simulation_says}
 use Rattle.auditor_top.specs.Stages.{opening_spare}
-use Rattle.auditor_top.proofs.StepStatuses.{at_lines, EndsLastStep, schema_read, table_read, past_table, past_journal, no_schema_fault, no_table_fault, schema_was_read, table_was_read, always_before}
+use Rattle.auditor_top.proofs.StepStatuses.{at_lines, EndsLastStep, schema_read, table_read, past_table, past_journal, no_schema_fault, no_table_fault, schema_was_read, table_was_read, always_before, groups_read}
 use Rattle.set_index.specs.Indexed.{IndexView}
-use Rattle.auditor_top.proofs.OneTable.{groups_are_sound}
-use Rattle.auditor_top.proofs.StepStatuses.{groups_read}
 use Rattle.auditor_top.proofs.LastSteps.{faults_so, file_so, later_so, words_so}
 use Rattle.auditor_top.proofs.running.run.Given.{Over}
 use Rattle.auditor_top.proofs.running.run.Goals as goal

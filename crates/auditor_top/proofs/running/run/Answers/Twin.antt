@@ -4,7 +4,7 @@ use Rattle.bench_core.specs.Causes.{Rose}
 use Rattle.table_load.specs.Database.{table_in}
 use Rattle.line_wire.specs.Lines.{counted_lines}
 use Rattle.auditor_top.specs.Faults.{twin_session_status}
-use Rattle.auditor_top.proofs.TwinEndings.{twins_at_lines, twins_at_spare, twins_bench, twins_cause, twins_faults, twins_file, twins_input, twins_last, twins_reads, twins_spare, twins_take_spare, twins_want, twins_words}
+use Rattle.auditor_top.proofs.TwinEndings.{twins_faults, twins_reads, twins_say, twins_want}
 use Rattle.auditor_top.specs.declared.words.Command.{Command}
 use Rattle.auditor_top.specs.declared.words.Command.TheVariants as command
 use Rattle.auditor_top.specs.declared.status.Status.{Status}
@@ -72,7 +72,7 @@ answering g c =
           absurd (none (seen g c) keeps.0 keeps.1 c.in-Ok-start.twin.store.history (record { files = are g c ptold; together = keeps.2 }));
       spare_apart = λ ptold told quiet none. let keeps = together g c told in
           absurd (none (seen g c) keeps.0 keeps.1 c.in-Ok-start.twin.store.history (record { files = are g c ptold; together = keeps.2 }));
-      cause = λ ptold told base sound. twins_cause ended n _ _ _;
+      cause = λ ptold told base sound. (twins_say ended).cause n _ _ _;
       spare_quiet = λ told quiet fine. c.serve_twin.ensures.spare_quiet told (spare_quiet_started g c told quiet) (λ is. fine (ap twin_session_status is));
       spare_unsent = c.serve_twin.ensures.spare_sent ∙ c.in-Ok-start.ensures.spare_sent;
       twin_calls = takes_calls g c;
@@ -93,9 +93,9 @@ twin_ends g c =
     let file = g.B.Bench.file c.args.bench.now in
     let spare = g.B.Bench.file c.args.spare.now in
     let named = is_named g c in
-    let last = subst EndsLastStep (sym c.twins_answered.ensures) (twins_last ended) in
+    let last = subst EndsLastStep (sym c.twins_answered.ensures) (twins_say ended).last in
     record {
-      words = words_so _ one status _ named c.twins_answered.ensures (twins_words ended c.in-Ok-Twin.batch);
+      words = words_so _ one status _ named c.twins_answered.ensures ((twins_say ended).words c.in-Ok-Twin.batch);
       schema = λ ptold command asked reads. schema_so status _ _ _ last (are g c ptold).files;
       table = λ ptold command asked reads. table_so status _ _ _ last (are g c ptold).files;
       public = λ ptold asked. not_asked _ _ _ named asked refl;
@@ -103,18 +103,18 @@ twin_ends g c =
       own_schema_fault = no_schema_fault status last;
       own_table_fault = no_table_fault status last;
       file = λ ptold told. file_so _ one status _ named c.twins_answered.ensures refl _ _ file (λ base sound.
-          twins_file ended c.in-Ok-Twin.batch file (table_in base)
+          (twins_say ended).file c.in-Ok-Twin.batch file (table_in base)
           (holds_over c.groups_of_a_schema.ensures.entries _ _ file _ base (are g c ptold) sound (holds_legal g c told)));
       input = λ itold command asked reads.
           subst (λ (s : Status). InputCause s (g.I.Source.left c.args.input.now) (g.I.Source.left c.serve_twin.new.source)) (sym c.twins_answered.ensures) (reads_so g c itold);
       faults = twin_faults_so g c;
       schema_last = schema_was_read status last;
       table_last = table_was_read status last;
-      input_last = λ is. does.last_read (twins_input ended (sym c.twins_answered.ensures ∙ is));
-      bench_last = λ is. does.fault.last_call (twins_bench ended (sym c.twins_answered.ensures ∙ is));
-      spare_last = λ is. does.spare_fault.last_call (twins_spare ended (sym c.twins_answered.ensures ∙ is));
+      input_last = λ is. does.last_read ((twins_say ended).input (sym c.twins_answered.ensures ∙ is));
+      bench_last = λ is. does.fault.last_call ((twins_say ended).bench (sym c.twins_answered.ensures ∙ is));
+      spare_last = λ is. does.spare_fault.last_call ((twins_say ended).spare (sym c.twins_answered.ensures ∙ is));
       spare_file = λ told command asked calls. named_so _ one status _ named c.twins_answered.ensures (λ (s : Status) (k : Command). SpareCause s k spare)
-          (twins_take_spare ended c.in-Ok-Twin.batch spare) command asked;
+          ((twins_say ended).spare_file c.in-Ok-Twin.batch spare) command asked;
       later = later_so _ _ _ c.open.ensures.later does.later (later_still _ _ _ begun.fault.later does.fault.later)
           (later_still _ _ _ begun.spare_fault.later does.spare_fault.later);
       schema_within = λ ptold. schema_was_read status last;
@@ -128,9 +128,9 @@ twin_ends g c =
       quiet = λ told quiet fine. does.quiet told (quiet_started g c told quiet) (λ is. fine (c.twins_answered.ensures ∙ ap twin_session_status is));
       before_table = past_table _ status last;
       before_bench = past_journal _ status last;
-      before_spare = λ other. subst (λ (s : Status). Before opening_spare s (c.serve_twin.new.spare ≡ c.args.spare.now)) (sym c.twins_answered.ensures) (twins_at_spare _ ended);
-      before_lines = at_lines _ _ _ c.twins_answered.ensures (twins_at_lines _ ended);
-      unwritten = λ told. at_lines _ _ _ c.twins_answered.ensures (twins_at_lines _ ended);
+      before_spare = λ other. subst (λ (s : Status). Before opening_spare s (c.serve_twin.new.spare ≡ c.args.spare.now)) (sym c.twins_answered.ensures) ((twins_say ended).at_spare _);
+      before_lines = at_lines _ _ _ c.twins_answered.ensures ((twins_say ended).at_lines _);
+      unwritten = λ told. at_lines _ _ _ c.twins_answered.ensures ((twins_say ended).at_lines _);
       unread = λ none. none_asked _ _ none named;
       no_files = λ command asked none. takes_step reads_files _ _ _ named asked refl none;
       no_lines = λ command asked none. takes_step reads_lines _ _ _ named asked refl none;

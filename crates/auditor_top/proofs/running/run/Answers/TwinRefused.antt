@@ -11,7 +11,7 @@ use Rattle.auditor_top.specs.Ends.{outside}
 use Rattle.line_wire.specs.Lines.{counted_lines}
 use Rattle.auditor_top.specs.Faults.{twin_status}
 use Rattle.auditor_top.specs.Twins.{BothCatchUp}
-use Rattle.auditor_top.proofs.TwinEndings.{IsOwn, own_fault, refusal, refused_status, twin_at_lines, twin_at_spare, twin_bench, twin_cause, twin_faults, twin_file, front_is_legal, twin_gave_up, twin_input, twin_last, twin_never_done, twin_no_input, twin_spare, twin_takes_spare, twin_wants, twin_words}
+use Rattle.auditor_top.proofs.TwinEndings.{IsOwn, own_fault, refusal, refused_status, twin_cause, twin_faults, twin_file, front_is_legal, twin_gave_up, twin_says, twin_wants, twin_words}
 use Rattle.auditor_top.specs.declared.words.Command.{Command}
 use Rattle.auditor_top.specs.declared.words.Command.TheVariants as command
 use Rattle.auditor_top.specs.declared.status.Status.{Status}
@@ -191,8 +191,8 @@ refusing g c =
           (is_seen g c ptold base sound) (twin_cause fault n _ _ _ (cause g c told));
       spare_quiet = λ told quiet fine. does.spare_quiet told quiet (λ is. fine (ap refused_status is));
       spare_unsent = does.spare_sent;
-      twin_calls = λ ptold itold told done. absurd (twin_never_done fault done);
-      spare_calls = λ ptold itold told done. absurd (twin_never_done fault done);
+      twin_calls = λ ptold itold told done. absurd ((twin_says fault).undone done);
+      spare_calls = λ ptold itold told done. absurd ((twin_says fault).undone done);
       twins_complete = λ ptold itold told base main other whole over within none fine.
           twin_wants fault (faults_of g.P.Source g.I.Source g.B.Bench old) (faults_of g.P.Source g.I.Source g.B.Bench new) (gave g c ptold told base main other whole over)
           (subst (λ (s : Status). FaultCause s (faults_of g.P.Source g.I.Source g.B.Bench old) (faults_of g.P.Source g.I.Source g.B.Bench new)) c.from.ensures
@@ -218,7 +218,7 @@ twin_refused g c =
     let file = g.B.Bench.file c.args.bench.now in
     let spare = g.B.Bench.file c.args.spare.now in
     let named = is_named g c in
-    let last = subst EndsLastStep (sym c.from.ensures) (twin_last fault) in
+    let last = subst EndsLastStep (sym c.from.ensures) (twin_says fault).last in
     record {
       words = words_so _ one status _ named c.from.ensures (twin_words fault c.in-Ok-Twin.batch);
       schema = λ ptold command asked reads. schema_so status _ _ _ last (are g c ptold).files;
@@ -231,15 +231,15 @@ twin_refused g c =
           subst (λ (b : Database). FileCause (twin_status fault) one file (table_in b)) (is_seen g c ptold base sound)
           (twin_file fault c.in-Ok-Twin.batch _ _ _ (cause g c told)));
       input = λ itold command asked reads.
-          subst (λ (s : Status). InputCause s (g.I.Source.left c.args.input.now) (g.I.Source.left c.args.input.now)) (sym c.from.ensures) (twin_input fault _);
+          subst (λ (s : Status). InputCause s (g.I.Source.left c.args.input.now) (g.I.Source.left c.args.input.now)) (sym c.from.ensures) ((twin_says fault).input _);
       faults = refused_faults g c;
       schema_last = schema_was_read status last;
       table_last = table_was_read status last;
-      input_last = λ is. absurd (twin_no_input fault (sym c.from.ensures ∙ is));
-      bench_last = λ is. does.fault.last_call (twin_bench fault (own g c) (sym c.from.ensures ∙ is));
-      spare_last = λ is. does.spare_fault.last_call (twin_spare fault (sym c.from.ensures ∙ is));
+      input_last = λ is. absurd ((twin_says fault).no_input (sym c.from.ensures ∙ is));
+      bench_last = λ is. does.fault.last_call (ap refusal ((twin_says fault).bench (own g c) (sym c.from.ensures ∙ is)));
+      spare_last = λ is. does.spare_fault.last_call (ap refusal ((twin_says fault).spare (sym c.from.ensures ∙ is)));
       spare_file = λ told command asked calls. named_so _ one status _ named c.from.ensures (λ (s : Status) (k : Command). SpareCause s k spare)
-          (twin_takes_spare fault c.in-Ok-Twin.batch spare) command asked;
+          ((twin_says fault).spare_file c.in-Ok-Twin.batch spare) command asked;
       later = later_so _ _ _ c.open.ensures.later (stays _) does.fault.later does.spare_fault.later;
       schema_within = λ ptold. schema_was_read status last;
       table_within = λ ptold. table_was_read status last;
@@ -252,9 +252,9 @@ twin_refused g c =
       before_table = past_table _ status last;
       before_bench = past_journal _ status last;
       before_spare = λ other. subst (λ (s : Status). Before opening_spare s (c.start.new.spare ≡ c.args.spare.now)) (sym c.from.ensures)
-          (twin_at_spare _ fault (λ f is. does.main_first f (ap refusal is)));
-      before_lines = at_lines _ _ _ c.from.ensures (twin_at_lines _ fault (λ refuses. (refl, sent_same g c)));
-      unwritten = λ told. at_lines _ _ _ c.from.ensures (twin_at_lines _ fault (λ refuses. (does.reads fault refl refuses).0.file ∙ ap g.B.Bench.file (unopened g c)));
+          ((twin_says fault).at_spare _ (λ f is. does.main_first f (ap refusal is)));
+      before_lines = at_lines _ _ _ c.from.ensures ((twin_says fault).at_lines _ (λ refuses. (refl, sent_same g c)));
+      unwritten = λ told. at_lines _ _ _ c.from.ensures ((twin_says fault).at_lines _ (λ refuses. (does.reads fault refl refuses).0.file ∙ ap g.B.Bench.file (unopened g c)));
       unread = λ none. none_asked _ _ none named;
       no_files = λ command asked none. takes_step reads_files _ _ _ named asked refl none;
       no_lines = λ command asked none. refl;

@@ -15,7 +15,7 @@ use Rattle.twin_journal.specs.Twins.{CatchesUpOrStops, SpareCatchesUpOrStops, ca
 use Rattle.auditor_top.specs.Ends.{Outside, outside}
 use Rattle.auditor_top.specs.Faults.{twin_session_status}
 use Rattle.auditor_top.specs.Twins.{LeavesTwins, TwinEnds}
-use Rattle.auditor_top.proofs.TwinEndings.{twins_done, twins_end}
+use Rattle.auditor_top.proofs.TwinEndings.{twins_say, twins_end}
 use Rattle.auditor_top.specs.declared.status.Status.TheVariants.{Done}
 use Rattle.auditor_top.specs.Commands.{AreSoundFilesOf}
 use Rattle.auditor_top.proofs.TwinSessions.{always_harmless, then_spare_stops, then_stops}
@@ -129,7 +129,7 @@ takes_calls g c ptold itold told done base main other whole over =
     said g c (λ (b : Database) (h : List Answered). TakesCalls b h n lines (g.B.Bench.moment c.args.bench.now + calls_to_open main whole) later) ptold told base main other
     whole over
     (subst (λ (m : ℕ). TakesCalls (asked g c) c.in-Ok-start.twin.store.history n lines m later) ticks
-    (twins_done c.serve_twin.result done (c.serve_twin.ensures.calls itold told)))
+    ((twins_say c.serve_twin.result).done _ done (c.serve_twin.ensures.calls itold told)))
 
 pub spare_takes_calls : (g : Over) (c : goal.After-drop-schema-inside-in-Ok-start-2 g) → g.P.Source.told → g.I.Source.told → g.B.Bench.told → twin_session_status c.serve_twin.result ≡ Done →
     (base : Database) (main other whole : List Answered) → IsGiven g c base main other whole →
@@ -143,4 +143,4 @@ spare_takes_calls g c ptold itold told done base main other whole over =
     other whole over
     (subst (λ (m : ℕ). KeepsCalls (asked g c) c.in-Ok-start.twin.store.history n lines m later)
     (c.in-Ok-start.ensures.spare_ticks main other whole told told (keep g c ptold base main other whole over))
-    (twins_done c.serve_twin.result done (c.serve_twin.ensures.spare_calls itold told)))
+    ((twins_say c.serve_twin.result).done _ done (c.serve_twin.ensures.spare_calls itold told)))

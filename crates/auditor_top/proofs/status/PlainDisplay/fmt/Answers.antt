@@ -1,6 +1,5 @@
-use Rattle.std.proofs.Common.{◌++◌, ◌∙◌, ℕ, List, sym, subst, codes, decimal}
-use Rattle.std.specs.Fmt.{HasWritten, signed_decimal}
-use Rattle.question_plan.specs.Dues.{word_of}
+use Rattle.std.proofs.Common.{◌∙◌, ℕ, List, sym, subst}
+use Rattle.std.specs.Fmt.{HasWritten}
 use Rattle.auditor_top.specs.declared.status.Status.{Status}
 use Rattle.auditor_top.specs.Status.{plain_text}
 use Rattle.auditor_top.proofs.StatusWords.{tells_no_number}
@@ -8,43 +7,33 @@ use Rattle.auditor_top.proofs.status.PlainDisplay.fmt.Goals as goal
 
 pub returns-in-Damaged-clause-writes : goal.returns-in-Damaged-clause-writes
 returns-in-Damaged-clause-writes g c = λ plain ok.
-    let wrote : HasWritten g.W.Write.write_str_gives c.args.f.now (codes "journal damaged at byte " ++ decimal c.in-Damaged.at) c.write-in-Damaged.new.self =
-    c.write-in-Damaged.ensures.writes plain ok in
-    subst (λ (s : Status). HasWritten g.W.Write.write_str_gives c.args.f.now (plain_text s) c.write-in-Damaged.new.self) (sym c.in-Damaged.is) wrote
+    subst (λ (s : Status). HasWritten g.W.Write.write_str_gives c.args.f.now (plain_text s) c.write-in-Damaged.new.self) (sym c.in-Damaged.is)
+    (c.write-in-Damaged.ensures.writes plain ok)
 
 pub returns-in-Untrue-clause-writes : goal.returns-in-Untrue-clause-writes
 returns-in-Untrue-clause-writes g c = λ plain ok.
-    let wrote : HasWritten g.W.Write.write_str_gives c.args.f.now
-    (codes "record " ++ (decimal c.in-Untrue.place ++ (codes " holds " ++
-    (signed_decimal c.in-Untrue.kept ++ (codes ", table gives " ++ signed_decimal c.in-Untrue.now))))) c.write-in-Untrue.new.self =
-    c.write-in-Untrue.ensures.writes plain ok in
-    subst (λ (s : Status). HasWritten g.W.Write.write_str_gives c.args.f.now (plain_text s) c.write-in-Untrue.new.self) (sym c.in-Untrue.is) wrote
+    subst (λ (s : Status). HasWritten g.W.Write.write_str_gives c.args.f.now (plain_text s) c.write-in-Untrue.new.self) (sym c.in-Untrue.is)
+    (c.write-in-Untrue.ensures.writes plain ok)
 
 pub returns-in-NothingNew-clause-writes : goal.returns-in-NothingNew-clause-writes
 returns-in-NothingNew-clause-writes g c = λ plain ok.
-    let wrote : HasWritten g.W.Write.write_str_gives c.args.f.now (codes "nothing to grow: rows " ++ decimal c.in-NothingNew.rows)
-    c.write-in-NothingNew.new.self = c.write-in-NothingNew.ensures.writes plain ok in
-    subst (λ (s : Status). HasWritten g.W.Write.write_str_gives c.args.f.now (plain_text s) c.write-in-NothingNew.new.self) (sym c.in-NothingNew.is) wrote
+    subst (λ (s : Status). HasWritten g.W.Write.write_str_gives c.args.f.now (plain_text s) c.write-in-NothingNew.new.self) (sym c.in-NothingNew.is)
+    (c.write-in-NothingNew.ensures.writes plain ok)
 
 pub returns-in-Illegal-clause-writes : goal.returns-in-Illegal-clause-writes
 returns-in-Illegal-clause-writes g c = λ plain ok.
-    let wrote : HasWritten g.W.Write.write_str_gives c.args.f.now
-    (codes "record " ++ (decimal c.in-Illegal.place ++ codes " should not have been released")) c.write-in-Illegal.new.self =
-    c.write-in-Illegal.ensures.writes plain ok in
-    subst (λ (s : Status). HasWritten g.W.Write.write_str_gives c.args.f.now (plain_text s) c.write-in-Illegal.new.self) (sym c.in-Illegal.is) wrote
+    subst (λ (s : Status). HasWritten g.W.Write.write_str_gives c.args.f.now (plain_text s) c.write-in-Illegal.new.self) (sym c.in-Illegal.is)
+    (c.write-in-Illegal.ensures.writes plain ok)
 
 pub returns-in-Disagrees-clause-writes : goal.returns-in-Disagrees-clause-writes
 returns-in-Disagrees-clause-writes g c = λ plain ok.
-    let wrote : HasWritten g.W.Write.write_str_gives c.args.f.now
-    (codes "line " ++ (decimal c.in-Disagrees.line ++ (codes " disagrees, due " ++ word_of c.in-Disagrees.due))) c.write-in-Disagrees.new.self =
-    c.write-in-Disagrees.ensures.writes plain ok in
-    subst (λ (s : Status). HasWritten g.W.Write.write_str_gives c.args.f.now (plain_text s) c.write-in-Disagrees.new.self) (sym c.in-Disagrees.is) wrote
+    subst (λ (s : Status). HasWritten g.W.Write.write_str_gives c.args.f.now (plain_text s) c.write-in-Disagrees.new.self) (sym c.in-Disagrees.is)
+    (c.write-in-Disagrees.ensures.writes plain ok)
 
 pub returns-in-BadGroup-clause-writes : goal.returns-in-BadGroup-clause-writes
 returns-in-BadGroup-clause-writes g c = λ plain ok.
-    let wrote : HasWritten g.W.Write.write_str_gives c.args.f.now (codes "schema: group " ++ (decimal c.in-BadGroup.place ++ codes " is bad"))
-    c.write-in-BadGroup.new.self = c.write-in-BadGroup.ensures.writes plain ok in
-    subst (λ (s : Status). HasWritten g.W.Write.write_str_gives c.args.f.now (plain_text s) c.write-in-BadGroup.new.self) (sym c.in-BadGroup.is) wrote
+    subst (λ (s : Status). HasWritten g.W.Write.write_str_gives c.args.f.now (plain_text s) c.write-in-BadGroup.new.self) (sym c.in-BadGroup.is)
+    (c.write-in-BadGroup.ensures.writes plain ok)
 
 pub returns-in_default-clause-writes : goal.returns-in_default-clause-writes
 returns-in_default-clause-writes g c = λ plain ok.
