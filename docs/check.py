@@ -25,6 +25,7 @@ def read(pattern):
 SOURCES = "\n".join(read("crates/*/src/**/*.rt").values())
 SPECS = "\n".join(read("crates/*/specs/**/*.antt").values())
 EDITS = {path.stem for path in TOP.glob("crates/*/must-fail/*.edit")}
+PLANTS = {path.stem for path in TOP.glob("bench/plants/*/*.edit")}
 CLAUSES = set(re.findall(r"\bensures (\w+) \{", SOURCES)) | set(re.findall(r"\brequires (\w+) \{", SOURCES))
 CALLS = set(re.findall(r"\bfn (\w+)", SOURCES)) | set(re.findall(r"\b(?:struct|enum|trait) (\w+)", SOURCES))
 LAWS = set(re.findall(r"\bghost (\w+):", SOURCES)) | set(re.findall(r"\bghost fn (\w+)", SOURCES))
@@ -50,7 +51,8 @@ def missing_edits(page, text):
 
 
 def missing_rows(page, text):
-    """The cells of an index of clauses: a sentence, clauses, words, edits. A table of layers isn't one, though it has as many."""
+    """The cells of an index of clauses: a sentence, clauses, words, edits, and after `planted:` wrong bodies of bench/plants. A table of
+    layers isn't one, though it has as many."""
     text = re.sub(r"(?m)^\| layer .*\n(?:\|.*\n)*", "", text)
     for row in re.findall(r"(?m)^\| (?!what is said|---)(.*) \|$", text):
         cells = row.split(" | ")
@@ -62,9 +64,13 @@ def missing_rows(page, text):
         for name in re.findall(r"`(\w+)`", cells[2]):
             if name not in WORDS | CLAUSES:
                 yield f"word {name}"
-        for name in re.findall(r"\b[a-z0-9]+(?:_[a-z0-9]+){2,}\b", cells[3]):
+        tried, _, planted = cells[3].partition("planted:")
+        for name in re.findall(r"\b[a-z0-9]+(?:_[a-z0-9]+){2,}\b", tried):
             if name not in EDITS and name not in CALLS:
                 yield f"edit {name}"
+        for name in re.findall(r"\b[a-z0-9]+(?:_[a-z0-9]+){2,}\b", planted):
+            if name not in PLANTS:
+                yield f"plant {name}"
 
 
 def missing_entries(page, text):
