@@ -1,0 +1,279 @@
+#!/usr/bin/env python3
+"""What somebody works out who knows more of the numbers than that they are whole, by answers that are all due. bench/range.sh calls this.
+
+    range.py PROGRAM [KEY=VALUE ..]
+
+Works in the folder that it is called in, over tables that it draws, whose public column is a number for each row. KEY=VALUE are further keys
+of the schema. Each attack reads the replies alone, and what it works out is compared with the table afterwards: a number that it takes for
+known and that is another one is a fault. The exit status is 1 if an attack ends otherwise than is expected: all of them succeed without further keys."""
+import json
+import math
+import os
+import random
+import subprocess
+import sys
+from typing import Callable, NamedTuple
+
+from scipy.optimize import linprog
+
+HIGHEST = 10**12  # what the format of the table's file allows, either way
+
+
+class Table:
+    """A fresh journal over a table with these columns of sums. `asked` and `denied` count its questions."""
+
+    def __init__(self, program, keys, columns):
+        self.program, self.asked, self.denied = program, 0, 0
+        if os.path.exists("answers.journal"):
+            os.remove("answers.journal")
+        kinds = [{"name": "id", "is": "number"}] + [{"name": name, "is": "sum"} for name in columns]
+        with open("schema.json", "w") as schema:
+            json.dump({"columns": kinds, **keys}, schema)
+        with open("table.csv", "w") as table:
+            print("id", *columns, sep=",", file=table)
+            for row, numbers in enumerate(zip(*columns.values())):
+                print(row, *numbers, sep=",", file=table)
+        self.run("init", "")
+
+    def run(self, words, given):
+        ended = subprocess.run([self.program, *words.split()], input=given.encode(), capture_output=True)
+        if ended.returncode != 0:
+            sys.exit(f"range: {words} ended with status {ended.returncode}: {ended.stderr.decode().strip()}")
+        return [json.loads(line) for line in ended.stdout.splitlines()]
+
+    def sums(self, sets, column="v"):
+        """The sum over each of these sets of rows, None if it is denied."""
+        lines = [{"ask": "sum", "column": column, "where": f"id in ({', '.join(map(str, rows))})"} for rows in sets]
+        replies = self.run("serve --batch 64", "".join(json.dumps(line) + "\n" for line in lines))
+        found = [reply.get("sum") for reply in replies]
+        self.asked += len(found)
+        self.denied += found.count(None)
+        return found
+
+    def free(self):
+        """How many numbers `audit` calls free."""
+        return sum("direction" in line for line in self.run("audit", ""))
+
+
+def lognormal(draw, count, middle=36_000, spread=0.5):
+    """Numbers as incomes are: many about the middle, few far above."""
+    return [round(middle * math.exp(draw.gauss(0, spread))) for _ in range(count)]
+
+
+def unfold(sets, sums):
+    """Each number as a base and a slope times the number of the first row, or None if a sum is missing: each set has one new row."""
+    form = {sets[0][0]: (0, 1)}
+    for rows, total in zip(sets, sums):
+        (new,) = (row for row in rows if row not in form)
+        if total is None:
+            return None
+        known = [form[row] for row in rows if row in form]
+        form[new] = (total - sum(base for base, _ in known), -sum(slope for _, slope in known))
+    return form
+
+
+def within(form, low, high):
+    """The least and the greatest number of the first row with which all numbers are in the range. `high` may be None."""
+    first, last = low, high if high is not None else HIGHEST
+    for base, slope in form.values():
+        ends = [low - base, (high if high is not None else HIGHEST) - base]
+        least, most = ends if slope > 0 else [-end for end in reversed(ends)]
+        first = max(first, -(-least // abs(slope)))
+        last = min(last, most // abs(slope))
+    return first, last
+
+
+def known_exactly(numbers, sets, sums, low, high):
+    """How many numbers follow from the sums and the range alone. The sets leave one number free."""
+    form = unfold(sets, sums)
+    if form is None:
+        return 0
+    first, last = within(form, low, high)
+    if first != last:
+        return 0
+    if any(numbers[row] != base + slope * first for row, (base, slope) in form.items()):
+        sys.exit("range: a number that was worked out isn't that of the table")
+    return len(form)
+
+
+def doubling(width):
+    """Sets of two and three rows that leave one change: 1 at row 0, and twice as much at each level, until it is wider than the range."""
+    levels = (width).bit_length()
+    sets, first, second, free = [[0, 1], [0, 2]], 1, 2, 3
+    for _ in range(1, levels):
+        sets += [[free, first, second], [free, free + 1], [free, free + 2]]
+        first, second, free = free + 1, free + 2, free + 3
+    return sets + [[free, first, second]]
+
+
+def chain(count, draw):
+    """Sets of two neighbours each, along a line through all rows by chance."""
+    order = list(range(count))
+    draw.shuffle(order)
+    return [list(pair) for pair in zip(order, order[1:])]
+
+
+def exact(program, keys, numbers, sets, low, high):
+    """Asks for the sums over these sets, and says how many numbers they give to one who knows the range."""
+    table = Table(program, keys, {"v": numbers})
+    known = known_exactly(numbers, sets, table.sums(sets), low, high)
+    return table, known, len(numbers), "exactly"
+
+
+def by_doubling(program, keys, low, high):
+    sets = doubling(high - low)
+    people = 1 + max(map(max, sets))
+    return exact(program, keys, lognormal(random.Random(1), people), sets, low, high)
+
+
+def beside_ten(program, keys, low, high):
+    """The same where no sum may be over fewer than ten people: ten more are in each, and their own total is asked first."""
+    sets = doubling(high - low)
+    people = 1 + max(map(max, sets))
+    ten = list(range(people, people + 10))
+    numbers = lognormal(random.Random(1), people + 10)
+    table = Table(program, keys, {"v": numbers})
+    beside, *sums = table.sums([ten, *(rows + ten for rows in sets)])
+    less = [None if None in (total, beside) else total - beside for total in sums]
+    return table, known_exactly(numbers, sets, less, low, high), people, "exactly"
+
+
+def by_chain(program, keys, numbers, seed):
+    return exact(program, keys, numbers, chain(len(numbers), random.Random(seed)), 0, None)
+
+
+def two_zeros():
+    numbers = lognormal(random.Random(2), 400)
+    numbers[17] = numbers[230] = 0
+    return numbers
+
+
+def many_zeros():
+    """1,000 numbers, of which 465 are 0."""
+    draw = random.Random(3)
+    numbers = lognormal(draw, 535) + [0] * 465
+    draw.shuffle(numbers)
+    return numbers
+
+
+def by_halves(program, keys):
+    """Sums over ten of twenty people, drawn by chance, for five twenties: how many numbers a linear program brings near, none below 0."""
+    draw = random.Random(13)
+    numbers = lognormal(draw, 100)
+    table, known = Table(program, keys, {"v": numbers}), 0
+    for start in range(0, 100, 20):
+        sets = [sorted(draw.sample(range(start, start + 20), 10)) for _ in range(60)]
+        told = [(rows, total) for rows, total in zip(sets, table.sums(sets)) if total is not None]
+        known += sum(near(low, high, number, 0.1) for (low, high), number in zip(ends(told, start), numbers[start:]))
+    return table, known, 100, "within 10 %"
+
+
+def ends(told, start):
+    """The least and the greatest that each of twenty numbers from a row on can be by some sums, if none is below 0."""
+    sets = [[int(start + place in rows) for place in range(20)] for rows, _ in told]
+    totals = [total for _, total in told]
+    for place in range(20):
+        one = [int(place == other) for other in range(20)]
+        found = [linprog([sign * cost for cost in one], A_eq=sets, b_eq=totals, method="highs") for sign in (1, -1)]
+        if any(end.status != 0 for end in found):
+            sys.exit(f"range: no solution: {found[0].message}")
+        least, most = found[0].fun, -found[1].fun
+        yield least - 1e-6 * (1 + abs(least)), most + 1e-6 * (1 + abs(most))
+
+
+def by_scale(program, keys):
+    """A pay scale of 15 grades with ten steps each: each one's grade is known, and sums over two people of different grades are asked."""
+    draw = random.Random(5)
+    starts = [round(21_000 * 1.12**grade) for grade in range(15)]
+    scale = [[start + step * round(start / 30) for step in range(10)] for start in starts]
+    grades = [row % 15 for row in range(200)]
+    numbers = [draw.choice(scale[grade]) for grade in grades]
+    pairs = [(row, row + 1) for row in range(0, 200, 2)]
+    table, known = Table(program, keys, {"v": numbers}), 0
+    for (one, other), total in zip(pairs, table.sums(pairs)):
+        fits = [pay for pay in scale[grades[one]] if total is not None and total - pay in scale[grades[other]]]
+        if len(fits) == 1:
+            known += 2
+            if (fits[0], total - fits[0]) != (numbers[one], numbers[other]):
+                sys.exit("range: a pay that was worked out isn't that of the table")
+    return table, known, 200, "exactly"
+
+
+def by_order(program, keys):
+    """Rows sorted by their numbers: sums over neighbours."""
+    numbers = sorted(lognormal(random.Random(7), 400))
+    pairs = [(row, row + 1) for row in range(0, 400, 2)]
+    table = Table(program, keys, {"v": numbers})
+    sums = table.sums(pairs)
+    if None in sums:
+        return table, 0, 400, "within 1 %"
+    known = 0
+    for place, (total, (one, other)) in enumerate(zip(sums, pairs)):
+        below = sums[place - 1] / 2 if place else 0
+        above = sums[place + 1] / 2 if place + 1 < len(sums) else HIGHEST
+        low, high = max(below, total - above), total / 2
+        known += near(low, high, numbers[one], 0.01) + near(total - high, total - low, numbers[other], 0.01)
+    return table, known, 400, "within 1 %"
+
+
+def near(low, high, number, share):
+    """Whether all from `low` to `high`, in which the number is, is near it."""
+    if not low <= number <= high:
+        sys.exit("range: a number isn't in the range that was worked out")
+    return low >= number * (1 - share) and high <= number * (1 + share)
+
+
+def by_two_columns(program, keys):
+    """A bonus of a tenth of the pay, rounded: of each three people one sum of pays and two of bonuses."""
+    pays = lognormal(random.Random(11), 198)
+    table, known = Table(program, keys, {"pay": pays, "bonus": [round(pay / 10) for pay in pays]}), 0
+    threes = range(0, 198, 3)
+    pay = table.sums([(row, row + 1) for row in threes], "pay")
+    later, outer = (table.sums([(row + step, row + 2) for row in threes], "bonus") for step in (1, 0))
+    for row, total, second, first in zip(threes, pay, later, outer):
+        if None in (total, second, first):
+            continue
+        guess = (total + 10 * first - 10 * second) / 2
+        guesses = (guess, total - guess, 10 * first - guess)
+        known += sum(abs(guess - number) <= number * 0.001 for guess, number in zip(guesses, pays[row:]))
+    return table, known, 198, "within 0.1 %"
+
+
+class Attack(NamedTuple):
+    """What is known beside the replies, what is asked, how many of ten numbers it gets, and whether a width and a reach hold it off."""
+
+    knows: str
+    run: Callable
+    of_ten: int
+    is_held_off: bool
+
+
+ATTACKS = [
+    Attack("none below 0 or above 250,000", lambda *run: by_doubling(*run, 0, 250_000), 10, True),
+    Attack("the same, in sums over ten and more", lambda *run: beside_ten(*run, 0, 250_000), 10, True),
+    Attack("none beyond 10^12, as the format has it", lambda *run: by_doubling(*run, -HIGHEST, HIGHEST), 10, True),
+    # In every other order by chance both zeros are an even number of places apart, and then one number is left free.
+    Attack("none below 0, where two of 400 are 0", lambda *run: by_chain(*run, two_zeros(), 4), 10, True),
+    Attack("none below 0, where 465 of 1,000 are 0", lambda *run: by_chain(*run, many_zeros(), 1), 10, False),
+    Attack("none below 0, sums over halves of twenty", by_halves, 1, True),
+    Attack("a pay scale, and each one's grade", by_scale, 10, False),
+    Attack("the rows are sorted by the numbers", by_order, 8, False),
+    Attack("a bonus is a tenth of the pay", by_two_columns, 10, False),
+]
+
+
+def main():
+    program, *words = sys.argv[1:]
+    keys = {key: json.loads(value) for key, value in (word.split("=", 1) for word in words)}
+    is_wrong = False
+    for attack in ATTACKS:
+        table, known, people, how = attack.run(program, keys)
+        expected = known == 0 if keys and attack.is_held_off else known * 10 >= people * attack.of_ten
+        is_wrong |= not expected
+        print(f"{attack.knows}: {table.asked} sums asked, {table.denied} denied; {known} of {people} numbers known {how}; "
+              f"audit calls {table.free()} free" + ("" if expected else "  <- not as expected"), flush=True)
+    return is_wrong
+
+
+if __name__ == "__main__":
+    sys.exit(main())

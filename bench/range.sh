@@ -1,0 +1,10 @@
+#!/bin/sh
+# What somebody works out who knows more of the numbers than that they are whole, by answers that are all due: nine attacks over tables
+# that are drawn here. Prints for each what it asked and how many numbers it has, and ends with 1 if one ends otherwise than is expected.
+# It isn't in the gate. Build the program first: demo/run.sh does. It needs Debian's python3-scipy.
+#
+#   bench/range.sh [KEY=VALUE ..]     further keys of the schema
+# A sync is free in a folder that is kept in memory.
+[ -d /dev/shm ] && export TMPDIR=/dev/shm
+. "$(dirname "$0")/setup.sh"
+/usr/bin/python3 "$here/range.py" "$program" "$@"
