@@ -11,6 +11,7 @@ from .choices import PUBLIC, SECRET
 from .faults import Fault, counted, shown
 from .guards import say_what_is_known, secrets_apart
 from .making import Changes, columns_to_write, convert_all, need_columns, read_as_chosen, say_changes
+from .ordering import by_public_cells, say_order
 from .protecting import need_totals, say_totals
 from .splitting import MOST_ROWS, Part
 from .writing import lines_of, need_few_bytes, put_into_place, said_of_program, try_program
@@ -25,7 +26,8 @@ def add(path, choices_path, old, new, program):
     schema = need_schema(old, columns)
     before = rows_before(old / "table.csv", columns)
     table, changes = read_as_chosen(path, choices), Changes()
-    added = convert_all(table, columns, changes)
+    public = [column.name for column in columns if column.kind in PUBLIC]
+    added = by_public_cells(convert_all(table, columns, changes), public)
     wave_words = number_waves(before, added)
     rows = before + added
     if len(rows) > MOST_ROWS:
@@ -38,10 +40,9 @@ def add(path, choices_path, old, new, program):
         try_program(beside, program)
     said_of_program(program)
     say_changes({**choices, "wave": None}, columns, table, changes)
+    say_order()
     say_totals(schema.get("protect", []), columns, [Part(rows)])
-    say_what_is_known(
-        rows, [column.name for column in columns if column.kind in PUBLIC], [c.name for c in columns if c.kind in SECRET]
-    )
+    say_what_is_known(rows, public, [column.name for column in columns if column.kind in SECRET])
     say_next(old, new, columns, before, added, wave_words)
 
 

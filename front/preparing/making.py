@@ -11,6 +11,7 @@ from .faults import Fault, counted, listed, shown
 from .guards import say_what_is_known, secrets_apart
 from .looking import step
 from .names import free
+from .ordering import by_public_cells, say_order
 from .protecting import need_totals, say_totals
 from .reading import Layout, decode, load, read_rows, without_separator_line
 from .splitting import parts, say_parts
@@ -63,9 +64,11 @@ def make(path, choices_path, folder, program):
     secrets_apart(
         rows, columns, {column.name: texts_of(table, column, changes) for column in columns if column.kind == "text"}
     )
+    rows = by_public_cells(rows, public)
     tables = parts(rows, choices["split by"], public)
     write_folders(folder, columns, totals, tables, program)
     say_changes(choices, columns, table, changes)
+    say_order()
     say_parts(tables)
     say_totals(totals, columns, tables)
     say_what_is_known(rows, public, secret)

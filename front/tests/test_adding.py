@@ -48,6 +48,15 @@ class Adding(TableTest):
         self.assertIn("then auditor grow there, once", said)
         self.assertNotIn("CAREFUL: no public number", said)
 
+    def test_rows_that_come_stand_by_their_public_cells_and_those_before_as_they_were(self):
+        before = (self.out / "table.csv").read_bytes()
+        said = self.add("team,age,salary\nQA,50,1\nQA,9,2\n" + "".join(f"DEV,30,{pay}\n" for pay in range(100, 140)))[1]
+        added = (self.longer / "table.csv").read_bytes().removeprefix(before).decode().splitlines()
+        self.assertEqual(added[-2:], ["QA,9,2,2", "QA,50,1,2"])
+        self.assertEqual(sorted(added[:-2]), [f"DEV,30,{pay},2" for pay in range(100, 140)])
+        self.assertNotEqual(added[:-2], sorted(added[:-2]))
+        self.assertIn("rows: in the order of their public cells, those that are alike by chance", said)
+
     def test_look_says_what_it_takes_to_add_rows_later(self):
         self.choices.unlink()
         self.assertIn("rows may be added later: choose wave=1", self.look(STAFF)[1])

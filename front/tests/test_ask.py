@@ -210,8 +210,8 @@ class OverAFolder(TableTest):
         lines = said.splitlines()
         self.assertEqual(lines[:6], [
             "It would be answered now: what was answered since makes it safe. Ask it again.", '  {"verdict":"released"}', "1765.00",
-            "the number of row 5 is record 0, less the answer asked for", '  {"verdict":"unsafe","row":5,"times":1,"by":[[0,1]],"asked":-1}',
-            "were the answer 0, row 5 would be the only one that can have it"])
+            "the number of row 2 is record 0, less the answer asked for", '  {"verdict":"unsafe","row":2,"times":1,"by":[[0,1]],"asked":-1}',
+            "were the answer 0, row 2 would be the only one that can have it"])
         self.assertEqual((status, lines[7], lines[9][:12]), (1, "It would be answered: counts always are.", "not answered"))
 
     @needs_program

@@ -2,6 +2,7 @@
 
 import json
 import os
+import random
 import stat
 import unittest
 from unittest import mock
@@ -191,7 +192,7 @@ class Numbers(TableTest):
         self.assertEqual(self.pays(["1.50", "2.0"], "pay.decimals=1"), ["15", "20"])
 
     def test_a_public_number_is_rounded_by_choice_and_said(self):
-        for how, due in (("down", ["1", "-2", "3", "5"]), ("nearest", ["1", "-1", "4", "5"])):
+        for how, due in (("down", ["-2", "1", "3", "5"]), ("nearest", ["-1", "1", "4", "5"])):
             with self.subTest(how):
                 self.choices.unlink(missing_ok=True)
                 self.out = self.folder / how
@@ -359,7 +360,7 @@ class Missing(TableTest):
         self.choices.write_text(text)
         self.choose("land=text", "pay=sum", "protect=none")
         self.assertEqual(self.make()[0], 0)
-        self.assertEqual(self.table()[1], ["NA", "5"])
+        self.assertEqual(self.table()[-1], ["NA", "5"])
 
     def test_no_row_that_is_left_is_refused(self):
         self.assertIn(
@@ -584,6 +585,47 @@ class Choices(TableTest):
         self.assertFalse(self.out.exists())
 
 
+class Order(TableTest):
+    """Rows stand by their public cells, and those that are alike by chance: nothing of a secret is seen in their order."""
+
+    def test_rows_stand_in_the_order_of_their_public_cells(self):
+        said = self.made("pay,age,team\n1,10,QA\n2,9,QA\n3,-5,QA\n4,41,DEV\n", "pay=sum", "age=number", "team=text")
+        self.assertEqual(
+            self.table(),
+            [["pay", "age", "team"], ["3", "-5", "QA"], ["2", "9", "QA"], ["1", "10", "QA"], ["4", "41", "DEV"]],
+        )
+        self.assertEqual(self.table("public"), [row[1:] for row in self.table()])
+        self.assertIn("rows: in the order of their public cells, those that are alike by chance", said)
+
+    def alike(self, name):
+        """The pays of 40 people of one team, in the order in which they are written; in the file they are sorted."""
+        self.out = self.folder / name
+        self.choices.unlink(missing_ok=True)
+        self.made("team,pay\n" + "".join(f"A,{pay}\n" for pay in range(100, 140)), "team=text", "pay=sum")
+        pays = [int(row[1]) for row in self.table()[1:]]
+        self.assertEqual(sorted(pays), list(range(100, 140)))
+        return pays
+
+    def test_rows_that_are_alike_stand_by_chance(self):
+        pays = self.alike("one")
+        neighbours = sum(abs(one - other) == 1 for one, other in zip(pays, pays[1:]))
+        self.assertLess(neighbours, 20)
+        self.assertNotEqual(self.alike("other"), pays)
+
+    def test_nobody_can_set_the_chance(self):
+        random.seed(5)
+        pays = self.alike("one")
+        random.seed(5)
+        self.assertNotEqual(self.alike("other"), pays)
+
+    def test_parts_stand_in_the_order_of_their_values(self):
+        said = self.made(
+            "pay,team\n" + "".join(f"{pay},{'BA'[pay % 2]}\n" for pay in range(50)), "pay=sum", "team=text", "split by=team"
+        )
+        self.assertLess(said.index("A: the 25 rows"), said.index("B: the 25 rows"))
+        self.assertNotEqual([row[0] for row in self.table("A")[1:]], [str(pay) for pay in range(1, 50, 2)])
+
+
 class Written(TableTest):
     def schema(self, where=""):
         return json.loads((self.out / where / "schema.json").read_text())
@@ -600,7 +642,7 @@ class Written(TableTest):
 
     def test_the_public_folder_has_the_public_columns_alone(self):
         self.made("team,age,salary\nQA,30,918273\nQA,41,564738\nDEV,41,192837\n", *STAFF_KINDS)
-        self.assertEqual(self.table("public"), [["team", "age"], ["QA", "30"], ["QA", "41"], ["DEV", "41"]])
+        self.assertEqual(self.table("public"), [["team", "age"], ["DEV", "41"], ["QA", "30"], ["QA", "41"]])
         self.assertEqual(
             sorted(path.name for path in (self.out / "public").iterdir()), ["notes.json", "schema.json", "table.csv"]
         )
