@@ -1,8 +1,8 @@
 #!/usr/bin/env python3
 """Checks that what the documents name is there: links, paths, edits, clauses and words of specs/; that README shows replies of
 the demo, in order; that the demo and the gate's case of the program have the same files; that the pages name the newest release;
-that DECISIONS lists each of its entries by crate once; and that the promise stands on no more lines of definitions than it may
-(promise_size.py).
+that DECISIONS lists each of its entries by crate once; that the gate tries no more wrong bodies than it may; and that the promise stands on
+no more lines of definitions than it may (promise_size.py).
 
     docs/check.py           # prints each name that isn't there; exits with 1 if there is one
 """
@@ -129,6 +129,19 @@ def missing_titles():
             yield f"docs/DECISIONS.md: {times[0]} entries and {times[1]} times in the list by crate: {title}"
 
 
+MOST_EDITS, MOST_EDITS_OF_ALL = 6, 200
+
+
+def too_many_edits():
+    """Crates with more wrong bodies than the gate may try, and all of them together (GATE.md)."""
+    counts = {crate: len(list(TOP.glob(f"crates/{crate}/must-fail/*.edit"))) for crate in sorted(CRATES)}
+    for crate, count in counts.items():
+        if count > MOST_EDITS:
+            yield f"crates/{crate}: {count} edits, and {MOST_EDITS} at most"
+    if sum(counts.values()) > MOST_EDITS_OF_ALL:
+        yield f"crates: {sum(counts.values())} edits, and {MOST_EDITS_OF_ALL} at most"
+
+
 CHECKS = [missing_links, missing_paths, missing_edits, missing_rows, missing_entries, missing_tests]
 
 
@@ -140,7 +153,7 @@ def main():
         for check in CHECKS
         for fault in check(page, page.read_text())
     ]
-    faults += [*stale_transcript(), *stale_copies(), *stale_version(), *missing_titles(), *promise_size.too_long()]
+    faults += [*stale_transcript(), *stale_copies(), *stale_version(), *missing_titles(), *too_many_edits(), *promise_size.too_long()]
     print("\n".join(faults) if faults else f"{len(PAGES)} pages, and all that they name is there")
     return 1 if faults else 0
 
