@@ -1,5 +1,6 @@
 # Read by scripts that set `top`, the top of the repository: `build` proves and builds the program, says on standard error
-# what it is at, and sets `program`. The first run proves some twenty crates; a later one only what has changed.
+# what it is at and how long is left, and sets `program`. The first run proves some thirty crates; a later one only what has changed.
+# It can be stopped at any time: the next run goes on with the crate that it was at.
 
 # The crates that the program stands on, itself last, in the order of crates.txt.
 crates_below() {
@@ -15,33 +16,81 @@ crates_below() {
     ' "$top/crates.txt"
 }
 
-# Proves and builds one crate. The program is also started, in a folder without files for it: it then ends with 5.
+# Proves and builds one crate, in a process of its own. The program is also started, in a folder without files for it: it then ends with 5.
 prove() {
-    cd "$top/crates/$1" || return 1
+    cd "$top/crates/$1" || exit 1
     case $1 in
-    auditor)
-        rt run -- serve </dev/null
-        [ $? = 5 ]
-        ;;
-    *) rt lib </dev/null ;;
+    auditor) exec rt run -- serve </dev/null ;;
+    *) exec rt lib </dev/null ;;
     esac
 }
 
+# The file of each crate's seconds that counts here: that of the last run on this machine which proved them all, or the repository's.
+shares() {
+    for file in "$top/crates/auditor/out/shares.txt" "$top/demo/shares.txt"; do
+        [ ! -f "$file" ] || { echo "$file"; return; }
+    done
+}
+
+# How long is left, if these crates are: their shares, at the pace of those that this run has proved.
+time_left() {
+    crates_below | tail -n "+$number" | awk -v proved="$proved" -v shares="$(shares)" '
+        BEGIN {
+            while ((getline <shares) > 0) if ($1 !~ /^#/) share[$1] = $2
+            while ((getline <proved) > 0) { took += $2; due += share[$1] }
+        }
+        { left += share[$1] }
+        END {
+            minutes = left * (took + 60) / (due + 60) / 60
+            if (minutes < 1) print "less than a minute is left"
+            else printf "about %d min are left\n", minutes + 0.5
+        }'
+}
+
+# Whether all of the crate was proved just now, and nothing of it before.
+is_new() {
+    grep -q ': proved$' "$proved.said" && ! grep -q 'begins with what a check kept' "$proved.said"
+}
+
+# Ends the run in the midst of a crate.
+leave_off() {
+    kill "$prover" 2>/dev/null
+    wait "$prover"
+    printf 'stopped\nrun it again to go on with %s\n' "$crate" >&2
+    rm -f "$proved" "$proved.said"
+    exit 130
+}
+
 build() {
+    command -v rt >/dev/null || { echo "the Rattle kit is missing, which has rt: without it take a package, which has the built program" >&2; return 1; }
+    proved=$(mktemp) || return 1
     began=$(date +%s)
     number=0
     of=$(crates_below | wc -l)
-    printf 'proving and building %d crates: fifteen to twenty-five minutes on four processors the first time, seconds later on\n' "$of" >&2
+    printf 'proving and building %d crates; stop it when you like, and run it again to go on\n' "$of" >&2
+    trap leave_off HUP INT TERM
     for crate in $(crates_below); do
         number=$((number + 1))
         since=$(date +%s)
-        printf 'proving %s, %d of %d: ' "$crate" "$number" "$of" >&2
-        if ! said=$(prove "$crate" 2>&1); then
-            printf 'failed\n%s\n' "$said" >&2
+        printf '%d of %d, %s: proving %s: ' "$number" "$of" "$(time_left)" "$crate" >&2
+        prove "$crate" >"$proved.said" 2>&1 &
+        prover=$!
+        wait "$prover"
+        status=$?
+        [ "$crate" != auditor ] || status=$((status - 5))
+        if [ "$status" != 0 ]; then
+            printf 'failed\n' >&2
+            cat "$proved.said" >&2
+            rm -f "$proved" "$proved.said"
             return 1
         fi
-        printf '%d s\n' $(($(date +%s) - since)) >&2
+        seconds=$(($(date +%s) - since))
+        ! is_new || echo "$crate $seconds" >>"$proved"
+        printf '%d s\n' "$seconds" >&2
     done
+    trap - HUP INT TERM
+    [ "$(wc -l <"$proved")" != "$of" ] || cp "$proved" "$top/crates/auditor/out/shares.txt"
+    rm -f "$proved" "$proved.said"
     printf 'the program is built, after %d s\n' $(($(date +%s) - began)) >&2
     program=$top/crates/auditor/out/auditor
 }
