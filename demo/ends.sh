@@ -1,9 +1,10 @@
 # Read by edges.sh, two_disks.sh, attacks.sh and statuses.sh, after `set -u` and with their arguments: finds the program, makes a folder that is
-# gone at the end, and has what they say of an end. If no program is given it is the one that run.sh built in the source.
+# gone at the end, and has what they say of an end. If no program is given it is the one that run.sh built in the source, or the package's own.
 demo=$(cd "$(dirname "$0")" && pwd)
 built=${1:-$demo/../crates/auditor/out/auditor}
+[ $# -gt 0 ] || [ -e "$built" ] || built=$demo/../../../bin/auditor
 if [ ! -f "$built" ] || [ ! -x "$built" ]; then
-    echo "${1:+there is no program $1; }give the program; in a package it is bin/auditor, in the source run.sh builds it" >&2
+    echo "${1:+there is no program $1; }give the program; in the source run.sh builds it" >&2
     exit 1
 fi
 

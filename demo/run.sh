@@ -6,7 +6,7 @@
 # twin, is lost, and is written anew from it. In a folder with the public columns alone the decisions of the transcript are computed
 # again: it agrees, and with one reply changed it doesn't. Then a schema protects a team's total, and that total is denied. At last the
 # table is prepared anew from its CSV, as with a table of your own, and asked about in plain words. The exit status is 0 if all is as it
-# should be. If no program is given it is built first, which takes the source and the kit; in a package it is bin/auditor.
+# should be. If no program is given it is built first, which takes the source and the kit; in a package it is the package's own.
 #
 #   demo/run.sh [PROGRAM]
 set -u
@@ -21,8 +21,10 @@ elif [ -f "$demo/build.sh" ]; then
     top=$(dirname "$demo")
     . "$demo/build.sh"
     build || exit 1
+elif [ -x "$demo/../../../bin/auditor" ]; then
+    program=$(cd "$demo/../../../bin" && pwd)/auditor
 else
-    echo "demo: give the program: run.sh PROGRAM; in a package it is bin/auditor" >&2
+    echo "demo: give the program: run.sh PROGRAM" >&2
     exit 1
 fi
 

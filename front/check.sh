@@ -34,8 +34,8 @@ install() {
     RUNLEVEL=1 DEBIAN_FRONTEND=noninteractive apt-get install -y -qq --no-install-recommends "$@" >/dev/null 2>&1
 }
 
-needed="python3-aiohttp python3-pandas socat nginx"
-wanted="chromium chromium-driver python3-selenium fonts-dejavu-core r-base-core r-cran-jsonlite r-cran-curl"
+needed="python3-aiohttp python3-pandas socat nginx binutils"
+wanted="chromium chromium-driver python3-selenium fonts-dejavu-core r-base-core r-cran-jsonlite r-cran-curl lintian"
 if [ "$(id -u)" = 0 ] && command -v apt-get >/dev/null; then
     install $(missing $needed)
     install $(missing $wanted) || for package in $(missing $wanted); do install "$package"; done

@@ -1,6 +1,7 @@
 #!/bin/sh
 # Makes the table of an office that doesn't exist in a fresh folder, starts the door over it, and prints the address to open.
-# Ctrl-C ends it and removes the folder. If no program is given it is built first, which takes the source and the kit.
+# Ctrl-C ends it and removes the folder. If no program is given it is built first, which takes the source and the kit; in a package it
+# is the package's own.
 #
 #   front/demo.sh [PROGRAM [PORT]]
 set -u
@@ -12,10 +13,15 @@ if [ $# -gt 0 ]; then
         echo "demo: there is no program $1" >&2
         exit 1
     fi
-else
+elif [ -f "$front/../demo/build.sh" ]; then
     top=$(dirname "$front")
     . "$top/demo/build.sh"
     build || exit 1
+elif [ -x "$front/../../../bin/auditor" ]; then
+    program=$(realpath "$front/../../../bin/auditor")
+else
+    echo "demo: give the program: demo.sh PROGRAM" >&2
+    exit 1
 fi
 if ! $python -c "import aiohttp" 2>/dev/null; then
     echo "demo: the door needs aiohttp: apt-get install --no-install-recommends python3-aiohttp" >&2
