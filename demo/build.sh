@@ -55,7 +55,7 @@ is_new() {
 # Ends the run in the midst of a crate.
 leave_off() {
     kill "$prover" 2>/dev/null
-    wait "$prover"
+    wait "$prover" 2>/dev/null
     printf 'stopped\nrun it again to go on with %s\n' "$crate" >&2
     rm -f "$proved" "$proved.said"
     exit 130

@@ -1,6 +1,6 @@
 #!/bin/sh
 # Brings the program to ends that files, terminals and pipes give it, and prints for each what it ended with and what it
-# said. Ends with 0 if each is the one that OPERATIONS.md names. If no program is given it is the one that run.sh built in the
+# said. Ends with 0 if each is the one that STATUSES.md names. If no program is given it is the one that run.sh built in the
 # source.
 #
 #   demo/edges.sh [PROGRAM]

@@ -68,7 +68,7 @@ if [ ! -f "$journal" ] || [ -L "$journal" ]; then
 fi
 case $(ls -ld -- "$journal") in
 -?w*) ;;
-*) stop 1 "Nobody may write $journal: a run couldn't sync it. OPERATIONS.md says what to do." ;;
+*) stop 1 "Nobody may write $journal: a run couldn't sync it. KEEPING.md says what to do." ;;
 esac
 if [ -e "$copy" ] || [ -L "$copy" ]; then
     stop 1 "$copy is already there: an earlier replacing was stopped, or left it." \
@@ -92,7 +92,7 @@ if [ -n "$twin" ]; then
         fi
     done
     # A spare that is a group ahead brings the journal up; journals that differ stop here.
-    "$program" serve --twin </dev/null || stop 1 "auditor serve --twin ended with code $?: OPERATIONS.md says for each code what to do." \
+    "$program" serve --twin </dev/null || stop 1 "auditor serve --twin ended with code $?: STATUSES.md says for each code what to do." \
         "$journal and $spare are as that left them, and nothing is lost."
 fi
 
@@ -103,7 +103,7 @@ if [ -n "$twin" ]; then
     mv -T -- "$spare" "$aside" || stop_before "$spare can't be renamed."
 fi
 
-"$program" compact || stop_before "auditor compact ended with code $?: OPERATIONS.md says for each code what to do."
+"$program" compact || stop_before "auditor compact ended with code $?: STATUSES.md says for each code what to do."
 if [ ! -s "$spare" ] || [ -L "$spare" ]; then
     stop_before "auditor compact left no $spare."
 fi
@@ -120,7 +120,7 @@ exec 9<&-
 sync -- . || stop 3 "$journal is the compacted one, and a power cut may still bring back the old one, since the folder can't be synced." \
     "The next run over it syncs the folder first, and ends with code 6 if it can't. $copy is as it was before."
 "$program" serve </dev/null || stop 3 "$journal is the compacted one, and auditor serve ended with code $? over it." \
-    "OPERATIONS.md says for each code what to do. As long as no answer was given since, $copy may be put back."
+    "STATUSES.md says for each code what to do. As long as no answer was given since, $copy may be put back."
 
 # The second journal is written anew over the compacted one: in the place of its name, or where a link leads.
 if [ -n "$twin" ]; then
@@ -128,7 +128,7 @@ if [ -n "$twin" ]; then
         mv -T -- "$there" "$there.old" || stop_without_twin "$there can't be renamed."
         mv -T -- "$aside" "$spare" || stop_without_twin "$aside can't be renamed to $spare."
     fi
-    "$program" restore || stop_without_twin "auditor restore ended with code $?: OPERATIONS.md says for each code what to do."
+    "$program" restore || stop_without_twin "auditor restore ended with code $?: STATUSES.md says for each code what to do."
     "$program" serve --twin </dev/null || stop_without_twin "auditor serve --twin ended with code $?."
 fi
 printf 'replace: %s\n' "$journal is compacted, and $copy is what it was before." "Never put that back once an answer was given since." >&2

@@ -33,6 +33,9 @@ trap 'rm -rf "$folder"' EXIT
 cp "$demo/schema.json" "$demo/table.csv" "$demo/questions.jsonl" "$folder" || exit 1
 cd "$folder" || exit 1
 "$program" init || { echo "demo: auditor init ended with status $?" >&2; exit 1; }
+# try.sh begins with this journal.
+made=$(dirname "$demo")/crates/auditor/data/answers.journal
+[ ! -f "$made" ] || cmp answers.journal "$made" || exit 1
 "$program" serve <questions.jsonl >replies.jsonl || { echo "demo: auditor serve ended with status $?" >&2; exit 1; }
 cat replies.jsonl
 cmp replies.jsonl "$demo/replies.jsonl" || exit 1

@@ -1,6 +1,6 @@
 #!/bin/sh
 # Brings the program to each of its exit codes, and compares the code, the text on standard error and what was sent to standard output
-# with those that OPERATIONS.md names. Prints a line for each, and ends with 0 if all are as it says.
+# with those that STATUSES.md names. Prints a line for each, and ends with 0 if all are as it says.
 #
 #   demo/statuses.sh [PROGRAM]
 set -u

@@ -1,6 +1,6 @@
 #!/bin/sh
 # Keeps two journals on two disks, the second by a link, and prints what the runs end with and say if one disk is full, may only be read,
-# isn't there, or goes away while a run is open. Ends with 0 if each end is the one that OPERATIONS.md names, and each of the two files
+# isn't there, or goes away while a run is open. Ends with 0 if each end is the one that STATUSES.md names, and each of the two files
 # alone has the record of every answer that left, as long as its disk is there.
 #
 #   demo/two_disks.sh [PROGRAM]

@@ -1,11 +1,13 @@
 #!/usr/bin/env python3
-"""Checks that what the documents name is there: links, paths, edits, clauses and words of specs/; that README shows replies of
-the demo, in order; that the demo and the gate's case of the program have the same files; that the pages name the newest release;
-that DECISIONS lists each of its entries by crate once; that the gate tries no more wrong bodies than it may; and that the promise stands on
-no more lines of definitions than it may (promise_size.py).
+"""Checks that what the documents name is there: links, paths, edits, clauses and words of specs/; that README's questions are the
+demo's and have its replies; that the demo and the gate's case of the program have the same files; that the pages name the newest release;
+that each entry of DECISIONS stands under its crates, and these in the order of crates.txt; that README and ARCHITECTURE are no longer than
+they may be; that the gate tries no more wrong bodies than it may; and that the promise stands on no more lines of definitions than it may
+(promise_size.py).
 
     docs/check.py           # prints each name that isn't there; exits with 1 if there is one
 """
+import json
 import re
 import sys
 from pathlib import Path
@@ -32,10 +34,21 @@ LAWS = set(re.findall(r"\bghost (\w+):", SOURCES)) | set(re.findall(r"\bghost fn
 WORDS = set(re.findall(r"(?m)^\s*(?:pub |abbrev |unfoldable |record |data |enum )*(\w+)\b", SPECS)) | CALLS
 
 
+def anchors(text):
+    """The names by which a page's headings can be linked to."""
+    headings = re.findall(r"(?m)^#+ (.*)$", text)
+    return {re.sub(r"[^\w -]", "", heading.lower()).replace(" ", "-") for heading in headings}
+
+
 def missing_links(page, text):
-    for target in re.findall(r"\]\(([^)#\s]+)\)", text):
-        if "://" not in target and not (page.parent / target).exists():
+    for target, part in re.findall(r"\]\(([^)#\s]*)#?([^)\s]*)\)", text):
+        if "://" in target:
+            continue
+        linked = page.parent / target if target else page
+        if not linked.exists():
             yield f"link {target}"
+        elif part and part not in anchors(linked.read_text()):
+            yield f"link {target}#{part}"
 
 
 def missing_paths(page, text):
@@ -93,11 +106,22 @@ CRATES = {path.name for path in TOP.glob("crates/*")}
 COPIES = {"schema.json": "data/schema.json", "table.csv": "data/table.csv", "questions.jsonl": "stdin", "replies.jsonl": "stdout"}
 
 
+def asked(line):
+    """A question, whoever asks it."""
+    return {key: value for key, value in json.loads(line).items() if key != "user"}
+
+
 def stale_transcript():
-    due = iter((TOP / "demo/replies.jsonl").read_text().splitlines())
-    for reply in re.findall(r"(?m)^ {4}(\{.*?\})(?: |$)", (TOP / "README.md").read_text()):
-        if reply not in due:
-            yield f"README.md: reply {reply}"
+    """README's questions that the demo doesn't ask, and replies that aren't those to the question before them."""
+    questions = [line for line in (TOP / "demo/questions.jsonl").read_text().splitlines() if line]
+    replies = (TOP / "demo/replies.jsonl").read_text().splitlines()
+    due = {str(asked(question)): reply for question, reply in zip(questions, replies, strict=True)}
+    shown = re.findall(r"(?m)^ {4}(\{.*\})$", (TOP / "README.md").read_text())
+    if not shown:
+        yield "README.md: it shows no question with its reply"
+    for question, reply in zip(shown[::2], shown[1::2], strict=True):
+        if due.get(str(asked(question))) != reply:
+            yield f"README.md: reply {reply} to {question}"
 
 
 def stale_copies():
@@ -109,24 +133,39 @@ def stale_copies():
 def stale_version():
     """README's tarball and the manual page have the version and the date of the newest release."""
     version, date = re.search(r"(?m)^## ([\d.]+) \((\d{4}-\d\d-\d\d)\)$", (TOP / "CHANGELOG.md").read_text()).groups()
-    for named in re.findall(r"auditor-([\d.]+)-x86_64", (TOP / "README.md").read_text()):
+    for named in re.findall(r"auditor[-_](\d[\d.]*\d)[-_]", (TOP / "README.md").read_text()):
         if named != version:
             yield f"README.md: version {named}, and {version} is the newest of CHANGELOG.md"
     if f'\n.TH AUDITOR 1 {date} "auditor {version}" ' not in (TOP / "docs/auditor.1").read_text():
         yield f"docs/auditor.1: its head isn't of version {version} and {date}"
 
 
-def missing_titles():
-    """Entries of DECISIONS.md that its list by crate doesn't have once, and what it lists that has no entry."""
-    head, _, entries = (TOP / "docs/DECISIONS.md").read_text().partition("\n## Entries\n")
-    by_crate = head.partition("\n## By crate\n")[2]
-    listed = [title for item in by_crate.split("\n- **")[1:] for title in " ".join(item.split()).partition("**: ")[2].split("; ")]
-    titles = re.findall(r"(?m)^### (.*) \(\d{4}-\d\d-\d\d\)$", entries)
-    if len(titles) != len(re.findall(r"(?m)^### ", entries)):
-        yield "docs/DECISIONS.md: an entry without a date"
-    for title in sorted(set(titles + listed)):
-        if (times := (titles.count(title), listed.count(title))) != (1, 1):
-            yield f"docs/DECISIONS.md: {times[0]} entries and {times[1]} times in the list by crate: {title}"
+def wrong_entries():
+    """Entries of DECISIONS.md without a date, twice, or out of the order of dates; headings that aren't crates, or stand out of their order."""
+    order = re.findall(r"(?m)^([a-z_]+)(?: [^:\n]*)?:", (TOP / "crates.txt").read_text())
+    places = {name: place for place, name in enumerate(["The whole repository", *order, "bench", "demo", "front"])}
+    last, titles = -1, []
+    for section in re.split(r"(?m)^## ", (TOP / "docs/DECISIONS.md").read_text())[1:]:
+        heading = section.split("\n", 1)[0]
+        first = min((places.get(name, -1) for name in heading.split(", ")))
+        if first <= last:
+            yield f"docs/DECISIONS.md: {heading}: not crates, or out of the order of crates.txt"
+        last = first
+        dates = re.findall(r"(?m)^### .* \((\d{4}-\d\d-\d\d)\)$", section)
+        if len(dates) != len(re.findall(r"(?m)^### ", section)) or dates != sorted(dates):
+            yield f"docs/DECISIONS.md: {heading}: an entry without a date, or after a later one"
+        titles += re.findall(r"(?m)^### (.*) \(", section)
+    for title in sorted({title for title in titles if titles.count(title) > 1}):
+        yield f"docs/DECISIONS.md: more than one entry: {title}"
+
+
+LONGEST = {"README.md": 110, "docs/ARCHITECTURE.md": 90}
+
+
+def too_long():
+    for page, most in LONGEST.items():
+        if (lines := len((TOP / page).read_text().splitlines())) > most:
+            yield f"{page}: {lines} lines, and at most {most} are meant"
 
 
 MOST_EDITS, MOST_EDITS_OF_ALL = 6, 200
@@ -153,7 +192,7 @@ def main():
         for check in CHECKS
         for fault in check(page, page.read_text())
     ]
-    faults += [*stale_transcript(), *stale_copies(), *stale_version(), *missing_titles(), *too_many_edits(), *promise_size.too_long()]
+    faults += [*stale_transcript(), *stale_copies(), *stale_version(), *wrong_entries(), *too_long(), *too_many_edits(), *promise_size.too_long()]
     print("\n".join(faults) if faults else f"{len(PAGES)} pages, and all that they name is there")
     return 1 if faults else 0
 
