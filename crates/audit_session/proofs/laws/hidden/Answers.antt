@@ -1,25 +1,39 @@
-use Rattle.std.proofs.Common.{[], ◌-◌, ◌∙◌, ap, sym}
-use Rattle.audit_types.specs.History.{Secrets, list_of}
-use Rattle.audit_session.specs.Lives.{over_all}
-use Rattle.audit_session.proofs.GrowingLives.{IsGood, last_stands, fresh_stands, take_first}
-use Rattle.audit_session.proofs.HiddenLives.{longer_by, are_longer, are_first, lead_there}
+use Rattle.std.proofs.Common.{List, [], inl, inr, subst, arith}
+use Rattle.audit_types.specs.Column.{number}
+use Rattle.audit_types.specs.History.{list_of}
+use Rattle.audit_types.specs.Truth.{number_at}
+use Rattle.table_load.specs.Database.{table_in}
+use Rattle.audit_session.specs.Lives.{Run, IsLife, over_all, history_over}
+use Rattle.audit_session.proofs.HiddenLives.{leads_alike, from_run, rows_to, differs_or, agree_own}
 use Rattle.audit_session.proofs.laws.hidden.Goals as goal
 
-pub returns : goal.returns
-returns c = λ base runs last database numbers life column value below guarded.
-    let one = c.one_reading.ensures in
-    let keep = c.answered_lines.ensures in
-    let stay = c.growing_tables.ensures.legal in
-    let good : IsGood last.base = record { database = database; secrets = c.lists_of_secrets.ensures last.base.secret numbers } in
-    let begun = fresh_stands one keep stay base in
-    let stands = last_stands one keep stay (over_all base []) runs last good begun life in
-    let found = (c.lives.ensures base runs last database good.secrets life).undisclosed column value below guarded in
-    let shape = last.base.secret.shape in
-    let more = shape.rows - last.rows in
-    let front = take_first last.rows shape.rows stands.within (longer_by more found.twin) ∙ are_first shape last.rows found.twin found.are_secrets in
-    record {
-      lists = longer_by more found.twin;
-      are_secrets = are_longer shape last.rows found.twin stands.within found.are_secrets;
-      life = lead_there one keep stay last good stands.legal found.twin found.agree more (over_all base []) runs begun life;
-      differs = λ same. found.differs (sym (ap (λ (lists : Secrets). value (list_of lists column)) front) ∙ same);
-    }
+pub returns-clause-agreeing : goal.returns-clause-agreeing
+returns-clause-agreeing c = leads_alike c.one_reading.ensures c.answered_lines.ensures c.lives.ensures.legal
+
+pub returns-clause-hide : goal.returns-clause-hide
+returns-clause-hide c = λ base runs last database numbers life column value below guarded.
+    let lead = leads_alike c.one_reading.ensures c.answered_lines.ensures c.lives.ensures.legal base runs last in
+    let are = c.lists_of_secrets.ensures last.base.secret numbers in
+    let found = (c.lives.ensures.keep base runs last database are life).undisclosed column value below guarded in
+    record { lists = found.twin; are_secrets = found.are_secrets; life = lead found.twin life found.agree; differs = found.differs }
+
+-- of the other number and the last one, one isn't that which stood there
+pub returns-clause-stood : goal.returns-clause-stood
+returns-clause-stood c = λ base runs last database numbers life before after run column row is below within.
+    let lead = leads_alike c.one_reading.ensures c.answered_lines.ensures c.lives.ensures.legal base runs last in
+    let are = c.lists_of_secrets.ensures last.base.secret numbers in
+    let own = last.base.secret.lists in
+    let legal = c.lives.ensures.legal base runs last life in
+    let rows = rows_to run.left after last (from_run (over_all base []) before after run last (subst (λ (list : List Run). IsLife base list last) is life)) in
+    let found = (c.lives.ensures.keep base runs last database are life).undisclosed column (λ w. number_at w row) below
+    (number row (omega (arith, rows, within))) in
+    elim (differs_or (number_at (list_of found.twin column) row) (number_at (list_of own column) row)
+    (number_at (list_of run.left.base.secret.lists column) row) found.differs) [
+      | inl other ↦ record { lists = found.twin; are_secrets = found.are_secrets; life = lead found.twin life found.agree; differs = other }
+      | inr last_one ↦ record {
+        lists = own;
+        are_secrets = are;
+        life = lead own life (agree_own (table_in last.base) (history_over last.base last) are legal);
+        differs = last_one;
+      }
+    ]

@@ -1,22 +1,25 @@
 -- All rows of a table are the table.
-use Rattle.std.proofs.Common.{◌≡◌, ◌≢◌, ℕ, ℤ, List, [], ◌∷◌, ◌++◌, map, length, take, refl, sym, ◌∙◌, ap, subst, arith}
+use Rattle.std.proofs.Common.{◌≡◌, ◌≢◌, ℕ, ℤ, List, [], ◌∷◌, ◌++◌, map, length, take, get_or, refl, sym, ◌∙◌, ap, subst, arith}
 use Rattle.std.specs.List.{AllByRecursion}
 use Rattle.std.specs.Prelude.{All}
 use Rattle.std.proofs.lemmas.List.{take_all}
+use Rattle.std.proofs.lemmas.List.Folds.{map_fixed}
 use Rattle.std.proofs.lemmas.List.Elements.{All-head, All-tail}
 use Rattle.audit_types.specs.declared.shapes.Shape.{Shape}
 use Rattle.audit_types.specs.declared.records.Protected.{Protected}
+use Rattle.audit_types.specs.ListLaws.{all-get_or}
 use Rattle.audit_types.specs.RowLaws.{rows-again}
 use Rattle.audit_types.specs.Rows.{AreRows, has_row, rows_that}
 use Rattle.audit_types.specs.Widening.{groups_among, first_rows}
 use Rattle.audit_types.specs.History.{Table, Secrets, AreSecrets, AreProtected, IsProtected, entry_of, setting_of}
 
 -- the lists of the secrets, all rows of each
-pub whole_lists : (n : ℕ) (lists : List (List ℤ)) → AllByRecursion (λ w. length w ≡ n) lists → map (take n) lists ≡ lists
-whole_lists n [] all = refl
-whole_lists n (w ∷ lists) all = ap (λ v. v ∷ map (take n) lists) (take_all n w (omega (arith, all.0))) ∙ ap (λ vs. w ∷ vs) (whole_lists n lists all.1)
+whole_lists : (n : ℕ) (lists : List (List ℤ)) → AllByRecursion (λ w. length w ≡ n) lists → map (take n) lists ≡ lists
+whole_lists n lists all =
+    map_fixed (take n) lists (λ k d lt. take_all n (get_or lists k d) (omega (arith, all-get_or (λ w. length w ≡ n) lists k d all lt)))
 
-whole_entry : (column n m : ℕ) (list : List ℕ) → m ≡ n → list ≢ [] → entry_of column n list ≡ record { column = column; rows = record { n = m; list = list } } ∷ []
+whole_entry : (column n m : ℕ) (list : List ℕ) → m ≡ n → list ≢ [] →
+    entry_of column n list ≡ record { column = column; rows = record { n = m; list = list } } ∷ []
 whole_entry column n m [] same some = absurd (some refl)
 whole_entry column n m (r ∷ rows) same some = ap (λ k. record { column = column; rows = record { n = k; list = r ∷ rows } } ∷ []) (sym same)
 
