@@ -1,19 +1,22 @@
 -- A life with one run more.
-use Rattle.std.proofs.Common.{◌≡◌, ◌≢◌, ℕ, inl, inr, List, [], ◌∷◌, ◌++◌, Bool, true, false, Option, Some, refl, sym, ◌∙◌, ap, subst, append_assoc, arith}
+use Rattle.std.proofs.Common.{◌≡◌, ◌≢◌, ℕ, inl, inr, List, [], ◌∷◌, ◌++◌, Bool, true, false, Option, Some, append_assoc}
+use Rattle.std.proofs.Common.{refl, sym, ◌∙◌, ap, subst, arith}
 use Rattle.std.proofs.lemmas.List.{append_cancel_left, append-nil}
 use Rattle.audit_types.specs.declared.records.Answered.{Answered}
 use Rattle.audit_types.specs.History.{Table, IsLegal}
+use Rattle.audit_types.specs.ListLaws.{all_by_place}
+use Rattle.audit_types.specs.WideningLaws.{widened-same}
 use Rattle.bench_core.specs.declared.bench.Bench.{Ghosts}
 use Rattle.bench_core.specs.declared.source.Source as source
 use Rattle.bench_core.specs.Calls.{IsQuiet}
-use Rattle.table_load.specs.Database.{Database}
+use Rattle.table_load.specs.Database.{Database, table_in}
 use Rattle.journal_form.specs.Journal.{StandsFor}
-use Rattle.audit_types.specs.Widening.{over}
+use Rattle.audit_types.specs.Widening.{over, widened}
 use Rattle.answer_journal.specs.Moments.{IsBeforeOrGrown}
 use Rattle.line_wire.specs.Lines.{CountedLine, counted_lines}
 use Rattle.question_plan.specs.Replies.{IsDue}
 use Rattle.audit_session.specs.Stops.{IsBatch, IsFront, Stop, StopsOver, stands_over}
-use Rattle.audit_session.specs.Lives.{Standing, serves, grows, Run, GoesFrom, Lead, IsLife, in_force, over_all}
+use Rattle.audit_session.specs.Lives.{Standing, Follows, serves, grows, Run, GoesFrom, Lead, IsLife, shape_in}
 use Rattle.twin_journal.specs.Twins.{CatchesUpOrStops}
 use Rattle.auditor_top.specs.declared.status.Status.{Status}
 use Rattle.auditor_top.specs.declared.words.Command.{Command}
@@ -21,7 +24,7 @@ use Rattle.auditor_top.specs.declared.words.Command.TheVariants.{Serve, Grow}
 use Rattle.auditor_top.specs.Commands.{AreSoundFilesOf, GoesOnOver, TwinsOver, deed_of}
 use Rattle.auditor_top.specs.Promise.{GoesOn, RunsMakeLives}
 use Rattle.auditor_top.specs.Twins.{LeavesTwins}
-use Rattle.auditor_top.specs.Runs.{Objects, Does, Serving, TwinServing, Growing}
+use Rattle.auditor_top.specs.Runs.{Objects, Does}
 use Rattle.auditor_top.proofs.OneCommand.{one_command}
 use Rattle.auditor_top.proofs.OneTable.{OneReading, untouched_stops}
 
@@ -41,44 +44,60 @@ fronts_meet a b first second =
     none_first [] y is = refl
     none_first (r ∷ x) y is = cc
 
-pub lead_push : (at : Standing) (runs : List Run) (mid : Standing) (run : Run) → Lead at runs mid → GoesFrom mid run → Lead at (runs ++ run ∷ []) run.left
+-- a legal history is over the rows of its table
+over_own : (table : Table) (history : List Answered) → IsLegal table history → widened table.setting.shape.rows history ≡ history
+over_own table history legal =
+    widened-same table.setting.shape.rows history
+    (all_by_place (λ r. r.rows.n ≡ table.setting.shape.rows) history (λ i r here. (legal.each i r here).fits.same_n))
+
+pub lead_push : (at : Standing) (runs : List Run) (mid : Standing) (run : Run) → Lead at runs mid → GoesFrom mid run →
+    Lead at (runs ++ run ∷ []) run.left
 lead_push at [] mid run lead goes = (subst (λ (s : Standing). GoesFrom s run) lead goes, refl)
 lead_push at (before ∷ runs) mid run lead goes = (lead.0, lead_push before.left runs mid run lead.1 goes)
 
+-- `serve` isn't `grow`, which reads no lines
+serves_lines : (batch : ℕ) (twin : Bool) → Serve batch twin ≢ Grow
+serves_lines batch twin is = cc
+
 module _ {P I B : Type 0} (files : source.Ghosts P) (lines : source.Ghosts I) (bench : Ghosts B) (old : Objects P I B) (longer : RunsMakeLives) (at : Standing)
     (first : Database) (runs : List Run) (life : IsLife first runs at) (image sent : List ℕ) (left : Standing)
-    (stands : StandsFor image (in_force left).setting.shape left.history) where
+    (stands : StandsFor image (shape_in left) left.history) where
   abbrev before : List ℕ
   before = bench.sent old.bench
 
   -- the life goes on with a stop of the answers to lines
-  stops_on : (batch : ℕ) → IsBatch batch → AreSoundFilesOf (files.left old.schema) (files.left old.table) left.base → at ≡ over_all left.base at.history →
+  stops_on : (batch : ℕ) → IsBatch batch → AreSoundFilesOf (files.left old.schema) (files.left old.table) left.base → Follows at.base left.base →
+      at.rows ≡ left.base.secret.shape.rows → IsLegal (table_in left.base) at.history →
       StopsOver left.base batch at.history (counted_lines (lines.left old.input)) before image (before ++ sent) →
       GoesOn first runs (record { deed = serves batch (lines.left old.input); left = left; sent = sent })
-  stops_on batch is sound stood stops =
+  stops_on batch is sound follows rows legal stops =
       let same : stops.0 ≡ sent = sym (append_cancel_left before sent stops.0 stops.1) in
       longer (files.left old.schema) (files.left old.table) first runs at (record { deed = serves batch (lines.left old.input); left = left; sent = sent })
-      sound life (record {
-        table = inl (sym (ap (λ (s : Standing). s.base) stood));
+      sound life (λ database. record {
+        database = database;
+        table = follows;
+        legal = subst (λ (h : List Answered). IsLegal (table_in left.base) h) (sym (over_own (table_in left.base) at.history legal)) legal;
         image = image;
         stands = stands;
         makes = (
           is,
-          ap (λ (s : Standing). s.rows) stood,
-          subst (λ (bytes : List ℕ). Stop (IsDue left.base) (stands_over left.base) batch at.history (counted_lines (lines.left old.input)) image bytes) same stops.2,
+          rows,
+          subst (λ (bytes : List ℕ). Stop (IsDue left.base) (stands_over left.base) batch at.history (counted_lines (lines.left old.input)) image bytes)
+              same stops.2,
         );
       })
 
   -- so with one that is brought up first, once it isn't behind the whole: until then it stands for the whole at the end alone
-  catches_on : OneReading → (batch : ℕ) → IsBatch batch → (begun : List Answered) → AreSoundFilesOf (files.left old.schema) (files.left old.table) left.base →
-      at ≡ over_all left.base at.history → IsFront at.history left.history →
+  catches_on : OneReading → (batch : ℕ) → IsBatch batch → (begun : List Answered) →
+      AreSoundFilesOf (files.left old.schema) (files.left old.table) left.base → Follows at.base left.base →
+      at.rows ≡ left.base.secret.shape.rows → IsLegal (table_in left.base) at.history → IsFront at.history left.history →
       CatchesUpOrStops left.base batch begun at.history (counted_lines (lines.left old.input)) before image (before ++ sent) →
       GoesOn first runs (record { deed = serves batch (lines.left old.input); left = left; sent = sent })
-  catches_on one batch is begun sound stood reaches found =
+  catches_on one batch is begun sound follows rows legal reaches found =
       let text = counted_lines (lines.left old.input) in
-      stops_on batch is sound stood (elim found [
+      stops_on batch is sound follows rows legal (elim found [
         | inl catches ↦
-            let same : catches.1.now ≡ left.history = (one image left.base.secret.shape (in_force left).setting.shape catches.1.now left.history catches.1.stands.0 stands.0
+            let same : catches.1.now ≡ left.history = (one image left.base.secret.shape (shape_in left) catches.1.now left.history catches.1.stands.0 stands.0
             catches.1.stands.1 stands.1).1 in
             let now : at.history ≡ catches.1.now = fronts_meet at.history catches.1.now
             (subst (λ (h : List Answered). IsFront at.history h) (sym same) reaches) catches.1.to in
@@ -87,35 +106,33 @@ module _ {P I B : Type 0} (files : source.Ghosts P) (lines : source.Ghosts I) (b
         | inr stops ↦ stops
       ])
 
-  module _ (status : Status) (new : Objects P I B) (quiet : IsQuiet bench old.bench) (was : bench.since new.bench (bench.moment old.bench) image (before ++ sent)) where
-    -- with a run of `serve`
-    serves_on : (batch : ℕ) → IsBatch batch → Serving files lines bench batch status old new → files.told → lines.told → bench.told →
-        GoesOnOver (Serve batch false) (files.left old.schema) (files.left old.table) (bench.file old.bench) (bench.file old.spare) at left.base →
-        GoesOn first runs (record { deed = serves batch (lines.left old.input); left = left; sent = sent })
-    serves_on batch is serving ptold itold told goes =
-        stops_on batch is goes.0.files goes.1 ((serving.any_moment ptold itold told quiet left.base at.history goes.0).each image (before ++ sent) was)
-
-    -- with one over two journals
-    twins_on : (batch : ℕ) → IsBatch batch → OneReading → TwinServing files lines bench batch status old new → files.told → lines.told → bench.told →
-        GoesOnOver (Serve batch true) (files.left old.schema) (files.left old.table) (bench.file old.bench) (bench.file old.spare) at left.base →
-        IsFront at.history left.history → GoesOn first runs (record { deed = serves batch (lines.left old.input); left = left; sent = sent })
-    twins_on batch is one serving ptold itold told goes reaches =
-        catches_on one batch is goes.0 goes.2 goes.4 reaches
-        ((serving.twin_moment ptold itold told quiet left.base goes.0 goes.1 at.history (record { files = goes.2; together = goes.3 })).each image (before ++ sent) was)
-
-    -- and with one of `grow`
-    grows_on : Growing files lines bench status old new → files.told → bench.told →
-        GoesOnOver Grow (files.left old.schema) (files.left old.table) (bench.file old.bench) (bench.file old.spare) at left.base →
-        GoesOn first runs (record { deed = grows; left = left; sent = sent })
-    grows_on growing ptold told goes =
-        let found : IsBeforeOrGrown (over at.rows left.base.secret.shape) at.history left.base.secret.shape.rows before image (before ++ sent) =
-        (growing.growing ptold told quiet left.base at.rows at.history goes.0).each image (before ++ sent) was in
-        longer (files.left old.schema) (files.left old.table) first runs at (record { deed = grows; left = left; sent = sent }) goes.0.files life (record {
-          table = goes.1;
-          image = image;
-          stands = stands;
-          makes = (append_cancel_left before sent [] (found.0 ∙ sym (append-nil before)), found.1);
-        })
+  -- so with a run of any command, whatever moment it is stopped at
+  command_on : (status : Status) (new : Objects P I B) → OneReading → IsQuiet bench old.bench →
+      bench.since new.bench (bench.moment old.bench) image (before ++ sent) → files.told → bench.told → (command : Command) →
+      ((batch : ℕ) (twin : Bool) → command ≡ Serve batch twin → IsBatch batch) → Does files lines bench command status old new →
+      (command ≢ Grow → lines.told) → ((batch : ℕ) → command ≡ Serve batch true → IsFront at.history left.history) →
+      GoesOnOver command (files.left old.schema) (files.left old.table) (bench.file old.bench) (bench.file old.spare) at left.base →
+      GoesOn first runs (record { deed = deed_of command (lines.left old.input); left = left; sent = sent })
+  command_on status new one quiet was ptold told (Serve batch false) batches serving itold reaches goes =
+      stops_on batch (batches batch false refl) goes.0.files goes.1 goes.2 goes.0.legal
+      ((serving.any_moment ptold (itold (serves_lines batch false)) told quiet left.base at.history goes.0).each image (before ++ sent) was)
+  command_on status new one quiet was ptold told (Serve batch true) batches serving itold reaches goes =
+      catches_on one batch (batches batch true refl) goes.0 goes.2 goes.4 goes.5 goes.3.legal (reaches batch refl)
+      ((serving.twin_moment ptold (itold (serves_lines batch true)) told quiet left.base goes.0 goes.1 at.history
+      (record { files = goes.2; together = goes.3 })).each image (before ++ sent) was)
+  command_on status new one quiet was ptold told Grow batches growing itold reaches goes =
+      let found : IsBeforeOrGrown (over at.rows left.base.secret.shape) at.history left.base.secret.shape.rows before image (before ++ sent) =
+      (growing.growing ptold told quiet left.base at.rows at.history goes.0).each image (before ++ sent) was in
+      longer (files.left old.schema) (files.left old.table) first runs at (record { deed = grows; left = left; sent = sent }) goes.0.files life
+      (λ database. record {
+        database = database;
+        table = goes.1;
+        legal = goes.0.legal;
+        image = image;
+        stands = stands;
+        makes = (append_cancel_left before sent [] (found.0 ∙ sym (append-nil before)), found.1);
+      })
+  command_on status new one quiet was ptold told command batches does itold reaches goes = absurd goes
 
 -- of what a crash leaves of both files the spare alone
 pub left_of_spare : (base : Database) (batch : ℕ) (main other whole : List Answered) (lines : List CountedLine) (earlier sent all image spare : List ℕ) →
@@ -125,8 +142,8 @@ left_of_spare base batch main other whole lines earlier sent all image spare is 
 left_of_spare base batch main other whole lines earlier sent all image spare is (inr stops) = inr (stops.new, sym is ∙ stops.sent_is, stops.other)
 
 -- so a life goes on from the spare alone, too
-pub spare_goes_on : {P I B : Type 0} (files : source.Ghosts P) (lines : source.Ghosts I) (bench : Ghosts B) (batch : ℕ) (old new : Objects P I B) → RunsMakeLives →
-    OneReading → IsBatch batch →
+pub spare_goes_on : {P I B : Type 0} (files : source.Ghosts P) (lines : source.Ghosts I) (bench : Ghosts B) (batch : ℕ) (old new : Objects P I B) →
+    RunsMakeLives → OneReading → IsBatch batch →
     ((base : Database) (main other whole : List Answered) →
     TwinsOver (files.left old.schema) (files.left old.table) (bench.file old.bench) (bench.file old.spare) base main other whole →
     (image sent : List ℕ) → bench.leaves new.spare image → bench.sent new.bench ≡ bench.sent old.bench ++ sent →
@@ -135,42 +152,35 @@ pub spare_goes_on : {P I B : Type 0} (files : source.Ghosts P) (lines : source.G
     GoesOnOver (Serve batch true) (files.left old.schema) (files.left old.table) (bench.file old.bench) (bench.file old.spare) at base →
     (first : Database) (runs : List Run) → IsLife first runs at → (image sent : List ℕ) (left : Standing) → left.base ≡ base →
     bench.leaves new.spare image → bench.sent new.bench ≡ bench.sent old.bench ++ sent →
-    StandsFor image (in_force left).setting.shape left.history → IsFront at.history left.history →
+    StandsFor image (shape_in left) left.history → IsFront at.history left.history →
     GoesOn first runs (record { deed = serves batch (lines.left old.input); left = left; sent = sent })
 spare_goes_on files lines bench batch old new longer one is found base at goes first runs life image sent left same leaves all stands reaches =
-    let here = subst (λ (b : Database). GoesOnOver (Serve batch true) (files.left old.schema) (files.left old.table) (bench.file old.bench) (bench.file old.spare) at b)
-    (sym same) goes in
-    catches_on files lines bench old longer at first runs life image sent left stands one batch is here.1 here.2 here.4 reaches
+    let here = subst (λ (b : Database). GoesOnOver (Serve batch true) (files.left old.schema) (files.left old.table) (bench.file old.bench)
+    (bench.file old.spare) at b) (sym same) goes in
+    catches_on files lines bench old longer at first runs life image sent left stands one batch is here.1 here.2
+    here.4 here.5 here.3.legal reaches
     (found left.base here.0 here.1 at.history (record { files = here.2; together = here.3 }) image sent leaves all)
-
--- `serve` isn't `grow`, which reads no lines
-serves_lines : (batch : ℕ) (twin : Bool) → Serve batch twin ≢ Grow
-serves_lines batch twin is = cc
 
 -- whatever moment a run of a command is stopped at, the life goes on with it
 pub goes_on : {P I B : Type 0} (files : source.Ghosts P) (lines : source.Ghosts I) (bench : Ghosts B) (status : Status) (old new : Objects P I B) →
     RunsMakeLives → OneReading → (command : Command) → ((batch : ℕ) (twin : Bool) → command ≡ Serve batch twin → IsBatch batch) →
     Does files lines bench command status old new → files.told → bench.told → (command ≢ Grow → lines.told) →
     IsQuiet bench old.bench → (base : Database) (at : Standing) →
-    GoesOnOver command (files.left old.schema) (files.left old.table) (bench.file old.bench) (bench.file old.spare) at base → (first : Database) (runs : List Run) →
-    IsLife first runs at → (image sent : List ℕ) (left : Standing) → left.base ≡ base →
-    bench.since new.bench (bench.moment old.bench) image (bench.sent old.bench ++ sent) → StandsFor image (in_force left).setting.shape left.history →
-    ((batch : ℕ) → command ≡ Serve batch true → IsFront at.history left.history) → GoesOn first runs (record { deed = deed_of command (lines.left old.input); left = left; sent = sent })
-goes_on files lines bench status old new longer one (Serve batch false) batches does ptold told itold quiet base at goes first runs life image sent left is was stands reaches =
-    serves_on files lines bench old longer at first runs life image sent left stands status new quiet was batch (batches batch false refl) does ptold (itold (serves_lines batch false)) told
-    (subst (λ (b : Database). GoesOnOver (Serve batch false) (files.left old.schema) (files.left old.table) (bench.file old.bench) (bench.file old.spare) at b) (sym is) goes)
-goes_on files lines bench status old new longer one (Serve batch true) batches does ptold told itold quiet base at goes first runs life image sent left is was stands reaches =
-    twins_on files lines bench old longer at first runs life image sent left stands status new quiet was batch (batches batch true refl) one does ptold (itold (serves_lines batch true)) told
-    (subst (λ (b : Database). GoesOnOver (Serve batch true) (files.left old.schema) (files.left old.table) (bench.file old.bench) (bench.file old.spare) at b) (sym is) goes)
-    (reaches batch refl)
-goes_on files lines bench status old new longer one Grow batches does ptold told itold quiet base at goes first runs life image sent left is was stands reaches =
-    grows_on files lines bench old longer at first runs life image sent left stands status new quiet was does ptold told
-    (subst (λ (b : Database). GoesOnOver Grow (files.left old.schema) (files.left old.table) (bench.file old.bench) (bench.file old.spare) at b) (sym is) goes)
-goes_on files lines bench status old new longer one command batches does ptold told itold quiet base at goes first runs life image sent left is was stands reaches = absurd goes
+    GoesOnOver command (files.left old.schema) (files.left old.table) (bench.file old.bench) (bench.file old.spare) at base →
+    (first : Database) (runs : List Run) → IsLife first runs at → (image sent : List ℕ) (left : Standing) → left.base ≡ base →
+    bench.since new.bench (bench.moment old.bench) image (bench.sent old.bench ++ sent) → StandsFor image (shape_in left) left.history →
+    ((batch : ℕ) → command ≡ Serve batch true → IsFront at.history left.history) →
+    GoesOn first runs (record { deed = deed_of command (lines.left old.input); left = left; sent = sent })
+goes_on files lines bench status old new longer one command batches does ptold told itold quiet base at goes first runs life image sent left is was
+    stands reaches =
+    command_on files lines bench old longer at first runs life image sent left stands status new one quiet was ptold told command batches does itold
+    reaches (subst (λ (b : Database). GoesOnOver command (files.left old.schema) (files.left old.table) (bench.file old.bench)
+    (bench.file old.spare) at b) (sym is) goes)
 
 -- with a run of any other command none does
 pub never_goes_on : {Y : Type 0} (words : Option Command) (command one : Command) (schema table file spare : List ℕ) (at : Standing) (base : Database) →
-    words ≡ Some one → words ≡ Some command → (GoesOnOver one schema table file spare at base → ⊥) → GoesOnOver command schema table file spare at base → Y
+    words ≡ Some one → words ≡ Some command → (GoesOnOver one schema table file spare at base → ⊥) →
+    GoesOnOver command schema table file spare at base → Y
 never_goes_on words command one schema table file spare at base is asked never goes =
     absurd (never (subst (λ (k : Command). GoesOnOver k schema table file spare at base) (one_command words command one asked is) goes))
 

@@ -1,16 +1,18 @@
--- The promise: in every life of runs over one growing table each answer that left is true and kept, nothing that is guarded is
+-- The promise: in every life of runs over one table that lives each answer that left is true and kept, nothing that is guarded is
 -- disclosed, and no decision tells of the secrets.
 --
--- A life is runs one after another, each ended or stopped at any moment, over tables of which each equals or extends the one before:
--- runs of `serve`, and runs that grow the journal (IsLife of audit_session). What it keeps is KeepsPromise there: the last history is
--- legal for the rows in force and discloses nothing of them that is guarded (audit_types), and of each run the bytes that it sent are a
--- front of the replies due to its lines (IsDue of question_plan), whose records are all in the last history. What it hides is IsHidden
--- there: other secrets, with another number or protected total, lead to the very same bytes. The clause `lives` of `run` is GoesOn:
--- whatever moment a run over a life is stopped at, the life with that run keeps the promise.
+-- A life is runs one after another, each ended or stopped at any moment: runs of `serve`, and runs that grow the journal (IsLife of
+-- audit_session). Each run's table has the secret columns of the table before it and no fewer rows; what is public, and which groups are
+-- protected, may be anything for which the history is legal. What a life keeps is KeepsPromise there: the last history is legal for the
+-- last table and discloses nothing of it that is guarded (audit_types), and of each run the bytes that it sent are a front of the replies
+-- due to its lines over its own table (IsDue of question_plan), whose records are all in the last history. What it hides is IsHidden, and
+-- HidesWhatStood of each number that stood in the table at a run: other secrets, with another number or protected total, lead to the very
+-- same bytes. The clause `lives` of `run` is GoesOn: whatever moment a run over a life is stopped at, the life with that run keeps the
+-- promise.
 use Rattle.std.specs.Prelude.{◌≡◌, ◌⊎◌, ◌<◌, List, ℕ, [], ◌∷◌, ◌++◌}
 use Rattle.audit_types.specs.Widening.{over, widened}
 use Rattle.audit_types.specs.declared.records.Answered.{Answered}
-use Rattle.table_load.specs.Database.{Database, Grows, AreTwins, table_in}
+use Rattle.table_load.specs.Database.{Database, IsDatabase, AreTwins, table_in}
 use Rattle.journal_form.specs.Journal.{StandsFor}
 use Rattle.answer_journal.specs.Moments.{IsBeforeOrGrown}
 use Rattle.line_wire.specs.Lines.{CountedLine}
@@ -18,8 +20,9 @@ use Rattle.question_plan.specs.Laws.{AreAnswersAlike}
 use Rattle.question_plan.specs.Replies.{IsDue}
 use Rattle.question_plan.specs.Session.{Replied}
 use Rattle.audit_session.specs.Stops.{StopsOver, stands_over}
-use Rattle.audit_session.specs.Lives.{Standing, Run, GoesFrom, IsLife, KeepsPromise, AreAlike, over_all, in_force}
-use Rattle.audit_session.specs.Hidden.{IsHidden}
+use Rattle.audit_session.specs.Lives.{Standing, Run, Follows, GoesFrom, IsLife, KeepsPromise, AreAlike, shape_in}
+use Rattle.audit_session.specs.Hidden.{IsHidden, HidesWhatStood}
+use Rattle.audit_session.specs.Laws.{KeepsNumbers, KeepsGroups}
 use Rattle.twin_journal.specs.Twins.{CatchesUpOrStops, SpareCatchesUpOrStops}
 use Rattle.auditor_top.specs.Commands.{AreSoundFilesOf, GrowsOver, ServesOver, TwinsOver}
 
@@ -35,17 +38,20 @@ pub record GoesOn (base : Database) (runs : List Run) (run : Run) : Type 0 where
   pub life : IsLife base (runs ++ run ∷ []) run.left
   pub keeps : KeepsPromise base (runs ++ run ∷ []) run.left
   pub hides : IsHidden base (runs ++ run ∷ []) run.left
+  pub stood : HidesWhatStood base (runs ++ run ∷ []) run.left
   pub alike : DecidesAlike (runs ++ run ∷ []) run.left
 
 -- what `init` made over the files of a table is taken by `serve` and by `audit`, if no group has a fault
 abbrev pub MadeIsTaken : Type 0
-MadeIsTaken = (schema table image : List ℕ) (base : Database) → AreSoundFilesOf schema table base → stands_over base image [] → ServesOver schema table image base []
+MadeIsTaken =
+    (schema table image : List ℕ) (base : Database) → AreSoundFilesOf schema table base → stands_over base image [] →
+    ServesOver schema table image base []
 
 -- what a stop of `serve` at any moment left is taken, whatever the lines were
 abbrev pub StopsAreTaken : Type 0
 StopsAreTaken =
-    (schema table file image before sent : List ℕ) (base : Database) (batch : ℕ) (history : List Answered) (lines : List CountedLine) → ServesOver schema table file base history →
-    StopsOver base batch history lines before image sent → (now : List Answered) × ServesOver schema table image base now
+    (schema table file image before sent : List ℕ) (base : Database) (batch : ℕ) (history : List Answered) (lines : List CountedLine) →
+    ServesOver schema table file base history → StopsOver base batch history lines before image sent → (now : List Answered) × ServesOver schema table image base now
 
 -- what a stop of `serve` with two journals left of both files, each at whatever moment, is taken again, whatever the lines were
 abbrev pub TwinStopsAreTaken : Type 0
@@ -64,25 +70,27 @@ GrowthsAreTaken =
 
 -- every life whose last table is that of two files keeps the promise
 abbrev pub LivesKeepPromise : Type 0
-LivesKeepPromise = (schema table : List ℕ) (base : Database) (runs : List Run) (last : Standing) → AreSoundFilesOf schema table last.base → IsLife base runs last → KeepsPromise base runs last
+LivesKeepPromise =
+    (schema table : List ℕ) (base : Database) (runs : List Run) (last : Standing) → AreSoundFilesOf schema table last.base → IsLife base runs last →
+    KeepsPromise base runs last
 
--- if all rows of the last table are in force, the next run of `serve` is given what it has to be given, whatever image the last
--- run left
+-- the next run of `serve` is given what it has to be given, whatever image the last run left and whatever became of what is public, if its
+-- table comes after the life's last one, keeps its numbers and its groups, and has as many rows as are in force
 abbrev pub LivesGoOn : Type 0
 LivesGoOn =
-    (schema table image : List ℕ) (base now : Database) (runs : List Run) (history : List Answered) → AreSoundFilesOf schema table now → IsLife base runs (over_all now history) → stands_over now image history →
-    ServesOver schema table image now history
+    (schema table image : List ℕ) (base now : Database) (runs : List Run) (last : Standing) → AreSoundFilesOf schema table now → IsLife base runs last →
+    Follows last.base now → KeepsNumbers last.base now → KeepsGroups last.base now → last.rows ≡ now.secret.shape.rows →
+    StandsFor image (shape_in last) last.history → ServesOver schema table image now last.history
 
--- after every life the next run of `grow` is given what it has to be given, whatever image the last run left: its table is the life's
--- last one, or extends it, with its protected groups, and has more rows than are in force
+-- so is the next run of `grow`, if its table has more rows than are in force
 abbrev pub LivesGrow : Type 0
 LivesGrow =
     (schema table image : List ℕ) (base now : Database) (runs : List Run) (last : Standing) → AreSoundFilesOf schema table now → IsLife base runs last →
-    (now ≡ last.base) ⊎ Grows last.base now → last.rows < now.secret.shape.rows → StandsFor image (in_force last).setting.shape last.history →
-    GrowsOver schema table image now last.rows last.history
+    Follows last.base now → KeepsNumbers last.base now → KeepsGroups last.base now → last.rows < now.secret.shape.rows →
+    StandsFor image (shape_in last) last.history → GrowsOver schema table image now last.rows last.history
 
--- a run after a life makes it one run longer
+-- a run after a life makes it one run longer; that its table is a schema's follows from its files
 abbrev pub RunsMakeLives : Type 0
 RunsMakeLives =
     (schema table : List ℕ) (base : Database) (runs : List Run) (at : Standing) (run : Run) → AreSoundFilesOf schema table run.left.base → IsLife base runs at →
-    GoesFrom at run → GoesOn base runs run
+    (IsDatabase run.left.base → GoesFrom at run) → GoesOn base runs run

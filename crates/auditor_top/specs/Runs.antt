@@ -17,7 +17,7 @@ use Rattle.line_wire.specs.Lines.{CountedLine, counted_lines, most_input}
 use Rattle.question_plan.specs.Session.{Replied, bytes_of}
 use Rattle.audit_session.specs.Ends.{KeepsCalls, TakesCalls}
 use Rattle.audit_session.specs.Stops.{IsFront, StopsOver}
-use Rattle.audit_session.specs.Lives.{IsLife, Run, Standing, in_force, serves}
+use Rattle.audit_session.specs.Lives.{IsLife, Run, Standing, shape_in, serves}
 use Rattle.journal_audit.specs.Reports.{SendsMeanwhile, subjects}
 use Rattle.certificate_lines.specs.Ends.{ExplainsMeanwhile}
 use Rattle.certificate_lines.specs.Explained.{AreExplained}
@@ -269,7 +269,7 @@ pub record TwinServing {P I B : Type 0} (files : source.Ghosts P) (lines : sourc
       GoesOnOver (Serve batch true) (files.left old.schema) (files.left old.table) (bench.file old.bench) (bench.file old.spare) at base →
       (first : Database) (runs : List Run) → IsLife first runs at → (image sent : List ℕ) (left : Standing) → left.base ≡ base →
       bench.leaves new.spare image → bench.sent new.bench ≡ bench.sent old.bench ++ sent →
-      StandsFor image (in_force left).setting.shape left.history → IsFront at.history left.history →
+      StandsFor image (shape_in left) left.history → IsFront at.history left.history →
       GoesOn first runs (record { deed = serves batch (lines.left old.input); left = left; sent = sent })
   -- every history that a crash at any moment leaves in one of them is legal for the table, and discloses no secret of it, whatever the input is
   pub undisclosed : files.told → bench.told → IsQuiet bench old.bench → (base : Database) (main other whole : List Answered) →

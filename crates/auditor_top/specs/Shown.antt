@@ -7,11 +7,11 @@ use Rattle.std.specs.Prelude.{◌≡◌, ◌↔◌, ℕ, ◌<◌, ℤ, List, map
 use Rattle.audit_types.specs.declared.records.Answered.{Answered}
 use Rattle.audit_types.specs.Shapes.{columns}
 use Rattle.audit_types.specs.Column.{IsGuarded}
-use Rattle.audit_types.specs.History.{IsLegal, known_of}
+use Rattle.audit_types.specs.History.{IsLegal, known_of, list_of}
 use Rattle.table_load.specs.Database.{Database, AreTwins, table_in}
 use Rattle.line_wire.specs.Lines.{CountedLine}
 use Rattle.question_plan.specs.Session.{Replied}
-use Rattle.audit_session.specs.Lives.{Standing, Run, IsLife, KeepsPromise, in_force}
+use Rattle.audit_session.specs.Lives.{Standing, Run, IsLife, KeepsPromise, history_over}
 use Rattle.audit_session.specs.Hidden.{HasTwinLife, with_secrets, run_with, standing_with}
 use Rattle.journal_audit.specs.Reports.{SendsMeanwhile, subjects}
 use Rattle.certificate_lines.specs.Explained.{AreExplained}
@@ -44,7 +44,7 @@ pub record AreShownAlike (base other : Database) (history : List Answered) : Typ
 -- other secrets, which differ in this of a column, lead the same life, byte for byte, which keeps the promise of them too, so that `audit`
 -- takes its journal; and wherever it stands the same is shown of them
 pub record TellsNothingMore (base : Database) (runs : List Run) (last : Standing) (column : ℕ) (value : List ℤ → ℤ) : Type 0 where
-  pub twin : HasTwinLife base runs last column value
+  pub twin : HasTwinLife base runs last column value (list_of last.base.secret.lists column)
   pub keeps : KeepsPromise (with_secrets twin.lists base) (map (run_with twin.lists) runs) (standing_with twin.lists last)
   pub alike : (at : Standing) → AreShownAlike at.base (with_secrets twin.lists at.base) at.history
 
@@ -58,8 +58,9 @@ TwinsHaveOneReport =
     (base other : Database) (history : List Answered) (before after sent : List ℕ) → AreTwins base other → IsLegal (table_in base) history →
     AuditEnds Done base history before after → AuditEnds Done other history before sent → sent ≡ after
 
--- every life whose last table is that of two files tells nothing more of any number or protected total of the rows in force
+-- every life whose last table is that of two files tells nothing more of any number there, or total that is protected there
 abbrev pub LivesTellNothingMore : Type 0
 LivesTellNothingMore =
-    (schema table : List ℕ) (base : Database) (runs : List Run) (last : Standing) (column : ℕ) (value : List ℤ → ℤ) → AreSoundFilesOf schema table last.base → IsLife base runs last →
-    column < columns last.base.secret.shape → IsGuarded (known_of (in_force last).setting last.history column) value → TellsNothingMore base runs last column value
+    (schema table : List ℕ) (base : Database) (runs : List Run) (last : Standing) (column : ℕ) (value : List ℤ → ℤ) →
+    AreSoundFilesOf schema table last.base → IsLife base runs last → column < columns last.base.secret.shape →
+    IsGuarded (known_of (table_in last.base).setting (history_over last.base last) column) value → TellsNothingMore base runs last column value

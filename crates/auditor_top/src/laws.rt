@@ -50,9 +50,10 @@ pub fn compactions()
     journal_compact::laws::kept_of_legal();
 }
 
-/// In every life over growing tables the last history is legal for the rows in force, discloses nothing of them that is guarded, and
+/// In every life over a table that lives the last history is legal for the last table, discloses nothing of it that is guarded, and
 /// keeps all that was sent. A run makes the life one run longer, which hides what is guarded, and is decided as over all tables that
-/// differ in their secrets alone; if all rows are in force, the next run of `serve` is given what it has to be given.
+/// differ in their secrets alone. The next run of `serve` is given what it has to be given, if all rows of its table are in force, each
+/// number is still in its row, and no group of the rows that were there is protected that wasn't.
 pub fn lives()
     ensures keep { LivesKeepPromise }
     ensures go_on { LivesGoOn }
@@ -62,6 +63,7 @@ pub fn lives()
     table_load::lists_of_secrets();
     audit_session::laws::lives();
     audit_session::laws::hidden();
+    audit_session::laws::followers();
     audit_session::laws::two_worlds();
 }
 
@@ -82,7 +84,7 @@ pub fn nothing_more()
 
 /// What `init` made, and what a stop of `serve`, with two journals or one, or of `grow` at any moment left, is never refused: with the
 /// files of the table it is what the clauses `served`, `twins_served`, `audited` and `grown` of `run` take, whose ends have no status that
-/// refuses it. Nor is what a life left refused by `grow` over a table with more rows.
+/// refuses it. Nor is what a life left refused by `grow` over a table with more rows that keeps its numbers and its groups.
 pub fn never_refused()
     ensures made { MadeIsTaken }
     ensures left { StopsAreTaken }
@@ -93,8 +95,9 @@ pub fn never_refused()
     stops_are_legal();
     twin_journal::laws::stay_together();
     sound_files();
-    audit_core::laws::growing_tables();
-    lives();
+    table_load::lists_of_secrets();
+    audit_session::laws::lives();
+    audit_session::laws::followers();
 }
 
 /// The plain spellings of the commands are never refused: each command as one word, and `serve` with every number of 1 to 64

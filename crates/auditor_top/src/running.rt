@@ -10,7 +10,7 @@ ghost use Rattle.set_index.specs.Groups.{AreEntries};
 ghost use Rattle.std.specs.Bool.{OnTrue};
 ghost use Rattle.table_load.specs.Tables.{table_of, public_of};
 ghost use Rattle.journal_form.specs.Journal.{StandsFor};
-ghost use Rattle.audit_session.specs.Lives.{Standing, Run, IsLife, in_force};
+ghost use Rattle.audit_session.specs.Lives.{Standing, Run, IsLife, shape_in};
 ghost use Rattle.audit_session.specs.Stops.{IsFront};
 ghost use Rattle.auditor_top.specs.declared.words.Command.{Command};
 ghost use Rattle.auditor_top.specs.declared.words.Command.TheVariants.{Serve, Simulate, Grow, Restore};
@@ -93,7 +93,7 @@ pub fn run<P: Source, I: Source, B: Bench>(
         → (base : Database) (at : Standing) → GoesOnOver command (P.left schema.old) (P.left table.old) (B.file bench.old) (B.file spare.old) at base
         → (first : Database) (runs : List Run) → IsLife first runs at
         → (image sent : List ℕ) (left : Standing) → left.base ≡ base → B.since bench.new (B.moment bench.old) image (B.sent bench.old ++ sent)
-        → StandsFor image (in_force left).setting.shape left.history → ((batch : ℕ) → command ≡ Serve batch true → IsFront at.history left.history)
+        → StandsFor image (shape_in left) left.history → ((batch : ℕ) → command ≡ Serve batch true → IsFront at.history left.history)
         → GoesOn first runs (record { deed = deed_of command (I.left input.old); left = left; sent = sent }) }
 
     // What a run of each command does, by its status: the arguments, how it ends, what is found at every moment, its calls of the

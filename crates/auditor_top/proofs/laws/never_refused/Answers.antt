@@ -1,8 +1,6 @@
-use Rattle.std.proofs.Common.{inl, inr, [], refl, sym, subst}
-use Rattle.audit_types.specs.Widening.{over, first_rows}
-use Rattle.audit_session.specs.Lives.{Run, GoesFrom, grows}
-use Rattle.journal_form.specs.Journal.{StandsFor}
-use Rattle.table_load.specs.Database.{Database, table_in}
+use Rattle.std.proofs.Common.{inl, inr}
+use Rattle.table_load.specs.Database.{table_in}
+use Rattle.auditor_top.proofs.NextRuns.{grows_next}
 use Rattle.auditor_top.proofs.OneRunMore.{nothing_is_legal}
 use Rattle.auditor_top.proofs.laws.never_refused.Goals as goal
 
@@ -33,19 +31,7 @@ returns-clause-grown c = λ schema table file image before sent base rows histor
       | inr stands ↦ inr (record { files = over.files; stands = stands; legal = over.legal })
     ]
 
--- a growth that was stopped before it began makes the life one run longer, over the new table
 pub returns-clause-grows : goal.returns-clause-grows
-returns-clause-grows c = λ schema table image base now runs last files life extends more stands.
-    let here : StandsFor image (over last.rows now.secret.shape) last.history = elim extends [
-      | inl same ↦ subst (λ (b : Database). StandsFor image (over last.rows b.secret.shape) last.history) (sym same) stands
-      | inr longer ↦ subst (λ (b : Database). StandsFor image (over last.rows b.secret.shape) last.history) longer.1 stands
-    ] in
-    let run : Run = record { deed = grows; left = record { base = now; rows = last.rows; history = last.history }; sent = [] } in
-    let goes : GoesFrom last run = record { table = extends; image = image; stands = here; makes = (refl, inl here) } in
-    record {
-      files = files;
-      fewer = more;
-      stands = here;
-      legal = c.growing_tables.ensures.legal (first_rows last.rows (table_in now)) (table_in now) last.history
-          (c.sound_files.ensures.database schema table now files).protected (more, refl) (c.lives.ensures.longer schema table base runs last run files life goes).keeps.legal;
-    }
+returns-clause-grows c = λ schema table image base now runs last files life follows numbers keeps more stands.
+    grows_next c.lives.ensures.legal c.followers.ensures schema table image base now runs last files (c.sound_files.ensures.database schema table now files)
+    (c.lists_of_secrets.ensures now.secret (c.sound_files.ensures.secret schema table now files)) life follows numbers keeps more stands
