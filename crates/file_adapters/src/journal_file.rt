@@ -1,10 +1,11 @@
 //! The journal's file, opened at the first call on it and made at the first write if it isn't there.
 ghost use Rattle.std.specs.Prelude.{◌≡◌, ◌↔◌, IsOk, IsErr};
 ghost use Rattle.std.specs.Io.{ReadsAtMost};
+ghost use Rattle.file_adapters.specs.Known.{IsOpen};
 
 use crate::counting::read_on;
 use crate::opening::{
-    Opened, TryLock, make, open_to_read, open_to_write, still_named, sync_or_shut,
+    Opened, TryLock, is_as_long, make, open_to_read, open_to_write, still_named, sync_or_shut,
 };
 use crate::place::{Links, Place};
 use std::fs::Files;
@@ -19,6 +20,16 @@ pub(crate) enum Access {
     Write,
 }
 
+/// What a run knows of its file.
+#[derive(Drop)]
+pub(crate) enum Known<F: Drop> {
+    /// Nothing: no call asked for it yet.
+    Nothing,
+    /// It wasn't there. One that somebody else makes from then on is never opened: this run can only make it.
+    Absent,
+    Open(Opened<F>),
+}
+
 /// The file of this name.
 #[derive(Drop)]
 pub(crate) struct JournalFile<'a, R: Files> {
@@ -28,7 +39,7 @@ pub(crate) struct JournalFile<'a, R: Files> {
     access: Access,
     // Where it is, from the first call on it.
     place: Option<Place>,
-    opened: Option<Opened<R::File>>,
+    known: Known<R::File>,
 }
 
 impl<'a, R: Files> JournalFile<'a, R> {
@@ -43,7 +54,7 @@ impl<'a, R: Files> JournalFile<'a, R> {
             links,
             access,
             place: None,
-            opened: None,
+            known: Known::Nothing,
         }
     }
 }
@@ -76,45 +87,36 @@ fn read_whole<F: Read + Seek>(file: &mut F, at: u64, buf: &mut [u8]) -> io::Resu
     Ok(count)
 }
 
-// A file of another length was cut off, or written by somebody else.
-fn is_as_long(found: u64, length: u64) -> io::Result<()>
-    ensures { IsOk result ↔ (found ≡ length) }
-{
-    if found == length {
-        Ok(())
-    } else {
-        Err(io::Error::from(ErrorKind::InvalidData))
-    }
-}
-
 impl<R: Files> JournalFile<'_, R>
 where
     R::File: TryLock + FileExt,
 {
-    // The open file, if there is one.
-    fn found(&mut self) -> io::Result<Option<&mut Opened<R::File>>> {
-        if self.opened.is_none() {
+    // Looks for the file at the first call, and never again.
+    fn look(&mut self) -> io::Result<()>
+        ensures known { IsOk result → ¬ (self.new.known ≡ Known.Nothing) }
+        ensures absent { self.old.known ≡ Known.Absent → IsOk result × (self.new.known ≡ Known.Absent) }
+    {
+        if let Known::Nothing = self.known {
             let place = found_place(self.rt, self.name, self.links, &mut self.place)?;
-            self.opened = match self.access {
+            let found = match self.access {
                 Access::Read => open_to_read(self.rt, place)?,
                 Access::Write => open_to_write(self.rt, place)?,
             };
+            self.known = found.map_or(Known::Absent, Known::Open);
         }
-        Ok(self.opened.as_mut())
+        Ok(())
     }
 
-    // The open file to be written, which is made if it isn't there.
-    fn found_or_made(&mut self) -> io::Result<&mut Opened<R::File>>
-        ensures read { self.old.access ≡ Access.Read → IsErr result }
+    // Makes the file if it wasn't there.
+    fn look_or_make(&mut self) -> io::Result<()>
+        ensures made { self.old.known ≡ Known.Absent → IsOk result → IsOpen 0 self.new.known }
     {
-        self.may_write()?;
-        if self.found()?.is_none() {
+        self.look()?;
+        if let Known::Absent = self.known {
             let place = found_place(self.rt, self.name, self.links, &mut self.place)?;
-            self.opened = Some(make(self.rt, place)?);
+            self.known = Known::Open(make(self.rt, place)?);
         }
-        self.opened
-            .as_mut()
-            .ok_or(io::Error::from(ErrorKind::NotFound))
+        Ok(())
     }
 
     fn may_write(&self) -> io::Result<()>
@@ -127,28 +129,38 @@ where
     }
 
     /// Its length, which is 0 if there is none.
-    pub(crate) fn length(&mut self) -> io::Result<u64> {
-        match self.found()? {
-            Some(opened) => Ok(opened.length),
-            None => Ok(0),
+    pub(crate) fn length(&mut self) -> io::Result<u64>
+        ensures absent { self.old.known ≡ Known.Absent → (result ≡ Ok 0) × (self.new.known ≡ Known.Absent) }
+        ensures known { IsOk result → ¬ (self.new.known ≡ Known.Nothing) }
+    {
+        self.look()?;
+        match &self.known {
+            Known::Open(opened) => Ok(opened.length),
+            _ => Ok(0),
         }
     }
 
     /// Reads from a place on until the buffer is full or the file ends.
     pub(crate) fn read_at(&mut self, at: u64, buf: &mut [u8]) -> io::Result<usize>
-        ensures { ReadsAtMost result buf.new }
+        ensures bound { ReadsAtMost result buf.new }
+        ensures absent { self.old.known ≡ Known.Absent → (result ≡ Ok 0) × (self.new.known ≡ Known.Absent) }
     {
-        match self.found()? {
-            Some(opened) => read_whole(&mut opened.file, at, buf),
-            None => Ok(0),
+        self.look()?;
+        match &mut self.known {
+            Known::Open(opened) => read_whole(&mut opened.file, at, buf),
+            _ => Ok(0),
         }
     }
 
-    /// Writes all of a piece, if the file is as long as this run left it.
+    /// Writes all of a piece, if the file is as long as this run left it. If there was none, it is made, and is empty before.
     pub(crate) fn write_at(&mut self, at: u64, piece: &[u8]) -> io::Result<()>
         ensures read { self.old.access ≡ Access.Read → IsErr result }
     {
-        let opened = self.found_or_made()?;
+        self.may_write()?;
+        self.look_or_make()?;
+        let Known::Open(opened) = &mut self.known else {
+            return Err(io::Error::from(ErrorKind::NotFound));
+        };
         // The place of its end is its length, and found at a hundredth of the cost of `metadata`.
         is_as_long(opened.file.seek(SeekFrom::End(0))?, opened.length)?;
         opened.file.write_all_at(piece, at)?;
@@ -156,15 +168,16 @@ where
         Ok(())
     }
 
-    /// Leaves nothing to a power cut, if its place still names the file, and it is as long as this run left it. If there is no
+    /// Leaves nothing to a power cut, if its place still names the file, and it is as long as this run left it. If there was no
     /// file, there is nothing to keep.
     pub(crate) fn sync(&mut self) -> io::Result<()>
         ensures read { self.old.access ≡ Access.Read → IsErr result }
+        ensures absent { self.old.known ≡ Known.Absent → self.new.known ≡ Known.Absent }
     {
         self.may_write()?;
-        self.found()?;
-        match (&self.place, &self.opened) {
-            (Some(place), Some(opened)) => {
+        self.look()?;
+        match (&self.place, &self.known) {
+            (Some(place), Known::Open(opened)) => {
                 sync_or_shut(&opened.file)?;
                 is_as_long(still_named(self.rt, place, opened.id)?.len(), opened.length)
             }

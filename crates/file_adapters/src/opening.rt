@@ -1,4 +1,7 @@
 //! How the journal is opened: alone, by its own name, and with all of it on the disk.
+ghost use Rattle.std.specs.Prelude.{◌≡◌, ◌↔◌, true, IsOk, IfOk};
+ghost use Rattle.std.specs.Fs.{asks_create_new};
+
 use crate::place::Place;
 use std::fs::{File, Files, Metadata, OpenFile, OpenOptions, Permissions};
 use std::io::ErrorKind;
@@ -57,6 +60,17 @@ pub(crate) struct Opened<F: Drop> {
     pub(crate) length: u64,
 }
 
+/// A file of another length was cut off, or written by somebody else.
+pub(crate) fn is_as_long(found: u64, length: u64) -> io::Result<()>
+    ensures { IsOk result ↔ (found ≡ length) }
+{
+    if found == length {
+        Ok(())
+    } else {
+        Err(io::Error::from(ErrorKind::InvalidData))
+    }
+}
+
 // What a path names, if anything. A link, a folder or a pipe isn't a journal.
 fn named<R: Files>(rt: &R, path: &str) -> io::Result<Option<Metadata>> {
     match fs::symlink_metadata(rt, path) {
@@ -102,7 +116,8 @@ where
     sync_or_shut(&file)?;
     // That the journal is there at all is written in its folder, which has a sync of its own.
     fs::open(rt, place.folder())?.sync_all()?;
-    let length = found.len();
+    // It was this folder only if the file has its name there still.
+    let length = still_named(rt, place, id)?.len();
     Ok(Opened { file, id, length })
 }
 
@@ -141,16 +156,23 @@ where
     Ok(Some(Opened { file, id, length }))
 }
 
-/// Makes the journal, if nothing has its path: a link that leads nowhere isn't followed there.
+// How a file is made that the owner alone may read, and write. It fails if anything has the path, a link that leads nowhere too.
+fn as_new() -> OpenOptions
+    ensures { asks_create_new result ≡ true }
+{
+    let mut options = OpenOptions::new();
+    options.mode(OWN);
+    options.read(true).write(true).create_new(true);
+    options
+}
+
+/// Makes the journal, if nothing has its path. A run that opened it before it was locked here may have written it, and then has it.
 pub(crate) fn make<R: Files>(rt: &R, place: &Place) -> io::Result<Opened<R::File>>
 where
     R::File: TryLock,
+    ensures empty { IfOk result (λ opened. opened.length ≡ 0) }
 {
-    let file = OpenOptions::new()
-        .read(true)
-        .write(true)
-        .create_new(true)
-        .mode(OWN)
-        .open(rt, place.path())?;
-    take(rt, place, file)
+    let made = take(rt, place, as_new().open(rt, place.path())?)?;
+    is_as_long(made.length, 0)?;
+    Ok(made)
 }

@@ -8,18 +8,18 @@ use std::{fs, io};
 // A call of the system, the first of the five calls of the bench that fails if it is refused, and the last one.
 type Step = (Call, usize, usize);
 
-// Over a path that names nothing. The write makes the file, locks and syncs it, and syncs its folder. After a refused sync
-// nobody may write the file. After a write that was cut off its length isn't known.
+// Over a path that names nothing. The write makes the file without another look, locks and syncs it, and syncs its folder. If one
+// of these is refused the run has no file. After a write that was cut off its length isn't known.
 const MAKING: [Step; 21] = [
     (Call::Name, 0, 0),
-    (Call::Name, 1, 1),
     (Call::Open, 1, 1),
     (Call::Lock, 1, 1),
     (Call::Look, 1, 1),
     (Call::Name, 1, 1),
-    (Call::Sync, 1, 3),
+    (Call::Sync, 1, 1),
     (Call::OpenFolder, 1, 1),
     (Call::SyncFolder, 1, 1),
+    (Call::Name, 1, 1),
     (Call::Seek, 1, 1),
     (Call::Write, 1, 1),
     (Call::Write, 1, 2),
@@ -35,7 +35,7 @@ const MAKING: [Step; 21] = [
 ];
 
 // Over a file of three bytes.
-const FINDING: [Step; 20] = [
+const FINDING: [Step; 21] = [
     (Call::Name, 0, 0),
     (Call::Open, 0, 0),
     (Call::Lock, 0, 0),
@@ -44,6 +44,7 @@ const FINDING: [Step; 20] = [
     (Call::Sync, 0, 3),
     (Call::OpenFolder, 0, 0),
     (Call::SyncFolder, 0, 0),
+    (Call::Name, 0, 0),
     (Call::Seek, 1, 1),
     (Call::Write, 1, 1),
     (Call::Write, 1, 1),
@@ -59,20 +60,21 @@ const FINDING: [Step; 20] = [
 ];
 
 // Over a link that leads to a path in another folder, which names nothing. That folder is the one that is synced.
-const MAKING_THERE: [Step; 26] = [
+const MAKING_THERE: [Step; 27] = [
     (Call::Name, 0, 0),
     (Call::Link, 0, 0),
     (Call::OpenThere, 0, 0),
     (Call::Name, 0, 0),
-    (Call::Name, 1, 1),
     (Call::Open, 1, 1),
     (Call::Lock, 1, 1),
     (Call::Look, 1, 1),
     (Call::Link, 1, 1),
     (Call::Name, 1, 1),
-    (Call::Sync, 1, 3),
+    (Call::Sync, 1, 1),
     (Call::OpenThere, 1, 1),
     (Call::SyncThere, 1, 1),
+    (Call::Link, 1, 1),
+    (Call::Name, 1, 1),
     (Call::Seek, 1, 1),
     (Call::Write, 1, 1),
     (Call::Write, 1, 2),
@@ -89,7 +91,7 @@ const MAKING_THERE: [Step; 26] = [
 ];
 
 // Over a link that leads to a file of three bytes in another folder.
-const FINDING_THERE: [Step; 25] = [
+const FINDING_THERE: [Step; 27] = [
     (Call::Name, 0, 0),
     (Call::Link, 0, 0),
     (Call::OpenThere, 0, 0),
@@ -102,6 +104,8 @@ const FINDING_THERE: [Step; 25] = [
     (Call::Sync, 0, 3),
     (Call::OpenThere, 0, 0),
     (Call::SyncThere, 0, 0),
+    (Call::Link, 0, 0),
+    (Call::Name, 0, 0),
     (Call::Seek, 1, 1),
     (Call::Write, 1, 1),
     (Call::Write, 1, 1),
@@ -212,8 +216,12 @@ fn answers(rt: &HostRuntime, calls: &Calls, start: Start) -> [(bool, bool); 5] {
 // Whether these calls of the bench fail, and no others, the first of them at once, if this one of the system's is refused.
 fn fail(rt: &HostRuntime, start: Start, refused: usize, first: usize, last: usize) -> bool {
     let calls = Calls::new(rt.alloc(), refused);
-    let wanted = [0, 1, 2, 3, 4].map(|call| (call < first || last < call, call == first));
-    answers(rt, &calls, start) == wanted
+    let answers = answers(rt, &calls, start);
+    let wanted = [0, 1, 2, 3, 4].map(|call| call < first || last < call);
+    answers.map(|(is_done, _)| is_done) == wanted
+        && answers
+            .get(first)
+            .is_some_and(|(_, is_at_once)| *is_at_once)
 }
 
 // The first step that doesn't fail as it says, if any.

@@ -130,6 +130,31 @@ fn no_link_is_followed_and_nothing_but_a_file_is_opened(rt: HostRuntime) {
     remove_all(&rt);
 }
 
+// The length that a bench finds where there is no file, and whether it writes after the deed.
+fn makes_after(rt: &HostRuntime, deed: Deed) -> (Result<u64, Failed>, bool) {
+    let mut bench = FileBench::new(rt, JOURNAL);
+    if prepare(rt).is_err() || fs::remove_file(rt, JOURNAL).is_err() {
+        return (Err(Failed), true);
+    }
+    let length = bench.length();
+    let is_done = does(rt, deed).is_ok();
+    (length, !is_done || bench.write_at(0, b"no").is_ok())
+}
+
+// Whether the journal has these bytes.
+fn has(rt: &HostRuntime, bytes: &str) -> bool {
+    fs::read_to_string(rt, JOURNAL).is_ok_and(|text| text.as_str() == bytes)
+}
+
+#[test]
+fn a_bench_that_found_no_file_makes_one_and_opens_none_that_came(rt: HostRuntime) {
+    assert!(rt; makes_after(&rt, Deed::Nothing) == (Ok(0), true));
+    assert!(rt; has(&rt, "no"));
+    assert!(rt; makes_after(&rt, Deed::RenamesAnotherOverIt) == (Ok(0), false));
+    assert!(rt; has(&rt, "vwxyz"));
+    remove_all(&rt);
+}
+
 // What a bench that only reads finds: the length, how many bytes of eight, and whether it writes.
 type Found = (Result<u64, Failed>, Result<usize, Failed>, bool);
 

@@ -120,6 +120,21 @@ fn what_is_written_stands_where_the_link_leads(rt: HostRuntime) {
     remove_all(&rt);
 }
 
+// Whether a bench that found no file where the link leads writes the one that came there.
+fn writes_what_came(rt: &HostRuntime) -> bool {
+    let mut bench = FileBench::following(rt, rt.alloc(), SPARE);
+    let is_none = put(rt, Spare::ALinkToNothing).is_ok() && bench.length() == Ok(0);
+    let is_made = fs::write(rt, THERE, b"abc".as_slice()).is_ok();
+    !is_none || !is_made || bench.write_at(0, b"xyz").is_ok()
+}
+
+#[test]
+fn a_file_that_came_where_the_link_leads_is_not_opened(rt: HostRuntime) {
+    assert!(rt; !writes_what_came(&rt));
+    assert!(rt; has(&rt, THERE, "abc"));
+    remove_all(&rt);
+}
+
 // What somebody else does to the link, or to the file that it leads to.
 #[derive(Clone, Copy, Debug)]
 enum Deed {
