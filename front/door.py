@@ -77,7 +77,7 @@ async def keep(table, alone):
         table.say(fault)
         if alone:
             raise
-        table.stop_for_good(fault)
+        table.stop_for_good("older")
         await table.closing.wait()
     finally:
         late.cancel()

@@ -51,7 +51,7 @@ class Groups:
     def send(self, lines):
         """Writes a group. It may wait for the program to read, and may be called in another thread."""
         if self.run is None:
-            raise Ended("the program isn't started")
+            raise Ended("the program isn't started", "gone")
         fill, due = self._fillers(len(lines))
         self.sent = lines, due
         text = b"\n".join([*lines, *fill]) + b"\n"
@@ -67,16 +67,16 @@ class Groups:
         count = len(lines) + len(due)
         try:
             if self.broken:
-                raise Ended(await self._why() or self.broken)
+                raise await self._why()
             replies = await asyncio.wait_for(self._replies(count, due), self.patience)
         except asyncio.TimeoutError:
             self.kill()
-            raise Ended("the program didn't reply in time")
-        except OSError as fault:
-            raise Ended(await self._why() or str(fault))
+            raise Ended("the program didn't reply in time", "late")
+        except OSError:
+            raise await self._why()
         if replies[len(lines):] != due or not self._fit(lines, replies):
             self.kill()
-            raise Ended("the replies don't belong to the questions")
+            raise Ended("the replies don't belong to the questions", "replies")
         return replies[:len(lines)]
 
     def _fillers(self, count):
@@ -99,7 +99,7 @@ class Groups:
             except asyncio.TimeoutError:
                 return []
             if not more:
-                raise Ended(await self._why())
+                raise await self._why()
             got += more
             if len(got) > count * REPLY * 2:
                 return []
@@ -118,7 +118,7 @@ class Groups:
             return await asyncio.wait_for(self.run.why(), 5)
         except asyncio.TimeoutError:
             self.kill()
-            return "the program closed its output"
+            return Ended("the program closed its output")
 
     def kill(self):
         if self.run:

@@ -57,9 +57,9 @@ class Reports:
             return
         counted = await writing
         if counted is None:
-            fault = await run.why()
+            ended = await run.why()
             run.kill()
-            raise Ended(fault)
+            raise ended
         await run.finish()
         self._compare(counted)
         self.fresh.replace(self.path)

@@ -11,25 +11,37 @@ import select
 import signal
 
 FRONT = pathlib.Path(__file__).resolve().parent.parent
-WORDS = FRONT / "words.json"
-AFTERWARDS = json.loads(WORDS.read_text(encoding="utf-8"))["ended"]
+WORDS = json.loads((FRONT / "words.json").read_text(encoding="utf-8"))
 CLOSED = -1
 FAREWELL = 30                       # seconds that a run has to end by itself once its input has ended
 
 
 class Ended(Exception):
-    """The program ended, or said what it can't have said."""
+    """The program ended, or said what it can't have said. The text is for the operator alone: the program's own words may tell by how
+    much a secret number was changed. Askers get the sentence for the cause."""
+
+    def __init__(self, text, cause="other"):
+        super().__init__(text)
+        self.cause = cause
 
 
-def ended_words(complaint, code):
+def sentence_of(cause):
+    """What askers are told: one of the door's own sentences, whatever the program said."""
+    return WORDS["away"].get(cause, WORDS["away"]["other"])
+
+
+def cause_of(fault):
+    """The cause of a fault: a program or a socket that can't be opened is one that can't be reached."""
+    return fault.cause if isinstance(fault, Ended) else "gone"
+
+
+def ended_by(complaint, code):
     """Why the program ended: the end of what it said, or how it ended, and what to do about it."""
     if code < 0:
-        how = f"the program was stopped by signal {-code}"
-    else:
-        how = f"the program ended with code {code}"
-    said = complaint[-200:].decode("utf-8", "replace").strip() or how
-    known = AFTERWARDS.get(str(code))
-    return said + (f" ({known})" if known else "")
+        return Ended(f"the program was stopped by signal {-code}", "killed")
+    said = complaint[-200:].decode("utf-8", "replace").strip() or f"the program ended with code {code}"
+    known = WORDS["ended"].get(str(code))
+    return Ended(said + (f" ({known})" if known else ""), str(code))
 
 
 class Run:
@@ -63,11 +75,11 @@ class Run:
                     raise OSError("the program takes no more input")
 
     async def why(self):
-        """What the run said on its standard error, or how it ended."""
+        """Why the run ended, once it has, as an Ended."""
         if not self.process:
-            return "the program is gone"
+            return Ended("the program is gone", "gone")
         complaint = await self.process.stderr.read()
-        return ended_words(complaint, await self.process.wait())
+        return ended_by(complaint, await self.process.wait())
 
     def kill(self):
         self._close_input()

@@ -4,8 +4,7 @@ A verdict says what the program would do now, by the transcript alone. It doesn'
 """
 import asyncio
 
-from .lines import Turned
-from .runs import Ended, ended_words
+from .runs import ended_by
 
 PIECE = 65_536
 DISAGREES = 14                      # the code with which `simulate` ends at a reply that wasn't due
@@ -67,7 +66,7 @@ class Simulation:
             return said
         complaint = await self.process.stderr.read()
         if await self.process.wait() != DISAGREES:
-            raise Ended(f"auditor simulate: {ended_words(complaint, self.process.returncode)}")
+            raise ended_by(complaint, self.process.returncode)
         self.gap = True
         return None
 
@@ -83,14 +82,14 @@ async def verdict_on(auditor, public, transcript, line):
         if process.returncode is None:
             process.kill()
     if process.returncode != 0:
-        raise Turned(503, f"auditor simulate: {ended_words(complaint, process.returncode)}")
+        raise ended_by(complaint, process.returncode)
     return said.rstrip(b"\n").rsplit(b"\n", 1)[-1]
 
 
 async def fault_over(auditor, public):
-    """Why `simulate` can't begin over these public columns, or None if it can."""
+    """Why `simulate` can't begin over these public columns, as an Ended, or None if it can."""
     process = await asyncio.create_subprocess_exec(
         auditor, "simulate", cwd=public, stdin=asyncio.subprocess.DEVNULL, stdout=asyncio.subprocess.DEVNULL,
         stderr=asyncio.subprocess.PIPE)
     _, complaint = await process.communicate()
-    return ended_words(complaint, process.returncode) if process.returncode else None
+    return ended_by(complaint, process.returncode) if process.returncode else None

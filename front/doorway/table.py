@@ -14,7 +14,7 @@ from .growth import carry_over, public_rows
 from .lines import HISTORY, Turned
 from .recovery import ask_again
 from .report import Reports
-from .runs import Ended
+from .runs import Ended, cause_of, sentence_of
 from .simulation import fault_over, verdict_on
 from .transcript import Damaged, Transcript, check_table
 from .why import Whys
@@ -69,7 +69,7 @@ class Table:
         self.state = "starting"
         self.asked = self.sent = self.repeats = self.restarts = self.waiting = 0
         self.verdicts, self.one_verdict = 0, asyncio.Lock()
-        self.whys = Whys(groups.opener)
+        self.whys = Whys(groups.opener, self.say)
 
     # What a request does.
 
@@ -104,6 +104,9 @@ class Table:
         try:
             async with self.one_verdict:
                 return await verdict_on(self.auditor, self.places.public, self.transcript.text(), line)
+        except (Ended, OSError) as fault:
+            self.say(f"auditor simulate: {fault}")
+            raise Turned(503, sentence_of(cause_of(fault)), again=True)
         finally:
             self.verdicts -= 1
 
@@ -141,7 +144,7 @@ class Table:
                 await self.start([])
                 continue
             await self._take()
-        self._give_up("the door is closing")
+        self._give_up("closing")
         await self.groups.close()
 
     async def _rest(self):
@@ -198,32 +201,35 @@ class Table:
                 self.say(f"program: {fault}")
                 self.groups.kill()
                 if pause > QUIET:
-                    self._give_up(await self._why(fault))
+                    self._give_up(await self._cause(fault))
                 pause = min(pause * 2, LONGEST_PAUSE)
                 await self._sleep(pause)
-        self._give_up("the door is closing")
+        self._give_up("closing")
 
     def _need_same_table(self):
         """Answers of another table aren't handed out: it may have grown since the door began."""
         try:
             check_table(self.places.public, self.places.keep)
         except Damaged:
-            raise Ended("schema.json or the public table.csv has changed: start the door again, over the new ones")
+            raise Ended("schema.json or the public table.csv has changed: start the door again, over the new ones", "changed")
 
     async def _need_same_rows(self):
         """The program's table and the public columns grow together, or what is shown of one isn't true of the other."""
         reply, = await self.groups.ask([COUNT])
         rows = public_rows(self.places.public)
         if reply != b'{"count":%d}' % rows:
-            raise Ended(f"the public table.csv has {rows} rows, and the program says {reply.decode(errors='replace')}: put in the right one")
+            raise Ended(f"the public table.csv has {rows} rows, and the program says {reply.decode(errors='replace')}: put in the right one",
+                        "rows")
 
-    async def _why(self, fault):
-        """A socket doesn't say why the program behind it ended. If it is for schema and public columns, `simulate` does."""
+    async def _cause(self, fault):
+        """Why the program doesn't begin. A socket doesn't say it. If it is for schema and public columns, `simulate` does."""
         if self.places.serve:
             with contextlib.suppress(OSError):
                 found = await fault_over(self.auditor, self.places.public)
-                return f"{fault}: {found}" if found else fault
-        return fault
+                if found:
+                    self.say(f"auditor simulate: {found}")
+                    return found.cause
+        return cause_of(fault)
 
     async def _sleep(self, pause):
         try:
@@ -231,10 +237,10 @@ class Table:
         except asyncio.TimeoutError:
             pass
 
-    def _give_up(self, fault):
+    def _give_up(self, cause):
         """Tells those who wait. What was with the program is asked again all the same."""
-        self.state = f"stopped: {fault}"
-        turned = Turned(503, f"{fault}. The question may be answered: ask again later", again=True)
+        self.state = f"stopped: {sentence_of(cause)}"
+        turned = Turned(503, f"{sentence_of(cause)} The question may be answered: ask again later.", again=True)
         for question in self.pending.values():
             question.fail(turned)
         self.pending.clear()
@@ -254,7 +260,7 @@ class Table:
         self.wake.set()
         self.whys.stop()
 
-    def stop_for_good(self, fault):
+    def stop_for_good(self, cause):
         """Ends the table, and not the door: other tables may be behind it."""
         self.groups.kill()
-        self._give_up(fault)
+        self._give_up(cause)

@@ -6,7 +6,7 @@ import asyncio
 import json
 
 from .lines import Turned
-from .runs import Ended
+from .runs import Ended, cause_of, sentence_of
 
 MOST = 64                           # lines of one run, and askers who may wait
 PATIENCE = 30                       # seconds that a run may take
@@ -18,8 +18,8 @@ VERDICTS = ("count", "refused", "released", "unsafe", "wide")
 class Whys:
     """The askers of one table who want to know why, and the run that says it."""
 
-    def __init__(self, opener):
-        self.opener, self.patience = opener, PATIENCE
+    def __init__(self, opener, say):
+        self.opener, self.say, self.patience = opener, say, PATIENCE
         self.waiting, self.taken = {}, {}   # the future of each line: not taken by a run yet, and with the run
         self.askers, self.work = 0, None
 
@@ -50,14 +50,19 @@ class Whys:
                 await self._say()
         finally:
             self.work = None
-            self._turn_away("no certificate could be made")         # whatever went wrong: nobody waits without end
+            self._turn_away(sentence_of("other"))         # whatever went wrong: nobody waits without end
 
     async def _say(self):
         """Tells those whose lines are taken what a run says of them."""
         try:
             lines = await asyncio.wait_for(self._explained(list(self.taken)), self.patience)
-        except (OSError, Ended, asyncio.TimeoutError) as fault:
-            fail(self.taken, f"auditor explain: {str(fault) or 'it took too long'}")
+        except asyncio.TimeoutError:
+            self.say("auditor explain: it took too long")
+            fail(self.taken, sentence_of("late"))
+            return
+        except (OSError, Ended) as fault:
+            self.say(f"auditor explain: {fault}")
+            fail(self.taken, sentence_of(cause_of(fault)))
             return
         for said, line in zip(self.taken.values(), lines):
             said.set_result(line)
@@ -79,17 +84,17 @@ class Whys:
         while got.count(b"\n") < count and len(got) <= count * LONGEST:
             more = await run.reader.read(PIECE)
             if not more:
-                raise Ended(await run.why())
+                raise await run.why()
             got += more
         *lines, rest = got.split(b"\n")
         if len(lines) != count or rest or not all(map(is_explained, lines)):
-            raise Ended("what it says isn't a line for each question")
+            raise Ended("what it says isn't a line for each question", "replies")
         return lines
 
     def stop(self):
         if self.work:
             self.work.cancel()
-        self._turn_away("the door is closing")
+        self._turn_away(sentence_of("closing"))
 
     def _turn_away(self, text):
         """Tells all who wait that nothing comes."""

@@ -26,6 +26,7 @@ logging.disable(logging.WARNING)
 
 HERE = pathlib.Path(__file__).resolve().parent
 FRONT = HERE.parent
+AWAY = json.loads((FRONT / "words.json").read_text())["away"]
 DOOR = pathlib.Path(os.environ.get("DOOR", FRONT / "door.py"))
 AUDITOR = os.environ.get("AUDITOR", str(FRONT.parent / "crates" / "auditor" / "out" / "auditor"))
 SEED = int(os.environ.get("SEED", "1"))

@@ -8,7 +8,7 @@ import signal
 import unittest
 
 from case import DoorCase
-from kit import AUDITOR, FRONT, HERE, PATIENCE, Door, Folder, ask, health, line_of
+from kit import AUDITOR, AWAY, FRONT, HERE, PATIENCE, Door, Folder, ask, health, line_of
 
 
 def question(kind, low, high):
@@ -153,7 +153,8 @@ class Faults(DoorCase):
             await self.door.ready(session, "stopped")
             status, body = await ask(session, line_of("sum", 0, 99))
             self.assertEqual(status, 503)
-            self.assertIn("No such file", json.loads(body)["error"])
+            self.assertIn(AWAY["gone"], json.loads(body)["error"])
+            self.assertIn("No such file", self.folder.said())
             program.symlink_to(AUDITOR)
             await self.door.ready(session, "serving")
             await self.client(session, 0, 5)
@@ -166,8 +167,9 @@ class Faults(DoorCase):
         self.door.start()
         async with self.door.session() as session:
             await self.door.ready(session, "stopped")
-            self.assertEqual((await health(session))["state"], "stopped: journal damaged at byte 8 (put back a copy of the"
-                             " journal that is at least as new as the last reply)")
+            self.assertEqual((await health(session))["state"], f"stopped: {AWAY['9']}")
+            self.assertIn("journal damaged at byte 8 (put back a copy of the journal that is at least as new as the last reply)",
+                          self.folder.said())
             status, body = await ask(session, line_of("sum", 0, 99))
             self.assertEqual(status, 503)
             journal.write_bytes(whole)
@@ -227,7 +229,7 @@ class Causes(unittest.IsolatedAsyncioTestCase):
         self.program.chmod(0o755)
 
     async def state(self, *words):
-        """The door's state once it has given up to wait, and what an asker is told then."""
+        """The door's state once it has given up to wait, which is what an asker is told then."""
         door = Door(self.folder, *words, auditor=str(self.program)).start()
         self.addCleanup(door.end)
         async with door.session() as session:
@@ -245,11 +247,13 @@ class Causes(unittest.IsolatedAsyncioTestCase):
                                 ("record 1 should not have been released", 12), ("schema: group 63 is bad", 16)):
             with self.subTest(complaint):
                 self.write_program(complaint, code)
-                self.assertEqual(await self.state(), f"stopped: {complaint} ({words[str(code)]})")
+                self.assertEqual(await self.state(), f"stopped: {AWAY[str(code)]}")
+                self.assertIn(f"{complaint} ({words[str(code)]})\n", self.folder.said())
 
     async def test_an_end_that_isnt_known_is_said_by_its_code(self):
         self.write_program("", 99)
-        self.assertEqual(await self.state(), "stopped: the program ended with code 99")
+        self.assertEqual(await self.state(), f"stopped: {AWAY['other']}")
+        self.assertIn("the program ended with code 99", self.folder.said())
 
     async def test_a_bad_group_is_said_through_a_socket_too(self):
         self.write_program("schema: group 0 is bad", 16)
@@ -257,7 +261,8 @@ class Causes(unittest.IsolatedAsyncioTestCase):
         gone = await asyncio.start_unix_server(lambda _, writer: writer.close(), path)
         self.addAsyncCleanup(gone.wait_closed)
         self.addCleanup(gone.close)
-        self.assertIn("the program is gone: schema: group 0 is bad (in schema.json, under protect", await self.state("--serve", path))
+        self.assertEqual(await self.state("--serve", path), f"stopped: {AWAY['16']}")
+        self.assertIn("schema: group 0 is bad (in schema.json, under protect", self.folder.said())
 
 
 class Known(DoorCase):

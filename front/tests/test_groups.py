@@ -36,7 +36,7 @@ class ScriptedRun:
         return b'{"refused":"where","at":%d}' % line.count(b" ")
 
     async def why(self):
-        return "the program is gone"
+        return Ended("the program is gone", "gone")
 
     def kill(self):
         self.killed = True

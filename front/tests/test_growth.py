@@ -13,7 +13,7 @@ import unittest
 from unittest import mock
 
 from case import DoorCase
-from kit import AUDITOR, FRONT, SEED, TEAMS, ask, health, line_of
+from kit import AUDITOR, AWAY, FRONT, SEED, TEAMS, ask, health, line_of
 
 sys.path.insert(0, str(FRONT))
 from doorway import files, growth  # noqa: E402
@@ -320,8 +320,8 @@ class Grown(DoorCase):
             self.add_rows(3)
             self.door.start()
             await self.door.ready(session, "stopped")
-            state = (await health(session))["state"]
-            self.assertRegex(state, r"journal is of another table: rows 60, now 63 \(.*run auditor grow")
+            self.assertEqual((await health(session))["state"], f"stopped: {AWAY['10']}")
+            self.assertRegex(self.folder.said(), r"journal is of another table: rows 60, now 63 \(.*run auditor grow")
             self.grow(60)
             await self.door.ready(session)
             await self.asks(session, 10, 120)
@@ -337,7 +337,8 @@ class Grown(DoorCase):
         self.door.start()
         async with self.door.session() as session:
             await self.door.ready(session, "stopped")
-            self.assertIn('the public table.csv has 60 rows, and the program says {"count":63}', (await health(session))["state"])
+            self.assertEqual((await health(session))["state"], f"stopped: {AWAY['rows']}")
+            self.assertIn('the public table.csv has 60 rows, and the program says {"count":63}', self.folder.said())
             self.assertEqual(self.door.stop(), 0)
             (self.folder.public / "table.csv").write_bytes(longer)
             self.door.start()
@@ -355,7 +356,8 @@ class Grown(DoorCase):
             self.door.kill_programs()
             status, body = await ask(session, line_of("sum", 0, 61))
             self.assertEqual(status, 503)
-            self.assertIn("has changed: start the door again", json.loads(body)["error"])
+            self.assertIn(AWAY["changed"], json.loads(body)["error"])
+            self.assertIn("has changed: start the door again", self.folder.said())
             self.assertEqual(self.door.stop(), 0)
             self.grow(60)
             self.door.start()

@@ -13,7 +13,7 @@ import sys
 import tempfile
 import unittest
 
-from kit import DOOR, FRONT, SEED, Door, Folder, ask, health, line_of
+from kit import AWAY, DOOR, FRONT, SEED, Door, Folder, ask, health, line_of
 
 sys.path.insert(0, str(FRONT))
 from doorway import settings  # noqa: E402
@@ -152,7 +152,8 @@ class Tables(unittest.IsolatedAsyncioTestCase):
         self.door.start()
         async with self.door.session() as session:
             await self.door.ready(session, "stopped", path="/south/health")
-            self.assertIn("it is an older copy", (await health(session, "/south/health"))["state"])
+            self.assertEqual((await health(session, "/south/health"))["state"], f"stopped: {AWAY['older']}")
+            self.assertIn("it is an older copy", self.office.said())
             self.assertEqual((await ask(session, line_of("sum", 0, 30), "/south/ask"))[0], 503)
             self.assertEqual((await ask(session, line_of("sum", 0, 50), "/north/ask"))[0], 200)
         self.assertEqual(self.door.stop(signal.SIGTERM), 0)
@@ -162,7 +163,8 @@ class Tables(unittest.IsolatedAsyncioTestCase):
         async with self.door.session() as session:
             await self.door.ready(session, "stopped", path="/south/health")
             await self.door.ready(session, path="/north/health")
-            self.assertIn("stopped.txt: the journal holds 0 answers and 1 were given", (await health(session, "/south/health"))["state"])
+            self.assertEqual((await health(session, "/south/health"))["state"], f"stopped: {AWAY['older']}")
+            self.assertIn("stopped.txt: the journal holds 0 answers and 1 were given", self.office.said())
             self.assertEqual((await ask(session, line_of("sum", 0, 30), "/south/ask"))[0], 503)
             self.assertEqual((await ask(session, line_of("sum", 0, 40), "/north/ask"))[0], 200)
         self.assertEqual(self.door.stop(), 0)

@@ -11,7 +11,7 @@ import tempfile
 import unittest
 
 from case import DoorCase
-from kit import AUDITOR, FRONT, Door, Folder, ask, health, line_of
+from kit import AUDITOR, AWAY, FRONT, Door, Folder, ask, health, line_of
 
 sys.path.insert(0, str(FRONT))
 from doorway import settings  # noqa: E402
@@ -54,14 +54,15 @@ class Twins(DoorCase):
     async def test_a_program_that_is_killed_again_and_again_leaves_them_in_both(self):
         await self.under_kills(self.kill_the_program, kills=8, clients=16, questions=20)
 
-    async def stopped(self, session, text):
-        """What the door says while nothing is served."""
+    async def stopped(self, session, code, text):
+        """What the door's log says while nothing is served. Askers get the sentence for the code."""
         await self.door.ready(session, state="stopped")
-        state = (await health(session))["state"]
-        self.assertIn(text, state)
+        self.assertEqual((await health(session))["state"], f"stopped: {AWAY[code]}")
         status, _ = await ask(session, line_of("max", 3, 177))
         self.assertEqual(status, 503)
-        return state
+        said = self.folder.said().rsplit("listening on", 1)[-1]
+        self.assertIn(text, said)
+        return said
 
     async def test_a_lost_spare_stops_the_door_until_it_is_restored(self):
         async with self.door.start().session() as session:
@@ -70,8 +71,8 @@ class Twins(DoorCase):
             self.assertEqual(self.door.stop(), 0)
             (self.folder.path / "other_disk" / "answers.spare").unlink()
             self.door.start()
-            state = await self.stopped(session, "spare: no journal")
-            self.assertIn("run auditor restore in the folder", state)
+            said = await self.stopped(session, "20", "spare: no journal")
+            self.assertIn("run auditor restore in the folder", said)
             await asyncio.to_thread(self.folder.restore)
             await self.door.ready(session)
             await self.client(session, 1, 10)
@@ -85,7 +86,7 @@ class Twins(DoorCase):
             disk = self.folder.path / "other_disk"
             away = disk.rename(self.folder.path / "away")
             self.door.start()
-            self.assertIn("the folder that its link leads to isn't there", await self.stopped(session, "spare failed"))
+            self.assertIn("the folder that its link leads to isn't there", await self.stopped(session, "19", "spare failed"))
             away.rename(disk)
             await self.door.ready(session)
             await self.client(session, 1, 10)
@@ -98,7 +99,7 @@ class Twins(DoorCase):
             self.assertEqual(self.door.stop(), 0)
             (self.folder.path / "answers.journal").unlink()
             self.door.start()
-            await self.stopped(session, "no journal")
+            await self.stopped(session, "7", "no journal")
             await asyncio.to_thread(self.folder.restore)
             await self.door.ready(session)
             await self.client(session, 1, 10)
@@ -116,7 +117,7 @@ class Twins(DoorCase):
             subprocess.run([AUDITOR, "serve"], cwd=self.folder.path, input=line_of("sum", 50, 149) + b"\n", check=True,
                            capture_output=True)
             self.door.start()
-            await self.stopped(session, "journals differ at record 0")
+            await self.stopped(session, "21", "journals differ at record 0")
             journal.write_bytes(last)
             await self.door.ready(session)
         self.end_and_check()
@@ -147,7 +148,8 @@ class AfterGrowth(DoorCase):
             subprocess.run([AUDITOR, "grow"], cwd=self.folder.path, check=True)
             self.door.start()
             await self.door.ready(session, state="stopped")
-            self.assertIn("spare: journal is of another table: rows 3, now 4", (await health(session))["state"])
+            self.assertEqual((await health(session))["state"], f"stopped: {AWAY['20']}")
+            self.assertIn("spare: journal is of another table: rows 3, now 4", self.folder.said())
             (self.folder.path / "answers.spare").unlink()
             subprocess.run([AUDITOR, "restore"], cwd=self.folder.path, check=True)
             await self.door.ready(session)

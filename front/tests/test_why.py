@@ -13,7 +13,7 @@ import unittest
 import aiohttp
 
 from case import DoorCase
-from kit import AUDITOR, FRONT, HERE, PATIENCE, SEED, Door, Folder, ask, health, line_of
+from kit import AUDITOR, AWAY, FRONT, HERE, PATIENCE, SEED, Door, Folder, ask, health, line_of
 
 SCRIPT = FRONT.parent / "demo" / "check_certificate.py"
 ODD = str(HERE / "odd_explain.py")
@@ -161,18 +161,20 @@ class Odd(WhyCase):
     async def test_a_certificate_that_takes_too_long_is_given_up(self):
         async with self.door.session() as session:
             await self.start(session, "--explain-patience", 0.3)
-            self.assertIn(b"auditor explain: it took too long", await self.why(session, line_of("sum", 0, 0), 503))
+            self.assertEqual(json.loads(await self.why(session, line_of("sum", 0, 0), 503)), {"error": AWAY["late"]})
+            self.assertIn("auditor explain: it took too long", self.folder.said())
             await self.client(session, 0, 5)
             await self.nothing_is_left()
         self.end_and_check()
 
     async def test_a_run_that_ends_or_says_something_else_is_told_of(self):
-        for mode, words in (("end", b"no certificate today"), ("texts", b"isn't a line for each question")):
+        for mode, cause, words in (("end", "other", "no certificate today"), ("texts", "replies", "isn't a line for each question")):
             os.environ["EXPLAIN"] = mode
             async with self.door.session() as session:
                 self.door.start()
                 await self.door.ready(session)
-                self.assertIn(words, await self.why(session, line_of("sum", 0, 0), 503))
+                self.assertEqual(json.loads(await self.why(session, line_of("sum", 0, 0), 503)), {"error": AWAY[cause]})
+                self.assertIn(words, self.folder.said())
                 self.assertEqual((await self.ask(session, ("count", 0, 9), line_of("count", 0, 9)))[0], 200)
             self.assertEqual(self.door.stop(), 0)
             await self.nothing_is_left()
@@ -197,7 +199,7 @@ class Odd(WhyCase):
             await self.explaining()
             others = [asyncio.ensure_future(ask(session, line_of("sum", 0, number), "/why")) for number in (1, 2)]
             ended, told, *found = await asyncio.gather(asyncio.to_thread(self.door.stop), first, *others, return_exceptions=True)
-        self.assertEqual((ended, told), (0, (503, b'{"error": "the door is closing"}')))
+        self.assertEqual((ended, told), (0, (503, json.dumps({"error": AWAY["closing"]}).encode())))
         for one in found:
             self.assertTrue(isinstance(one, (aiohttp.ClientError, OSError)) or one[0] == 503, one)
         await self.nothing_is_left()
