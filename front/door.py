@@ -37,6 +37,7 @@ def make_table(name, places, settings):
     table.patience = settings.asker_patience or table.patience
     table.whys.patience = settings.explain_patience or table.whys.patience
     table.most_waiting = settings.waiting or table.most_waiting
+    table.transcript.most = settings.denials_up_to or table.transcript.most
     return table
 
 

@@ -84,7 +84,7 @@ class TableHandlers:
             ("GET", prefix + "/transcript.jsonl"): self.transcript}
 
     async def _check_size(self, line):
-        if self.least and line not in self.table.transcript.known:
+        if self.least and not (await self.table.known(line))[1]:
             await self.least.check(line)
 
     async def ask(self, line):

@@ -7,9 +7,8 @@ due an answer the public columns tell, and the transcript.
 """
 import asyncio
 
-from .simulation import Simulation
+from .simulation import DENIALS, Simulation
 
-DENIALS = {b'{"verdict":"unsafe"}': b'{"denied":"unsafe"}', b'{"verdict":"wide"}': b'{"denied":"wide"}'}
 FULL = b'{"refused":"full"}'
 
 
@@ -20,7 +19,7 @@ async def ask_again(table, left):
     denied = []
     try:
         async with Simulation(table.auditor, table.places.public) as simulation:
-            await simulation.read(table.transcript.text())
+            await simulation.read(table.transcript.released())
             await _ask_those_due(table, simulation, left, denied)
             if simulation.gap:
                 table.say("the transcript has a gap, or the history is full: auditor simulate says which")

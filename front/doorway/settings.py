@@ -48,6 +48,7 @@ def parser():
     add("--asker-patience", type=float, help=argparse.SUPPRESS)
     add("--explain-patience", type=float, help=argparse.SUPPRESS)
     add("--waiting", type=int, help=argparse.SUPPRESS)
+    add("--denials-up-to", type=int, metavar="BYTES", help=argparse.SUPPRESS)
     return words
 
 

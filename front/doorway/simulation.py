@@ -1,64 +1,68 @@
 """`auditor simulate` in the folder of the public columns: what would be decided, without a secret and without a record.
 
-A verdict says what the program would do now, by the transcript alone. It doesn't depend on the answer.
+A verdict says what the program would do now, by the answers alone: no denial changes a later decision, so none is fed. It doesn't
+depend on the answer.
 """
 import asyncio
+import contextlib
 
-from .runs import ended_by
+from .runs import Ended, ended_by
 
-PIECE = 65_536
 DISAGREES = 14                      # the code with which `simulate` ends at a reply that wasn't due
+IDLE = 60                           # seconds that a run stays for the next question
+DENIALS = {b'{"verdict":"unsafe"}': b'{"denied":"unsafe"}', b'{"verdict":"wide"}': b'{"denied":"wide"}'}
 
 
 class Simulation:
-    """One run of `simulate`, fed with a transcript and then with questions. `gap` once it says nothing any more."""
+    """One run of `simulate`, fed with answers and then with questions. `gap` once it says nothing any more."""
 
     def __init__(self, auditor, public):
         self.auditor, self.public = auditor, public
         self.process, self.gap = None, False
 
     async def __aenter__(self):
-        self.process = await asyncio.create_subprocess_exec(
-            self.auditor, "simulate", cwd=self.public, stdin=asyncio.subprocess.PIPE,
-            stdout=asyncio.subprocess.PIPE, stderr=asyncio.subprocess.PIPE)
+        await self.start()
         return self
 
     async def __aexit__(self, *_):
-        if self.process.returncode is None:
-            self.process.kill()
+        self.kill()
         await self.process.wait()
 
-    async def read(self, transcript):
-        """Feeds a whole transcript. It says a verdict for each pair while it reads, so both go on at once."""
-        feeding = asyncio.ensure_future(self._feed(transcript))
-        for _ in range(transcript.count(b"\n") // 2):
-            if not await self._line():
-                break
-        if self.gap:
-            feeding.cancel()
-        await asyncio.gather(feeding, return_exceptions=True)
+    async def start(self):
+        self.process = await asyncio.create_subprocess_exec(
+            self.auditor, "simulate", cwd=self.public, stdin=asyncio.subprocess.PIPE,
+            stdout=asyncio.subprocess.PIPE, stderr=asyncio.subprocess.PIPE)
+
+    def kill(self):
+        if self.process and self.process.returncode is None:
+            with contextlib.suppress(ProcessLookupError):
+                self.process.kill()
+
+    async def read(self, pieces):
+        """Feeds pairs, in pieces that may end anywhere. It says a verdict for each, which is read as it comes: the pipes are small."""
+        lines = verdicts = 0
+        for piece in pieces:
+            self._write(piece)
+            lines += piece.count(b"\n")
+            while verdicts < lines // 2 and await self._line():
+                verdicts += 1
+            if self.gap:
+                return
 
     async def verdict(self, line):
         """The verdict on a question, or None if the transcript has a gap."""
         if not self.gap:
-            self._write(line)
+            self._write(line + b"\n")
         return None if self.gap else await self._line()
 
     def reply(self, reply):
         """The reply to the last question, which joins what later verdicts go by."""
         if not self.gap:
-            self._write(reply)
+            self._write(reply + b"\n")
 
-    def _write(self, line):
-        try:
-            self.process.stdin.write(line + b"\n")
-        except (OSError, RuntimeError):
-            self.gap = True
-
-    async def _feed(self, text):
-        for at in range(0, len(text), PIECE):
-            self.process.stdin.write(text[at:at + PIECE])
-            await self.process.stdin.drain()
+    def _write(self, text):
+        with contextlib.suppress(OSError, RuntimeError):        # why it is gone, the next verdict says
+            self.process.stdin.write(text)
 
     async def _line(self):
         said = (await self.process.stdout.readline()).strip()
@@ -71,19 +75,75 @@ class Simulation:
         return None
 
 
-async def verdict_on(auditor, public, transcript, line):
-    """The verdict on a question after a transcript, as a line."""
-    process = await asyncio.create_subprocess_exec(
-        auditor, "simulate", cwd=public, stdin=asyncio.subprocess.PIPE, stdout=asyncio.subprocess.PIPE,
-        stderr=asyncio.subprocess.PIPE)
-    try:
-        said, complaint = await process.communicate(transcript + line + b"\n")
-    finally:
-        if process.returncode is None:
-            process.kill()
-    if process.returncode != 0:
-        raise ended_by(complaint, process.returncode)
-    return said.rstrip(b"\n").rsplit(b"\n", 1)[-1]
+class Verdicts:
+    """Verdicts on questions that aren't asked, one after the other, from a run that is fed with the answers as they come.
+
+    A run that says that a question would be answered waits for the answer, so it can't go on. The next one is fed at once.
+    """
+
+    def __init__(self, auditor, public, transcript):
+        self.auditor, self.public, self.transcript = auditor, public, transcript
+        self.one = asyncio.Lock()
+        self.run, self.fed, self.next, self.idle = None, 0, None, None
+
+    async def on(self, line):
+        """The verdict on a question after what was answered so far."""
+        async with self.one:
+            try:
+                await self._feed()
+                said = await self.run.verdict(line)
+                if said is None:
+                    raise Ended("the transcript has a gap", str(DISAGREES))
+            except BaseException:
+                self.drop()
+                raise
+            if said in DENIALS:
+                self.run.reply(DENIALS[said])
+            else:
+                self.drop()
+                self.next = asyncio.ensure_future(self._feed_ahead())
+            self._rest()
+            return said
+
+    async def _feed(self):
+        """A run that has all answers."""
+        if self.run is None:
+            self.run, self.fed = Simulation(self.auditor, self.public), 0
+            await self.run.start()
+        size = self.transcript.size
+        await self.run.read(self.transcript.released(self.fed))
+        self.fed = size
+
+    async def _feed_ahead(self):
+        async with self.one:
+            try:
+                await self._feed()
+            except (Ended, OSError):
+                self.drop()             # the next asker is told
+            except BaseException:
+                self.drop()
+                raise
+
+    def _rest(self):
+        """Ends the run if nobody wants a verdict for a while."""
+        if self.idle:
+            self.idle.cancel()
+        self.idle = asyncio.get_running_loop().call_later(IDLE, self._end_idle)
+
+    def _end_idle(self):
+        if not self.one.locked():
+            self.drop()
+
+    def drop(self):
+        if self.run:
+            self.run.kill()
+            self.run = None
+
+    def stop(self):
+        for one in (self.next, self.idle):
+            if one:
+                one.cancel()
+        self.drop()
 
 
 async def fault_over(auditor, public):

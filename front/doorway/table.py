@@ -9,14 +9,15 @@ import contextlib
 import math
 import sys
 
+from .asked import Questions
 from .compacted import left_out
 from .growth import carry_over, public_rows
 from .lines import HISTORY, Turned
 from .recovery import ask_again
 from .report import Reports
 from .runs import Ended, cause_of, sentence_of
-from .simulation import fault_over, verdict_on
-from .transcript import Damaged, Transcript, check_table
+from .simulation import Verdicts, fault_over
+from .transcript import Damaged, Transcript, check_table, read_public
 from .why import Whys
 
 COUNT = b'{"ask":"count","where":"all"}'
@@ -29,8 +30,8 @@ FIRST_PAUSE, QUIET, LONGEST_PAUSE = 0.02, 0.5, 10      # seconds between two sta
 class Question:
     """A line that waits for its reply, for one asker or for several who asked the same."""
 
-    def __init__(self, line):
-        self.line = line
+    def __init__(self, asked):
+        self.line, self.key = asked.line, asked.key
         self.askers = []                    # futures, with the time from which on they wait
 
     def wait(self):
@@ -61,21 +62,36 @@ class Table:
         carry_over(places.public, places.keep, self.say)
         check_table(places.public, places.keep)
         self.left_out = left_out(places.keep)
-        self.transcript = Transcript(places.keep)
+        self.questions = Questions(*read_public(places.public))
+        self.transcript = Transcript(places.keep, key=self.questions.key)
+        self.indexing = None
         self.reports = Reports(self, places.keep, report_every)
         self.queue, self.pending = collections.deque(), {}
         self.wake, self.closing = asyncio.Event(), asyncio.Event()
         self.most_waiting, self.patience = WAITING, PATIENCE
         self.state = "starting"
         self.asked = self.sent = self.repeats = self.restarts = self.waiting = 0
-        self.verdicts, self.one_verdict = 0, asyncio.Lock()
+        self.verdicts, self.simulated = 0, Verdicts(auditor, places.public, self.transcript)
         self.whys = Whys(groups.opener, self.say)
 
     # What a request does.
 
+    async def known(self, line):
+        """What a line asks, and the answer if it was given. It waits until the answers of before are known by what they answer."""
+        await self.index()
+        asked = self.questions.read(line)
+        return asked, self.transcript.answers.get(asked.key)
+
+    async def index(self):
+        """Has the earlier answers known by what they answer, once, in a thread of its own."""
+        if self.indexing is None:
+            self.indexing = asyncio.ensure_future(asyncio.to_thread(self.transcript.index))
+        if not self.indexing.done():
+            await asyncio.shield(self.indexing)
+
     async def ask(self, line):
         """The reply to a question. A released answer stays true, so the same question makes no second record."""
-        known = self.transcript.known.get(line)
+        asked, known = await self.known(line)
         if known:
             self.repeats += 1
             return known
@@ -83,9 +99,9 @@ class Table:
             raise Turned(503, self.state, again=True)
         if self.waiting >= self.most_waiting:
             raise Turned(503, "too many questions wait", again=True)
-        question = self.pending.get(line)
+        question = self.pending.get(asked.key)
         if question is None:
-            question = self.pending[line] = Question(line)
+            question = self.pending[asked.key] = Question(asked)
             self.queue.append(question)
             self.wake.set()
         self.waiting += 1
@@ -96,14 +112,14 @@ class Table:
 
     async def verdict(self, line):
         """What would be said of a question that isn't asked, as `simulate` has it."""
-        if line in self.transcript.known:
+        asked, known = await self.known(line)
+        if known:
             return b'{"verdict":"released"}'
         if self.verdicts >= VERDICTS:
             raise Turned(503, "too many verdicts are wanted", again=True)
         self.verdicts += 1
         try:
-            async with self.one_verdict:
-                return await verdict_on(self.auditor, self.places.public, self.transcript.text(), line)
+            return await self.simulated.on(asked.line)
         except (Ended, OSError) as fault:
             self.say(f"auditor simulate: {fault}")
             raise Turned(503, sentence_of(cause_of(fault)), again=True)
@@ -120,7 +136,8 @@ class Table:
     def health(self):
         records = self.transcript.records - self.left_out
         return {"state": self.state, "records": records, "room": max(HISTORY - records, 0), "asked": self.asked,
-                "groups": self.sent, "repeats": self.repeats, "restarts": self.restarts, "waiting": self.waiting}
+                "groups": self.sent, "repeats": self.repeats, "restarts": self.restarts, "waiting": self.waiting,
+                "transcript": self.transcript.size, "unwritten": self.transcript.unwritten}
 
     def is_stopped(self):
         """Whether no question is taken just now."""
@@ -134,7 +151,9 @@ class Table:
     async def serve(self):
         """Takes questions from the queue in their order until `stop`."""
         self.reports.need_newest()
-        await self.start([Question(line) for line in self.transcript.left])
+        indexing = asyncio.ensure_future(self.index())
+        await self.start([Question(self.questions.read(line)) for line in self.transcript.left])
+        await indexing
         while not self.closing.is_set():
             if not self.queue:
                 await self._rest()
@@ -180,7 +199,7 @@ class Table:
         self.groups.send(lines)
 
     def answer(self, question, reply):
-        self.pending.pop(question.line, None)
+        self.pending.pop(question.key, None)
         question.answer(reply)
 
     async def start(self, left):
@@ -259,6 +278,7 @@ class Table:
         self.closing.set()
         self.wake.set()
         self.whys.stop()
+        self.simulated.stop()
 
     def stop_for_good(self, cause):
         """Ends the table, and not the door: other tables may be behind it."""

@@ -1,20 +1,29 @@
 """What was asked and replied, and what is with the program just now: two files that outlive every stop.
 
 `transcript.jsonl` has each question that was decided and, after it, its reply; `auditor simulate` takes it as it is. Counts
-and refusals make no record and follow from the public columns: they are left out.
+and refusals make no record and follow from the public columns: they are left out. A denial that was the last reply to its question
+isn't written again, and none is once the transcript is very long: a denial changes no later decision.
 
 `waiting.jsonl` has the questions of the group that is with the program. Its first line has the transcript's length, the
 length of what follows, and a sum over all of that.
 
-Promised, if a disk keeps what it says that it synced: after any stop the transcript holds every pair for which `add` has
-returned, and `left` every question for which `hold` has returned and `add` has not, unless its pair is in the transcript.
+Promised, if a disk keeps what it says that it synced: after any stop the transcript holds every answer for which `add` has
+returned, and every denial until it is very long, and `left` every question for which `hold` has returned and `add` has not, unless
+its pair is in the transcript.
 """
+import array
+import bisect
+import collections
 import hashlib
 import json
 import pathlib
 
 from .files import SyncedFile, sync_folder, write_whole
 from .lines import DECIDED, DECISION, RELEASED
+
+PIECE = 1 << 20                     # bytes that are read at a time
+MOST = 500 << 20                    # bytes from which on denials aren't written down: with 65,536 answers `simulate` still takes all of it
+REMEMBERED = 16_384                 # denials of which it is remembered that they stand there
 
 
 class Damaged(Exception):
@@ -26,20 +35,37 @@ class Unwritten(Exception):
 
 
 class Transcript:
-    def __init__(self, folder, file=SyncedFile):
+    """`key` gives what a line asks, so that the same question is known however it is written."""
+
+    def __init__(self, folder, file=SyncedFile, key=lambda line: line):
         folder = pathlib.Path(folder)
         self.file = file(folder / "transcript.jsonl", 0o644)
         if not self.file.lock():
             raise Damaged(f"another door keeps {folder / 'transcript.jsonl'}")
         self.waiting = file(folder / "waiting.jsonl", 0o600)
         sync_folder(folder)
-        self.known = {}                     # released answers by their question
-        self.records = 0
+        self.key, self.most = key, MOST
+        self.answers = {}                   # released answers by what they answer
+        self.denials = collections.OrderedDict()        # the last denials by what they deny
+        self.denied = collections.deque(maxlen=REMEMBERED)      # the places of those in the file
+        self.begins, self.ends = array.array("Q"), array.array("Q")     # where the released pairs stand, those in a row as one
+        self.records = self.unwritten = 0
         self.size = 0                       # as far as it is synced
         self.left = self._recover()         # questions whose reply nobody saw
 
     def text(self):
         return self.file.read(self.size, 0)
+
+    def released(self, at=0):
+        """The pairs that were released from a place in the file on, in pieces."""
+        for number in range(bisect.bisect_right(self.ends, at), len(self.ends)):
+            yield from self._pieces(max(at, self.begins[number]), self.ends[number])
+
+    def _pieces(self, at, end):
+        while at < end:
+            piece = self.file.read(min(end - at, PIECE), at)
+            at += len(piece)
+            yield piece
 
     def hold(self, lines):
         """Writes down and syncs which questions leave for the program."""
@@ -53,39 +79,79 @@ class Transcript:
         self.waiting.sync()
 
     def add(self, pairs):
-        """Writes down and syncs the pairs that were decided. Only then may anybody be told."""
-        decided = [(line, reply) for line, reply in pairs if reply.startswith(DECIDED)]
+        """Writes down and syncs the pairs that were decided and don't stand there yet. Only then may anybody be told."""
+        decided = [(line, reply) for line, reply in pairs if reply.startswith(DECIDED) and not self._stands(line, reply)]
         if not decided:
             return
         text = b"".join(line + b"\n" + reply + b"\n" for line, reply in decided)
         _write(self.file, "transcript.jsonl", text, self.size)
-        self.size += len(text)
         for line, reply in decided:
-            self._note(line, reply)
+            self._pass(line, reply)
+            self._know(line, reply)
+
+    def _stands(self, line, reply):
+        """Whether a denial needn't be written down: it was the last reply to that question, or the transcript is full of denials."""
+        if reply.startswith(RELEASED):
+            return False
+        if self.denials.get(self.key(line)) == reply:
+            return True
+        full = self.size >= self.most
+        self.unwritten += full
+        return full
+
+    def index(self):
+        """Learns what the pairs of the file answer and deny. It may take a second or two, and may run in a thread of its own."""
+        for line, reply in pairs_of(self.released()):
+            self.answers.setdefault(self.key(line), reply)
+        for at, end in self.denied:
+            for pair in pairs_of(self._pieces(at, end)):
+                self._know(*pair)
+        self.denied.clear()
 
     def close(self):
         self.file.close()
         self.waiting.close()
 
-    def _note(self, line, reply):
+    def _know(self, line, reply):
+        key = self.key(line)
         if reply.startswith(RELEASED):
-            self.records += 1
-            self.known[line] = reply
+            self.answers[key] = reply
+            self.denials.pop(key, None)
+            return
+        self.denials[key] = reply
+        self.denials.move_to_end(key)
+        if len(self.denials) > REMEMBERED:
+            self.denials.popitem(last=False)
+
+    def _pass(self, line, reply):
+        """Takes a pair at the end of what is synced into account, and gives its place."""
+        at, self.size = self.size, self.size + len(line) + len(reply) + 2
+        if not reply.startswith(RELEASED):
+            return at
+        self.records += 1
+        if self.ends and self.ends[-1] == at:
+            self.ends[-1] = self.size
+        else:
+            self.begins.append(at)
+            self.ends.append(self.size)
+        return at
+
+    def _find(self, line, reply):
+        """Takes a pair of the file into account; what it answers or denies is worked out later."""
+        at = self._pass(line, reply)
+        if not reply.startswith(RELEASED):
+            self.denied.append((at, self.size))
 
     def _recover(self):
-        text = self.file.read(self.file.size(), 0)
+        size = self.file.size()
         held = self._read_waiting()
         # Without a whole list of the waiting its group never left, so the transcript ends with a pair.
-        at, lines = held if held else (len(text), [])
-        if len(text) < at:
+        at, lines = held if held else (size, [])
+        if size < at:
             raise Damaged("transcript.jsonl is shorter than waiting.jsonl says: put the right one back")
-        if text[:at].count(b"\n") % 2 or text[:at] and text[at - 1:at] != b"\n":
-            raise Damaged("transcript.jsonl is no list of questions and replies: put the right one back")
-        whole = text[:at].split(b"\n")
-        for number in range(0, len(whole) - 1, 2):
-            self._note(whole[number], whole[number + 1])
-        self.size = at
-        left = self._match(text[at:], lines)
+        for pair in pairs_of(self._pieces(0, at)):
+            self._find(*pair)
+        left = self._match(self.file.read(size - at, at), lines)
         self.file.truncate(self.size)
         self.file.sync()
         return left
@@ -107,8 +173,7 @@ class Transcript:
                 passed.remove(line)
             else:
                 break
-            self._note(line, reply)
-            self.size += len(line) + len(reply) + 2
+            self._find(line, reply)
         return lines + passed
 
     def _read_waiting(self):
@@ -121,6 +186,18 @@ class Transcript:
         except (ValueError, KeyError, TypeError, RecursionError):
             pass
         return None
+
+
+def pairs_of(pieces):
+    """The questions with their replies in a text that comes in pieces and ends with a pair."""
+    rest, lines = b"", []
+    for piece in pieces:
+        *fresh, rest = (rest + piece).split(b"\n")
+        lines += fresh
+        yield from zip(lines[::2], lines[1::2])
+        lines = lines[len(lines) // 2 * 2:]
+    if rest or lines:
+        raise Damaged("transcript.jsonl is no list of questions and replies: put the right one back")
 
 
 def _write(file, name, text, at):

@@ -8,9 +8,9 @@ import re
 
 MOST_TOKENS, MOST_DEPTH, MOST_SIZE = 512, 64, 10**12
 KEYWORDS = ("and", "or", "not", "all", "in")
-BLANKS = re.compile(r"[ \t\r\n]*")
 TOKEN = re.compile(
-    r"(?P<word>[A-Za-z][A-Za-z0-9_]*)|(?P<number>-?[0-9]+)|(?P<text>'(?:[^']|'')*'(?!'))|(?P<mark>[!<>]=|[=<>(),])"
+    r"[ \t\r\n]*(?:(?P<word>[A-Za-z][A-Za-z0-9_]*)|(?P<number>-?[0-9]+)|(?P<text>'(?:[^']|'')*'(?!'))|(?P<mark>[!<>]=|[=<>(),])"
+    r"|(?P<end>\Z)|(?P<wrong>))"
 )
 COMPARISONS = {
     "=": operator.eq,
@@ -41,17 +41,17 @@ class Reader:
 
     def advance(self):
         """Goes on to the next token; the end of the text is one too, of the kind `end`."""
-        self.place = BLANKS.match(self.text, self.end).end()
-        found = TOKEN.match(self.text, self.place)
-        if self.place == len(self.text):
-            self.kind, self.token = "end", ""
+        found = TOKEN.match(self.text, self.end)
+        self.kind = found.lastgroup
+        self.token, self.place, self.end = found[self.kind], found.start(self.kind), found.end()
+        if self.kind == "end":
             return
         self.read += 1
-        if found is None or self.read > MOST_TOKENS:
+        if self.kind == "wrong" or self.read > MOST_TOKENS:
             self.fail()
-        self.token, self.end = found[0], found.end()
-        self.kind = self.token if found["mark"] or self.token in KEYWORDS else found.lastgroup
-        if self.kind == "number" and (len(self.token.lstrip("-0")) > 13 or abs(number_of(self.token)) > MOST_SIZE):
+        if self.kind == "mark" or self.token in KEYWORDS:
+            self.kind = self.token
+        elif self.kind == "number" and (len(self.token.lstrip("-0")) > 13 or abs(number_of(self.token)) > MOST_SIZE):
             self.fail()
 
     def fail(self):
@@ -76,12 +76,10 @@ class Reader:
         return found
 
     def condition(self):
-        parts = self.joined("or", self.part)
-        return lambda row: any(part(row) for part in parts)
+        return self.either(self.joined("or", self.part))
 
     def part(self):
-        units = self.joined("and", self.unit)
-        return lambda row: all(unit(row) for unit in units)
+        return self.both(self.joined("and", self.unit))
 
     def joined(self, keyword, read):
         """One or more of a kind, with a keyword between two of them."""
@@ -93,15 +91,14 @@ class Reader:
 
     def unit(self):
         if self.kind == "not":
-            unit = self.deeper(self.unit)
-            return lambda row: not unit(row)
+            return self.other(self.deeper(self.unit))
         if self.kind == "(":
             condition = self.deeper(self.condition)
             self.take(")")
             return condition
         if self.kind == "all":
             self.advance()
-            return lambda row: True
+            return self.everyone()
         return self.comparison()
 
     def comparison(self):
@@ -110,11 +107,9 @@ class Reader:
             self.fail()
         self.advance()
         if self.kind == "in":
-            values = self.values(self.kinds[name])
-            return lambda row: row[name] in values
-        compare = COMPARISONS[self.take(*TAKES[self.kinds[name]])]
-        value = self.literal(self.kinds[name])
-        return lambda row: compare(row[name], value)
+            return self.one_of(name, self.values(self.kinds[name]))
+        mark = self.take(*TAKES[self.kinds[name]])
+        return self.compared(name, mark, self.literal(self.kinds[name]))
 
     def values(self, kind):
         """The literals in brackets after `in`."""
@@ -130,6 +125,27 @@ class Reader:
     def literal(self, kind):
         token = self.take(kind)
         return number_of(token) if kind == "number" else token[1:-1].replace("''", "'")
+
+    # What a reading gives: a function that says of a row whether it holds. Another reader may give something else.
+
+    def either(self, parts):
+        return lambda row: any(part(row) for part in parts)
+
+    def both(self, units):
+        return lambda row: all(unit(row) for unit in units)
+
+    def other(self, unit):
+        return lambda row: not unit(row)
+
+    def everyone(self):
+        return lambda row: True
+
+    def one_of(self, name, values):
+        return lambda row: row[name] in values
+
+    def compared(self, name, mark, value):
+        compare = COMPARISONS[mark]
+        return lambda row: compare(row[name], value)
 
 
 def number_of(token):

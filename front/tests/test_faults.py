@@ -302,7 +302,7 @@ class Known(DoorCase):
         self.check_all()
 
     async def test_a_line_is_kept_byte_for_byte(self):
-        lines = [b" \t" + line_of("sum", 0, 99) + b"  ", line_of("sum", 0, 99).replace(b"sum", b"\\u0073um")]
+        lines = [b" \t" + line_of("sum", 0, 99) + b"  ", line_of("sum", 0, 98).replace(b"sum", b"\\u0073um")]
         self.door.start()
         async with self.door.session() as session:
             await self.door.ready(session)

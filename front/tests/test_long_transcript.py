@@ -1,0 +1,99 @@
+"""The transcript is bounded: no denial is written down twice in a row, none past a length, and a long one stops nothing."""
+import json
+import pathlib
+import time
+import unittest
+
+from case import DoorCase
+from kit import ask, health, line_of
+
+MILLION = 1_000_000
+REPEATS = 40
+MEBIBYTES = 1024                    # KiB in one
+
+
+def denied(number=0, user=None):
+    """The sum of one person's salary, with some user."""
+    line = json.loads(line_of("sum", number, number))
+    return json.dumps(line if user is None else {"user": user, **line}).encode()
+
+
+class LongTranscript(DoorCase):
+    @property
+    def path(self):
+        return self.folder.public / "transcript.jsonl"
+
+    async def test_a_denial_that_was_the_last_reply_isnt_written_again(self):
+        async with self.door.start().session() as session:
+            await self.door.ready(session)
+            await self.ask(session, ("sum", 0, 199), line_of("sum", 0, 199))
+            await self.ask(session, ("sum", 0, 0), line_of("sum", 0, 0))
+            size = self.path.stat().st_size
+            for number in range(REPEATS):
+                for line in (denied(user=f"{number} " + "x" * 7000), denied() + b" " * number, line_of("sum", -number, 0)):
+                    self.assertEqual(await ask(session, line), (200, b'{"denied":"unsafe"}\n'))
+            self.assertEqual(self.path.stat().st_size, size)
+            said = await health(session)
+            self.assertEqual((said["transcript"], said["unwritten"]), (size, 0))
+            # Another question is, and so is the first one after the next start as little as before.
+            await self.ask(session, ("sum", 1, 1), line_of("sum", 1, 1))
+            size = self.path.stat().st_size
+            self.assertEqual(self.door.stop(), 0)
+            self.door.start()
+            await self.door.ready(session)
+            await self.ask(session, ("sum", 0, 0), line_of("sum", 0, 0))
+            self.assertEqual(self.path.stat().st_size, size)
+        self.end_and_check()
+
+    async def test_no_user_is_kept(self):
+        async with self.door.start().session() as session:
+            await self.door.ready(session)
+            for line in (denied(user="ann"), json.dumps({"user": "bob", **json.loads(line_of("sum", 3, 99))}).encode()):
+                self.assertEqual((await ask(session, line))[0], 200)
+        self.assertEqual(self.door.stop(), 0)
+        self.assertEqual([json.loads(line) for line, _ in self.folder.transcript()],
+                         [json.loads(line_of("sum", 0, 0)), json.loads(line_of("sum", 3, 99))])
+        self.check_all()
+
+    async def test_past_a_length_denials_are_told_and_not_written(self):
+        self.door.words += ["--denials-up-to", "1500"]
+        async with self.door.start().session() as session:
+            await self.door.ready(session)
+            for number in range(40):
+                self.assertEqual(await ask(session, denied(number)), (200, b'{"denied":"unsafe"}\n'))
+            size = self.path.stat().st_size
+            self.assertLess(size, 1700)
+            written = len(self.folder.transcript())
+            self.assertEqual((await health(session))["unwritten"], 40 - written)
+            # Answers are written, and what was asked when the program is killed is asked again.
+            await self.ask(session, ("sum", 0, 99), line_of("sum", 0, 99))
+            self.door.kill_programs()
+            self.assertEqual(await ask(session, denied(60)), (200, b'{"denied":"unsafe"}\n'))
+            await self.ask(session, ("sum", 0, 149), line_of("sum", 0, 149))
+            self.assertEqual(len(self.folder.transcript()), written + 2)
+        self.end_and_check()
+
+    async def test_a_million_denials_stop_nothing(self):
+        """In a transcript as a door wrote it that kept each one: no verdict and no way back goes through them."""
+        pair = line_of("sum", 7, 7) + b'\n{"denied":"unsafe"}\n'
+        self.path.write_bytes(pair * MILLION)
+        async with self.door.start().session() as session:
+            await self.door.ready(session)
+            self.assertEqual((await health(session))["transcript"], MILLION * len(pair))
+            await self.ask(session, ("sum", 0, 199), line_of("sum", 0, 199))
+            took = []
+            for number in range(5):
+                began = time.monotonic()
+                self.assertEqual(await ask(session, line_of("sum", 0, 100 + number), "/would"), (200, b'{"verdict":"released"}\n'))
+                took.append(time.monotonic() - began)
+            self.assertLess(min(took), 1)
+            self.assertEqual(await ask(session, line_of("sum", 1, 199), "/would"), (200, b'{"verdict":"unsafe"}\n'))
+            self.door.kill_programs()
+            await self.ask(session, ("sum", 0, 99), line_of("sum", 0, 99))
+            memory = pathlib.Path(f"/proc/{self.door.process.pid}/status").read_text()
+            self.assertLess(int(memory.split("VmHWM:")[1].split()[0]), 100 * MEBIBYTES)
+        self.assertEqual(self.door.stop(), 0)
+
+
+if __name__ == "__main__":
+    unittest.main()
