@@ -16,8 +16,10 @@ from aiohttp import web
 from aiohttp.http_exceptions import HttpProcessingError
 
 from doorway import settings as arguments
+from doorway.access import AccessLog
+from doorway.askers import WRITE, Askers, Tokens
 from doorway.groups import Groups
-from doorway.handlers import TableHandlers, application
+from doorway.handlers import Guard, TableHandlers, application
 from doorway.least import LeastSize
 from doorway.page import Page
 from doorway.report import OlderJournal
@@ -84,12 +86,25 @@ async def keep(table, alone):
         late.cancel()
 
 
+async def write_what_is_used(tokens):
+    """Writes down what each asker has used, soon after it changes."""
+    written = b""
+    while True:
+        await asyncio.sleep(WRITE)
+        text = tokens.text()
+        if text != written:
+            await asyncio.to_thread(tokens.write, text)
+            written = text
+
+
 async def run(settings):
     tables = {name: make_table(name, places, settings) for name, places in settings.places.items()}
     page = Page(HERE / "page.html") if (HERE / "page.html").exists() else None
     handlers = {name: make_handlers(table, settings) for name, table in tables.items()}
     port = settings.listen.rpartition(":")[2]
-    app = application(page, HERE / "words.json", handlers, hosts_of(settings, port))
+    tokens = Tokens(settings.tokens) if settings.tokens else None
+    guard = Guard(hosts_of(settings, port), Askers(tokens, settings.proxy, settings.listen.startswith("unix:")), AccessLog(settings.log))
+    app = application(page, HERE / "words.json", handlers, guard)
     # Bodies come as they are sent: a small compressed one could be a large one.
     runner = web.AppRunner(app, access_log=None, auto_decompress=False)
     await runner.setup()
@@ -100,12 +115,16 @@ async def run(settings):
             table.stop()
     for name in (signal.SIGTERM, signal.SIGINT):
         asyncio.get_running_loop().add_signal_handler(name, stop)
+    counting = asyncio.ensure_future(write_what_is_used(tokens)) if tokens else None
     try:
         await asyncio.gather(*(keep(table, len(tables) == 1) for table in tables.values()))
         await asyncio.sleep(0.05)           # the last replies leave
     finally:
         for table in tables.values():
             table.groups.kill()
+        if tokens:
+            counting.cancel()
+            tokens.write(tokens.text())
     await runner.cleanup()
 
 
@@ -121,7 +140,7 @@ def main():
     sys.setswitchinterval(0.0005)
     try:
         asyncio.run(run(settings))
-    except (Damaged, OlderJournal, Unwritten, OSError) as fault:
+    except (Damaged, OlderJournal, Unwritten, ValueError, OSError) as fault:
         sys.exit(f"door: {fault}")
 
 

@@ -33,6 +33,11 @@ class Asked:
     line: bytes
     key: int | bytes
 
+    @property
+    def is_secret(self):
+        """Whether it asks for a secret column, so that an answer makes a record."""
+        return isinstance(self.key, int)
+
 
 class PublicColumn:
     """The rows in which a public column has a value, or a number on one side of a value, each set of rows as the bits of a number."""

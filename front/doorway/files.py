@@ -50,10 +50,10 @@ def sync_folder(path):
         os.close(number)
 
 
-def write_whole(path, text):
+def write_whole(path, text, mode=0o666):
     """Writes a small file so that after any stop it is there whole or as it was before."""
     fresh = path.with_name(path.name + ".new")
-    with open(fresh, "wb") as file:
+    with open(fresh, "wb", opener=lambda name, flags: os.open(name, flags, mode)) as file:
         file.write(text)
         file.flush()
         os.fsync(file.fileno())

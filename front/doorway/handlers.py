@@ -10,6 +10,8 @@ import os
 from aiohttp import web
 from aiohttp.http_exceptions import HttpProcessingError
 
+from .access import kind_of
+from .askers import NOBODY
 from .lines import LONGEST, Turned, line_of
 from .totals import total
 
@@ -20,30 +22,51 @@ SAFE = {"X-Content-Type-Options": "nosniff", "Cache-Control": "no-store"}
 REPLY = {"Content-Type": JSON, **SAFE}
 
 
-def error(status, text, again=False):
-    return web.json_response({"error": text}, status=status, headers={**SAFE, **({"Retry-After": "1"} if again else {})})
+def error(status, text, headers=None):
+    return web.json_response({"error": text}, status=status, headers={**SAFE, **(headers or {})})
 
 
 def said(value, status=200):
     return web.json_response(value, status=status, headers=SAFE)
 
 
-def guarded(handler, hosts):
-    """Turns away what other names and other sites' pages send, and puts faults into words."""
-    async def around(request):
-        try:
-            if hosts and request.host not in hosts:
-                raise Turned(421, "unknown host")
-            if request.method == "POST" and request.headers.get("Sec-Fetch-Site", "none") not in ("same-origin", "none"):
-                raise Turned(403, "a question from another site's page")
-            return await handler(request)
-        except Turned as turned:
-            return error(turned.status, turned.text, turned.again)
-    return around
+class Guard:
+    """Turns away what other names, other sites' pages and nobody that is known send, puts faults into words, and keeps the access log."""
+
+    def __init__(self, hosts, askers, log):
+        self.hosts, self.askers, self.log = hosts, askers, log
+
+    def around(self, handler, is_open=False):
+        """The handler with the guard before it. Where it is open no token is wanted."""
+        async def guarded(request):
+            request["asker"], request["line"] = NOBODY, b""
+            try:
+                response = await handler(self.admit(request, is_open))
+            except Turned as turned:
+                response = error(turned.status, turned.text, turned.headers)
+            if request.method == "POST":
+                self.log.write(request["asker"].name, request.path, request["line"], kind_of(response.status, response.body))
+            return response
+        return guarded
+
+    def admit(self, request, is_open):
+        if self.hosts and request.host not in self.hosts:
+            raise Turned(421, "unknown host")
+        if request.method == "POST" and request.headers.get("Sec-Fetch-Site", "none") not in ("same-origin", "none"):
+            raise Turned(403, "a question from another site's page")
+        if not is_open:
+            request["asker"] = self.askers.of(request)
+        return request
 
 
 async def question_of(request):
-    """The body as a question's line."""
+    """The body as a question's line, whose bytes its asker has spent."""
+    request["line"] = line = await _line_in(request)
+    request["asker"].spend("bytes", len(line))
+    return line
+
+
+async def _line_in(request):
     kind = request.headers.get("Content-Type", "").partition(";")[0].strip().lower()
     if kind != JSON or request.headers.get("Content-Encoding", "identity") != "identity":
         raise Turned(415, "send the question as application/json, not compressed")
@@ -87,26 +110,28 @@ class TableHandlers:
         if self.least and not (await self.table.known(line))[1]:
             await self.least.check(line)
 
-    async def ask(self, line):
+    async def ask(self, line, asker):
         await self._check_size(line)
-        return await self.table.ask(line)
+        return await self.table.ask(line, asker)
 
-    async def verdict(self, line):
+    async def verdict(self, line, asker):
+        asker.spend("verdicts")
         await self._check_size(line)
-        return await self.table.verdict(line)
+        return await self.table.verdict(line, asker)
 
-    async def why(self, line):
+    async def why(self, line, asker):
+        asker.spend("verdicts")
         await self._check_size(line)
-        return await self.table.why(line)
+        return await self.table.why(line, asker)
 
     async def ask_request(self, request):
-        return reply(await self.ask(await question_of(request)))
+        return reply(await self.ask(await question_of(request), request["asker"]))
 
     async def would_request(self, request):
-        return reply(await self.verdict(await question_of(request)))
+        return reply(await self.verdict(await question_of(request), request["asker"]))
 
     async def why_request(self, request):
-        return reply(await self.why(await question_of(request)))
+        return reply(await self.why(await question_of(request), request["asker"]))
 
     async def health(self, _):
         health = self.table.health()
@@ -155,7 +180,7 @@ class RootHandlers:
         return said({"state": "serving" if well else "not all tables are served", "tables": health}, 200 if well else 503)
 
     async def total(self, request):
-        return said(await total(self.tables, await question_of(request)))
+        return said(await total(self.tables, await question_of(request), request["asker"]))
 
 
 def sender(path, kind):
@@ -208,9 +233,9 @@ def unknown(paths):
     return send
 
 
-def application(page, words, tables, hosts):
+def application(page, words, tables, guard):
     """`words` is the path of the page's sentences. `tables` are the handlers by the name of the table, the only one without
-    a name at the root."""
+    a name at the root. What watches the door needs no token for its health."""
     routes = {}
     for name, handlers in tables.items():
         routes |= handlers.routes(f"/{name}" if name else "")
@@ -218,6 +243,6 @@ def application(page, words, tables, hosts):
     app = web.Application(client_max_size=LONGEST + 3)      # a body as long as that is refused
     for (method, path), handler in routes.items():
         for one in ("GET", "HEAD") if method == "GET" else (method,):
-            app.router.add_route(one, path, guarded(handler, hosts))
-    app.router.add_route("*", "/{rest:.*}", guarded(unknown({path for _, path in routes}), hosts))
+            app.router.add_route(one, path, guard.around(handler, is_open=path.endswith("/health")))
+    app.router.add_route("*", "/{rest:.*}", guard.around(unknown({path for _, path in routes})))
     return app

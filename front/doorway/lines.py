@@ -25,11 +25,12 @@ ASKED_OF = {
 
 
 class Turned(Exception):
-    """A request that the door itself answers, with a status, a text, and whether it is worth trying again soon."""
+    """A request that the door itself answers, with a status, a text, and after how many seconds it is worth trying again, if it is."""
 
-    def __init__(self, status, text, again=False):
+    def __init__(self, status, text, again=0, headers=None):
         super().__init__(text)
-        self.status, self.text, self.again = status, text, again
+        self.status, self.text = status, text
+        self.headers = {**(headers or {}), **({"Retry-After": str(int(again))} if again else {})}
 
 
 def line_of(body):

@@ -10,6 +10,7 @@ import math
 import sys
 
 from .asked import Questions
+from .askers import NOBODY
 from .compacted import left_out
 from .growth import carry_over, public_rows
 from .lines import HISTORY, Turned
@@ -30,8 +31,9 @@ FIRST_PAUSE, QUIET, LONGEST_PAUSE = 0.02, 0.5, 10      # seconds between two sta
 class Question:
     """A line that waits for its reply, for one asker or for several who asked the same."""
 
-    def __init__(self, asked):
+    def __init__(self, asked, first=None):
         self.line, self.key = asked.line, asked.key
+        self.first = first                  # whose new answer it is if it becomes one
         self.askers = []                    # futures, with the time from which on they wait
 
     def wait(self):
@@ -41,10 +43,17 @@ class Question:
         return asker
 
     def answer(self, reply):
+        self.end(reply)
         for asker, _ in self.askers:
             if not asker.done():
                 asker.set_result(reply)
         self.askers.clear()
+
+    def end(self, reply=b""):
+        """Nothing more comes of it."""
+        if self.first:
+            self.first.end_answer(reply)
+            self.first = None
 
     def fail(self, turned, since=math.inf):
         """Turns away those who have waited since then or longer."""
@@ -89,7 +98,7 @@ class Table:
         if not self.indexing.done():
             await asyncio.shield(self.indexing)
 
-    async def ask(self, line):
+    async def ask(self, line, asker=NOBODY):
         """The reply to a question. A released answer stays true, so the same question makes no second record."""
         asked, known = await self.known(line)
         if known:
@@ -101,7 +110,9 @@ class Table:
             raise Turned(503, "too many questions wait", again=True)
         question = self.pending.get(asked.key)
         if question is None:
-            question = self.pending[asked.key] = Question(asked)
+            if asked.is_secret:
+                asker.begin_answer()
+            question = self.pending[asked.key] = Question(asked, asker if asked.is_secret else None)
             self.queue.append(question)
             self.wake.set()
         self.waiting += 1
@@ -110,7 +121,7 @@ class Table:
         finally:
             self.waiting -= 1
 
-    async def verdict(self, line):
+    async def verdict(self, line, asker):
         """What would be said of a question that isn't asked, as `simulate` has it."""
         asked, known = await self.known(line)
         if known:
@@ -126,7 +137,7 @@ class Table:
         finally:
             self.verdicts -= 1
 
-    async def why(self, line):
+    async def why(self, line, asker):
         """Why a question is denied, after the history as it is now."""
         self.whys.need_program()
         if self.is_stopped():
@@ -262,6 +273,8 @@ class Table:
         turned = Turned(503, f"{sentence_of(cause)} The question may be answered: ask again later.", again=True)
         for question in self.pending.values():
             question.fail(turned)
+        for question in self.queue:
+            question.end()
         self.pending.clear()
         self.queue.clear()
 

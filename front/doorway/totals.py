@@ -12,38 +12,38 @@ EMPTY = {"refused": "empty"}
 VERDICTS_DENIED = {"unsafe": {"denied": "unsafe"}, "wide": {"denied": "wide"}}
 
 
-async def total(parts, line):
+async def total(parts, line, asker):
     """The total as a dict. `parts` are the handlers of the tables by their names."""
     question = read_question(line)
     kind = question.get("ask") if question else None
     if kind not in ("sum", "count"):
         raise Turned(422, "a total is of sums or counts: ask each table for averages and maxima")
     if kind == "sum":
-        refused = await _each(parts, _denial, line)
+        refused = await _each(parts, _denial, line, asker)
         refused = {name: reply for name, reply in refused.items() if reply}
         if refused:
             return {"total": None, "without": list(refused), "parts": refused}
-    return _add_up(kind, await _each(parts, _reply, line))
+    return _add_up(kind, await _each(parts, _reply, line, asker))
 
 
-async def _each(parts, call, line):
-    replies = await asyncio.gather(*(call(part, line) for part in parts.values()))
+async def _each(parts, call, line, asker):
+    replies = await asyncio.gather(*(call(part, line, asker) for part in parts.values()))
     return dict(zip(parts, replies))
 
 
-async def _denial(part, line):
+async def _denial(part, line, asker):
     """The denial or the door's own text that is due, or None if the question would be answered or refused."""
     if part.table.is_stopped():
         return {"error": part.table.state}
     try:
-        return VERDICTS_DENIED.get(json.loads(await part.verdict(line))["verdict"])
+        return VERDICTS_DENIED.get(json.loads(await part.verdict(line, asker))["verdict"])
     except Turned as turned:
         return {"error": turned.text}
 
 
-async def _reply(part, line):
+async def _reply(part, line, asker):
     try:
-        return json.loads(await part.ask(line))
+        return json.loads(await part.ask(line, asker))
     except Turned as turned:
         return {"error": turned.text}
 

@@ -32,16 +32,23 @@ def listens(port):
 
 
 class Nginx:
-    """A real nginx over one of our blocks, with a port of loopback and plain HTTP in place of names and certificates."""
+    """A real nginx over one of our blocks, with ports of loopback in place of names, and plain HTTP in place of certificates or, if it is to
+    be `secret`, with one that it signed itself."""
 
-    def __init__(self, block, port, changes):
+    def __init__(self, block, port, changes, secret=False):
         self.folder = pathlib.Path(tempfile.mkdtemp(prefix="nginx-"))
         self.folder.chmod(0o755)
         text = (FRONT / "units" / block).read_text()
         (self.folder / "users").write_text("ann:{PLAIN}secret\nbob:{PLAIN}secret\n")
         (self.folder / "tables.json").write_text('["north","south"]\n')
-        changes = {"listen 443 ssl;": f"listen 127.0.0.1:{port};", "    ssl_certificate /etc/nginx/auditor.pem;\n": "",
-                   "    ssl_certificate_key /etc/nginx/auditor.key;\n": "", "/etc/nginx/auditor.": f"{self.folder}/", **changes}
+        self.plain = free_port()
+        plain = {"listen 443 ssl;": f"listen 127.0.0.1:{port};", "    ssl_certificate /etc/nginx/auditor.pem;\n": "",
+                 "    ssl_certificate_key /etc/nginx/auditor.key;\n": ""}
+        if secret:
+            self.sign()
+        changes = {**({"listen 443 ssl;": f"listen 127.0.0.1:{port} ssl;"} if secret else plain), **changes,
+                   "listen 80;": f"listen 127.0.0.1:{self.plain};", "/etc/nginx/auditor.": f"{self.folder}/",
+                   "/run/auditor-nginx/": f"{self.folder}/"}
         for old, new in changes.items():
             assert old in text, old
             text = text.replace(old, new)
@@ -51,6 +58,12 @@ class Nginx:
         end = time.monotonic() + PATIENCE
         while not listens(port) and time.monotonic() < end:
             time.sleep(0.05)
+
+    def sign(self):
+        """Makes a certificate for the name of the block."""
+        subprocess.run(["openssl", "req", "-x509", "-newkey", "rsa:2048", "-nodes", "-days", "2", "-subj", f"/CN={NAME}", "-addext",
+                        f"subjectAltName=DNS:{NAME},IP:127.0.0.1", "-keyout", self.folder / "key", "-out", self.folder / "pem"],
+                       check=True, capture_output=True)
 
     def close(self):
         self.process.send_signal(signal.SIGTERM)
@@ -74,7 +87,7 @@ class TwoDoors(unittest.IsolatedAsyncioTestCase):
             door.words[door.words.index("--listen") + 1] = where
             self.doors[name] = door.start()
         # Two doors: that north has its answers, and south as well, is seen through one address alone. No machine asks faster than this.
-        self.nginx = Nginx("nginx-parts.conf", self.port, {**places, "rate=20r/s": "rate=1000000r/s"})
+        self.nginx = Nginx("nginx-parts.conf", self.port, {**places, "rate=20r/s": "rate=1000000r/s", "rate=50r/s": "rate=1000000r/s"})
 
     def tearDown(self):
         self.nginx.close()
@@ -143,31 +156,65 @@ class TwoDoors(unittest.IsolatedAsyncioTestCase):
 
 @unittest.skipUnless(NGINX, "nginx is wanted")
 class OneDoor(unittest.IsolatedAsyncioTestCase):
-    async def test_login_and_the_limit_of_one_person_are_the_proxys(self):
-        folder = Folder(60)
-        folder.path.chmod(0o755)
-        port, path = free_port(), f"{folder.path}/door.sock"
-        door = Door(folder, "--host", NAME).start()
-        # So low that hardly one more is let in while they ask.
-        nginx = Nginx("nginx.conf", port, {"/run/auditor-door/http.sock": path, "rate=20r/s": "rate=1r/m"})
-        try:
-            async with door.session() as session:
-                await door.ready(session, Host=NAME)
-                os.chmod(path, 0o666)
-            async with aiohttp.ClientSession(f"http://127.0.0.1:{port}", headers={"Host": NAME}) as session:
-                self.assertEqual((await ask(session, line_of("count", 0, 9)))[0], 401)
-                ann, bob = aiohttp.BasicAuth("ann", "secret"), aiohttp.BasicAuth("bob", "secret")
-                statuses = await asyncio.gather(*(self.count(session, ann) for _ in range(200)))
-                self.assertEqual(set(statuses), {200, 503})
-                self.assertGreaterEqual(statuses.count(200), 81)
-                self.assertEqual(await self.count(session, bob), 200)
-        finally:
-            nginx.close()
-            door.end()
+    """The block before one door. Its rates are so low that hardly one request more is let in while they ask."""
 
-    async def count(self, session, who):
-        async with session.post("/ask", data=line_of("count", 0, 9), headers={"Content-Type": "application/json"}, auth=who) as response:
+    async def asyncSetUp(self):
+        self.folder = Folder(60)
+        self.folder.path.chmod(0o755)
+        self.port, self.path = free_port(), f"{self.folder.path}/door.sock"
+        self.door, self.nginx = Door(self.folder, "--host", NAME), None
+
+    async def asyncTearDown(self):
+        if self.nginx:
+            self.nginx.close()
+        self.door.end()
+        self.folder.remove()
+
+    async def begin(self, secret=False, **rates):
+        changes = {f"rate={rate}r/s": "rate=1r/m" for rate in rates.values()}
+        self.nginx = Nginx("nginx.conf", self.port, {"/run/auditor-door/http.sock": self.path, **changes}, secret)
+        async with self.door.start().session() as session:
+            await self.door.ready(session, Host=NAME)
+        os.chmod(self.path, 0o666)
+
+    def session(self, address="127.0.0.1"):
+        return aiohttp.ClientSession(f"http://127.0.0.1:{self.port}", headers={"Host": NAME},
+                                     connector=aiohttp.TCPConnector(local_addr=(address, 0), limit=0))
+
+    async def count(self, session, who="", word="secret"):
+        auth = aiohttp.BasicAuth(who, word) if who else None
+        async with session.post("/ask", data=line_of("count", 0, 9), headers={"Content-Type": "application/json"}, auth=auth) as response:
+            if response.status == 429:
+                self.assertEqual((response.headers["Retry-After"], list(await response.json())), ("1", ["error"]))
             return response.status
+
+    async def test_login_and_the_limit_of_one_person_are_the_proxys(self):
+        await self.begin(login=20)
+        async with self.session() as session:
+            self.assertEqual(await self.count(session), 401)
+            statuses = await asyncio.gather(*(self.count(session, "ann") for _ in range(180)))
+            self.assertEqual(set(statuses), {200, 429})
+            self.assertGreaterEqual(statuses.count(200), 81)
+            self.assertLess(statuses.count(200), 100)
+            async with self.session("127.0.0.2") as other:
+                self.assertEqual(await self.count(other, "bob"), 200)
+
+    async def test_an_outsider_locks_nobody_out(self):
+        """Without a password, under ann's name, from another address."""
+        await self.begin(login=20, address=50)
+        async with self.session("127.0.0.9") as outside, self.session() as inside:
+            statuses = await asyncio.gather(*(self.count(outside, "ann", "wrong") for _ in range(300)))
+            self.assertEqual(set(statuses), {401, 429})
+            self.assertEqual([await self.count(inside, "ann") for _ in range(40)], [200] * 40)
+
+    async def test_no_request_goes_unencrypted(self):
+        await self.begin(secret=True)
+        async with aiohttp.ClientSession(headers={"Host": NAME}) as session:
+            async with session.get(f"http://127.0.0.1:{self.nginx.plain}/health?x=1", allow_redirects=False) as response:
+                self.assertEqual((response.status, response.headers["Location"]), (301, f"https://{NAME}/health?x=1"))
+            async with session.get(f"https://127.0.0.1:{self.port}/health", ssl=False, auth=aiohttp.BasicAuth("ann", "secret")) as response:
+                self.assertEqual(response.status, 200)
+                self.assertEqual(response.headers["Strict-Transport-Security"], "max-age=31536000")
 
 
 if __name__ == "__main__":
