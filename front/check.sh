@@ -1,6 +1,7 @@
 #!/bin/sh
 # All tests of the front door, over the program that is given or that demo/build.sh builds. As root it installs the Debian
-# packages that are missing; the page's tests are skipped without Chromium, and those of R without R, and that is counted.
+# packages that are missing; the page's tests are skipped without Chromium, those of R without R, and that of the units without a container for
+# systemd, and that is counted.
 #
 #   front/check.sh [PROGRAM]
 set -u
@@ -35,7 +36,7 @@ install() {
 }
 
 needed="python3-aiohttp python3-pandas socat nginx binutils"
-wanted="chromium chromium-driver python3-selenium fonts-dejavu-core r-base-core r-cran-jsonlite r-cran-curl lintian"
+wanted="chromium chromium-driver python3-selenium fonts-dejavu-core r-base-core r-cran-jsonlite r-cran-curl systemd-container lintian"
 if [ "$(id -u)" = 0 ] && command -v apt-get >/dev/null; then
     install $(missing $needed)
     install $(missing $wanted) || for package in $(missing $wanted); do install "$package"; done

@@ -18,6 +18,7 @@ from aiohttp.http_exceptions import HttpProcessingError
 from doorway import settings as arguments
 from doorway.access import AccessLog
 from doorway.askers import WRITE, Askers, Tokens
+from doorway.gates import GatedRunner, Gates, most_connections, say_little
 from doorway.groups import Groups
 from doorway.handlers import Guard, TableHandlers, application
 from doorway.least import LeastSize
@@ -103,10 +104,12 @@ async def run(settings):
     handlers = {name: make_handlers(table, settings) for name, table in tables.items()}
     port = settings.listen.rpartition(":")[2]
     tokens = Tokens(settings.tokens) if settings.tokens else None
-    guard = Guard(hosts_of(settings, port), Askers(tokens, settings.proxy, settings.listen.startswith("unix:")), AccessLog(settings.log))
-    app = application(page, HERE / "words.json", handlers, guard)
+    gates = Gates(most_connections(settings.connections), settings.head_patience)
+    askers = Askers(tokens, settings.proxy, settings.listen.startswith("unix:"))
+    app = application(page, HERE / "words.json", handlers, Guard(hosts_of(settings, port), askers, AccessLog(settings.log), gates))
+    say_little(asyncio.get_running_loop())
     # Bodies come as they are sent: a small compressed one could be a large one.
-    runner = web.AppRunner(app, access_log=None, auto_decompress=False)
+    runner = GatedRunner(gates, app, access_log=None, auto_decompress=False)
     await runner.setup()
     await listen(runner, settings.listen)
 

@@ -33,17 +33,18 @@ def said(value, status=200):
 class Guard:
     """Turns away what other names, other sites' pages and nobody that is known send, puts faults into words, and keeps the access log."""
 
-    def __init__(self, hosts, askers, log):
-        self.hosts, self.askers, self.log = hosts, askers, log
+    def __init__(self, hosts, askers, log, gates):
+        self.hosts, self.askers, self.log, self.gates = hosts, askers, log, gates
 
     def around(self, handler, is_open=False):
         """The handler with the guard before it. Where it is open no token is wanted."""
         async def guarded(request):
             request["asker"], request["line"] = NOBODY, b""
-            try:
-                response = await handler(self.admit(request, is_open))
-            except Turned as turned:
-                response = error(turned.status, turned.text, turned.headers)
+            with self.gates.at_work(request.transport):
+                try:
+                    response = await handler(self.admit(request, is_open))
+                except Turned as turned:
+                    response = error(turned.status, turned.text, turned.headers)
             if request.method == "POST":
                 self.log.write(request["asker"].name, request.path, request["line"], kind_of(response.status, response.body))
             return response

@@ -46,11 +46,13 @@ def parser():
     add("--log", metavar="FILE", help="where it is written who asked what; nowhere by default")
     add("--proxy", action="append", default=[], metavar="ADDRESS", help="an address at which a proxy says whose requests it hands on; repeated")
     add("--table", action="append", default=[], metavar="NAME", help="a table by name; repeated for several")
+    add("--connections", type=int, default=0, metavar="N", help="the most connections; by default as many as the system has descriptors for")
     add("--run-limit", type=int, default=RUN, help=argparse.SUPPRESS)
     add("--group-patience", type=float, help=argparse.SUPPRESS)
     add("--asker-patience", type=float, help=argparse.SUPPRESS)
     add("--explain-patience", type=float, help=argparse.SUPPRESS)
     add("--waiting", type=int, help=argparse.SUPPRESS)
+    add("--head-patience", type=float, help=argparse.SUPPRESS)
     add("--denials-up-to", type=int, metavar="BYTES", help=argparse.SUPPRESS)
     return words
 
@@ -63,8 +65,8 @@ def read(arguments=None):
         words.error("--batch is 1 to 64")
     if settings.twin and settings.serve:
         words.error("--twin is for a program that the door starts: with --serve it is the unit that starts `auditor serve --twin`")
-    if settings.fewest < 0 or settings.report_every < 0:
-        words.error("--fewest and --report-every are at least 0")
+    if settings.fewest < 0 or settings.report_every < 0 or settings.connections < 0:
+        words.error("--fewest, --report-every and --connections are at least 0")
     if settings.report_every and settings.serve and not settings.audit:
         words.error("a report through sockets wants --audit")
     if (settings.audit or settings.explain) and not settings.serve:

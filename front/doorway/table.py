@@ -14,6 +14,7 @@ from .askers import NOBODY
 from .compacted import left_out
 from .growth import carry_over, public_rows
 from .lines import HISTORY, Turned
+from .places import Places
 from .recovery import ask_again
 from .report import Reports
 from .runs import Ended, cause_of, sentence_of
@@ -24,7 +25,7 @@ from .why import Whys
 COUNT = b'{"ask":"count","where":"all"}'
 WAITING = 1024                      # askers who may wait
 PATIENCE = 60                       # seconds that an asker waits
-VERDICTS = 16                       # askers who may wait for a verdict
+VERDICTS, EACH = 16, 4              # askers who may wait for a verdict, and how many of them may be one
 FIRST_PAUSE, QUIET, LONGEST_PAUSE = 0.02, 0.5, 10      # seconds between two starts; askers hear of it after the second
 
 
@@ -80,7 +81,8 @@ class Table:
         self.most_waiting, self.patience = WAITING, PATIENCE
         self.state = "starting"
         self.asked = self.sent = self.repeats = self.restarts = self.waiting = 0
-        self.verdicts, self.simulated = 0, Verdicts(auditor, places.public, self.transcript)
+        self.verdicts = Places(VERDICTS, EACH, "too many verdicts are wanted")
+        self.simulated = Verdicts(auditor, places.public, self.transcript)
         self.whys = Whys(groups.opener, self.say)
 
     # What a request does.
@@ -126,23 +128,19 @@ class Table:
         asked, known = await self.known(line)
         if known:
             return b'{"verdict":"released"}'
-        if self.verdicts >= VERDICTS:
-            raise Turned(503, "too many verdicts are wanted", again=True)
-        self.verdicts += 1
-        try:
-            return await self.simulated.on(asked.line)
-        except (Ended, OSError) as fault:
-            self.say(f"auditor simulate: {fault}")
-            raise Turned(503, sentence_of(cause_of(fault)), again=True)
-        finally:
-            self.verdicts -= 1
+        with self.verdicts.one(asker):
+            try:
+                return await self.simulated.on(asked.line)
+            except (Ended, OSError) as fault:
+                self.say(f"auditor simulate: {fault}")
+                raise Turned(503, sentence_of(cause_of(fault)), again=True)
 
     async def why(self, line, asker):
         """Why a question is denied, after the history as it is now."""
         self.whys.need_program()
         if self.is_stopped():
             raise Turned(503, self.state, again=True)
-        return await self.whys.ask(line)
+        return await self.whys.ask(line, asker)
 
     def health(self):
         records = self.transcript.records - self.left_out

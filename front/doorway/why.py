@@ -6,9 +6,10 @@ import asyncio
 import json
 
 from .lines import Turned
+from .places import Places
 from .runs import Ended, cause_of, sentence_of
 
-MOST = 64                           # lines of one run, and askers who may wait
+MOST, EACH = 64, 16                 # lines of one run and askers who may wait, and how many of them may be of one
 PATIENCE = 30                       # seconds that a run may take
 LONGEST = 65_536                    # bytes that a line has at most
 PIECE = 65_536
@@ -21,26 +22,21 @@ class Whys:
     def __init__(self, opener, say):
         self.opener, self.say, self.patience = opener, say, PATIENCE
         self.waiting, self.taken = {}, {}   # the future of each line: not taken by a run yet, and with the run
-        self.askers, self.work = 0, None
+        self.places, self.work = Places(MOST, EACH, "too many certificates are wanted"), None
 
     def need_program(self):
         if not self.opener.explains:
             raise Turned(501, "this door doesn't run auditor explain, so it can't say why")
 
-    async def ask(self, line):
+    async def ask(self, line, asker):
         """What `explain` says of a question."""
-        if self.askers >= MOST:
-            raise Turned(503, "too many certificates are wanted", again=True)
-        if line not in self.waiting:
-            self.waiting[line] = asyncio.get_running_loop().create_future()
-        said = self.waiting[line]
-        if self.work is None:
-            self.work = asyncio.ensure_future(self._work())
-        self.askers += 1
-        try:
+        with self.places.one(asker):
+            if line not in self.waiting:
+                self.waiting[line] = asyncio.get_running_loop().create_future()
+            said = self.waiting[line]
+            if self.work is None:
+                self.work = asyncio.ensure_future(self._work())
             return await asyncio.shield(said)       # others may wait for the same line
-        finally:
-            self.askers -= 1
 
     async def _work(self):
         """Runs until nobody waits."""

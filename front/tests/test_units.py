@@ -64,6 +64,22 @@ class Units(unittest.TestCase):
         self.assertEqual(list(self.folder.iterdir()), [])
 
     @unittest.skipIf(shutil.which("systemd-analyze") is None, "no systemd here")
+    def test_systemd_says_that_little_is_exposed(self):
+        """At most 1.0 of 10, by its own measure, for a table's own units too."""
+        for path in UNITS.glob("auditor-*"):
+            shutil.copy(path, self.folder)
+        self.write("north", self.folder)
+        services = sorted(self.folder.glob("*.service"))
+        self.assertEqual(len(services), 7)
+        for service in services:
+            done = subprocess.run(["systemd-analyze", "security", "--offline=yes", "--no-pager", "--threshold=10", service],
+                                  capture_output=True, text=True)
+            self.assertEqual(done.returncode, 0, done.stdout[-3000:] + done.stderr)
+            text = service.read_text()
+            for limit in ("MemoryMax", "TasksMax"):
+                self.assertRegex(text, rf"(?m)^{limit}=\d+[GM]?$", service.name)
+
+    @unittest.skipIf(shutil.which("systemd-analyze") is None, "no systemd here")
     def test_systemd_takes_them(self):
         for path in UNITS.glob("auditor-*"):
             shutil.copy(path, self.folder)
