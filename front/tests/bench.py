@@ -4,7 +4,7 @@
 
 Each client asks one question after the other: sums, maxima and counts over random intervals of 1,000 rows, hardly one
 twice. Each sync takes 2.5 ms (slow_sync.c), for the door and the program alike. The clients' own work is on the same
-processors. The last lines say what has to be reached; the exit status is 1 if something isn't.
+processors. The last row is of a door with tokens, limits and a list of who asked. The last lines say what has to be reached; the exit status is 1 if something isn't.
 """
 import asyncio
 import os
@@ -15,18 +15,20 @@ import sys
 import tempfile
 import time
 
-from kit import AUDITOR, HERE, Door, Folder, health, line_of
+from kit import AUDITOR, FRONT, HERE, Door, Folder, health, line_of
 
 SECONDS = float(sys.argv[1]) if len(sys.argv) > 1 else 5
 LONG = 60_000                       # answers of the long history
-HEAD = b"POST /ask HTTP/1.1\r\nHost: door\r\nContent-Type: application/json\r\nContent-Length: %d\r\n\r\n"
+HEAD = b"POST /ask HTTP/1.1\r\nHost: door\r\n%sContent-Type: application/json\r\nContent-Length: %d\r\n\r\n"
+MOST = 10**12                       # each limit of its token
 
 
 class Asker(asyncio.Protocol):
     """A client that asks the next question as soon as it has the reply to the last one, with little work of its own."""
 
-    def __init__(self, folder, chance, end, took):
+    def __init__(self, folder, chance, end, took, token):
         self.folder, self.chance, self.end, self.took = folder, chance, end, took
+        self.login = f"Authorization: Bearer {token}\r\n".encode() if token else b""
         self.done = asyncio.get_running_loop().create_future()
         self.got = b""
 
@@ -37,7 +39,7 @@ class Asker(asyncio.Protocol):
     def ask(self):
         line = self.folder.draw(self.chance)[1]
         self.began = time.perf_counter()
-        self.transport.write(HEAD % len(line) + line)
+        self.transport.write(HEAD % (self.login, len(line)) + line)
 
     def data_received(self, data):
         self.got += data
@@ -57,13 +59,13 @@ class Asker(asyncio.Protocol):
             self.done.set_exception(fault or ConnectionError("the door closed"))
 
 
-async def ask_for_a_while(folder, socket, number):
+async def ask_for_a_while(folder, socket, number, token):
     """Seconds that each question took, and the rate."""
     took, loop, began = [], asyncio.get_running_loop(), time.monotonic()
     askers = []
     for one in range(number):
         chance = random.Random(f"{number} {one} {time.time()}")
-        _, asker = await loop.create_unix_connection(lambda: Asker(folder, chance, began + SECONDS, took), socket)
+        _, asker = await loop.create_unix_connection(lambda: Asker(folder, chance, began + SECONDS, took, token), socket)
         askers.append(asker)
     await asyncio.gather(*(asker.done for asker in askers))
     for asker in askers:
@@ -77,14 +79,23 @@ def processor(number):
     return (int(parts[11]) + int(parts[12])) / os.sysconf("SC_CLK_TCK")
 
 
-async def measure(batch, number):
+def add_token(folder):
+    """A token with limits, and the door's arguments for it."""
+    file = folder.path / "tokens.json"
+    limits = (word for what in ("records", "answers", "verdicts", "bytes") for word in (f"--{what}", str(MOST)))
+    run = subprocess.run([sys.executable, FRONT / "tokens.py", "--file", file, "add", "ann", *limits], check=True, capture_output=True, text=True)
+    return run.stdout.strip(), ["--tokens", file, "--log", folder.path / "asked.jsonl"]
+
+
+async def measure(batch, number, with_tokens=False):
     folder = Folder(rows=1000)
-    door = Door(folder, "--batch", batch).start()
+    token, words = add_token(folder) if with_tokens else ("", [])
+    door = Door(folder, "--batch", batch, *words).start()
     async with door.session() as session:
         await door.ready(session)
         processes = [door.process.pid, *door.programs()]
         before = [processor(one) for one in processes]
-        took, rate = await ask_for_a_while(folder, door.socket, number)
+        took, rate = await ask_for_a_while(folder, door.socket, number, token)
         used = [(processor(one) - past) / len(took) * 1000 for one, past in zip(processes, before)]
         said = await health(session)
     door.stop()
@@ -92,7 +103,7 @@ async def measure(batch, number):
     folder.remove()
     half, most = took[len(took) // 2] * 1000, took[len(took) * 99 // 100] * 1000
     group = said["asked"] / max(said["groups"], 1)
-    print(f"| {batch} | {number} | {rate:,.0f} | {half:.1f} ms | {most:.1f} ms | {group:.1f} | {used[0]:.2f} ms, {used[1]:.2f} ms |",
+    print(f"| {batch}{', tokens' if token else ''} | {number} | {rate:,.0f} | {half:.1f} ms | {most:.1f} ms | {group:.1f} | {used[0]:.2f} ms, {used[1]:.2f} ms |",
           flush=True)
     return {"rate": rate, "half": half, "door": used[0]}
 
@@ -140,10 +151,12 @@ async def main():
     print("| batch | clients | questions a second | half within | 99 of 100 within | questions a group | processor a question: door, program |")
     print("|---|---|---|---|---|---|---|")
     got = {(batch, number): await measure(batch, number) for batch in (1, 64) for number in (1, 16, 64)}
+    with_tokens = await measure(64, 64, with_tokens=True)
     del os.environ["SLOW"]
     ready, memory = await start_over_a_long_history()
     reached = [
         ("64 clients: times the rate of batch 1", got[64, 64]["rate"] / got[1, 64]["rate"], 4, True),
+        ("64 clients with tokens: times the rate of batch 1", with_tokens["rate"] / got[1, 64]["rate"], 4, True),
         ("64 clients: times the latency of one client", got[64, 64]["half"] / got[64, 1]["half"], 3, False),
         ("64 clients: ms of a processor for the door, a question", got[64, 64]["door"], 0.5, False),
         (f"a start over {LONG:,} answers: seconds", ready, 2, False),
