@@ -4,6 +4,9 @@
     ask.py FOLDER [QUESTION ..]             over the program in the folder that has the table
     ask.py http://HOST:PORT [QUESTION ..]   over a front door; unix:PATH for its socket
 
+    ask.py --login NAME ADDRESS ..          asks for NAME's password at the proxy, or token at the door, in the terminal
+    AUDITOR_TOKEN=.. ask.py ADDRESS ..      sends a token
+
     count where age >= 41                   how many rows
     sum salary where team = 'Design'        a total, exactly; avg for an average, max for the greatest
     totals salary by team                   a total for each team, a question each; avg salary by team, count by team
@@ -16,10 +19,14 @@ Without questions they are read from the terminal until its end. The status is 0
 wasn't, and 2 if the arguments aren't these. What is said of a denial follows from the program's reply alone.
 """
 
+import collections
+import getpass
 import json
 import os
 import shutil
 import sys
+
+from clients.auditor import login_of
 
 from asking.places import SECRET, Away, place
 from asking.questions import Question, Unclear, parse
@@ -78,13 +85,13 @@ def target_words(there, line):
 
 def answer_groups(there, question):
     """Asks a question for each value of a public column, and prints a line for each that some row has."""
-    values = sorted({row[question.by] for row in there.rows()})
-    if len(values) > MOST_GROUPS:
+    sizes = collections.Counter(row[question.by] for row in there.rows())
+    if len(sizes) > MOST_GROUPS:
         raise Unclear(
-            f"{question.by} has {len(values):,} values, and at most {MOST_GROUPS} questions are asked at once"
+            f"{question.by} has {len(sizes):,} values, and at most {MOST_GROUPS} questions are asked at once"
         )
     answered = True
-    for value in values:
+    for value in largest_first(sizes):
         reply = there.would(question.over(value)) if question.would else there.ask(question.over(value))
         if reply.get("refused") == "empty":
             continue
@@ -101,6 +108,11 @@ def answer_groups(there, question):
         print(f"{value_words(value, there.notes.get(question.by, {}))}: {words}")
         answered = answered and ("verdict" in reply or answer_of(reply) is not None)
     return answered
+
+
+def largest_first(sizes):
+    """Values by their rows: the first denial comes where one person is left over, and then it is of a small group."""
+    return sorted(sorted(sizes), key=lambda value: -sizes[value])
 
 
 def value_words(value, note):
@@ -149,18 +161,26 @@ def answer_lines(there):
             answered = answer(there, text) and answered
 
 
+def who_asks(name):
+    """The header that says who asks, if anything does. No word of the command line has a secret: others see those."""
+    if name is None:
+        return login_of(os.environ.get("AUDITOR_TOKEN"), None)
+    return login_of(None, (name, getpass.getpass(f"password of {name}: ")))
+
+
 def main(words):
     """Asks what the arguments or the terminal say."""
     if words in (["-h"], ["--help"]):
         print(__doc__.strip())
         return 0
+    name, words = (words[1], words[2:]) if words[:1] == ["--login"] and len(words) > 1 else (None, words)
     if not words or words[0].startswith("-"):
         print(__doc__.strip(), file=sys.stderr)
         return 2
     found = shutil.which(os.environ.get("AUDITOR", "auditor"))
     there = None
     try:
-        there = place(words[0], os.path.abspath(found) if found else None)
+        there = place(words[0], os.path.abspath(found) if found else None, who_asks(name))
         answered = all([answer(there, text) for text in words[1:]]) if words[1:] else answer_lines(there)
         return 0 if answered else 1
     except (Away, OSError, ValueError) as why:

@@ -92,8 +92,10 @@ class Folder:
 class Door:
     """A front door, by http://HOST:PORT, https://.. or unix:PATH of its socket."""
 
-    def __init__(self, address):
-        self.address = address
+    def __init__(self, address, headers=None):
+        self.address, self.headers = address, headers or {}
+        if "@" in urllib.parse.urlsplit(address).netloc:
+            raise Away("a name and a password don't go into the address: --login NAME asks for the password")
         schema = self._get("schema.json")
         self.columns, self.protected = columns_of(schema), protected_of(schema)
         self.notes = notes_of(self._get("notes.json", otherwise="{}"))
@@ -113,7 +115,8 @@ class Door:
         """The text of what comes back, or what stands for a file that isn't there."""
         try:
             connection, base = self._connection()
-            connection.request(method, base + path, body, {"Content-Type": "application/json"} if body else {})
+            kind = {"Content-Type": "application/json"} if body else {}
+            connection.request(method, base + path, body, {**self.headers, **kind})
             response = connection.getresponse()
             text = response.read().decode("utf-8-sig")
         except (OSError, http.client.HTTPException, ValueError) as fault:
@@ -209,10 +212,10 @@ def line_of(question):
         raise Away("the question has bytes in it that aren't UTF-8") from None
 
 
-def place(address, program):
-    """The place that an address or the path of a folder names."""
+def place(address, program, headers=None):
+    """The place that an address or the path of a folder names. `headers` say to a door who asks."""
     if address.startswith(("http://", "https://", "unix:")):
-        return Door(address)
+        return Door(address, headers)
     if not os.path.isdir(address):
         raise Away(
             f"there is no folder {address}: give one that has the table, or the address of a front door, as"

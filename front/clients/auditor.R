@@ -6,19 +6,32 @@
 #   auditor_why("http://127.0.0.1:8087", "sum", "salary", "age = 41")          why it is denied
 #
 # With several tables behind a door the table's name ends the address, "http://127.0.0.1:8087/north"; not that of a socket.
-# A denial is NA with its reason in attr(x, "denied"). Totals are exact, in the steps of the column: they stay below 2^53.
+#   auditor_login(token = readline("token: "))                                 or name = and password =, for a proxy's login
+#
+# A denial is NA with its reason in attr(x, "denied"). Numbers are in the unit of the column, by notes.json, which stands in attr(x, "unit"); with
+# steps = TRUE they are as the table has them, whole numbers of the smallest steps, and then totals are exact: they stay below 2^53.
 # What comes back is what the door said. The door isn't proved; `auditor simulate` checks its transcript.
+
+auditor_who <- new.env()
+
+# Says who asks from here on: by a token of the door, or by a name and a password of the proxy before it. Nothing of it stands in an address.
+auditor_login <- function(name = NULL, password = NULL, token = NULL) {
+  auditor_who$header <- if (!is.null(token)) paste("Bearer", token)
+    else if (!is.null(name)) paste("Basic", jsonlite::base64_enc(charToRaw(enc2utf8(paste0(name, ":", password)))))
+  invisible(NULL)
+}
 
 # Sends a request: the status and the text of the reply. `socket` is the door's socket if the address is unix:PATH.
 auditor_send <- function(url, path, body = NULL) {
   socket <- if (startsWith(url, "unix:")) substring(url, 6)
   base <- if (is.null(socket)) sub("/+$", "", url) else "http://localhost"
   handle <- curl::new_handle(timeout = 90)
+  if (grepl("@", sub("/.*", "", sub("^[a-z]+://", "", url)), fixed = TRUE)) stop("a login goes into auditor_login, not into the address", call. = FALSE)
   if (!is.null(socket)) curl::handle_setopt(handle, unix_socket_path = socket)
-  if (!is.null(body)) {
-    curl::handle_setopt(handle, post = TRUE, copypostfields = enc2utf8(body))
-    curl::handle_setheaders(handle, "Content-Type" = "application/json")
-  }
+  headers <- c(if (!is.null(auditor_who$header)) list(Authorization = gsub("\n", "", auditor_who$header)),
+               if (!is.null(body)) list("Content-Type" = "application/json"))
+  if (!is.null(body)) curl::handle_setopt(handle, post = TRUE, copypostfields = enc2utf8(body))
+  if (length(headers)) do.call(curl::handle_setheaders, c(list(handle), headers))
   response <- curl::curl_fetch_memory(paste0(base, "/", path), handle = handle)
   text <- rawToChar(response$content)
   Encoding(text) <- "UTF-8"
@@ -60,10 +73,26 @@ auditor_ask <- function(url, ask, column = NULL, where = "all") {
   as.numeric(reply[[known]])
 }
 
+# What notes.json says of a column: decimals, which its whole numbers have, and unit.
+auditor_note <- function(url, column) {
+  reply <- auditor_send(url, "notes.json")
+  notes <- if (reply$status == 200) tryCatch(jsonlite::fromJSON(reply$text)$columns[[column]], error = function(fault) NULL)
+  decimals <- if (is.numeric(notes$decimals) && notes$decimals %in% 0:12) notes$decimals else 0
+  list(decimals = decimals, unit = if (is.character(notes$unit)) notes$unit)
+}
+
+# An answer in the column's unit.
+auditor_in_units <- function(answer, note) structure(answer / 10^note$decimals, unit = note$unit)
+
+auditor_number <- function(url, ask, column, where, steps) {
+  answer <- auditor_ask(url, ask, column, where)
+  if (steps) answer else auditor_in_units(answer, auditor_note(url, column))
+}
+
 auditor_count <- function(url, where = "all") auditor_ask(url, "count", where = where)
-auditor_sum <- function(url, column, where = "all") auditor_ask(url, "sum", column, where)
-auditor_mean <- function(url, column, where = "all") auditor_ask(url, "avg", column, where)
-auditor_max <- function(url, column, where = "all") auditor_ask(url, "max", column, where)
+auditor_sum <- function(url, column, where = "all", steps = FALSE) auditor_number(url, "sum", column, where, steps)
+auditor_mean <- function(url, column, where = "all", steps = FALSE) auditor_number(url, "avg", column, where, steps)
+auditor_max <- function(url, column, where = "all", steps = FALSE) auditor_number(url, "max", column, where, steps)
 
 # What auditor explain says of a question, as a list: verdict, and of a denial as unsafe a certificate, or proof = "wide". Nothing is asked.
 # Numbers of more than 15 digits come as text. The line itself is attr(x, "line"), for demo/check_certificate.py.
@@ -89,7 +118,8 @@ auditor_public <- function(url) {
 }
 
 # The totals of the groups of a public column: a data frame of the value, rows, sum (NA if denied) and denied (its reason or "").
-auditor_totals <- function(url, column, by, where = "all") {
+# The largest group is asked first: the first denial comes where one person is left over, and then it is of a small group.
+auditor_totals <- function(url, column, by, where = "all", steps = FALSE) {
   public <- auditor_public(url)
   if (!by %in% names(public)) stop(by, ": there is no such public column", call. = FALSE)
   values <- sort(unique(public[[by]]), method = "radix")
@@ -97,9 +127,15 @@ auditor_totals <- function(url, column, by, where = "all") {
   parts <- paste(by, "=", literals)
   if (where != "all") parts <- paste0("(", where, ") and ", parts)
   rows <- vapply(parts, function(part) auditor_count(url, part), 0, USE.NAMES = FALSE)
-  sums <- lapply(parts[rows > 0], function(part) auditor_sum(url, column, part))
+  asked <- which(rows > 0)
+  asked <- asked[order(-rows[asked])]
+  note <- if (steps) list(decimals = 0) else auditor_note(url, column)
+  sums <- lapply(parts[asked], function(part) auditor_in_units(auditor_ask(url, "sum", column, part), note))
   reason <- function(sum) if (is.null(attr(sum, "denied"))) "" else attr(sum, "denied")
-  frame <- data.frame(values[rows > 0], rows = rows[rows > 0], sum = vapply(sums, as.numeric, 0), denied = vapply(sums, reason, ""))
+  frame <- data.frame(values[asked], rows = rows[asked], sum = vapply(sums, as.numeric, 0), denied = vapply(sums, reason, ""))
   names(frame)[1] <- by
+  frame <- frame[order(asked), ]
+  rownames(frame) <- NULL
+  if (!is.null(note$unit)) attr(frame$sum, "unit") <- note$unit
   frame
 }

@@ -3,17 +3,19 @@
 
     >>> import auditor
     >>> table = auditor.connect("http://127.0.0.1:8087")        # or unix:PATH of the door's socket
-    >>> table.sum("salary", where="age >= 41")
-    176500
+    >>> table.sum("salary", where="age >= 41")                  # in the column's unit, exactly
+    Decimal('1765.00')
     >>> table.sum("salary", where="age = 41")                   # not answered: a value that isn't a number
     Denied('unsafe')
     >>> table.totals("salary", by="team")                       # a DataFrame, if pandas is there
 
-Numbers are exact: whole numbers in the steps of the column, averages as fractions; `in_units` makes decimals of them.
+Numbers are decimals in the unit of the column, by notes.json: totals exactly, averages to six places more than the column has. With
+`steps=True` they are as the table has them, whole numbers of the smallest steps, and averages exact fractions.
 What comes back is what the door said. The door isn't proved: `auditor simulate` checks its transcript. One object is for
 one thread. In a terminal: auditor.py http://127.0.0.1:8087, and then lines as `sum salary where age >= 41`.
 """
 import argparse
+import base64
 import collections
 import csv
 import decimal
@@ -29,6 +31,7 @@ import urllib.parse
 
 Group = collections.namedtuple("Group", "value rows answer")
 EXACT = decimal.Context(prec=60)
+MORE_PLACES = 6                     # of an average
 
 
 class Denied:
@@ -80,13 +83,14 @@ class UnixConnection(http.client.HTTPConnection):
 
 
 class Door:
-    """The connection to a door. A door that is busy or away is asked again for `patience` seconds: no harm comes of it."""
+    """The connection to a door. A door that is busy or away is asked again for `patience` seconds: no harm comes of it. `token` is the
+    asker's at the door, `login` a name and a password for the proxy before it."""
 
-    def __init__(self, url, headers=None, timeout=90, patience=10):
-        self.headers, self.patience, self.connection = dict(headers or {}), patience, None
-        parts = urllib.parse.urlsplit(url)
+    def __init__(self, url, headers=None, timeout=90, patience=10, token=None, login=None):
+        self.headers, self.patience, self.connection = {**(headers or {}), **login_of(token, login)}, patience, None
+        self.url, parts = url, urllib.parse.urlsplit(url)
         if "@" in parts.netloc:
-            raise ValueError("a login goes into a header, as Authorization, and not into the address")
+            raise ValueError("a login goes into login=(NAME, PASSWORD), and not into the address")
         if parts.scheme == "unix":
             path = url.removeprefix("unix:")
             self.base, self.open = "/", lambda: UnixConnection(path, timeout)
@@ -133,6 +137,17 @@ class Door:
         if self.connection is not None:
             self.connection.close()
         self.connection = None
+
+
+def login_of(token, login):
+    """The header that says who asks. A token, and a name with a password, never stand in an address: others see those."""
+    if token and login:
+        raise ValueError("a token or a login, not both")
+    if token:
+        return {"Authorization": f"Bearer {token}"}
+    if login:
+        return {"Authorization": "Basic " + base64.b64encode(":".join(login).encode()).decode()}
+    return {}
 
 
 def error_of(response, text):
@@ -222,42 +237,48 @@ class Asker:
         """The number of rows for which the condition holds."""
         return self.ask("count", None, where)
 
-    def sum(self, column, where="all"):
+    def sum(self, column, where="all", steps=False):
         """The exact total, or Denied."""
-        return self.ask("sum", column, where)
+        return self.number("sum", column, where, steps)
 
-    def average(self, column, where="all"):
-        """The exact average as a fraction, or Denied."""
-        return self.ask("avg", column, where)
+    def average(self, column, where="all", steps=False):
+        """The average to six places more than the column has, with `steps` an exact fraction, or Denied."""
+        return self.number("avg", column, where, steps)
 
-    def max(self, column, where="all"):
+    def max(self, column, where="all", steps=False):
         """The greatest number, or Denied."""
-        return self.ask("max", column, where)
+        return self.number("max", column, where, steps)
 
-    def groups(self, column, by, kind="sum", where="all"):
-        """A Group (value, rows, answer) for each value of a public column, in their order; a group of no rows isn't asked."""
+    def number(self, kind, column, where="all", steps=False):
+        """An answer in the column's unit, or in its steps, as the program says it."""
+        answer = self.ask(kind, column, where)
+        return answer if steps else self.in_units(column, answer)
+
+    def groups(self, column, by, kind="sum", where="all", steps=False):
+        """A Group (value, rows, answer) for each value of a public column, in their order; a group of no rows isn't asked. The largest is
+        asked first: the first denial comes where an answer and earlier ones leave one person, and then it is of a small group."""
         if self.kinds.get(by) not in ("text", "number"):
             raise Refused("column", f"{by}: there is no such public column.")
-        found = []
-        for value in sorted({row[by] for row in self.public()}):
-            condition = within(where, equals(by, value))
-            rows = self.count(condition)
-            if rows:
-                found.append(Group(value, rows, rows if kind == "count" else self.ask(kind, column, condition)))
-        return found
+        conditions = {value: within(where, equals(by, value)) for value in sorted({row[by] for row in self.public()})}
+        sizes = {value: self.count(condition) for value, condition in conditions.items()}
+        found = {}
+        for value in sorted((value for value, rows in sizes.items() if rows), key=lambda value: -sizes[value]):
+            answer = sizes[value] if kind == "count" else self.number(kind, column, conditions[value], steps)
+            found[value] = Group(value, sizes[value], answer)
+        return [found[value] for value in sizes if value in found]
 
-    def totals(self, column, by, where="all"):
+    def totals(self, column, by, where="all", steps=False):
         """The totals of groups as a pandas DataFrame: rows, sum (pandas.NA if denied), denied (the reason, or "")."""
         try:
             import pandas
         except ImportError:
             raise ImportError("totals makes a DataFrame and needs pandas; groups gives the same as a list") from None
-        groups = self.groups(column, by, "sum", where)
+        groups = self.groups(column, by, "sum", where, steps)
         denied = [isinstance(group.answer, Denied) for group in groups]
         sums = [pandas.NA if no else group.answer for group, no in zip(groups, denied)]
         return pandas.DataFrame({
             "rows": [group.rows for group in groups],
-            "sum": pandas.array(sums, dtype="Int64"),
+            "sum": pandas.array(sums, dtype="Int64" if steps else object),
             "denied": [group.answer.reason if no else "" for group, no in zip(groups, denied)],
         }, index=pandas.Index([group.value for group in groups], name=by))
 
@@ -272,19 +293,24 @@ class Asker:
         return note if isinstance(note, dict) else {}
 
     def in_units(self, column, answer):
-        """An answer in the column's unit: a decimal of a total, a fraction of an average, and Denied as it is."""
+        """An answer in the column's unit, as a decimal, and Denied as it is."""
+        places = self.places(column)
         if isinstance(answer, Denied):
             return answer
         if isinstance(answer, fractions.Fraction):
-            return answer / 10 ** self.places(column)
-        return decimal.Decimal(answer).scaleb(-self.places(column), EXACT)
+            average = EXACT.divide(decimal.Decimal(answer.numerator), decimal.Decimal(answer.denominator)).scaleb(-places, EXACT)
+            return average.quantize(decimal.Decimal(1).scaleb(-places - MORE_PLACES), decimal.ROUND_HALF_EVEN, EXACT)
+        return decimal.Decimal(answer).scaleb(-places, EXACT)
 
 
 class Table(Asker):
     """One table behind a door: the only one, or that of a name."""
 
-    def __init__(self, url, name="", headers=None, timeout=90, patience=10):
-        self.door, self.name = Door(url, headers, timeout, patience), name
+    def __repr__(self):
+        return f"Table({self.door.url!r}, {self.name!r}: {', '.join(self.kinds)})"
+
+    def __init__(self, url, name="", headers=None, timeout=90, patience=10, token=None, login=None):
+        self.door, self.name = Door(url, headers, timeout, patience, token, login), name
         self.base = urllib.parse.quote(name, safe="") + "/" if name else ""
         schema = parsed("schema.json", self.door.request("GET", self.base + "schema.json"))
         self.columns, self.protected = schema["columns"], schema.get("protect") or []
@@ -424,9 +450,9 @@ def together(kind, answers):
     return sum(answer for answer, _ in answers)
 
 
-def connect(url, headers=None, timeout=90, patience=10):
-    """The table behind a door, or its tables as parts of one. `headers` go with each request, as those of a login."""
-    door = Door(url, headers, timeout, patience)
+def connect(url, headers=None, timeout=90, patience=10, token=None, login=None):
+    """The table behind a door, or its tables as parts of one. `token` and `login` say who asks; `headers` go with each request."""
+    door = Door(url, headers, timeout, patience, token, login)
     try:
         names = parsed("tables.json", door.request("GET", "tables.json"))
     except DoorFault as fault:
@@ -436,8 +462,8 @@ def connect(url, headers=None, timeout=90, patience=10):
     finally:
         door.close()
     if not names:
-        return Table(url, "", headers, timeout, patience)
-    return Parts(Table(url, name, headers, timeout, patience) for name in names)
+        return Table(url, "", headers, timeout, patience, token, login)
+    return Parts(Table(url, name, headers, timeout, patience, token, login) for name in names)
 
 
 # -- the terminal ------------------------------------------------------------------------------------------------------
@@ -503,7 +529,7 @@ def answer_line(asker, line):
         return [(f"{name}: " if name else "") + asker.sentence("verdict", verdict) for name, verdict in named]
     if match["by"]:
         return [f"{group.value}: {shown(asker, column, group.answer)}" + ("" if kind == "count" else f" ({group.rows} rows)")
-                for group in asker.groups(column, match["by"], kind, where)]
+                for group in asker.groups(column, match["by"], kind, where, steps=True)]
     return [shown(asker, column, asker.ask(kind, column, where))]
 
 

@@ -223,14 +223,14 @@ class OverAFolder(TableTest):
         self.assertIn("Support, Leeds: 995.50", lines)
         self.assertTrue(any(line.startswith("Design: not answered") for line in lines))
         self.assertTrue(any(line.startswith('Tea "&" cake: not answered') for line in lines))
-        self.assertEqual(lines[-5:], ["30: 1", "35: 2", "41: 1", "44: 1", "52: 1"])
+        self.assertEqual(lines[-5:], ["35: 2", "30: 1", "41: 1", "44: 1", "52: 1"])
         self.assertEqual(status, 1)
 
     @needs_program
     def test_a_value_that_no_row_has_left_has_no_line(self):
         self.journal()
         status, said = self.ask("max bonus by team where age >= 44 or team = 'Support, Leeds'")
-        self.assertEqual([line.split(": ")[0] for line in said.splitlines()], ["Ann's", "Design", "Support, Leeds"])
+        self.assertEqual([line.split(": ")[0] for line in said.splitlines()], ["Ann's", "Support, Leeds", "Design"])
 
     @needs_program
     def test_the_program_stops_where_the_table_of_wrong_conditions_says(self):
@@ -418,16 +418,16 @@ class OverADoor(unittest.TestCase):
         ListedDoor.files["/t/schema.json"] = json.dumps({**schema, "protect": [{"column": "salary", "where": "team = 'QA' "}]})
         status, said = self.ask(['{"denied":"unsafe"}'] * 5, "totals salary by team", "avg salary where team = 'QA'", "sum salary where team != 'QA'")
         named = "not answered: This total is protected, so it is never answered."
-        self.assertEqual((status, [line.endswith(named) for line in said.splitlines()]), (1, [False, True, True, False]))
+        self.assertEqual((status, [line.endswith(named) for line in said.splitlines()]), (1, [True, False, True, False]))
         for protect in (1, [1], [{"column": "salary"}], None):
             ListedDoor.files["/t/schema.json"] = json.dumps({**schema, "protect": protect})
             self.assertIn('each entry of "protect" has the keys column and where', self.ask([], "columns")[1])
 
     def test_groups_are_those_of_the_public_table(self):
         status, said = self.ask(['{"sum":1}', '{"denied":"wide"}'], "totals salary by team")
-        self.assertEqual((status, said.splitlines()[0]), (1, "OPS: 0.01 EUR"))
-        self.assertIn("QA: not answered: To see whether an answer is safe", said)
-        self.assertEqual([asked["where"] for _, _, asked in ListedDoor.asked], ["team = 'OPS'", "team = 'QA'"])
+        self.assertEqual((status, said.splitlines()[0]), (1, "QA: 0.01 EUR"))
+        self.assertIn("OPS: not answered: To see whether an answer is safe", said)
+        self.assertEqual([asked["where"] for _, _, asked in ListedDoor.asked], ["team = 'QA'", "team = 'OPS'"])
 
     def test_every_refusal_has_a_sentence(self):
         for why, words in (
