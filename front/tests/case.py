@@ -2,6 +2,7 @@
 import asyncio
 import json
 import random
+import re
 import time
 import unittest
 
@@ -9,6 +10,7 @@ import aiohttp
 
 from kit import PATIENCE, SECRETS, SEED, Door, Folder, ask, health
 
+BOUND = re.compile(r"k ([<>]=) (-?\d+)")
 WORK = 0.1                          # seconds of work within which it is killed
 
 
@@ -102,18 +104,27 @@ class DoorCase(unittest.IsolatedAsyncioTestCase):
             await asyncio.sleep(0.002)
         return True
 
+    def asked_by(self, line):
+        """Kind and rows of a question as `line_of` writes it, maybe within one more bound, as after a growth."""
+        question = json.loads(line)
+        bounds = [(mark, int(number)) for mark, number in BOUND.findall(question["where"])]
+        low, high = (choose([number for mark, number in bounds if mark == one], default=default)
+                     for choose, one, default in ((max, ">=", 0), (min, "<=", len(self.folder.rows))))
+        return question["ask"], frozenset(row[1] for row in self.folder.inside(low, high))
+
     def check_told(self, torn=False):
-        """Each reply is that of the asker's own question, by the rows; each that was decided is in the transcript, and
-        each answer on a secret in the journal."""
+        """Each reply is that of the asker's own question, by the rows; each that was decided is in the transcript, under this question or
+        another one that asks the same, and each answer on a secret in the journal."""
         pairs, journal = set(self.folder.transcript(torn)), set(self.folder.journal())
+        asked = {(*self.asked_by(line), reply) for line, reply in pairs}
         for (kind, low, high), line, body in self.told:
             reply = json.loads(body)
             if kind == "count" or "denied" not in reply:
                 self.assertEqual(reply, self.folder.due(kind, low, high), line)
-            if kind != "count":
-                self.assertIn((line, body[:-1]), pairs)
+            rows = frozenset(row[1] for row in self.folder.inside(low, high))
+            if kind != "count" and (line, body[:-1]) not in pairs:
+                self.assertIn((kind, rows, body[:-1]), asked)
             if kind != "count" and "denied" not in reply:
-                rows = frozenset(row[1] for row in self.folder.inside(low, high))
                 column = [name for name, _, _ in SECRETS].index(kind)
                 self.assertIn((column, rows, reply[kind]), journal)
 

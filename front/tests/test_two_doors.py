@@ -9,6 +9,7 @@ import shutil
 import signal
 import socket
 import subprocess
+import sys
 import tempfile
 import time
 import unittest
@@ -170,8 +171,8 @@ class OneDoor(unittest.IsolatedAsyncioTestCase):
         self.door.end()
         self.folder.remove()
 
-    async def begin(self, secret=False, **rates):
-        changes = {f"rate={rate}r/s": "rate=1r/m" for rate in rates.values()}
+    async def begin(self, secret=False, more=(), **rates):
+        changes = {**{f"rate={rate}r/s": "rate=1r/m" for rate in rates.values()}, **dict(more)}
         self.nginx = Nginx("nginx.conf", self.port, {"/run/auditor-door/http.sock": self.path, **changes}, secret)
         async with self.door.start().session() as session:
             await self.door.ready(session, Host=NAME)
@@ -206,6 +207,21 @@ class OneDoor(unittest.IsolatedAsyncioTestCase):
             statuses = await asyncio.gather(*(self.count(outside, "ann", "wrong") for _ in range(300)))
             self.assertEqual(set(statuses), {401, 429})
             self.assertEqual([await self.count(inside, "ann") for _ in range(40)], [200] * 40)
+
+    async def test_tokens_work_behind_tls(self):
+        """From Python and in a terminal, with the block's login left out."""
+        file = self.folder.path / "tokens.json"
+        made = subprocess.run([sys.executable, FRONT / "tokens.py", "--file", file, "add", "ann"], capture_output=True, text=True, check=True)
+        self.door.words += ["--tokens", str(file), "--host", "127.0.0.1"]
+        await self.begin(secret=True, more={'    auth_basic "auditor";\n': "", "    auth_basic_user_file /etc/nginx/auditor.users;\n": ""})
+        address, due = f"https://127.0.0.1:{self.port}", self.folder.due("sum", 0, 59)["sum"]
+        python = f"import auditor, os; print(auditor.connect('{address}', token=os.environ.get('AUDITOR_TOKEN')).sum('salary'))"
+        for token, status in ((made.stdout.strip(), 0), ("", 1), ("x", 1)):
+            environment = {**os.environ, "SSL_CERT_FILE": str(self.nginx.folder / "pem"), "AUDITOR_TOKEN": token, "PYTHONPATH": str(FRONT / "clients")}
+            for words in ([sys.executable, "-c", python], [sys.executable, FRONT / "ask.py", address, "sum salary"]):
+                run = await asyncio.to_thread(subprocess.run, words, capture_output=True, text=True, env=environment)
+                self.assertEqual((run.returncode, run.stdout.strip()), (status, str(due) if not status else ""), run.stderr)
+                self.assertTrue(not status or "who asks?" in run.stderr, run.stderr)
 
     async def test_no_request_goes_unencrypted(self):
         await self.begin(secret=True)
