@@ -111,7 +111,7 @@ class Verdicts:
             self.run, self.fed = Simulation(self.auditor, self.public), 0
             await self.run.start()
         size = self.transcript.size
-        await self.run.read(self.transcript.released(self.fed))
+        await self.run.read(self.transcript.released(self.fed, size))
         self.fed = size
 
     async def _feed_ahead(self):

@@ -9,7 +9,7 @@ import contextlib
 import math
 import sys
 
-from .asked import Questions
+from .asked import Asked, Questions
 from .askers import NOBODY
 from .compacted import left_out
 from .growth import carry_over, public_rows
@@ -161,7 +161,8 @@ class Table:
         """Takes questions from the queue in their order until `stop`."""
         self.reports.need_newest()
         indexing = asyncio.ensure_future(self.index())
-        await self.start([Question(self.questions.read(line)) for line in self.transcript.left])
+        # As they were held: their pairs are looked for under these lines after another stop.
+        await self.start([Question(Asked(line, self.questions.key(line))) for line in self.transcript.left])
         await indexing
         while not self.closing.is_set():
             if not self.queue:

@@ -56,10 +56,11 @@ class Transcript:
     def text(self):
         return self.file.read(self.size, 0)
 
-    def released(self, at=0):
-        """The pairs that were released from a place in the file on, in pieces."""
+    def released(self, at=0, end=None):
+        """The pairs that were released from a place in the file on, up to another one, in pieces."""
+        end = self.size if end is None else end
         for number in range(bisect.bisect_right(self.ends, at), len(self.ends)):
-            yield from self._pieces(max(at, self.begins[number]), self.ends[number])
+            yield from self._pieces(max(at, self.begins[number]), min(self.ends[number], end))
 
     def _pieces(self, at, end):
         while at < end:
@@ -124,16 +125,18 @@ class Transcript:
             self.denials.popitem(last=False)
 
     def _pass(self, line, reply):
-        """Takes a pair at the end of what is synced into account, and gives its place."""
-        at, self.size = self.size, self.size + len(line) + len(reply) + 2
-        if not reply.startswith(RELEASED):
-            return at
-        self.records += 1
-        if self.ends and self.ends[-1] == at:
-            self.ends[-1] = self.size
-        else:
-            self.begins.append(at)
-            self.ends.append(self.size)
+        """Takes a pair at the end of what is synced into account, and gives its place. It may run in another thread: the length comes
+        last, so that who reads up to it finds every answer before it."""
+        at = self.size
+        end = at + len(line) + len(reply) + 2
+        if reply.startswith(RELEASED):
+            self.records += 1
+            if self.ends and self.ends[-1] == at:
+                self.ends[-1] = end
+            else:
+                self.begins.append(at)
+                self.ends.append(end)
+        self.size = end
         return at
 
     def _find(self, line, reply):

@@ -1,11 +1,18 @@
 """The transcript is bounded: no denial is written down twice in a row, none past a length, and a long one stops nothing."""
 import json
 import pathlib
+import sys
+import tempfile
+import threading
 import time
 import unittest
 
 from case import DoorCase
-from kit import ask, health, line_of
+from kit import FRONT, ask, health, line_of
+from test_power import FAST
+
+sys.path.insert(0, str(FRONT))
+from doorway.transcript import Transcript, pairs_of  # noqa: E402
 
 MILLION = 1_000_000
 REPEATS = 40
@@ -93,6 +100,27 @@ class LongTranscript(DoorCase):
             memory = pathlib.Path(f"/proc/{self.door.process.pid}/status").read_text()
             self.assertLess(int(memory.split("VmHWM:")[1].split()[0]), 100 * MEBIBYTES)
         self.assertEqual(self.door.stop(), 0)
+
+
+class Beside(unittest.TestCase):
+    def test_a_reader_beside_the_writer_finds_each_answer_once(self):
+        """As a run of `simulate` is fed while answers are written in another thread."""
+        pairs = [(b"q%d" % number, b'{"sum":%d}' % number if number % 3 else b'{"denied":"unsafe"}') for number in range(5000)]
+        before = sys.getswitchinterval()
+        self.addCleanup(sys.setswitchinterval, before)
+        sys.setswitchinterval(1e-6)
+        with tempfile.TemporaryDirectory(dir=FAST) as folder:
+            transcript = Transcript(folder)
+            writing = threading.Thread(target=lambda: [transcript.add([pair]) for pair in pairs])
+            writing.start()
+            found, fed, last = [], 0, False
+            while not last:
+                last = not writing.is_alive()
+                size = transcript.size
+                found += pairs_of(transcript.released(fed, size))
+                fed = size
+            transcript.close()
+        self.assertEqual(found, [pair for pair in pairs if b"sum" in pair[1]])
 
 
 if __name__ == "__main__":

@@ -13,6 +13,7 @@ import unittest
 
 import aiohttp
 
+from browser import Browser
 from case import DoorCase
 from kit import FRONT, PATIENCE, ask, free_port, health, line_of
 
@@ -232,6 +233,32 @@ class Written(TokenCase):
             await ask(session, line_of("count", 0, 9), **{"X-Remote-User": "bob"})
         self.assertEqual(self.door.stop(), 0)
         self.assertEqual([json.loads(line)["name"] for line in log.read_text().splitlines()], ["", "bob"])
+
+
+class Page(TokenCase):
+    """A browser asks for name and token by itself, and sends both with all that the page fetches."""
+
+    async def test_the_page_works_with_a_token(self):
+        token, port = self.add("ann"), free_port()
+        self.door.words[self.door.words.index("--listen") + 1] = f"127.0.0.1:{port}"
+        await self.start().close()
+        async with aiohttp.ClientSession(f"http://127.0.0.1:{port}") as session:
+            await self.door.ready(session)
+        text = await asyncio.to_thread(self.asked_on_the_page, f"127.0.0.1:{port}", f"ann:{token}")
+        self.assertIn(f"{self.folder.due('sum', 0, 199)['sum']:,}", text)
+        self.assertEqual(self.door.stop(), 0)
+
+    def asked_on_the_page(self, place, login):
+        """What the page says to the first question that it offers. The first address stands for what is typed when the browser asks."""
+        browser = Browser()
+        try:
+            browser.driver.get(f"http://{login}@{place}/schema.json")
+            browser.open(f"http://{place}")
+            browser.click("#ask")
+            browser.wait(lambda: browser.text("answer").partition("Waiting")[0])
+            return browser.text("answer")
+        finally:
+            browser.close()
 
 
 class Script(unittest.TestCase):
