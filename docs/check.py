@@ -2,7 +2,7 @@
 """Checks that what the documents name is there: links, paths, edits, clauses and words of specs/; that README's questions are the
 demo's and have its replies; that the demo and the gate's case of the program have the same files; that the pages name the newest release;
 that each entry of DECISIONS stands under its crates, and these in the order of crates.txt; that README and ARCHITECTURE are no longer than
-they may be; that the gate tries no more wrong bodies than it may; and that the promise stands on no more lines of definitions than it may
+they may be; that the gate tries no more wrong bodies than it may, and the others apply; and that the promise stands on no more lines of definitions than it may
 (promise_size.py).
 
     docs/check.py           # prints each name that isn't there; exits with 1 if there is one
@@ -181,6 +181,22 @@ def too_many_edits():
         yield f"crates: {sum(counts.values())} edits, and {MOST_EDITS_OF_ALL} at most"
 
 
+def stale_plants():
+    """Wrong bodies of bench/plants that don't apply any more: the gate doesn't try them, and nobody would learn of it."""
+    for plant in sorted(TOP.glob("bench/plants/*/*.edit")):
+        texts, file, old = {}, None, ""
+        for word, text in re.findall(r"(?m)^(file|old|new): ?(.*)$", plant.read_text()):
+            if word == "file":
+                file = TOP / "crates" / plant.parent.name / text
+                texts.setdefault(file, file.read_text() if file.exists() else "")
+            elif word == "old":
+                old = text
+            elif texts[file].count(old) == 1:
+                texts[file] = texts[file].replace(old, text)
+            else:
+                yield f"{plant.relative_to(TOP)}: its old text stands {texts[file].count(old)} times in {file.relative_to(TOP)}"
+
+
 CHECKS = [missing_links, missing_paths, missing_edits, missing_rows, missing_entries, missing_tests]
 
 
@@ -192,7 +208,7 @@ def main():
         for check in CHECKS
         for fault in check(page, page.read_text())
     ]
-    faults += [*stale_transcript(), *stale_copies(), *stale_version(), *wrong_entries(), *too_long(), *too_many_edits(), *promise_size.too_long()]
+    faults += [*stale_transcript(), *stale_copies(), *stale_version(), *wrong_entries(), *too_long(), *too_many_edits(), *stale_plants(), *promise_size.too_long()]
     print("\n".join(faults) if faults else f"{len(PAGES)} pages, and all that they name is there")
     return 1 if faults else 0
 
