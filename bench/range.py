@@ -5,7 +5,8 @@
 
 Works in the folder that it is called in, over tables that it draws, whose public column is a number for each row. KEY=VALUE are further keys
 of the schema. Each attack reads the replies alone, and what it works out is compared with the table afterwards: a number that it takes for
-known and that is another one is a fault. The exit status is 1 if an attack ends otherwise than is expected: all of them succeed without further keys."""
+known and that is another one is a fault. It is also said, as front/near.py does, of how many numbers the report shows another one within the range
+that is known. The exit status is 1 if an attack ends otherwise than is expected: without further keys all of them succeed."""
 import json
 import math
 import os
@@ -16,6 +17,11 @@ from typing import Callable, NamedTuple
 
 from scipy.optimize import linprog
 
+sys.path.insert(0, os.path.join(os.path.dirname(os.path.abspath(__file__)), "..", "front"))
+
+from nearing.columns import Sums  # noqa: E402
+from nearing.ranges import Range, shown_by  # noqa: E402
+
 HIGHEST = 10**12  # what the format of the table's file allows, either way
 
 
@@ -23,7 +29,7 @@ class Table:
     """A fresh journal over a table with these columns of sums. `asked` and `denied` count its questions."""
 
     def __init__(self, program, keys, columns):
-        self.program, self.asked, self.denied = program, 0, 0
+        self.program, self.numbers, self.asked, self.denied = program, next(iter(columns.values())), 0, 0
         if os.path.exists("answers.journal"):
             os.remove("answers.journal")
         kinds = [{"name": "id", "is": "number"}] + [{"name": name, "is": "sum"} for name in columns]
@@ -50,9 +56,11 @@ class Table:
         self.denied += found.count(None)
         return found
 
-    def free(self):
-        """How many numbers `audit` calls free."""
-        return sum("direction" in line for line in self.run("audit", ""))
+    def free(self, known):
+        """How many numbers `audit` calls free, and of how many of the first column its report shows another one within a range."""
+        changes = [dict(line["direction"]) for line in self.run("audit", "") if "direction" in line]
+        shown = shown_by(Sums(self.numbers, changes[: len(self.numbers)]), known)
+        return len(changes), sum(ends != (number, number) for ends, number in zip(shown, self.numbers))
 
 
 def lognormal(draw, count, middle=36_000, spread=0.5):
@@ -240,25 +248,28 @@ def by_two_columns(program, keys):
 
 
 class Attack(NamedTuple):
-    """What is known beside the replies, what is asked, how many of ten numbers it gets, and whether a width and a reach hold it off."""
+    """What is known beside the replies, the range that it has, what is asked, how many of ten numbers it gets, and whether a width and a
+    reach hold it off: then it gets none, and the report shows another one of each within the range."""
 
     knows: str
+    range: Range
     run: Callable
     of_ten: int
     is_held_off: bool
 
 
+PAYS, FORMAT, NOT_BELOW = Range(0, 250_000), Range(-HIGHEST, HIGHEST), Range(0, None)
 ATTACKS = [
-    Attack("none below 0 or above 250,000", lambda *run: by_doubling(*run, 0, 250_000), 10, True),
-    Attack("the same, in sums over ten and more", lambda *run: beside_ten(*run, 0, 250_000), 10, True),
-    Attack("none beyond 10^12, as the format has it", lambda *run: by_doubling(*run, -HIGHEST, HIGHEST), 10, True),
+    Attack("none below 0 or above 250,000", PAYS, lambda *run: by_doubling(*run, *PAYS), 10, True),
+    Attack("the same, in sums over ten and more", PAYS, lambda *run: beside_ten(*run, *PAYS), 10, True),
+    Attack("none beyond 10^12, as the format has it", FORMAT, lambda *run: by_doubling(*run, *FORMAT), 10, True),
     # In every other order by chance both zeros are an even number of places apart, and then one number is left free.
-    Attack("none below 0, where two of 400 are 0", lambda *run: by_chain(*run, two_zeros(), 4), 10, True),
-    Attack("none below 0, where 465 of 1,000 are 0", lambda *run: by_chain(*run, many_zeros(), 1), 10, False),
-    Attack("none below 0, sums over halves of twenty", by_halves, 1, True),
-    Attack("a pay scale, and each one's grade", by_scale, 10, False),
-    Attack("the rows are sorted by the numbers", by_order, 8, False),
-    Attack("a bonus is a tenth of the pay", by_two_columns, 10, False),
+    Attack("none below 0, where two of 400 are 0", NOT_BELOW, lambda *run: by_chain(*run, two_zeros(), 4), 10, True),
+    Attack("none below 0, where 465 of 1,000 are 0", NOT_BELOW, lambda *run: by_chain(*run, many_zeros(), 1), 10, False),
+    Attack("none below 0, sums over halves of twenty", NOT_BELOW, by_halves, 1, True),
+    Attack("a pay scale, and each one's grade", NOT_BELOW, by_scale, 10, False),
+    Attack("the rows are sorted by the numbers", NOT_BELOW, by_order, 8, False),
+    Attack("a bonus is a tenth of the pay", NOT_BELOW, by_two_columns, 10, False),
 ]
 
 
@@ -268,10 +279,12 @@ def main():
     is_wrong = False
     for attack in ATTACKS:
         table, known, people, how = attack.run(program, keys)
-        expected = known == 0 if keys and attack.is_held_off else known * 10 >= people * attack.of_ten
+        free, inside = table.free(attack.range)
+        is_held_off = known == 0 and inside == len(table.numbers)
+        expected = is_held_off if keys and attack.is_held_off else known * 10 >= people * attack.of_ten
         is_wrong |= not expected
-        print(f"{attack.knows}: {table.asked} sums asked, {table.denied} denied; {known} of {people} numbers known {how}; "
-              f"audit calls {table.free()} free" + ("" if expected else "  <- not as expected"), flush=True)
+        print(f"{attack.knows}: {table.asked} sums asked, {table.denied} denied; {known} of {people} numbers known {how}; audit calls"
+              f" {free} free, {inside} of them within the range" + ("" if expected else "  <- not as expected"), flush=True)
     return is_wrong
 
 

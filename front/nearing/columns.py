@@ -1,0 +1,86 @@
+"""One secret column of a table, and what the report of `auditor audit` shows of it. What doesn't fit is a Fault."""
+
+import csv
+import dataclasses
+import json
+import pathlib
+
+from preparing.faults import Fault, shown
+
+LONGEST_CELL = 2**24
+
+
+@dataclasses.dataclass(frozen=True)
+class Sums:
+    """A column of sums: its numbers, and for each row the change that the report prints, as numbers by row."""
+
+    numbers: list
+    changes: list
+
+
+@dataclasses.dataclass(frozen=True)
+class Maxima:
+    """A column of maxima: its numbers, and for each row the one that the report prints, which no answer lets it pass."""
+
+    numbers: list
+    highest: list
+
+
+def read_column(report_path, table_path, name):
+    """The column of this name, as Sums or Maxima."""
+    numbers = numbers_of(table_path, name)
+    lines = [line for line in report_lines(report_path) if line.get("column") == name]
+    highs = [line["high"] for line in lines if "high" in line]
+    if highs:
+        need(len(lines) == 1 and are_numbers(highs[0], len(numbers)), report_path, name)
+        need(all(number <= highest or highest == 0 for number, highest in zip(numbers, highs[0])), report_path, name)
+        return Maxima(numbers, highs[0])
+    need(len(lines) == len(numbers), report_path, name)
+    return Sums(numbers, [change_of(line, row, len(numbers), report_path, name) for row, line in enumerate(lines)])
+
+
+def need(holds, report_path, name):
+    if not holds:
+        raise Fault(
+            f"{report_path} isn't a whole report of the column {shown(name)} of this table, as auditor audit prints it"
+        )
+
+
+def report_lines(path):
+    """The lines of a report, each an object; its last one has the totals."""
+    try:
+        lines = [json.loads(line) for line in pathlib.Path(path).read_text(encoding="utf-8").splitlines()]
+    except (ValueError, RecursionError):
+        raise Fault(f"{path} isn't a report: a line of it isn't JSON") from None
+    if not lines or not all(isinstance(line, dict) for line in lines) or "audited" not in lines[-1]:
+        raise Fault(f"{path} isn't a whole report: its last line doesn't say how much was audited")
+    return lines
+
+
+def numbers_of(path, name):
+    """The whole numbers of a column in a table."""
+    csv.field_size_limit(LONGEST_CELL)
+    try:
+        with open(path, encoding="utf-8-sig", newline="") as file:
+            header, *rows = [record for record in csv.reader(file) if record]
+        if name not in header:
+            raise Fault(f"{path} has no column {shown(name)}: there are {', '.join(map(shown, header[:40]))}")
+        return [int(row[header.index(name)]) for row in rows]
+    except (csv.Error, ValueError, IndexError):
+        raise Fault(f"{path} isn't a table with whole numbers in the column {shown(name)}") from None
+
+
+def change_of(line, row, rows, report_path, name):
+    """The change of one line, which has to be that of this row and to raise it."""
+    pairs = line.get("direction")
+    is_list = isinstance(pairs, list) and all(are_numbers(pair, 2) for pair in pairs)
+    need(line.get("row") == row and is_list, report_path, name)
+    change = dict(pairs)
+    need(len(change) == len(pairs) and all(0 <= place < rows for place in change), report_path, name)
+    need(change.get(row, 0) > 0, report_path, name)
+    return change
+
+
+def are_numbers(values, count):
+    """Whether this is a list of so many whole numbers."""
+    return isinstance(values, list) and len(values) == count and all(type(value) is int for value in values)

@@ -1,0 +1,71 @@
+"""How far a number is shown to be open within a range that people know, with whole numbers alone.
+
+A change that alters no answer may be added as often as every number stays in the range. `None` stands for no end.
+"""
+
+from typing import NamedTuple
+
+from preparing.faults import Fault, listed
+
+from .columns import Maxima
+
+
+class Range(NamedTuple):
+    """The least and the greatest number that people hold for possible."""
+
+    low: int | None
+    high: int | None
+
+    def has(self, number):
+        return (self.low is None or self.low <= number) and (self.high is None or number <= self.high)
+
+    def room(self, number, step):
+        """How far a number may go in the direction of a step, upwards or downwards."""
+        end = self.high if step > 0 else self.low
+        return None if end is None else abs(end - number)
+
+
+def need_inside(numbers, known):
+    """A Fault if a number isn't in the range that people are said to know."""
+    outside = [f"row {row} has {number:,}" for row, number in enumerate(numbers) if not known.has(number)]
+    if outside:
+        raise Fault(f"not all numbers are in this range, counting rows from 0 without the header:\n{listed(outside)}")
+
+
+def times(change, numbers, known):
+    """How often a change may be added to the numbers."""
+    fits = [(known.room(numbers[row], step), abs(step)) for row, step in change.items()]
+    return min((room // step for room, step in fits if room is not None), default=None)
+
+
+def shown_by(column, known):
+    """For each row the range in which its number is shown to be open: other tables with the same answers have both ends."""
+    if isinstance(column, Maxima):
+        return [shown_of_maximum(number, highest, known) for number, highest in zip(column.numbers, column.highest)]
+    return [shown_of_change(row, change, column.numbers, known) for row, change in enumerate(column.changes)]
+
+
+def shown_of_change(row, change, numbers, known):
+    """The ends that adding one change, and taking it off, shows."""
+    taken_off = {place: -step for place, step in change.items()}
+    up, down = times(change, numbers, known), times(taken_off, numbers, known)
+    number, own = numbers[row], change[row]
+    return Range(None if down is None else number - down * own, None if up is None else number + up * own)
+
+
+def shown_of_maximum(number, highest, known):
+    """Any number of the range up to the one that is printed. A row that no set holds is printed as 0."""
+    return known if highest == 0 < number else Range(known.low, highest)
+
+
+def distance(number, shown):
+    """How far from the number the farther end of what is shown is."""
+    if None in shown:
+        return None
+    return max(number - shown.low, shown.high - number)
+
+
+def is_open(number, shown, percent):
+    """Whether some number is shown that differs by so many per cent of this one, and by 1 at least."""
+    far = distance(number, shown)
+    return far is None or far > 0 and far * 100 >= percent * abs(number)

@@ -1,0 +1,245 @@
+"""What near.py shows of reports and numbers worked out by hand, and after attacks over the program.
+
+AUDITOR=.. /usr/bin/python3 -m unittest test_near
+"""
+
+import json
+import pathlib
+import random
+import subprocess
+import sys
+import tempfile
+import unittest
+from unittest import mock
+
+from table_kit import AUDITOR, FRONT, needs_program, said_by
+
+sys.path.insert(0, str(FRONT))
+
+import near  # noqa: E402
+
+# Six salaries, and changes that leave the sums over rows 0 and 1, over all, over rows 1, 3 and 5, and over rows 2 and 3.
+SALARIES = [100, 200, 300, 400, 500, 600]
+FIRST = {0: 1, 1: -1, 2: -1, 3: 1}
+SECOND = {0: 1, 1: -1, 4: -1, 5: 1}
+
+
+def turned(change):
+    return {row: -step for row, step in change.items()}
+
+
+CHANGES = [FIRST, turned(FIRST), turned(FIRST), FIRST, turned(SECOND), SECOND]
+
+
+class NearTest(unittest.TestCase):
+    """A test with a fresh folder for a table and a report."""
+
+    def setUp(self):
+        folder = tempfile.TemporaryDirectory(prefix="near-")
+        self.addCleanup(folder.cleanup)
+        self.folder = pathlib.Path(folder.name)
+        self.report, self.table = self.folder / "report.jsonl", self.folder / "table.csv"
+
+    def write(self, numbers, lines):
+        self.table.write_text("id,v\n" + "".join(f"{row},{number}\n" for row, number in enumerate(numbers)))
+        lines = [*lines, {"audited": 1, "columns": 1, "rows": len(numbers)}]
+        self.report.write_text("".join(json.dumps(line) + "\n" for line in lines))
+
+    def sums(self, numbers, changes):
+        """Writes a table with these numbers, and a report with these changes."""
+        self.write(numbers, [{"column": "v", "row": row, "direction": sorted(map(list, change.items()))}
+                             for row, change in enumerate(changes)])
+
+    def near(self, *words):
+        return said_by(near.main, [self.report, self.table, "v", *words])
+
+
+class Shown(NearTest):
+    def test_a_change_is_added_as_often_as_it_fits(self):
+        self.sums(SALARIES, CHANGES)
+        # Adding the second change is stopped by row 5 at 650, after 50 times; taking it off by row 0 at 0, after 100.
+        self.assertEqual(self.near(0, 650, "--share", 21), (1, (
+            "v: 6 numbers, of which 4 are shown to be open by 21 % or more by the report's lines alone\n"
+            "row 4: 500, shown only from 450 to 600\nrow 5: 600, shown only from 500 to 650\n")))
+
+    def test_a_share_that_is_just_reached_counts(self):
+        self.sums(SALARIES, CHANGES)
+        said = self.near(0, 650, "--share", 20)[1]
+        self.assertNotIn("row 4", said)
+        self.assertIn("row 5: 600, shown only from 500 to 650", said)
+        self.assertEqual(self.near(0, 650, "--share", 16)[0], 0)
+
+    def test_a_change_of_several_shows_steps_of_its_own(self):
+        self.sums([10, 10], [{0: 3, 1: -2}, {0: -3, 1: 2}])
+        # To either end of the range it is 10, into which 3 fits three times: row 0 may be 19 or 1, and row 1 then is 4 or 16.
+        said = self.near(0, 20, "--share", 91)[1]
+        self.assertIn("row 0: 10, shown only from 1 to 19", said)
+        self.assertIn("row 1: 10, shown only from 4 to 16", said)
+        self.assertEqual(self.near(0, 20, "--share", 60)[0], 0)
+
+    def test_without_an_end_nothing_stops_it(self):
+        self.sums([10, 10], [{0: 1, 1: -1}, {0: -1, 1: 1}])
+        self.assertEqual(self.near("none", "none", "--share", 1000)[0], 0)
+        self.assertEqual(self.near("none", 10, "--share", 1)[0], 1)
+        self.assertEqual(self.near(10, "none", "--share", 1)[0], 1)
+
+    def test_two_at_the_range_s_end_hold_a_chain(self):
+        changes = [{row: (-1) ** (row + own) for row in range(6)} for own in range(6)]
+        self.sums([5, 0, 7, 8, 0, 9], changes)
+        said = self.near(0, "none")[1]
+        self.assertEqual(said.count("and no other number is shown: take it for known"), 6)
+        self.sums([5, 0, 7, 0, 8, 9], changes)
+        self.assertEqual(self.near(0, "none")[0], 0)
+
+    def test_numbers_wider_than_a_double_are_exact(self):
+        large = 2**80 + 1
+        self.sums([0, 10**12], [{0: 1, 1: -large}, {0: -1, 1: large}])
+        self.assertEqual(self.near(0, 10**12)[1].count("take it for known"), 2)
+        self.assertEqual(self.near(-large, large, "--share", 1000)[0], 0)
+
+    def test_a_maximum_may_be_anything_up_to_what_is_printed(self):
+        self.write([3, 9, 9, 0, 4], [{"column": "v", "high": [9, 9, 9, 4, 0]}])
+        # Of row 3 it is 4 up to which it may go. No set holds row 4, or 0 would be below its number.
+        said = self.near(0, 10, "--share", 101)[1]
+        self.assertIn("row 1: 9, shown only from 0 to 9", said)
+        self.assertIn("row 2: 9, shown only from 0 to 9", said)
+        self.assertNotIn("row 3", said)
+        self.assertNotIn("row 4", said)
+
+    def test_a_maximum_of_0_at_most_isnt_taken_for_a_row_that_no_set_holds(self):
+        self.write([-5, -1], [{"column": "v", "high": [0, 0]}])
+        self.assertIn("row 0: -5, shown only from -10 to 0", self.near(-10, 10, "--share", 101)[1])
+
+    def test_a_maximum_that_is_the_lowest_number_is_known(self):
+        self.write([3, 3, 9], [{"column": "v", "high": [3, 3, 9]}])
+        said = self.near(3, 10)[1]
+        self.assertIn("row 0: 3, and no other number is shown", said)
+        self.assertIn("row 1: 3, and no other number is shown", said)
+        self.assertNotIn("row 2", said)
+
+
+class Searched(NearTest):
+    def test_changes_together_show_more_than_each_alone(self):
+        self.sums(SALARIES, CHANGES)
+        # Taking the second change off 150 times brings row 4 to 650; the first one, added 50 times, keeps row 0 at 0.
+        status, said = self.near(0, 650, "--share", 26, "--search")
+        self.assertEqual(status, 1, said)
+        self.assertEqual(said.splitlines()[1:], [
+            "searched besides: 5 are shown to be open by 26 % or more", "row 5: 600, shown only from 450 to 650"])
+        self.assertEqual(self.near(0, 650, "--share", 25, "--search")[0], 0)
+
+    def test_what_the_solver_finds_counts_only_if_it_fits_in_whole_numbers(self):
+        self.sums(SALARIES, CHANGES)
+        for counts in ([0.0, -151.0], [0.0, -120.0], [49.4, -150.4], [1000.0, 1000.0]):
+            found = mock.Mock(x=counts)
+            with self.subTest(counts), mock.patch("nearing.searching.milp", return_value=found):
+                said = self.near(0, 650, "--share", 26, "--search")[1]
+                self.assertIn("row 5: 600, shown only from 500 to 650", said)
+
+    def test_a_solver_that_finds_nothing_leaves_what_was_shown(self):
+        self.sums(SALARIES, CHANGES)
+        with mock.patch("nearing.searching.milp", return_value=mock.Mock(x=None)):
+            said = self.near(0, 650, "--share", 26, "--search")[1]
+        self.assertIn("row 5: 600, shown only from 500 to 650", said)
+
+    def test_without_scipy_it_says_what_to_install(self):
+        self.sums(SALARIES, CHANGES)
+        with mock.patch.dict(sys.modules, {"nearing.searching": None}):
+            status, said = self.near(0, 650, "--share", 26, "--search")
+        self.assertEqual(status, 2)
+        self.assertIn("apt-get install --no-install-recommends python3-scipy", said)
+
+
+class Refused(NearTest):
+    def refused(self, due, *words):
+        status, said = self.near(*(words or (0, 650)))
+        self.assertEqual(status, 2, said)
+        self.assertIn(due, said)
+        self.assertTrue(said.startswith("near: "), said)
+
+    def test_numbers_outside_of_the_range_are_named(self):
+        self.sums(SALARIES, CHANGES)
+        self.refused("row 4 has 500\nrow 5 has 600\n", 0, 450)
+
+    def test_a_report_that_isnt_whole_is_refused(self):
+        self.sums(SALARIES, CHANGES)
+        lines = self.report.read_text().splitlines(keepends=True)
+        for kept, due in (
+            (lines[:-1], "its last line doesn't say how much was audited"),
+            (lines[1:], "isn't a whole report of the column 'v'"),
+            (lines[:3] + lines[4:], "isn't a whole report of the column 'v'"),
+            ([lines[3], *lines[1:3], lines[0], *lines[4:]], "isn't a whole report of the column 'v'"),
+            ([lines[0].replace("[0, 1]", "[0, -1]"), *lines[1:]], "isn't a whole report of the column 'v'"),
+            ([lines[0].replace("[1, -1]", "[6, -1]"), *lines[1:]], "isn't a whole report of the column 'v'"),
+            ([lines[0].replace("[2, -1]", "[1, -1]"), *lines[1:]], "isn't a whole report of the column 'v'"),
+            ([lines[0].replace("[1, -1]", "[1, -1.5]"), *lines[1:]], "isn't a whole report of the column 'v'"),
+            ([lines[0][:20]], "a line of it isn't JSON"),
+            (["[]\n"], "isn't a whole report"),
+            ([], "isn't a whole report"),
+        ):
+            with self.subTest(due, kept=kept[:2]):
+                self.report.write_text("".join(kept))
+                self.refused(due)
+
+    def test_bounds_below_a_number_are_of_another_table(self):
+        self.write([3, 9], [{"column": "v", "high": [9, 8]}])
+        self.refused("isn't a whole report of the column 'v'")
+
+    def test_another_table_is_refused(self):
+        self.sums(SALARIES, CHANGES)
+        self.table.write_text("id,w\n0,1\n")
+        self.refused("has no column 'v': there are 'id', 'w'")
+        self.table.write_text("id,v\n0,many\n")
+        self.refused("isn't a table with whole numbers in the column 'v'")
+        self.table.write_text("")
+        self.refused("isn't a table with whole numbers")
+        self.table.unlink()
+        self.refused("No such file or directory")
+
+    def test_wrong_arguments_end_with_status_2(self):
+        for words in ((0,), ("low", 5), (0, 650, "--share", 0), (0, 650, "--share", "ten"), (0, 650, "--publish")):
+            with self.subTest(words), self.assertRaises(SystemExit) as ended:
+                self.near(*words)
+            self.assertEqual(ended.exception.code, 2)
+
+    def test_help_says_that_the_output_stays_with_the_owner(self):
+        with self.assertRaises(SystemExit):
+            self.near("--help")
+        self.assertIn("Never publish either", near.__doc__)
+
+
+def doubling(levels):
+    """Sets of two and three rows that leave one change: 1 at row 0, and twice as much at each level."""
+    sets, first, second, free = [[0, 1], [0, 2]], 1, 2, 3
+    for _ in range(1, levels):
+        sets += [[free, first, second], [free, free + 1], [free, free + 2]]
+        first, second, free = free + 1, free + 2, free + 3
+    return sets + [[free, first, second]]
+
+
+class AfterAnAttack(NearTest):
+    @needs_program
+    def test_it_names_exactly_those_whose_numbers_are_known(self):
+        draw = random.Random(17)
+        numbers = [draw.randrange(40_000, 200_000) for _ in range(80)]
+        self.write(numbers, [])
+        kinds = [{"name": "id", "is": "number"}, {"name": "v", "is": "sum"}]
+        (self.folder / "schema.json").write_text(json.dumps({"columns": kinds}))
+        sets = [*doubling(18), list(range(55, 80)), list(range(60, 70))]
+        lines = [{"ask": "sum", "column": "v", "where": f"id in ({', '.join(map(str, rows))})"} for rows in sets]
+        self.run_program("init")
+        said = self.run_program("serve", "".join(json.dumps(line) + "\n" for line in lines))
+        self.assertEqual(said.count("sum"), 56, said)
+        self.report.write_text(self.run_program("audit"))
+        status, said = self.near(0, 250_000)
+        self.assertEqual(status, 1)
+        self.assertIn("80 numbers, of which 25 are shown to be open by 10 % or more", said)
+        self.assertEqual([f"row {row}: {numbers[row]:,}, and no other number is shown: take it for known" for row in range(55)],
+                         said.splitlines()[1:])
+
+    def run_program(self, command, given=""):
+        return subprocess.run([AUDITOR, command], cwd=self.folder, input=given, capture_output=True, text=True, check=True).stdout
+
+
+if __name__ == "__main__":
+    unittest.main()
