@@ -3,10 +3,11 @@
 
     prepare.py look FILE [encoding=NAME] [separator=NAME] [untitled=first]
         says what the file has in it, and writes FILE.choices.json with a ? for each choice that is yours
-    prepare.py choose CHOICES [NAME=KIND | NAME.KEY=VALUE | KEY=VALUE | others=KIND | missing=WHAT ..]
-        fills in choices, as salary=sum others="leave out"; without any it asks for each that is open
+    prepare.py choose CHOICES [NAME=KIND | NAME.KEY=VALUE | KEY=VALUE | others=KIND | missing=WHAT | range=RANGE ..]
+        fills in choices, as salary=sum salary.range="0 to none"; without any it asks for each that is open
     prepare.py make FILE CHOICES FOLDER
-        writes FOLDER with schema.json and table.csv, and FOLDER/public with the public columns alone, and says each change
+        writes FOLDER with schema.json and table.csv, and FOLDER/public with the public columns alone, says each change,
+        and points out what people may conclude who know more than that secrets are whole numbers
     prepare.py add FILE CHOICES OLD NEW
         writes the folder NEW, with the tables of the folder OLD and the rows of FILE at their end, as auditor grow wants them
 

@@ -13,6 +13,7 @@ from .guards import say_what_is_known, secrets_apart
 from .making import Changes, columns_to_write, convert_all, need_columns, read_as_chosen, say_changes
 from .ordering import by_public_cells, say_order
 from .protecting import need_totals, say_totals
+from .ranges import need_ranges, say_ranges
 from .splitting import MOST_ROWS, Part
 from .writing import lines_of, need_few_bytes, put_into_place, said_of_program, try_program
 
@@ -34,6 +35,9 @@ def add(path, choices_path, old, new, program):
         raise Fault(f"there would be {len(rows):,} rows, and a table has at most {MOST_ROWS:,}")
     texts = {column.name: [row[column.name] for row in rows] for column in columns if column.kind == "text"}
     secrets_apart(rows, columns, texts)
+    places = range(2, len(rows) + 2)
+    secret = [column for column in columns if column.kind in SECRET]
+    need_ranges(rows, secret, places)
     need_totals(schema.get("protect", []), columns)
     with put_into_place(new) as beside:
         write_longer(old, beside, columns, added)
@@ -42,7 +46,8 @@ def add(path, choices_path, old, new, program):
     say_changes({**choices, "wave": None}, columns, table, changes)
     say_order()
     say_totals(schema.get("protect", []), columns, [Part(rows)])
-    say_what_is_known(rows, public, [column.name for column in columns if column.kind in SECRET])
+    say_what_is_known(rows, public, [column.name for column in secret])
+    say_ranges(rows, secret, places)
     say_next(old, new, columns, before, added, wave_words)
 
 

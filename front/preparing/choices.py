@@ -11,6 +11,7 @@ import tempfile
 from .cells import FORMS
 from .faults import Fault, listed, shown
 from .names import LONGEST, is_name
+from .ranges import range_fault
 from .reading import SEPARATORS
 
 OPEN = "?"
@@ -39,9 +40,11 @@ COLUMN_KEYS = {
     "rounded": str,
     "missing is": list,
     "missing": str,
+    "range": str,
 }
 TEXT_KEYS = ("is", "missing is", "missing")
 NUMBER_KEYS = TEXT_KEYS + ("written as", "unit", "decimals", "rounded")
+SECRET_KEYS = NUMBER_KEYS + ("range",)
 
 
 def read(path):
@@ -55,11 +58,19 @@ def read(path):
         raise Fault(f"{path} isn't JSON: {error}") from None
     faults = key_faults(choices, TABLE_KEYS, "the file of choices")
     if not faults:
+        ask_for_ranges(choices["columns"])
         for place, column in enumerate(choices["columns"], 1):
             faults += key_faults(column, COLUMN_KEYS, f"column {place} of the choices")
     if faults:
         raise Fault(f"{path}: {listed(faults)}")
     return choices
+
+
+def ask_for_ranges(columns):
+    """Leaves the range open in the columns of a file that was written when it wasn't asked for."""
+    for column in columns:
+        if isinstance(column, dict):
+            column.setdefault("range", OPEN)
 
 
 def key_faults(found, keys, what):
@@ -98,7 +109,7 @@ def open_choices(choices):
     """
     found = [key for key in TABLE_KEYS if key != "protect" and choices[key] == OPEN]
     for column in choices["columns"]:
-        keys = {OPEN: ("is",), "leave out": (), "text": TEXT_KEYS}.get(column["is"], NUMBER_KEYS)
+        keys = {OPEN: ("is",), "leave out": (), "text": TEXT_KEYS, "number": NUMBER_KEYS}.get(column["is"], SECRET_KEYS)
         found += [column["name"] + ("" if key == "is" else f".{key}") for key in keys if column[key] == OPEN]
     return found + ["protect"] * (choices["protect"] == OPEN)
 
@@ -189,6 +200,8 @@ def number_faults(column, title):
             f' compares them as they are kept: name it {name_in_steps(column)}; or lower "decimals" and say how it is'
             ' "rounded"; or keep it as text'
         )
+    elif column["is"] in SECRET and range_fault(column):
+        faults.append(f"{title}: {range_fault(column)}")
     if re.search(r"[\d+.,'-]", column["unit"] or ""):
         faults.append(
             f"{title}: {shown(column['unit'])} can't be a unit: it has a digit, a sign or a mark of a number in it"

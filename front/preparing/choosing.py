@@ -8,6 +8,7 @@ from .cells import FORMS
 from .faults import Fault, shown
 from .making import columns_to_write
 from .protecting import need_totals
+from .ranges import WORDS, read_range
 
 LISTS = ("split by", "missing is")
 
@@ -43,7 +44,7 @@ def name_by_steps(choices):
 
 
 def set_choice(choices, key, value):
-    """Sets one choice; `others` and `missing` are those of every column that is still open.
+    """Sets one choice; `others`, `missing` and `range` are those of every column in which they are still open.
 
     A column may be called as a choice is: NAME=KIND is the column then.
     """
@@ -57,6 +58,10 @@ def set_choice(choices, key, value):
         for column in choices["columns"]:
             if column["missing"] == OPEN:
                 set_column(column, "missing", value)
+    elif key == "range":
+        for column in choices["columns"]:
+            if column["range"] == OPEN:
+                set_column(column, "range", value)
     elif key == "protect":
         add_protected(choices, value)
     elif key in TABLE_KEYS and key != "columns":
@@ -83,14 +88,17 @@ def set_column(column, key, value):
     if key not in COLUMN_KEYS or key in ("from", "seen"):
         raise Fault(
             f"{shown(key)} isn't a choice of a column: there are is, name, written as, unit, decimals, rounded, missing"
-            " is, missing"
+            " is, missing, range"
         )
     if key in allowed and value not in allowed[key]:
         raise Fault(
             f"{column['name']}{'' if key == 'is' else '.' + key} can't be {shown(value)}: it is one of"
             f" {', '.join(allowed[key])}"
         )
-    column[key] = from_words(key, value, COLUMN_KEYS[key])
+    chosen = from_words(key, value, COLUMN_KEYS[key])
+    if key == "range" and chosen is not None:
+        read_range(chosen)
+    column[key] = chosen
     if key == "written as" and column["decimals"] == OPEN:
         column["decimals"] = decimals_of(column)
 
@@ -178,6 +186,8 @@ def ask_for_more_totals(choices):
 def question_about(choices, key):
     """What was seen of the column, and what the answer may be."""
     name, _, part = key.partition(".")
+    if part == "range":
+        return f" (the range that people know these numbers to be in: {WORDS})"
     column = next((column for column in choices["columns"] if column["name"] == name), None)
     if column is None:
         return " (a total that must stay open, whatever is asked: COLUMN where CONDITION, or none)" if key == "protect" else ""

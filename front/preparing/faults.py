@@ -23,6 +23,11 @@ def listed(sentences):
     return "\n".join(lines)
 
 
+def first_numbers(numbers):
+    """The first twenty of some numbers, and whether there are more."""
+    return ", ".join(f"{number:,}" for number in numbers[:MOST_SHOWN]) + (", .." if len(numbers) > MOST_SHOWN else "")
+
+
 def counted(number, noun):
     """A number with its noun: 1 row, 1,309 rows."""
     return f"{number:,} {noun}" + ("" if number == 1 else "s")

@@ -6,12 +6,15 @@ Two columns that follow from each other by a plain rule are refused. What may be
 import collections
 import fractions
 import itertools
+import statistics
 
 from .cells import NUMBER_FORMS
 from .choices import PUBLIC, SECRET
-from .faults import Fault, counted, listed
+from .faults import MOST_SHOWN, Fault, counted, listed, shown
 
 FEW_VALUES = 3
+FEW_ROWS = 5  # of one public value, of which something can be said
+ENOUGH_ROWS = 10  # of a table whose columns may go together by more than chance
 
 
 def line_through(first, second):
@@ -105,28 +108,90 @@ def say_what_is_known(rows, public, secret):
 
 
 def say_of_secret(name, rows, public):
-    """Points out a secret column with few values, and one that a public column fixes."""
+    """Points out a secret column with few values, and one of which a public column tells much."""
     values = {row[name] for row in rows}
     if len(values) <= FEW_VALUES:
         print(
             f"CAREFUL: {name} is always one of {', '.join(str(value) for value in sorted(values))}: whoever knows that"
             " can work numbers out of the answers"
         )
-    for other in public:
-        known = {row[other] for row in rows}
-        if len(values) > 1 and len({(row[other], row[name]) for row in rows}) == len(known) <= len(rows) / 2:
-            print(
-                f"CAREFUL: {other}, which is public, fixes {name} in this table: whoever knows the rule knows the"
-                " numbers"
-            )
+    elif len(values) * 2 < len(rows):
+        print(
+            f"CAREFUL: {name} has {len(values):,} different numbers in {len(rows):,} rows, as numbers have that come from"
+            " a list, such as a pay scale. A sum over two people tells both numbers to whoever knows the list: open no"
+            " door on this column, and report it over groups of ten or more that have nobody in common"
+        )
+    if len(values) > 1:
+        for other in public:
+            say_of_public(other, name, rows)
+
+
+def say_of_public(public, secret, rows):
+    """Points out a public column that fixes a secret one, or nearly tells it within some of its values."""
+    inside = collections.defaultdict(list)
+    for row in rows:
+        inside[row[public]].append(row[secret])
+    if all(len(set(numbers)) == 1 for numbers in inside.values()) and len(inside) <= len(rows) / 2:
+        print(
+            f"CAREFUL: {public}, which is public, fixes {secret} in this table: whoever knows the rule knows the"
+            " numbers"
+        )
+        return
+    if len(inside) == 1:
+        return
+    large = {value: numbers for value, numbers in inside.items() if len(numbers) >= FEW_ROWS}
+    say_values(public, secret, [value for value, numbers in large.items() if nearly_one(numbers)], "is one number but for a row or two")
+    say_values(public, secret, [value for value, numbers in large.items() if is_narrow(numbers)], "spreads by less than a tenth")
+
+
+def nearly_one(numbers):
+    """Whether all but two at most are one number."""
+    return max(collections.Counter(numbers).values()) >= len(numbers) - 2
+
+
+def is_narrow(numbers):
+    """Whether the numbers aren't one but for a row or two, and all are within a tenth of the one in the middle."""
+    spread = max(numbers) - min(numbers)
+    return spread * 10 < abs(statistics.median_low(numbers)) and not nearly_one(numbers)
+
+
+def say_values(public, secret, values, what):
+    """Points out the values of a public column within which a secret one is nearly known."""
+    if values:
+        first = ", ".join(shown(value) for value in values[:MOST_SHOWN]) + (", .." if len(values) > MOST_SHOWN else "")
+        print(
+            f"CAREFUL: {secret} {what} where {public}, which is public, is one of: {first}. Whoever knows one of these"
+            f" people's numbers knows nearly all of theirs. Join values of {public}, or leave it out"
+        )
 
 
 def say_of_pair(first, second, rows):
-    """Points out two secret columns that give away each other's numbers."""
-    pairs = {(row[first], row[second]) for row in rows}
-    lengths = {len(pairs), len({row[first] for row in rows}), len({row[second] for row in rows})}
-    if len(lengths) == 1 and FEW_VALUES < len(pairs) < len(rows):
+    """Points out two secret columns that give away each other's numbers, or nearly do."""
+    pairs = [(row[first], row[second]) for row in rows]
+    lengths = {len(set(pairs)), len({one for one, _ in pairs}), len({other for _, other in pairs})}
+    if len(lengths) == 1 and FEW_VALUES < len(set(pairs)) < len(rows):
         print(f"CAREFUL: {first} and {second} fix each other: answers on one may tell of the other")
+    whys = [f"{first} is never above {second}"] * has_order(pairs)
+    whys += [f"{second} is never above {first}"] * has_order([(other, one) for one, other in pairs])
+    whys += [f"{second} over {first} stays within a quarter in nine rows of ten"] * is_quotient_known(pairs)
+    if whys and len(rows) >= ENOUGH_ROWS:
+        print(
+            f"CAREFUL: {', and '.join(whys)}: the two go together. Three sums can tell three people's numbers, or nearly,"
+            f" to whoever knows that. Leave one of {first} and {second} out"
+        )
+
+
+def has_order(pairs):
+    """Whether the first is never above the second, and the columns' own ranges don't say so already."""
+    ends = max(one for one, _ in pairs), min(other for _, other in pairs)
+    return all(one <= other for one, other in pairs) and ends[0] > ends[1]
+
+
+def is_quotient_known(pairs):
+    """Whether the quotients of nine rows in ten lie within a quarter of the least of them."""
+    quotients = sorted(fractions.Fraction(other, one) for one, other in pairs if one and other * one > 0)
+    wanted = -(-len(pairs) * 9 // 10)
+    return any(high <= low * fractions.Fraction(5, 4) for low, high in zip(quotients, quotients[wanted - 1 :]))
 
 
 def say_sums(rows, secret):

@@ -86,6 +86,7 @@ def describe(title, name, cells):
         "rounded": None,
         "missing is": None,
         "missing": None,
+        "range": choosing.OPEN,
     }
     if not there:
         column["is"] = "leave out"
@@ -191,6 +192,10 @@ def say_next(out, choices):
     print(
         '"missing" is one of: drop the row; keep (text, as it stands); mark (number: 0, and a column of 0 and 1 beside'
         " it)."
+    )
+    print(
+        '"range" is what people know of a secret number before they ask, as 0 to none if none is below 0: choose'
+        ' NAME.range="0 to none", or range=none for every column of which they know no range.'
     )
     print(
         '"protect" lists totals that must stay open, whatever is asked: choose protect="salary where dept = \'QA\'", once for'

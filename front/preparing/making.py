@@ -7,12 +7,13 @@ import enum
 from . import choices as choosing
 from .cells import FORMS, without_unit
 from .choices import PUBLIC, SECRET
-from .faults import Fault, counted, listed, shown
+from .faults import Fault, counted, first_numbers, listed, shown
 from .guards import say_what_is_known, secrets_apart
 from .looking import step
 from .names import free
 from .ordering import by_public_cells, say_order
 from .protecting import need_totals, say_totals
+from .ranges import need_ranges, say_ranges
 from .reading import Layout, decode, load, read_rows, without_separator_line
 from .splitting import parts, say_parts
 from .writing import write_folders
@@ -60,18 +61,20 @@ def make(path, choices_path, folder, program):
     changes = Changes()
     rows = convert_all(table, columns, changes)
     public = [column.name for column in columns if column.kind in PUBLIC]
-    secret = [column.name for column in columns if column.kind in SECRET]
+    secret = [column for column in columns if column.kind in SECRET]
     secrets_apart(
         rows, columns, {column.name: texts_of(table, column, changes) for column in columns if column.kind == "text"}
     )
-    rows = by_public_cells(rows, public)
-    tables = parts(rows, choices["split by"], public)
+    places = [number for number, _ in table.rows if number not in changes.dropped]
+    need_ranges(rows, secret, places)
+    tables = parts(by_public_cells(rows, public), choices["split by"], public)
     write_folders(folder, columns, totals, tables, program)
     say_changes(choices, columns, table, changes)
     say_order()
     say_parts(tables)
     say_totals(totals, columns, tables)
-    say_what_is_known(rows, public, secret)
+    say_what_is_known(rows, public, [column.name for column in secret])
+    say_ranges(rows, secret, places)
     each = "each folder of " if choices["split by"] else ""
     print(
         f"written: {each}{folder}, with the public columns alone in public. Next: auditor init in {each}{folder}, once;"
@@ -220,13 +223,10 @@ def say_changes(choices, columns, table, changes):
         print(f"passed over: {counted(table.empty, 'line')} with nothing in it")
     if changes.dropped:
         lacks = collections.Counter(title for titles in changes.dropped.values() for title in titles)
-        first = ", ".join(f"{number:,}" for number in list(changes.dropped)[:20]) + (
-            ", .." if len(changes.dropped) > 20 else ""
-        )
         print(
             f"dropped {counted(len(changes.dropped), 'row')} of {len(table.rows):,}, for what they lack: "
             + ", ".join(f"{shown(title)} {number:,}" for title, number in lacks.items())
-            + f". In the file, with the header as row 1: {first}"
+            + f". In the file, with the header as row 1: {first_numbers(list(changes.dropped))}"
         )
 
 

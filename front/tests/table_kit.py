@@ -59,7 +59,7 @@ class TableTest(unittest.TestCase):
 
     def made(self, text, *words):
         """What is said of a table made from the text with these choices; it has to succeed."""
-        for status, said in (self.look(text), self.choose("protect=none", *words), self.make()):
+        for status, said in (self.look(text), self.choose("protect=none", "range=none", *words), self.make()):
             self.assertEqual(status, 0, said)
         return said
 
@@ -67,7 +67,7 @@ class TableTest(unittest.TestCase):
         """What is said if the text with these choices can't be made into a table; nothing may be left of it."""
         status, said = self.look(text)
         self.assertEqual(status, 0, said)
-        status, said = self.choose("protect=none", *words)
+        status, said = self.choose("protect=none", "range=none", *words)
         before = self.names()
         if status == 0:
             status, said = self.make()

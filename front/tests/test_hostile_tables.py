@@ -238,7 +238,7 @@ class Hostile(TableTest):
             self.need_sentence(said, ["t.csv"])
             return "looked at"
         self.assertEqual(self.names(), ["t.choices.json", "t.csv"])
-        status, said = self.choose("protect=none", "missing=drop the row", *self.kinds())
+        status, said = self.choose("protect=none", "range=none", "missing=drop the row", *self.kinds())
         if status == 0:
             status, said = self.make()
         if status:
@@ -299,7 +299,7 @@ class Hostile(TableTest):
 
     def test_no_choice_breaks_it(self):
         self.look(STAFF)
-        self.choose("protect=none", "team=text", "age=number", "salary=sum", "bonus=max")
+        self.choose("protect=none", "range=none", "team=text", "age=number", "salary=sum", "bonus=max")
         with mock.patch.dict(os.environ, {"AUDITOR": ""}):
             for choices in changed_choices(self.chosen()):
                 self.choices.write_text(json.dumps(choices))
@@ -344,7 +344,7 @@ class Hostile(TableTest):
                     path.unlink(missing_ok=True)
                 status, said = self.look(data)
                 if status == 0:
-                    self.choose("protect=none", *self.kinds())
+                    self.choose("protect=none", "range=none", *self.kinds())
                     status, said = self.make()
                 self.assertEqual(status, 1)
                 self.assertIn(words, said)
@@ -352,7 +352,7 @@ class Hostile(TableTest):
     def test_titles_alike_after_renaming_are_told_apart(self):
         self.look("a.b,a b,pay\nx,y,1\nz,u,5\n")
         said = (
-            self.prepare("choose", self.choices, "a_b=text", "a_b_2=text", "pay=sum", "protect=none")[1]
+            self.prepare("choose", self.choices, "a_b=text", "a_b_2=text", "pay=sum", "protect=none", "range=none")[1]
             + self.make()[1]
         )
         self.assertIn("'a b': public text, named a_b_2", said)

@@ -38,7 +38,7 @@ class Reading(TableTest):
 
     def test_blanks_before_quotes_arent_part_of_a_cell(self):
         self.look('team, pay\n"A, b", "5"\n"C", "7"\n', "separator=comma")
-        self.choose("team=text", "pay=sum", "protect=none")
+        self.choose("team=text", "pay=sum", "protect=none", "range=none")
         self.assertEqual(self.make()[0], 0)
         self.assertEqual(self.table(), [["team", "pay"], ["A, b", "5"], ["C", "7"]])
 
@@ -212,7 +212,7 @@ class Numbers(TableTest):
         self.choices.unlink()
         self.out = self.folder / "other"
         self.look("age,pay\n1.25,5\n2,9\n")
-        self.choose("age=number", "pay=sum", "protect=none")
+        self.choose("age=number", "pay=sum", "protect=none", "range=none")
         self.choices.write_text(self.choices.read_text().replace("age_x100", "age"))
         status, said = self.make()
         self.assertEqual(status, 1)
@@ -226,7 +226,7 @@ class Numbers(TableTest):
                 self.assertIn(f"but {cell!r} may be {first} (written as", said)
                 self.assertIn(f"or {second} (written as {form})", said)
                 self.assertEqual(self.column("pay")["written as"], "?")
-                self.choose("team=text", "pay=sum", "protect=none")
+                self.choose("team=text", "pay=sum", "protect=none", "range=none")
                 self.assertIn("pay.written as", self.make()[1])
                 self.assertFalse(self.out.exists())
 
@@ -273,7 +273,7 @@ class Numbers(TableTest):
     def test_no_such_day_is_no_date(self):
         said = self.look("day,pay\n2024-02-30,5\n2024-02-28,7\n2024-02-29,1\n")[1]
         self.assertIn("but 1 value not, as '2024-02-30'", said)
-        self.choose("day=number", "pay=sum", "protect=none")
+        self.choose("day=number", "pay=sum", "protect=none", "range=none")
         self.assertIn("row 2, column 'day': '2024-02-30' isn't a date", self.make()[1])
 
     def test_numbers_end_at_ten_to_the_twelfth(self):
@@ -295,7 +295,7 @@ class Numbers(TableTest):
     def test_bad_cells_are_named_by_row_and_column(self):
         rows = [f"t{number},{'x' if number % 2 else number},{'y' if number == 4 else 1}" for number in range(48)]
         self.look("team,pay,age\n" + "\n".join(rows) + "\n47,1,1\n0,1,1\n1,1,1\n")
-        self.choose("team=text", "pay=sum", "age=number", "protect=none")
+        self.choose("team=text", "pay=sum", "age=number", "protect=none", "range=none")
         status, said = self.make()
         self.assertEqual((status, self.out.exists()), (1, False))
         self.assertIn("row 3, column 'pay': 'x' isn't a number written as 1234\n", said)
@@ -312,7 +312,7 @@ class Missing(TableTest):
         said = self.look(self.GAPS)[1]
         self.assertIn("where it says '' (1), 'NA' (1)", said)
         self.assertEqual([self.column(name)["missing"] for name in ("team", "age", "pay")], ["?"] * 3)
-        self.choose("team=text", "age=number", "pay=sum", "protect=none")
+        self.choose("team=text", "age=number", "pay=sum", "protect=none", "range=none")
         self.assertIn("team.missing\nage.missing\npay.missing", self.make()[1])
 
     def test_rows_without_a_secret_are_dropped_and_counted(self):
@@ -358,7 +358,7 @@ class Missing(TableTest):
             .replace('"missing": "?"', '"missing": null')
         )
         self.choices.write_text(text)
-        self.choose("land=text", "pay=sum", "protect=none")
+        self.choose("land=text", "pay=sum", "protect=none", "range=none")
         self.assertEqual(self.make()[0], 0)
         self.assertEqual(self.table()[-1], ["NA", "5"])
 
@@ -477,7 +477,7 @@ class Splits(TableTest):
     def test_two_columns_together_split(self):
         rows = "".join(f"{'ab'[number % 2]},{'cd'[number // 2 % 2]},{number}\n" for number in range(2400))
         self.assertIn("split by=x,y: 4 parts of 600 to 600 rows", self.look("x,y,pay\n" + rows)[1])
-        self.choose("x=text", "y=text", "pay=sum", "protect=none", "split by=x,y")
+        self.choose("x=text", "y=text", "pay=sum", "protect=none", "range=none", "split by=x,y")
         self.assertEqual(self.make()[0], 0)
         self.assertEqual(sorted(path.name for path in self.out.iterdir()), ["a_c", "a_d", "b_c", "b_d"])
 
@@ -502,18 +502,21 @@ class Choices(TableTest):
 
     def test_choose_says_what_is_left(self):
         self.look(STAFF)
-        self.assertIn("still open: team, age, protect", self.choose("salary=sum")[1])
-        self.assertIn("nothing is open any more", self.choose("others=text", "protect=none")[1])
+        self.assertIn("still open: team, age, salary.range, protect", self.choose("salary=sum")[1])
+        self.assertIn("nothing is open any more", self.choose("others=text", "protect=none", "range=none")[1])
 
     def test_choose_asks_for_each_open_choice(self):
         self.look(STAFF)
-        with mock.patch("builtins.input", side_effect=["text", "nmber", "number", "sum", "none"]) as asked:
+        with mock.patch("builtins.input", side_effect=["text", "nmber", "number", "sum", "0-9", "0 to none", "none"]) as asked:
             said = self.choose()[1]
         self.assertIn("age can't be 'nmber'", said)
+        self.assertIn("'0-9' isn't a range: write LOW to HIGH, as 0 to none", said)
+        self.assertIn("(the range that people know these numbers to be in: LOW to HIGH", asked.call_args_list[4].args[0])
         self.assertEqual(
             [call.args[0].split(" ")[0].rstrip("?") for call in asked.call_args_list],
-            ["team", "age", "age", "salary", "protect"],
+            ["team", "age", "age", "salary", "salary.range", "salary.range", "protect"],
         )
+        self.assertEqual(self.column("salary")["range"], "0 to none")
         self.assertEqual(self.make()[0], 0)
 
     def test_words_that_choose_nothing_change_nothing(self):
@@ -534,7 +537,7 @@ class Choices(TableTest):
 
     def test_a_file_of_choices_that_isnt_one_is_refused(self):
         self.look(STAFF)
-        self.choose(*STAFF_KINDS, "protect=none")
+        self.choose(*STAFF_KINDS, "protect=none", "range=none")
         good = self.chosen()
         forms = [
             [],
@@ -560,10 +563,35 @@ class Choices(TableTest):
             (("team=leave out", "age=leave out"), "at least one public"),
             (("salary.decimals=13",), "it is 0 to 12"),
             (("wave=2",), "it is 1, or null"),
+            (("salary.range=100.5 to none",), "'100.5 to none' has more decimals than the column"),
+            (("salary.range=101 to 100",), "'101 to 100' isn't a range"),
+            (("salary.range=100",), "'100' isn't a range"),
+            (("salary.range=100 to much",), "'100 to much' isn't a range"),
+            (("salary.range=101 to none",), "row 2 has a number that isn't in the range '101 to none'"),
+            (("salary.range=none to 204",), "salary: row 3 has a number that isn't in the range 'none to 204'"),
         ):
             with self.subTest(str(words)):
                 self.choices.unlink(missing_ok=True)
                 self.assertIn(due, self.refused(STAFF, *STAFF_KINDS, *words))
+
+    def test_a_range_is_asked_of_secret_columns_alone_and_of_older_files_too(self):
+        self.look(STAFF)
+        self.choose(*STAFF_KINDS, "protect=none")
+        older = self.chosen()
+        for column in older["columns"]:
+            del column["range"]
+        self.choices.write_text(json.dumps(older))
+        self.assertIn("still to be chosen:\nsalary.range\n", self.make()[1])
+        self.choose("range=100 to none")
+        self.assertEqual(self.make()[0], 0)
+
+    def test_a_range_is_in_the_units_of_the_file(self):
+        self.made("team,pay\nA,10.50\nB,20\n", "team=text", "pay=sum", "pay.range=10.50 to 20.00")
+        self.choices.unlink()
+        self.assertIn(
+            "pay: row 2 has a number that isn't in the range '10.51 to none'",
+            self.refused("team,pay\nA,10.50\nB,20\n", "team=text", "pay=sum", "pay.range=10.51 to none"),
+        )
 
     def test_a_date_isnt_secret(self):
         self.assertIn("a date can be public", self.refused("t,day\nA,2024-01-31\nB,2024-01-30\n", "t=text", "day=sum"))
@@ -579,7 +607,7 @@ class Choices(TableTest):
 
     def test_other_titles_than_those_that_were_looked_at_are_refused(self):
         self.look(STAFF)
-        self.choose(*STAFF_KINDS, "protect=none")
+        self.choose(*STAFF_KINDS, "protect=none", "range=none")
         self.file.write_text(STAFF.replace("age", "old"))
         self.assertIn("aren't those that the choices were made for: 'team', 'old', 'salary'", self.make()[1])
         self.assertFalse(self.out.exists())
@@ -697,7 +725,7 @@ class Written(TableTest):
 
     def test_an_empty_folder_isnt_overwritten_either(self):
         self.look(STAFF)
-        self.choose(*STAFF_KINDS, "protect=none")
+        self.choose(*STAFF_KINDS, "protect=none", "range=none")
         self.out.mkdir()
         self.assertIn("is already there", self.make()[1])
         self.assertEqual(list(self.out.iterdir()), [])
@@ -708,7 +736,7 @@ class Written(TableTest):
             (self.out / "kept").write_text("mine")
 
         self.look(STAFF)
-        self.choose(*STAFF_KINDS, "protect=none")
+        self.choose(*STAFF_KINDS, "protect=none", "range=none")
         with mock.patch("preparing.writing.try_program", side_effect=comes):
             self.assertIn("is already there", self.make()[1])
         self.assertEqual(self.names(), ["out", "out/kept", "t.choices.json", "t.csv"])
@@ -735,7 +763,7 @@ class Written(TableTest):
 
     def test_a_stop_while_it_writes_leaves_nothing(self):
         self.look(STAFF)
-        self.choose(*STAFF_KINDS, "protect=none")
+        self.choose(*STAFF_KINDS, "protect=none", "range=none")
         before = self.names()
         for name in ("preparing.writing.write_table", "preparing.writing.try_program", "os.rename"):
             for stop in (KeyboardInterrupt, OSError(28, "No space left on device"), MemoryError):

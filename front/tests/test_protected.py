@@ -166,7 +166,7 @@ class Protecting(TableTest):
         """What `make` says if these groups stand in the file of choices; without the program, which may be older."""
         self.choices.unlink(missing_ok=True)
         self.assertEqual(self.look(text)[0], 0)
-        self.assertEqual(self.choose(*kinds, "protect=none", *words)[0], 0)
+        self.assertEqual(self.choose(*kinds, "protect=none", "range=none", *words)[0], 0)
         self.choices.write_text(json.dumps({**self.chosen(), "protect": list(groups)}))
         with mock.patch.dict(os.environ, {"PATH": ""}):
             os.environ.pop("AUDITOR", None)
@@ -299,7 +299,7 @@ class Protecting(TableTest):
             with self.subTest(words):
                 self.assertIn(said, self.choose(f"protect={words}")[1])
                 self.assertEqual(self.chosen()["protect"], due)
-        self.choose("protect=none")
+        self.choose("protect=none", "range=none")
         self.assertEqual(self.chosen()["protect"], [])
 
     def test_a_terminal_is_asked_for_more_totals_until_there_are_no_more(self):

@@ -1,0 +1,124 @@
+"""The range that people know of a secret column's numbers, and who stands so near its ends that others go along.
+
+It is chosen as text in the file's own units, such as `0 to 2500.50` or `0 to none`, and kept in steps of the column's decimals.
+"""
+
+import statistics
+
+from nearing.ranges import Range
+
+from .cells import FORMS
+from .faults import Fault, counted, first_numbers, listed, shown
+
+WORDS = "LOW to HIGH, as 0 to none, each a number or none; or none, if people know no range"
+NUMBER = FORMS["1234.5"]
+NEAR, FAR = 10, 20
+
+
+def read_range(text):
+    """The ends of the range, as exact numbers of the file. A Fault says how it is written."""
+    low, mark, high = text.partition(" to ")
+    ends = [None if word.strip() == "none" else NUMBER.read(word.strip()) for word in (low, high)]
+    lacks = [end is None and word.strip() != "none" for end, word in zip(ends, (low, high))]
+    if not mark or any(lacks) or None not in ends and ends[0] > ends[1]:
+        raise Fault(f"{shown(text)} isn't a range: write {WORDS}")
+    return ends
+
+
+def range_fault(chosen):
+    """Why the range of a column can't be followed, or None."""
+    if chosen["range"] is None:
+        return None
+    try:
+        ends = read_range(chosen["range"])
+    except Fault as fault:
+        return str(fault)
+    steps = [end * 10 ** (chosen["decimals"] or 0) for end in ends if end is not None]
+    if any(step.denominator != 1 for step in steps):
+        return f"{shown(chosen['range'])} has more decimals than the column"
+    return None
+
+
+def range_of(chosen):
+    """The range in steps of the column's decimals, or None if people know none."""
+    if chosen["range"] is None:
+        return None
+    return Range(*(None if end is None else int(end * 10 ** (chosen["decimals"] or 0)) for end in read_range(chosen["range"])))
+
+
+def with_ranges(rows, secret):
+    """Each secret column of which people know a range, with its numbers and the range."""
+    for column in secret:
+        known = range_of(column.chosen)
+        if known is not None:
+            yield column, [row[column.name] for row in rows], known
+
+
+def need_ranges(rows, secret, places):
+    """A Fault for numbers that aren't in the range that people are said to know. `places` has each row's number for people."""
+    faults = [
+        f"{column.name}: row {place:,} has a number that isn't in the range {shown(column.chosen['range'])}"
+        for column, numbers, known in with_ranges(rows, secret)
+        for place, number in zip(places, numbers)
+        if not known.has(number)
+    ]
+    if faults:
+        raise Fault(listed(faults) + "\nNobody can know such a range. Rows are counted with the header as row 1")
+
+
+def say_ranges(rows, secret, places):
+    """Points out whoever stands near an end of a range, and the far largest of a column."""
+    for column, numbers, known in with_ranges(rows, secret):
+        if column.kind == "sum":
+            say_near_ends(column.name, numbers, known, places)
+        else:
+            say_lowest(column.name, numbers, known, places)
+    for column in secret:
+        if column.kind == "sum":
+            say_largest(column.name, [row[column.name] for row in rows], places)
+
+
+def say_near_ends(name, numbers, known, places):
+    """Points out numbers that are nearer to an end of the range than a tenth of the median."""
+    middle = statistics.median(map(abs, numbers))
+    near = [place for place, number in zip(places, numbers) if least_room(number, known) * NEAR < middle]
+    if near:
+        print(
+            f"CAREFUL: {counted(len(near), 'number')} of {name} {'is' if len(near) == 1 else 'are'} nearer to an end of the"
+            f" range that people know than a tenth of the median. By sums over neighbours in a chain all others can be"
+            f" known as nearly as these are: two of them are enough. Leave these rows out, or make one row of each and of"
+            f" others, with their total. {rows_words(near)}"
+        )
+
+
+def least_room(number, known):
+    """How far a number is from the nearer end of a range."""
+    return min((room for room in (known.room(number, 1), known.room(number, -1)) if room is not None), default=abs(number))
+
+
+def say_lowest(name, numbers, known, places):
+    """Points out whoever has the lowest number of the range in a column of maxima."""
+    lowest = [place for place, number in zip(places, numbers) if number == known.low]
+    if lowest:
+        print(
+            f"CAREFUL: {counted(len(lowest), 'number')} of {name} {'is' if len(lowest) == 1 else 'are'} the lowest that"
+            f" people hold for possible. A maximum that is this number says of everybody in its group that it is theirs."
+            f" Leave these rows out. {rows_words(lowest)}"
+        )
+
+
+def say_largest(name, numbers, places):
+    """Points out numbers that are more than twenty times the median."""
+    middle = statistics.median(map(abs, numbers))
+    large = [place for place, number in zip(places, numbers) if middle and abs(number) > FAR * middle]
+    if large:
+        print(
+            f"CAREFUL: {counted(len(large), 'number')} of {name} {'is' if len(large) == 1 else 'are'} more than twenty times"
+            f" the median: a sum over such a person and one other is nearly hers. Let no question be over fewer than five"
+            f" people (the door's --fewest 5), or leave these rows out. {rows_words(large)}"
+        )
+
+
+def rows_words(places):
+    """The first of some rows, as people count them."""
+    return f"Counted with the header as row 1: {first_numbers(places)}"
