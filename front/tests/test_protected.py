@@ -18,7 +18,7 @@ import ask
 from preparing.conditions import Wrong, read_condition
 
 STAFF = "team,age,salary,bonus\nQA,30,100,7\nQA,41,205,3\nDEV,41,310,5\n"
-STAFF_KINDS = ("team=text", "age=number", "salary=sum", "bonus=max")
+STAFF_KINDS = ("team=text", "age=number", "salary=sum", "bonus=max", "range=none")
 SITES = "".join(f"{('Leeds', 'York')[number % 2]},{('QA', 'OPS', 'DEV')[number // 40]},{number % 97}\n" for number in range(120))
 PUBLIC = {"team": "text", "age": "number"}
 TEAMS = ("QA", "Bob's", "", "it's 'so'", "Zoë")
@@ -299,16 +299,16 @@ class Protecting(TableTest):
             with self.subTest(words):
                 self.assertIn(said, self.choose(f"protect={words}")[1])
                 self.assertEqual(self.chosen()["protect"], due)
-        self.choose("protect=none", "range=none")
+        self.choose("protect=none")
         self.assertEqual(self.chosen()["protect"], [])
 
     def test_a_terminal_is_asked_for_more_totals_until_there_are_no_more(self):
         self.look(STAFF)
-        typed = ["text", "number", "sum", "max", "all", "salary where team = 'QA'", "salary where bonus = 3", "salary where age = 41", ""]
+        typed = ["text", "number", "sum", "none", "max", "none", "all", "salary where team = 'QA'", "salary where bonus = 3", "salary where age = 41", ""]
         with mock.patch("builtins.input", side_effect=typed) as asked:
             said = self.choose()[1]
         self.assertEqual([call.args[0].split(" ")[0].rstrip("?") for call in asked.call_args_list],
-                         ["team", "age", "salary", "bonus", "protect", "protect", "another", "another", "another"])
+                         ["team", "age", "salary", "salary.range", "bonus", "bonus.range", "protect", "protect", *["another"] * 3])
         self.assertIn("bonus is secret, and a condition is over public columns alone: team, age\n  bonus = 3\n", said)
         self.assertEqual([group["where"] for group in self.chosen()["protect"]], ["team = 'QA'", "age = 41"])
 
@@ -352,7 +352,7 @@ class OverTheProgram(TableTest):
         super().setUp()
         for status, said in (
             self.look(OFFICE),
-            self.choose("dept=text", "age=number", "salary=sum", "bonus=max", "protect=salary where dept = 'QA'"),
+            self.choose("dept=text", "age=number", "salary=sum", "bonus=max", "range=none", "protect=salary where dept = 'QA'"),
             self.make(),
         ):
             self.assertEqual(status, 0, said)
