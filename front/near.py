@@ -1,7 +1,7 @@
 #!/usr/bin/python3
 """Says how far each number of a column is shown to be open within a range that people know. For the table's owner alone.
 
-    near.py REPORT TABLE COLUMN LOW HIGH [--share 10] [--search [--seconds 5]]
+    near.py REPORT TABLE COLUMN LOW HIGH [--share 10] [--search]
 
 REPORT is what auditor audit prints, TABLE the whole table.csv, COLUMN a secret column of it; LOW and HIGH are the least
 and the greatest number that people hold for possible, as the table keeps them, or none. Each change of the report
@@ -10,8 +10,8 @@ is shown. Of a column of maxima a number may be anything up to the one that the 
 alone. Printed are the rows, counted from 0, of which nothing shows another number that differs by the share, in per
 cent.
 
-With --search those rows are looked at again, by integer programs over all changes of the report together (Debian's
-python3-scipy). What these find is added up again, so it needs no trust; what they don't find within the seconds may be
+With --search those rows are looked at again, by linear programs over all changes of the report together (Debian's
+python3-scipy). What these find is added up again in whole numbers, so it needs no trust; what they don't find may be
 there all the same.
 
 The output follows from the secrets. So does what you leave out after reading it. Never publish either, and never put
@@ -45,7 +45,6 @@ def arguments(words):
         parser.add_argument(name, type=end)
     parser.add_argument("--share", type=percent, default=10)
     parser.add_argument("--search", action="store_true")
-    parser.add_argument("--seconds", type=float, default=5)
     return parser.parse_args(words)
 
 
@@ -73,7 +72,7 @@ def look(chosen):
         f" {chosen.share} % or more by the report's lines alone"
     )
     if chosen.search and near and not isinstance(column, Maxima):
-        search(column, known, shown, near, chosen.seconds)
+        search(column, known, shown, near, chosen.share)
         near = near_rows(column, shown, chosen.share)
         print(f"searched besides: {len(shown) - len(near):,} are shown to be open by {chosen.share} % or more")
     for row in near:
@@ -85,18 +84,20 @@ def near_rows(column, shown, share):
     return [row for row, number in enumerate(column.numbers) if not is_open(number, shown[row], share)]
 
 
-def search(column, known, shown, rows, seconds):
+def search(column, known, shown, rows, share):
     """Widens what is shown of some rows, and says on standard error how far it is."""
     try:
         from nearing.searching import Search
     except ImportError:
         raise Fault("--search needs scipy: apt-get install --no-install-recommends python3-scipy") from None
-    found, told = Search(column, known, seconds), time.monotonic()
+    found, told = Search(column, known), time.monotonic()
     for count, row in enumerate(rows):
         if time.monotonic() - told > EVERY:
             told = time.monotonic()
             print(f"searched {count:,} of {counted(len(rows), 'row')}", file=sys.stderr)
-        shown[row] = found.widened(row, shown[row])
+        for place in (0, 1):
+            if not is_open(column.numbers[row], shown[row], share):
+                shown[row] = found.widened(row, place, shown[row])
 
 
 def shown_words(number, shown):

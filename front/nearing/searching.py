@@ -1,61 +1,75 @@
-"""A search for changes that leave every answer and show a number to be open, by integer programs (of python3-scipy).
+"""A search for changes that leave every answer and show a number to be open, by linear programs (of python3-scipy).
 
-The changes that the report prints span all of them. What the solver finds is added up again in whole numbers and has to
-stay in the range, so nothing rests on it. What it doesn't find may be there all the same.
+The changes that the report prints span all of them, and a program says how often each is to be added. These counts are
+rounded, so the ends of the range are moved inwards by what rounding may do, for each number that can be kept so far from
+them. What is found is added up again in whole numbers and has to stay in the range: nothing rests on the solver. What it
+doesn't find may be there all the same.
 """
 
+import functools
 import warnings
 
 import numpy
 from scipy.optimize import LinearConstraint, milp
-from scipy.sparse import csc_array
+from scipy.sparse import csc_array, hstack, identity, vstack
 
 from .ranges import Range
 
 GREATEST_ENTRY = 2**53  # what a double still holds exactly
-GAP = 0.02
+SHARES = (1, 0.25, 0.0625, 0)  # of the most that rounding may do, one tried after the other
+PATIENCE = 10  # seconds for one program
 
 
 class Search:
     """The printed changes of a column, and the room that each number has in the range."""
 
-    def __init__(self, column, known, seconds):
-        self.numbers, self.known, self.seconds = column.numbers, known, seconds
+    def __init__(self, column, known):
+        self.numbers, self.known = column.numbers, known
         different = {upright(change): change for change in column.changes}
         self.changes = [change for change in different.values() if max(map(abs, change.values())) < GREATEST_ENTRY]
         entries = [(step, row, place) for place, change in enumerate(self.changes) for row, step in change.items()]
         steps, rows, places = zip(*entries) if entries else ((), (), ())
         shape = (len(self.numbers), len(self.changes))
         self.matrix = csc_array((numpy.array(steps, float), (rows, places)), shape=shape)
-        low = [-numpy.inf if known.low is None else known.low - number for number in self.numbers]
-        high = [numpy.inf if known.high is None else known.high - number for number in self.numbers]
-        self.inside = LinearConstraint(self.matrix, low, high)
+        self.down, self.up = (
+            numpy.array([numpy.inf if room is None else room for room in rooms], float)
+            for rooms in ([known.room(number, sign) for number in self.numbers] for sign in (-1, 1))
+        )
 
-    def widened(self, row, shown):
-        """What is shown of a row, with the ends that the search finds besides."""
-        ends = [shown.low, shown.high]
-        for place, sign in enumerate((-1, 1)):
-            found = self.farthest(row, sign)
-            if ends[place] is not None and found is not None and sign * (found - ends[place]) > 0:
-                ends[place] = found
-        return Range(*ends)
+    @functools.cache
+    def inside(self, share):
+        """The constraint that all numbers stay in the range, and as far from its ends as this share of the rounding asks."""
+        margin = numpy.floor(self.margin(share)) if share else 0
+        return LinearConstraint(self.matrix, margin - self.down, self.up - margin)
 
-    def farthest(self, row, sign):
-        """The farthest number that the solver finds for a row, upwards or downwards, or None."""
-        if not self.changes:
-            return None
+    def margin(self, share):
+        """How far from the range's ends all numbers can be kept together, each at most by its share of the rounding."""
+        rows, changes = self.matrix.shape
+        wanted = share * abs(self.matrix).sum(axis=1) / 2
+        one = identity(rows, format="csc")
+        both = vstack([hstack([self.matrix, -one]), hstack([self.matrix, one])])
+        endless = numpy.full(rows, numpy.inf)
+        low, high = numpy.concatenate([-self.down, -endless]), numpy.concatenate([endless, self.up])
+        free = numpy.full(changes, numpy.inf)
+        bounds = numpy.concatenate([-free, numpy.zeros(rows)]), numpy.concatenate([free, wanted])
+        cost = numpy.concatenate([numpy.zeros(changes), -1 / numpy.maximum(wanted, 1)])
+        found = solved(cost, LinearConstraint(both, low, high), bounds)
+        return numpy.zeros(rows) if found is None else found[changes:]
+
+    def widened(self, row, place, shown):
+        """What is shown of a row, with its low end (0) or its high one (1) as far out as the search moves it."""
+        sign = (-1, 1)[place]
+        for share in SHARES if shown[place] is not None and self.changes else ():
+            found = self.farthest(row, sign, share)
+            if found is not None and sign * (found - shown[place]) > 0:
+                return shown._replace(**{Range._fields[place]: found})
+        return shown
+
+    def farthest(self, row, sign, share):
+        """The farthest number that the solver finds for a row, upwards or downwards, or None if it isn't one."""
         cost = -sign * self.matrix[[row], :].toarray().ravel()
-        options = {"time_limit": self.seconds, "mip_rel_gap": GAP}
-        with warnings.catch_warnings():
-            warnings.simplefilter("ignore")
-            found = milp(
-                cost,
-                constraints=self.inside,
-                integrality=numpy.ones(len(cost)),
-                bounds=(-numpy.inf, numpy.inf),
-                options=options,
-            )
-        return None if found.x is None else self.checked(row, [round(float(count)) for count in found.x])
+        counts = solved(cost, self.inside(share), (-numpy.inf, numpy.inf))
+        return None if counts is None else self.checked(row, [round(float(count)) for count in counts])
 
     def checked(self, row, counts):
         """The number that a row gets if each change is added so often, or None if some number leaves the range then."""
@@ -64,6 +78,13 @@ class Search:
             for place, step in change.items() if count else ():
                 numbers[place] += count * step
         return numbers[row] if all(map(self.known.has, numbers)) else None
+
+
+def solved(cost, constraint, bounds):
+    """The numbers of least cost, or None if the solver finds none."""
+    with warnings.catch_warnings():
+        warnings.simplefilter("ignore")
+        return milp(cost, constraints=constraint, bounds=bounds, options={"time_limit": PATIENCE}).x
 
 
 def upright(change):

@@ -119,6 +119,10 @@ class Shown(NearTest):
 
 
 class Searched(NearTest):
+    def solver(self, counts):
+        """In place of the solver, one that finds these counts for the two changes, and no way to stay away from the ends."""
+        return mock.patch("nearing.searching.solved", side_effect=lambda cost, *_: counts if len(cost) == 2 else None)
+
     def test_changes_together_show_more_than_each_alone(self):
         self.sums(SALARIES, CHANGES)
         # Taking the second change off 150 times brings row 4 to 650; the first one, added 50 times, keeps row 0 at 0.
@@ -128,17 +132,28 @@ class Searched(NearTest):
             "searched besides: 5 are shown to be open by 26 % or more", "row 5: 600, shown only from 450 to 650"])
         self.assertEqual(self.near(0, 650, "--share", 25, "--search")[0], 0)
 
+    def test_counts_that_have_to_be_rounded_are_kept_away_from_the_ends(self):
+        # Twelve numbers, some of them 0, and five changes of small numbers: where the best counts are rounded some number is below 0.
+        draw = random.Random(5)
+        base = [{row: step for row in range(12) if (step := draw.choice([-3, -2, -1, 0, 0, 0, 1, 2, 3]))} for _ in range(5)]
+        first = [next(change for change in base if row in change) for row in range(12)]
+        numbers = [draw.choice([0, 0, draw.randrange(500, 2000)]) for _ in range(12)]
+        self.sums(numbers, [change if change[row] > 0 else turned(change) for row, change in enumerate(first)])
+        status, said = self.near(0, "none", "--search")
+        self.assertEqual(status, 0, said)
+        with mock.patch("nearing.searching.SHARES", (0,)):
+            self.assertEqual(self.near(0, "none", "--search")[0], 1)
+
     def test_what_the_solver_finds_counts_only_if_it_fits_in_whole_numbers(self):
         self.sums(SALARIES, CHANGES)
         for counts in ([0.0, -151.0], [0.0, -120.0], [49.4, -150.4], [1000.0, 1000.0]):
-            found = mock.Mock(x=counts)
-            with self.subTest(counts), mock.patch("nearing.searching.milp", return_value=found):
+            with self.subTest(counts), self.solver(counts):
                 said = self.near(0, 650, "--share", 26, "--search")[1]
                 self.assertIn("row 5: 600, shown only from 500 to 650", said)
 
     def test_a_solver_that_finds_nothing_leaves_what_was_shown(self):
         self.sums(SALARIES, CHANGES)
-        with mock.patch("nearing.searching.milp", return_value=mock.Mock(x=None)):
+        with self.solver(None):
             said = self.near(0, 650, "--share", 26, "--search")[1]
         self.assertIn("row 5: 600, shown only from 500 to 650", said)
 
