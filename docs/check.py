@@ -2,8 +2,8 @@
 """Checks that what the documents name is there: links, paths, edits, clauses and words of specs/; that README's questions are the
 demo's and have its replies; that the demo and the gate's case of the program have the same files; that the pages name the newest release;
 that each entry of DECISIONS stands under its crates, and these in the order of crates.txt; that README and ARCHITECTURE are no longer than
-they may be; that the gate tries no more wrong bodies than it may, and the others apply; and that the promise stands on no more lines of definitions than it may
-(promise_size.py).
+they may be; that the gate tries no more wrong bodies than it may, and the others apply; and that the promise stands on no more lines of
+definitions than it may (promise_size.py).
 
     docs/check.py           # prints each name that isn't there; exits with 1 if there is one
 """
@@ -208,7 +208,8 @@ def main():
         for check in CHECKS
         for fault in check(page, page.read_text())
     ]
-    faults += [*stale_transcript(), *stale_copies(), *stale_version(), *wrong_entries(), *too_long(), *too_many_edits(), *stale_plants(), *promise_size.too_long()]
+    faults += [*stale_transcript(), *stale_copies(), *stale_version(), *wrong_entries(), *too_long()]
+    faults += [*too_many_edits(), *stale_plants(), *promise_size.too_long()]
     print("\n".join(faults) if faults else f"{len(PAGES)} pages, and all that they name is there")
     return 1 if faults else 0
 
