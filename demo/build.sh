@@ -52,9 +52,13 @@ is_new() {
     grep -q ': proved$' "$proved.said" && ! grep -q 'begins with what a check kept' "$proved.said"
 }
 
-# Ends the run in the midst of a crate.
+# At a signal the crate that is being proved is left, and then the run.
+stop_prover() {
+    stopped=1
+    [ -z "$prover" ] || kill "$prover" 2>/dev/null
+}
+
 leave_off() {
-    kill "$prover" 2>/dev/null
     wait "$prover" 2>/dev/null
     printf 'stopped\nrun it again to go on with %s\n' "$crate" >&2
     rm -f "$proved" "$proved.said"
@@ -68,15 +72,20 @@ build() {
     number=0
     of=$(crates_below | wc -l)
     printf 'proving and building %d crates; stop it when you like, and run it again to go on\n' "$of" >&2
-    trap leave_off HUP INT TERM
+    stopped=
+    trap stop_prover HUP INT TERM
     for crate in $(crates_below); do
         number=$((number + 1))
         since=$(date +%s)
         printf '%d of %d, %s: proving %s: ' "$number" "$of" "$(time_left)" "$crate" >&2
+        prover=
         prove "$crate" >"$proved.said" 2>&1 &
         prover=$!
+        # The signal may have come before its number was known.
+        [ -z "$stopped" ] || kill "$prover" 2>/dev/null
         wait "$prover"
         status=$?
+        [ -z "$stopped" ] || leave_off
         [ "$crate" != auditor ] || status=$((status - 5))
         if [ "$status" != 0 ]; then
             printf 'failed\n' >&2

@@ -42,7 +42,7 @@ class Readme(unittest.TestCase):
         self.assertIn("\nDesign: 1\n", said)
         self.assertIn("\n176500\n", said)
         self.assertRegex(said, r"\n0 wrong, \d+ to look at, \d+ as they should be\n$")
-        first, shown = commands(text)[0]
+        first, shown = next(pair for pair in commands(text) if pair[0].startswith("front/ask.py"))
         said, _ = self.typed([own[0][0], first])
         for line, due in zip(said.splitlines(), shown, strict=True):
             self.assertTrue(line == due or due.endswith(": ..") and line.startswith(due.removesuffix("..")), (line, due))

@@ -1,0 +1,137 @@
+"""demo/try.sh and demo/build.sh over a kit that isn't one: a script in its place that says and does what rt would."""
+import os
+import pathlib
+import re
+import shutil
+import signal
+import subprocess
+import sys
+import tempfile
+import unittest
+
+from kit import AUDITOR, FRONT, PATIENCE
+
+TOP = FRONT.parent
+# `rt try` runs the program over copies; `rt lib` and `rt run` say what a check says of a crate that it proves, or nothing if it was kept.
+RT = f"""#!{sys.executable}
+import os, pathlib, subprocess, sys, tempfile, time
+words = sys.argv[1:]
+if words[0] == "try":
+    with tempfile.TemporaryDirectory() as folder:
+        for name, file in (word.split("=") for flag, word in zip(words, words[1:]) if flag == "--data"):
+            pathlib.Path(folder, name).write_bytes(pathlib.Path(file).read_bytes())
+        done = subprocess.run([os.environ["AUDITOR"], *words[words.index("--") + 1:]], cwd=folder, stdin=sys.stdin)
+    print("run=ended proved=no", file=sys.stderr)
+    sys.exit(int(os.environ.get("ENDS", done.returncode)))
+crate = pathlib.Path.cwd()
+if crate.name == os.environ.get("FAILS"):
+    print("fn it: not proved")
+    sys.exit(1)
+if crate.name == os.environ.get("HANGS"):
+    time.sleep(600)
+if not (crate / "out/proved").exists():
+    print("fn it: proved")
+    (crate / "out").mkdir(exist_ok=True)
+    (crate / "out/proved").touch()
+sys.exit(5 if words[0] == "run" else 0)
+"""
+
+
+class Demo(unittest.TestCase):
+    def setUp(self):
+        self.top = pathlib.Path(tempfile.mkdtemp(prefix="demo-"))
+        shutil.copytree(TOP / "demo", self.top / "demo")
+        shutil.copy(TOP / "crates.txt", self.top)
+        for crate in re.findall(r"(?m)^([a-z_]+)\b", (TOP / "crates.txt").read_text()):
+            (self.top / "crates" / crate).mkdir(parents=True)
+        shutil.copytree(TOP / "crates/auditor/data", self.top / "crates/auditor/data")
+        (self.top / "bin").mkdir()
+        (self.top / "tmp").mkdir()
+        (self.top / "bin/rt").write_text(RT)
+        (self.top / "bin/rt").chmod(0o755)
+        self.world = {"PATH": f"{self.top}/bin:/usr/bin:/bin", "AUDITOR": AUDITOR, "TMPDIR": str(self.top / "tmp")}
+        self.build = ["sh", "-c", f"top={self.top}; . {self.top}/demo/build.sh; build"]
+
+    def tearDown(self):
+        shutil.rmtree(self.top)
+
+    def run_it(self, *words, **world):
+        return subprocess.run(words, env=self.world | world, capture_output=True, text=True, timeout=PATIENCE)
+
+
+class Try(Demo):
+    def test_it_answers_says_that_nothing_was_proved_and_leaves_nothing(self):
+        before = sorted(self.top.rglob("*"))
+        done = self.run_it(self.top / "demo/try.sh")
+        self.assertEqual(done.returncode, 0, done.stderr)
+        due = (TOP / "demo/replies.jsonl").read_text().split("\n")[:-1]
+        asked = [line for line in (TOP / "demo/questions.jsonl").read_text().split("\n") if line]
+        self.assertEqual([line.split(maxsplit=1) for line in done.stdout.split("\n")[:-1]], [list(pair) for pair in zip(due, asked, strict=True)])
+        said = done.stderr.strip().split("\n")
+        self.assertIn("nothing here is proved", said[0])
+        self.assertIn("nothing was proved", said[-1])
+        self.assertEqual(sorted(self.top.rglob("*")), before)
+
+    def test_other_replies_than_those_due_are_noticed(self):
+        (self.top / "demo/questions.jsonl").write_text((TOP / "demo/questions.jsonl").read_text().replace("age >= 41", "age >= 42"))
+        done = self.run_it(self.top / "demo/try.sh")
+        self.assertEqual(done.returncode, 1)
+        self.assertIn("these aren't the replies that are due", done.stderr)
+
+    def test_what_the_kit_says_is_shown_if_it_fails(self):
+        done = self.run_it(self.top / "demo/try.sh", ENDS="4")
+        self.assertEqual(done.returncode, 1)
+        self.assertIn("run=ended proved=no", done.stderr)
+        self.assertIn("ended with status 4", done.stderr)
+
+    def test_without_the_kit(self):
+        done = self.run_it(self.top / "demo/try.sh", PATH="/usr/bin:/bin")
+        self.assertEqual((done.returncode, done.stdout), (1, ""))
+        self.assertIn("the Rattle kit is missing", done.stderr)
+
+
+class Build(Demo):
+    def lines(self, done):
+        """Of each crate its place, its name, and what came of it."""
+        return re.findall(r"(\d+) of \d+, (?:about (?:\d+) min are|less than a minute is) left: proving (\w+): (.*)", done.stderr)
+
+    def test_it_says_what_it_is_at_and_how_long_is_left(self):
+        done = self.run_it(*self.build)
+        self.assertEqual(done.returncode, 0, done.stderr)
+        names = [name for _, name, _ in self.lines(done)]
+        self.assertEqual((names[0], names[-1], len(names)), ("audit_types", "auditor", len(set(names))))
+        self.assertIn("about ", done.stderr.split("\n")[1])
+        self.assertIn("less than a minute is left: proving auditor", done.stderr)
+        shares = [line.split()[0] for line in (self.top / "crates/auditor/out/shares.txt").read_text().splitlines()]
+        self.assertEqual(shares, names)
+        self.assertEqual(os.listdir(self.top / "tmp"), [])
+
+    def test_the_repositorys_shares_are_of_these_crates(self):
+        names = [name for _, name, _ in self.lines(self.run_it(*self.build))]
+        kept = [line.split()[0] for line in (TOP / "demo/shares.txt").read_text().splitlines() if not line.startswith("#")]
+        self.assertEqual(kept, names)
+
+    def test_it_can_be_stopped_and_taken_up(self):
+        run = subprocess.Popen(self.build, env=self.world | {"HANGS": "table_load"}, stderr=subprocess.PIPE, text=True)
+        said = ""
+        while "proving table_load: " not in said:
+            said += run.stderr.read(1)
+        run.send_signal(signal.SIGTERM)
+        said += run.stderr.read()
+        self.assertEqual(run.wait(PATIENCE), 130)
+        self.assertIn("run it again to go on with table_load", said)
+        self.assertEqual(os.listdir(self.top / "tmp"), [])
+        done = self.run_it(*self.build)
+        self.assertEqual(done.returncode, 0, done.stderr)
+        self.assertFalse((self.top / "crates/auditor/out/shares.txt").exists(), "some crates were kept, so their seconds say nothing")
+
+    def test_a_crate_that_is_not_proved_ends_it(self):
+        done = self.run_it(*self.build, FAILS="sum_basis")
+        self.assertEqual(done.returncode, 1)
+        self.assertEqual(self.lines(done)[-1][1:], ("sum_basis", "failed"))
+        self.assertIn("fn it: not proved", done.stderr)
+        self.assertEqual(os.listdir(self.top / "tmp"), [])
+
+
+if __name__ == "__main__":
+    unittest.main()
