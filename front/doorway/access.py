@@ -14,11 +14,12 @@ class AccessLog:
             self.file = os.open(path, os.O_WRONLY | os.O_APPEND | os.O_CREAT | os.O_CLOEXEC, 0o600)
             os.fchmod(self.file, 0o600)
 
-    def write(self, name, path, question, reply):
+    def write(self, name, path, question, status, body):
         if self.file is None:
             return
         when = datetime.datetime.now(datetime.timezone.utc).isoformat(timespec="seconds")
-        line = json.dumps({"time": when, "name": name, "path": path, "question": question.decode("utf-8", "replace"), "reply": reply})
+        line = json.dumps({"time": when, "name": name, "path": path, "question": question.decode("utf-8", "replace"),
+                           "reply": kind_of(status, body)})
         try:
             os.write(self.file, line.encode() + b"\n")
             self.failed = False

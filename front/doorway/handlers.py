@@ -10,7 +10,6 @@ import os
 from aiohttp import web
 from aiohttp.http_exceptions import HttpProcessingError
 
-from .access import kind_of
 from .askers import NOBODY
 from .lines import LONGEST, Turned, line_of
 from .totals import total
@@ -46,7 +45,7 @@ class Guard:
                 except Turned as turned:
                     response = error(turned.status, turned.text, turned.headers)
             if request.method == "POST":
-                self.log.write(request["asker"].name, request.path, request["line"], kind_of(response.status, response.body))
+                self.log.write(request["asker"].name, request.path, request["line"], response.status, response.body)
             return response
         return guarded
 
