@@ -178,9 +178,9 @@ class OneDoor(unittest.IsolatedAsyncioTestCase):
             await self.door.ready(session, Host=NAME)
         os.chmod(self.path, 0o666)
 
-    def session(self, address="127.0.0.1"):
+    def session(self, address="127.0.0.1", limit=0):
         return aiohttp.ClientSession(f"http://127.0.0.1:{self.port}", headers={"Host": NAME},
-                                     connector=aiohttp.TCPConnector(local_addr=(address, 0), limit=0))
+                                     connector=aiohttp.TCPConnector(local_addr=(address, 0), limit=limit))
 
     async def count(self, session, who="", word="secret"):
         auth = aiohttp.BasicAuth(who, word) if who else None
@@ -203,7 +203,7 @@ class OneDoor(unittest.IsolatedAsyncioTestCase):
     async def test_an_outsider_locks_nobody_out(self):
         """Without a password, under ann's name, from another address."""
         await self.begin(login=20, address=50)
-        async with self.session("127.0.0.9") as outside, self.session() as inside:
+        async with self.session("127.0.0.9", 20) as outside, self.session() as inside:
             statuses = await asyncio.gather(*(self.count(outside, "ann", "wrong") for _ in range(300)))
             self.assertEqual(set(statuses), {401, 429})
             self.assertEqual([await self.count(inside, "ann") for _ in range(40)], [200] * 40)
