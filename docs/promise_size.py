@@ -27,13 +27,13 @@ CRATES = {
     "lives": ("audit_types", "audit_core", "audit_session", "twin_journal", "auditor_top"),
 }
 MOST = {
-    "disclosure": 70,
+    "disclosure": 100,
     "decision": 110,
-    "lines and conditions": 380,
+    "lines and conditions": 385,
     "formats of files": 195,
     "journal and crash": 95,
-    "lives": 253,
-    "the promise": 1095,
+    "lives": 268,
+    "the promise": 1140,
 }
 
 IMPORT = re.compile(r"(?:ghost )?use (?:Rattle\.)?([\w.]+?)(?:\.\{(.*)\}| as (\w+));?$")

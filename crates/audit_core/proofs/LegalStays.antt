@@ -1,23 +1,20 @@
 -- What was legal for the first rows of a table is legal for all of them.
-use Rattle.std.proofs.Common.{◌≡◌, ℕ, zero, suc, ◌+◌, ◌<◌, ◌≤◌, Bool, true, false, cond, ◌==◌, ℤ, List, [], ◌∷◌, map, length, take, Some, refl, sym, ap, ◌∙◌, subst, arith}
+use Rattle.std.proofs.Common.{◌≡◌, ℕ, zero, suc, ◌<◌, ◌≤◌, ℤ, List, [], ◌∷◌, map, take, Some, refl, sym, ap, ◌∙◌, subst, arith}
 use Rattle.std.specs.Prelude.{slice_get, All, Contains}
-use Rattle.std.specs.List.{AllByRecursion, filter}
-use Rattle.std.proofs.lemmas.List.{length-map, get_or-take}
-use Rattle.std.proofs.lemmas.Option.{none-some, same_Some}
-use Rattle.audit_types.specs.declared.shapes.Shape.{Shape}
-use Rattle.audit_types.specs.declared.shapes.Kind.{Kind}
+use Rattle.std.specs.List.{AllByRecursion}
+use Rattle.std.proofs.lemmas.List.{get_or-take}
 use Rattle.audit_types.specs.declared.records.Answered.{Answered}
 use Rattle.audit_types.specs.declared.records.Verdict.TheVariants.{Released}
-use Rattle.audit_types.specs.Rows.{AreRows, AscendsFrom}
-use Rattle.audit_types.specs.Truth.{number_at, truth}
-use Rattle.audit_types.specs.Column.{Known, Answer}
+use Rattle.audit_types.specs.Rows.{AreRows, has_row, rows_that}
+use Rattle.audit_types.specs.Truth.{truth}
+use Rattle.audit_types.specs.Column.{Known}
 use Rattle.audit_types.specs.Shapes.{kind_at}
 use Rattle.audit_types.specs.Judgement.{IsDecision}
-use Rattle.audit_types.specs.History.{Table, FitsShape, IsProtected, IsLegal, IsLegalRecord, answers_of, groups_of, known_of, setting_of, list_of}
+use Rattle.audit_types.specs.History.{Table, IsProtected, IsLegal, IsLegalRecord, answers_of, groups_of, known_of, setting_of, list_of}
 use Rattle.audit_types.specs.ListLaws.{all_by_place, all-take}
 use Rattle.sum_basis.specs.Laws.{NarrowOrWide}
-use Rattle.audit_types.specs.RowLaws.{AscendsFrom-wider}
-use Rattle.audit_types.specs.Widening.{over, wider, widened, groups_among, first_rows, Extends}
+use Rattle.audit_types.specs.RowLaws.{AscendsFrom-wider, has-rows_that}
+use Rattle.audit_types.specs.Widening.{over, wider, widened, protection_among, first_rows}
 use Rattle.audit_types.specs.WideningLaws.{length-widened, record_of_widened, take-widened, answers_of-widened}
 use Rattle.audit_core.specs.WideningLaws.{LegalStays}
 use Rattle.audit_core.proofs.OwnAnswers.{all_answers}
@@ -32,11 +29,11 @@ list_of-first (suc m) [] column = refl
 list_of-first m (w ∷ lists) zero = refl
 list_of-first m (w ∷ lists) (suc column) = list_of-first m lists column
 
-module _ (law : NarrowOrWide) (longer : Table) (fit : All (IsProtected longer.setting.shape) longer.setting.protected) (m : ℕ) (le : m ≤ longer.setting.shape.rows)
+module _ (law : NarrowOrWide) (longer : Table) (fit : All (IsProtected longer.setting.shape) longer.setting.protected.groups) (outside : longer.setting.protected.own ≡ 0) (m : ℕ) (le : m ≤ longer.setting.shape.rows)
     (history : List Answered) (legal : IsLegal (first_rows m longer) history) where
   -- what the first records tell of a column over the first rows
   abbrev known_before : ℕ → ℕ → Known
-  known_before i column = known_of (setting_of (over m longer.setting.shape) (groups_among m longer.setting.protected)) (take i history) column
+  known_before i column = known_of (setting_of (over m longer.setting.shape) (protection_among m longer.setting.protected)) (take i history) column
 
   fitting : (i : ℕ) (r : Answered) → slice_get history i ≡ Some r → AreRows m r.rows.list
   fitting i r here = let fits = (legal.each i r here).fits in subst (λ k. AreRows k r.rows.list) fits.same_n fits.are_rows
@@ -47,18 +44,26 @@ module _ (law : NarrowOrWide) (longer : Table) (fit : All (IsProtected longer.se
       (all-take (λ r. AreRows m r.rows.list) i history (all_by_place (λ r. AreRows m r.rows.list) history fitting))
 
   -- a group of the longer table is one of the first rows, or has a new row
-  groups_before : (i column : ℕ) (group : List ℕ) → Contains (groups_of column longer.setting.protected) group →
+  groups_before : (i column : ℕ) (group : List ℕ) → Contains (groups_of column longer.setting.protected.groups) group →
       IsOldOrNew (known_before i column) longer.setting.shape.rows group
-  groups_before i column group there = old_or_new longer.setting.shape m column longer.setting.protected fit group there
+  groups_before i column group there = old_or_new longer.setting.shape m column longer.setting.protected.groups fit group there
+
+  -- a row of the first ones is shared among them exactly if it is
+  share_alike : (row : ℕ) → row < m → has_row (rows_that (has_row longer.setting.protected.shared) m) row ≡ has_row longer.setting.protected.shared row
+  share_alike row below = has-rows_that (has_row longer.setting.protected.shared) m row below
 
   same_known : (i column : ℕ) → known_of longer.setting (widened longer.setting.shape.rows (take i history)) column
-      ≡ grown longer.setting.shape.rows (groups_of column longer.setting.protected) (known_before i column)
+      ≡ grown longer.setting.shape.rows longer.setting.protected.shared longer.setting.protected.several (groups_of column longer.setting.protected.groups) (known_before i column)
   same_known i column =
       ap (λ answers. record {
         kind = kind_at longer.setting.shape column;
         n = longer.setting.shape.rows;
         answers = answers;
-        groups = groups_of column longer.setting.protected;
+        groups = groups_of column longer.setting.protected.groups;
+        shared = longer.setting.protected.shared;
+        several = longer.setting.protected.several;
+        own = longer.setting.protected.own;
+        width = longer.setting.protected.width;
       }) (answers_of-widened longer.setting.shape.rows column (take i history))
 
   legal_record : (i : ℕ) (r : Answered) → slice_get history i ≡ Some r →
@@ -79,7 +84,8 @@ module _ (law : NarrowOrWide) (longer : Table) (fit : All (IsProtected longer.se
             (λ q lt. get_or-take m (list_of longer.secrets r.column) q _ lt) (kind_at longer.setting.shape r.column) r.rows.list are;
         released = subst (λ known. IsDecision known r.rows.list Released) (sym (same_known i r.column))
             (released_stays law (known_before i r.column) r.rows.list longer.setting.shape.rows (sets_before i r.column, are) le
-            (groups_of r.column longer.setting.protected) (groups_before i r.column) old.released);
+            longer.setting.protected.shared longer.setting.protected.several (groups_of r.column longer.setting.protected.groups) share_alike (groups_before i r.column) outside
+            old.released);
       }
 
   pub legal_over_all : IsLegal longer (widened longer.setting.shape.rows history)
@@ -93,5 +99,5 @@ module _ (law : NarrowOrWide) (longer : Table) (fit : All (IsProtected longer.se
   }
 
 pub legal_stays : NarrowOrWide → LegalStays
-legal_stays law table longer history fit extends legal =
-    legal_over_all law longer fit.0 table.setting.shape.rows (omega (arith, extends.0)) history (subst (λ (t : Table). IsLegal t history) extends.1 legal)
+legal_stays law table longer history fit outside extends legal =
+    legal_over_all law longer fit.0 outside table.setting.shape.rows (omega (arith, extends.0)) history (subst (λ (t : Table). IsLegal t history) extends.1 legal)

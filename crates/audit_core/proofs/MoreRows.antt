@@ -1,5 +1,5 @@
 -- No answer tells of a row that came later: over more rows a question is as dangerous, and decided, as before.
-use Rattle.std.proofs.Common.{◌≡◌, ◌≢◌, ◌↔◌, ◌⊎◌, ℕ, true, zero, suc, ◌+◌, ◌-◌, ◌<◌, ◌≤◌, ℤ, pos, List, [], ◌∷◌, ◌++◌, map, length, take, replicate, refl, sym, ap, ◌∙◌, subst, arith, inl, inr, length-append, length-take}
+use Rattle.std.proofs.Common.{◌≡◌, ◌≢◌, ◌↔◌, ◌⊎◌, ℕ, true, ◌+◌, ◌-◌, ◌<◌, ◌≤◌, ℤ, pos, List, [], ◌∷◌, map, length, take, replicate, refl, sym, ap, ◌∙◌, subst, arith, inl, inr, length-append, length-take}
 use Rattle.std.specs.Prelude.{◌+ℤ◌, slice_set, Contains}
 use Rattle.std.specs.List.{AllByRecursion, fold}
 use Rattle.std.specs.Int.{int_max}
@@ -13,9 +13,9 @@ use Rattle.audit_types.specs.declared.records.Verdict.TheVariants.{Released, Den
 use Rattle.audit_types.specs.Rows.{AreRows, AscendsFrom, has_row}
 use Rattle.audit_types.specs.RowLaws.{none_above}
 use Rattle.audit_types.specs.Truth.{number_at, sum_over, truth}
-use Rattle.audit_types.specs.Column.{Answer, Known, Agrees, GivesSameAnswers, IsGuarded, number, total, Discloses, IsDangerous, with_groups}
+use Rattle.audit_types.specs.Column.{Answer, Known, Agrees, IsGuarded, number, total, Discloses, IsDangerous, AreSameAt, guarding, with_askers}
 use Rattle.audit_types.specs.Form.{HasNarrowForm, HasWideForm}
-use Rattle.audit_types.specs.Judgement.{IsWideFor, IsWithinWidthFor, IsWide, IsWithinWidth, IsDecision, sets_with}
+use Rattle.audit_types.specs.Judgement.{IsWideFor, IsWithinWidthFor, IsDecision, sets_with}
 use Rattle.audit_types.specs.ListLaws.{all-append, all-map}
 use Rattle.sum_basis.specs.Laws.{NarrowOrWide}
 use Rattle.audit_core.specs.WideningLaws.{over_rows, AreSetsOf, AreGroupsOf, WidthStays, DangerStays, DecisionStays}
@@ -49,9 +49,13 @@ module _ (w v : List ℤ) (m : ℕ) (same : (r : ℕ) → r < m → number_at w 
 
 -- ---- what of a column is guarded
 
--- the same over n rows, with these groups protected
-abbrev pub grown : ℕ → List (List ℕ) → Known → Known
-grown n groups known = with_groups (over_rows n known) groups
+-- the same over n rows, with these rows shared, these of several people, and these groups protected
+abbrev pub grown : ℕ → List ℕ → List ℕ → List (List ℕ) → Known → Known
+grown n shared several groups known = with_askers (guarding (over_rows n known) shared groups) several known.own
+
+-- of the old rows the same are shared
+abbrev pub ShareAlike : Known → List ℕ → Type 0
+ShareAlike known shared = (row : ℕ) → row < known.n → has_row known.shared row ≡ has_row shared row
 
 -- what can be read from the first m numbers
 abbrev pub ReadsFirst : ℕ → (List ℤ → ℤ) → Type 0
@@ -95,24 +99,30 @@ number_of_new m n row new below = record {
 }
 
 module _ (known : Known) (n : ℕ) (le : known.n ≤ n) where
-  -- what is guarded is guarded over more rows, and reads the old ones
-  pub guarded_goes_on : {value : List ℤ → ℤ} → AreGroupsOf known → IsGuarded known value → ReadsFirst known.n value × IsGuarded (over_rows n known) value
-  guarded_goes_on groups_are (number row below) = (λ w v same. same row below, number row (omega (arith, below, le)))
-  guarded_goes_on groups_are (total group there) =
+  -- what is guarded from outside is guarded over more rows, and reads the old ones
+  pub guarded_goes_on : {value : List ℤ → ℤ} → AreGroupsOf known → IsGuarded known [] value → ReadsFirst known.n value × IsGuarded (over_rows n known) [] value
+  guarded_goes_on groups_are (number row below other own) = (λ w v same. same row below, number row (omega (arith, below, le)) other own)
+  guarded_goes_on groups_are (total group row there inside other) =
       let are = subst (AreRows known.n) there.2 (groups_are there.0 group there.1) in
-      (λ w v same. same_sum w v known.n same 0 group are, total group there)
+      (λ w v same. same_sum w v known.n same 0 group are, total group row there inside other)
 
   -- what is guarded over more rows was guarded, or reads a new one
-  pub guarded_was : {value : List ℤ → ℤ} (groups : List (List ℕ)) → ((group : List ℕ) → Contains groups group → IsOldOrNew known n group) →
-      IsGuarded (grown n groups known) value → (ReadsFirst known.n value × IsGuarded known value) ⊎ ReadsNew known.n n value
-  guarded_was groups each (number row below) = elim (cases_lt row known.n) [
-    | inl old ↦ inl (λ w v same. same row old, number row old)
+  pub guarded_was : {value : List ℤ → ℤ} (shared several : List ℕ) (groups : List (List ℕ)) → ShareAlike known shared →
+      ((group : List ℕ) → Contains groups group → IsOldOrNew known n group) →
+      IsGuarded (grown n shared several groups known) [] value → (ReadsFirst known.n value × IsGuarded known [] value) ⊎ ReadsNew known.n n value
+  guarded_was shared several groups alike each (number row below other own) = elim (cases_lt row known.n) [
+    | inl old ↦ inl (λ w v same. same row old, number row old other (alike row old ∙ own))
     | inr new ↦ inr (number_of_new known.n n row new below)
   ]
-  guarded_was groups each (total group there) = elim (each group there) [
-    | inl old ↦ inl (λ w v same. same_sum w v known.n same 0 group old.0, total group old.1)
+  guarded_was shared several groups alike each (total group row there inside other) = elim (each group there) [
+    | inl old ↦ inl (λ w v same. same_sum w v known.n same 0 group old.0, total group row old.1 inside other)
     | inr new ↦ inr (total_of_new known.n n group new)
   ]
+
+-- who may know no number knows none
+nobody : (most : ℕ) (own : List ℕ) → length own ≤ most → most ≡ 0 → own ≡ []
+nobody most [] few none = refl
+nobody most (q ∷ own) few none = absurd (omega arith)
 
 -- ---- danger
 
@@ -123,23 +133,23 @@ module _ (known : Known) (rows : List ℕ) (n : ℕ) (are : AreSetsOf known rows
   same_first : (v : List ℤ) (r : ℕ) → r < known.n → number_at v r ≡ number_at (take known.n v) r
   same_first v r lt = sym (get_or-take known.n v r (pos 0) lt)
 
-  module _ (groups : List (List ℕ)) where
+  module _ (shared several : List ℕ) (groups : List (List ℕ)) where
     -- a list that agrees, with zeros for the new rows, agrees
-    agrees_longer : (w : List ℤ) → Agrees known w → Agrees (grown n groups known) (padded (n - known.n) w)
+    agrees_longer : (w : List ℤ) → Agrees known w → Agrees (grown n shared several groups known) (padded (n - known.n) w)
     agrees_longer w agrees = record {
       one_each = length-append w (replicate (n - known.n) (pos 0)) ∙ omega (arith, agrees.one_each, le, length-replicate (n - known.n) (pos 0));
       same = same_answers w (padded (n - known.n) w) known.n (same_longer w) known.kind known.answers are.0 agrees.same;
     }
 
     -- and so do the first numbers of one that agrees
-    agrees_first : (v : List ℤ) → Agrees (grown n groups known) v → Agrees known (take known.n v)
+    agrees_first : (v : List ℤ) → Agrees (grown n shared several groups known) v → Agrees known (take known.n v)
     agrees_first v agrees = record {
       one_each = omega (arith, length-take known.n v, agrees.one_each, le);
       same = same_answers v (take known.n v) known.n (same_first v) known.kind known.answers are.0 agrees.same;
     }
 
     -- what reads a new row is never disclosed: its number may be one more
-    new_is_free : (w : List ℤ) (value : List ℤ → ℤ) → ReadsNew known.n n value → Agrees (grown n groups known) w → Discloses (grown n groups known) rows w value → ⊥
+    new_is_free : (w : List ℤ) (value : List ℤ → ℤ) → ReadsNew known.n n value → Agrees (grown n shared several groups known) w → Discloses (grown n shared several groups known) [] rows w value → ⊥
     new_is_free w value reads agrees disclosed =
         let other = slice_set w reads.row (number_at w reads.row +ℤ pos 1) in
         let same : (r : ℕ) → r < known.n → number_at w r ≡ number_at other r =
@@ -150,47 +160,58 @@ module _ (known : Known) (rows : List ℕ) (n : ℕ) (are : AreSetsOf known rows
             same = same_answers w other known.n same known.kind known.answers are.0 agrees.same;
           };
           same = sym (same_truth w other known.n same known.kind rows are.1);
-        }))
+        }) tt)
 
-    pub danger_was : ((group : List ℕ) → Contains groups group → IsOldOrNew known n group) → IsDangerous (grown n groups known) rows → IsDangerous known rows
-    danger_was each d = elim (guarded_was known n le groups each d.guarded) [
-      | inr new ↦ absurd (new_is_free d.w d.value new d.agrees d.disclosed)
-      | inl old ↦ record {
-        w = take known.n d.w;
-        agrees = agrees_first d.w d.agrees;
-        value = d.value;
-        guarded = old.1;
-        disclosed = λ v gives.
-            let there = d.disclosed (padded (n - known.n) v) (record {
-              agrees = agrees_longer v gives.agrees;
-              same = sym (same_truth v (padded (n - known.n) v) known.n (same_longer v) known.kind rows are.1) ∙ gives.same
-                  ∙ sym (same_truth d.w (take known.n d.w) known.n (same_first d.w) known.kind rows are.1);
-            }) in
-            old.0 v (padded (n - known.n) v) (same_longer v) ∙ there ∙ old.0 d.w (take known.n d.w) (same_first d.w);
-      }
-    ]
+    pub danger_was : ShareAlike known shared → ((group : List ℕ) → Contains groups group → IsOldOrNew known n group) → known.own ≡ 0 →
+        IsDangerous (grown n shared several groups known) rows → IsDangerous known rows
+    danger_was alike each outside d =
+        let none : d.own ≡ [] = nobody known.own d.own d.are_own.1 outside in
+        let guarded = subst (λ own. IsGuarded (grown n shared several groups known) own d.value) none d.guarded in
+        let disclosed : Discloses (grown n shared several groups known) [] rows d.w d.value = λ v gives also.
+        d.disclosed v gives (subst (λ own. AreSameAt own d.w v) (sym none) tt) in
+        elim (guarded_was known n le shared several groups alike each guarded) [
+          | inr new ↦ absurd (new_is_free d.w d.value new d.agrees disclosed)
+          | inl old ↦ record {
+            w = take known.n d.w;
+            agrees = agrees_first d.w d.agrees;
+            own = [];
+            are_own = (tt, omega arith, tt);
+            value = d.value;
+            guarded = old.1;
+            disclosed = λ v gives also.
+                let there = disclosed (padded (n - known.n) v) (record {
+                  agrees = agrees_longer v gives.agrees;
+                  same = sym (same_truth v (padded (n - known.n) v) known.n (same_longer v) known.kind rows are.1) ∙ gives.same
+                      ∙ sym (same_truth d.w (take known.n d.w) known.n (same_first d.w) known.kind rows are.1);
+                }) tt in
+                old.0 v (padded (n - known.n) v) (same_longer v) ∙ there ∙ old.0 d.w (take known.n d.w) (same_first d.w);
+          }
+        ]
 
-  pub danger_goes_on : AreGroupsOf known → IsDangerous known rows → IsDangerous (over_rows n known) rows
-  danger_goes_on groups_are d =
-      let guarded = guarded_goes_on known n le groups_are d.guarded in
+  pub danger_goes_on : AreGroupsOf known → known.own ≡ 0 → IsDangerous known rows → IsDangerous (over_rows n known) rows
+  danger_goes_on groups_are outside d =
+      let none : d.own ≡ [] = nobody known.own d.own d.are_own.1 outside in
+      let guarded = guarded_goes_on known n le groups_are (subst (λ own. IsGuarded known own d.value) none d.guarded) in
       record {
         w = padded (n - known.n) d.w;
-        agrees = agrees_longer known.groups d.w d.agrees;
+        agrees = agrees_longer known.shared known.several known.groups d.w d.agrees;
+        own = [];
+        are_own = (tt, omega arith, tt);
         value = d.value;
         guarded = guarded.1;
-        disclosed = λ v gives.
+        disclosed = λ v gives also.
             let here = d.disclosed (take known.n v) (record {
-              agrees = agrees_first known.groups v gives.agrees;
+              agrees = agrees_first known.shared known.several known.groups v gives.agrees;
               same = sym (same_truth v (take known.n v) known.n (same_first v) known.kind rows are.1) ∙ gives.same
                   ∙ sym (same_truth d.w (padded (n - known.n) d.w) known.n (same_longer d.w) known.kind rows are.1);
-            }) in
+            }) (subst (λ own. AreSameAt own d.w (take known.n v)) (sym none) tt) in
             guarded.0 v (take known.n v) (same_first v) ∙ here ∙ guarded.0 d.w (padded (n - known.n) d.w) (same_longer d.w);
       }
 
-  pub danger : AreGroupsOf known → IsDangerous known rows ↔ IsDangerous (over_rows n known) rows
-  danger groups_are = (
-    danger_goes_on groups_are,
-    danger_was known.groups (λ group there. inl (subst (AreRows known.n) there.2 (groups_are there.0 group there.1), there)),
+  pub danger : AreGroupsOf known → known.own ≡ 0 → IsDangerous known rows ↔ IsDangerous (over_rows n known) rows
+  danger groups_are outside = (
+    danger_goes_on groups_are outside,
+    danger_was known.shared known.several known.groups (λ row lt. refl) (λ group there. inl (subst (AreRows known.n) there.2 (groups_are there.0 group there.1), there)) outside,
   )
 
 -- ---- the decision
@@ -203,54 +224,54 @@ module _ (law : NarrowOrWide) (known : Known) (rows : List ℕ) (n : ℕ) (are :
   size : known.n + (n - known.n) ≡ n
   size = omega (arith, le)
 
-  narrow_longer : HasNarrowForm known.n (sets_with known rows) → HasNarrowForm n (sets_with known rows)
-  narrow_longer has = subst (λ k. HasNarrowForm k (sets_with known rows)) size (narrow_stays known.n (n - known.n) (sets_with known rows) all_sets has)
+  narrow_longer : HasNarrowForm known.width known.n (sets_with known rows) → HasNarrowForm known.width n (sets_with known rows)
+  narrow_longer has = subst (λ k. HasNarrowForm known.width k (sets_with known rows)) size (narrow_stays known.width known.n (n - known.n) (sets_with known rows) all_sets has)
 
-  wide_longer : HasWideForm known.n (sets_with known rows) → HasWideForm n (sets_with known rows)
-  wide_longer has = subst (λ k. HasWideForm k (sets_with known rows)) size (wide_stays known.n (n - known.n) (sets_with known rows) all_sets has)
+  wide_longer : HasWideForm known.width known.n (sets_with known rows) → HasWideForm known.width n (sets_with known rows)
+  wide_longer has = subst (λ k. HasWideForm known.width k (sets_with known rows)) size (wide_stays known.width known.n (n - known.n) (sets_with known rows) all_sets has)
 
-  module _ (groups : List (List ℕ)) where
-    wide_for : (kind : Kind) → IsWideFor kind known rows ↔ IsWideFor kind (grown n groups known) rows
+  module _ (shared several : List ℕ) (groups : List (List ℕ)) where
+    wide_for : (kind : Kind) → IsWideFor kind known rows ↔ IsWideFor kind (grown n shared several groups known) rows
     wide_for Sum = (
       wide_longer,
-      λ has. elim (law known.n (sets_with known rows)).0 [
-        | inl narrow ↦ absurd ((law n (sets_with known rows)).1 (narrow_longer narrow) has)
+      λ has. elim (law known.width known.n (sets_with known rows)).0 [
+        | inl narrow ↦ absurd ((law known.width n (sets_with known rows)).1 (narrow_longer narrow) has)
         | inr wide ↦ wide
       ],
     )
     wide_for Max = (λ h. h, λ h. h)
 
-    within_for : (kind : Kind) → IsWithinWidthFor kind known rows ↔ IsWithinWidthFor kind (grown n groups known) rows
+    within_for : (kind : Kind) → IsWithinWidthFor kind known rows ↔ IsWithinWidthFor kind (grown n shared several groups known) rows
     within_for Sum = (
       narrow_longer,
-      λ has. elim (law known.n (sets_with known rows)).0 [
+      λ has. elim (law known.width known.n (sets_with known rows)).0 [
         | inl narrow ↦ narrow
-        | inr wide ↦ absurd ((law n (sets_with known rows)).1 has (wide_longer wide))
+        | inr wide ↦ absurd ((law known.width n (sets_with known rows)).1 has (wide_longer wide))
       ],
     )
     within_for Max = (λ h. h, λ h. h)
 
     -- what was released is released over more rows, if each group with old rows alone was protected
-    pub released_stays : ((group : List ℕ) → Contains groups group → IsOldOrNew known n group) → IsDecision known rows Released →
-        IsDecision (grown n groups known) rows Released
-    released_stays each d = ((within_for known.kind).0 d.0, λ bad. d.1 (danger_was known rows n are le groups each bad))
+    pub released_stays : ShareAlike known shared → ((group : List ℕ) → Contains groups group → IsOldOrNew known n group) → known.own ≡ 0 → IsDecision known rows Released →
+        IsDecision (grown n shared several groups known) rows Released
+    released_stays alike each outside d = ((within_for known.kind).0 d.0, λ bad. d.1 (danger_was known rows n are le shared several groups alike each outside bad))
 
-  pub decided : AreGroupsOf known → (verdict : Verdict) → IsDecision known rows verdict ↔ IsDecision (over_rows n known) rows verdict
-  decided groups_are DeniedWide = wide_for known.groups known.kind
-  decided groups_are DeniedUnsafe = (
-    λ d. ((within_for known.groups known.kind).0 d.0, (danger known rows n are le groups_are).0 d.1),
-    λ d. ((within_for known.groups known.kind).1 d.0, (danger known rows n are le groups_are).1 d.1),
+  pub decided : AreGroupsOf known → known.own ≡ 0 → (verdict : Verdict) → IsDecision known rows verdict ↔ IsDecision (over_rows n known) rows verdict
+  decided groups_are outside DeniedWide = wide_for known.shared known.several known.groups known.kind
+  decided groups_are outside DeniedUnsafe = (
+    λ d. ((within_for known.shared known.several known.groups known.kind).0 d.0, (danger known rows n are le groups_are outside).0 d.1),
+    λ d. ((within_for known.shared known.several known.groups known.kind).1 d.0, (danger known rows n are le groups_are outside).1 d.1),
   )
-  decided groups_are Released = (
-    λ d. ((within_for known.groups known.kind).0 d.0, λ bad. d.1 ((danger known rows n are le groups_are).1 bad)),
-    λ d. ((within_for known.groups known.kind).1 d.0, λ bad. d.1 ((danger known rows n are le groups_are).0 bad)),
+  decided groups_are outside Released = (
+    λ d. ((within_for known.shared known.several known.groups known.kind).0 d.0, λ bad. d.1 ((danger known rows n are le groups_are outside).1 bad)),
+    λ d. ((within_for known.shared known.several known.groups known.kind).1 d.0, λ bad. d.1 ((danger known rows n are le groups_are outside).0 bad)),
   )
 
 pub width_stays : NarrowOrWide → WidthStays
-width_stays law known rows n are le = wide_for law known rows n are le known.groups known.kind
+width_stays law known rows n are le = wide_for law known rows n are le known.shared known.several known.groups known.kind
 
 pub danger_stays : DangerStays
-danger_stays known rows n are groups_are le = danger known rows n are le groups_are
+danger_stays known rows n are groups_are outside le = danger known rows n are le groups_are outside
 
 pub decision_stays : NarrowOrWide → DecisionStays
-decision_stays law known rows n verdict are groups_are le = decided law known rows n are le groups_are verdict
+decision_stays law known rows n verdict are groups_are outside le = decided law known rows n are le groups_are outside verdict

@@ -1,15 +1,16 @@
 -- Facts on the protected groups among the first rows of a table.
-use Rattle.std.proofs.Common.{◌≡◌, ◌≢◌, ℕ, ◌+◌, ◌<◌, ◌≤◌, Bool, true, false, List, [], ◌∷◌, ◌++◌, length, refl, sym, ap, ◌∙◌, subst, arith, append_assoc, append-nil, length-append}
+use Rattle.std.proofs.Common.{◌≡◌, ℕ, ◌<◌, ◌≤◌, List, [], ◌∷◌, ◌++◌, length, refl, sym, ap, ◌∙◌, arith, append_assoc, append-nil, length-append, inl, inr}
 use Rattle.std.specs.Prelude.{All}
+use Rattle.std.proofs.lemmas.Bool.{cases_lt}
 use Rattle.std.proofs.lemmas.List.Elements.{All-nil, All-cons, All-head, All-tail, All-append}
 use Rattle.audit_types.specs.declared.records.Protected.{Protected}
 use Rattle.audit_types.specs.declared.shapes.Kind.TheVariants.{Sum}
 use Rattle.audit_types.specs.declared.shapes.Shape.{Shape}
 use Rattle.audit_types.specs.Rows.{AreRows, has_row, rows_that}
-use Rattle.audit_types.specs.RowLaws.{rows_that_agree, rows_that_none, has-rows_that, AreRows-rows_that}
+use Rattle.audit_types.specs.RowLaws.{rows_that_agree, rows_that_none, has-rows_that, has-rows_that_above, AreRows-rows_that}
 use Rattle.audit_types.specs.Shapes.{columns, kind_at}
-use Rattle.audit_types.specs.History.{IsProtected, AreProtected, entry_of}
-use Rattle.audit_types.specs.Widening.{over, groups_among}
+use Rattle.audit_types.specs.History.{Protection, IsProtected, AreProtected, entry_of}
+use Rattle.audit_types.specs.Widening.{over, groups_among, protection_among}
 
 -- ---- the first rows of the first rows
 
@@ -72,6 +73,16 @@ no_more_groups m (p ∷ protected) =
     let first = entry_of p.column m (rows_that (has_row p.rows.list) m) in
     omega (arith, length-append first (groups_among m protected), at_most_one p.column m (rows_that (has_row p.rows.list) m), no_more_groups m protected)
 
--- the groups among the first rows fit these
-pub groups_among-fit : (shape : Shape) (m : ℕ) (protected : List Protected) → AreProtected shape protected → AreProtected (over m shape) (groups_among m protected)
-groups_among-fit shape m protected fit = (all_fit shape m protected fit.0, omega (arith, no_more_groups m protected, fit.1))
+-- what is protected among the first rows fits these
+pub protection_among-fit : (shape : Shape) (m : ℕ) (protected : Protection) → AreProtected shape protected → AreProtected (over m shape) (protection_among m protected)
+protection_among-fit shape m protected fit = (
+  all_fit shape m protected.groups fit.0,
+  omega (arith, no_more_groups m protected.groups, fit.1),
+  fit.2,
+  λ row alone. elim (cases_lt row m) [
+    | inl below ↦ has-rows_that (has_row protected.shared) m row below ∙ fit.3 row (sym (has-rows_that (has_row protected.several) m row below) ∙ alone)
+    | inr above ↦ has-rows_that_above (has_row protected.shared) m row above
+  ],
+  fit.4,
+  fit.5,
+)

@@ -1,6 +1,7 @@
 pub mod Audited
 pub mod Columns
 pub mod Laws
+pub mod PlainColumns
 pub mod FrontLaws
 pub mod Outcomes
 pub mod WideningLaws

@@ -1,6 +1,7 @@
 -- Directions of sets of rows: what may be added to every number without changing a sum.
 use Rattle.std.specs.Prelude.{◌≡◌, ◌≢◌, ℕ, ◌+◌, ◌^◌, ℤ, pos, ◌<◌, ◌≤◌, ◌<ℤ◌, unsigned_abs, Bool, false, cond, ◌||◌, List, [], ◌∷◌, length, ◌==◌}
 use Rattle.std.specs.List.{AllByRecursion, list_any}
+use Rattle.audit_types.specs.Rows.{has_row}
 use Rattle.audit_types.specs.Truth.{is_zero, number_at, sum_over}
 use Rattle.audit_types.specs.Form.{pivot, IsContent}
 
@@ -21,6 +22,12 @@ pub record IsPinned (n : ℕ) (sets : List (List ℕ)) (i : ℕ) : Type 0 where
 -- the sets pin some row
 abbrev pub PinSomeRow : ℕ → List (List ℕ) → Type 0
 PinSomeRow n sets = (i : ℕ) × IsPinned n sets i
+
+-- the same for one who knows the numbers of some rows: row i isn't one of them, and every direction that is 0 at them is 0 there
+pub record IsPinnedFor (n : ℕ) (sets : List (List ℕ)) (own : List ℕ) (i : ℕ) : Type 0 where
+  pub below : i < n
+  pub other : has_row own i ≡ false
+  pub still : (d : List ℤ) → IsDirection n sets d → AllByRecursion (λ r. number_at d r ≡ pos 0) own → number_at d i ≡ pos 0
 
 -- whether j is the pivot of a row of the form
 abbrev pub is_pivot : List (List ℤ) → ℕ → Bool

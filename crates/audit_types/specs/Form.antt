@@ -1,5 +1,5 @@
 -- Rational row spaces of lists of whole numbers, and their one reduced form.
-use Rattle.std.specs.Prelude.{◌≡◌, ◌^◌, ℕ, ℤ, pos, ◌+ℤ◌, ◌*ℤ◌, ◌<ℤ◌, ◌<◌, ◌≤◌, cond, not, List, [], ◌∷◌, map, length, unsigned_abs}
+use Rattle.std.specs.Prelude.{◌≡◌, ℕ, ℤ, pos, ◌+ℤ◌, ◌*ℤ◌, ◌<ℤ◌, ◌<◌, ◌≤◌, cond, not, List, [], ◌∷◌, map, length, unsigned_abs}
 use Rattle.std.specs.List.{AllByRecursion, position_or_len, range_with_len}
 use Rattle.std.specs.Int.{◌∣◌}
 use Rattle.audit_types.specs.Rows.{has_row}
@@ -70,21 +70,21 @@ pub record IsLeastCommonMultiple (numbers : List ℕ) (m : ℕ) : Type 0 where
 abbrev pub pivot_entries : List (List ℤ) → List ℕ
 pivot_entries form = map (λ row. unsigned_abs (pivot_entry row)) form
 
--- no entry, and no least common multiple of the pivot entries, is above 2 ^ 56
-pub record IsNarrow (form : List (List ℤ)) : Type 0 where
-  pub entries : AllByRecursion (AllByRecursion (λ x. unsigned_abs x ≤ 2 ^ 56)) form
+-- no entry, and no least common multiple of the pivot entries, is above the width
+pub record IsNarrow (width : ℕ) (form : List (List ℤ)) : Type 0 where
+  pub entries : AllByRecursion (AllByRecursion (λ x. unsigned_abs x ≤ width)) form
   pub common : ℕ
   pub common_is : IsLeastCommonMultiple (pivot_entries form) common
-  pub common_small : common ≤ 2 ^ 56
+  pub common_small : common ≤ width
 
 -- the reduced form of the sets is narrow
-pub record HasNarrowForm (n : ℕ) (sets : List (List ℕ)) : Type 0 where
+pub record HasNarrowForm (width n : ℕ) (sets : List (List ℕ)) : Type 0 where
   pub form : List (List ℤ)
   pub reduced : Reduced n sets form
-  pub narrow : IsNarrow form
+  pub narrow : IsNarrow width form
 
 -- the reduced form of the sets is not narrow
-pub record HasWideForm (n : ℕ) (sets : List (List ℕ)) : Type 0 where
+pub record HasWideForm (width n : ℕ) (sets : List (List ℕ)) : Type 0 where
   pub form : List (List ℤ)
   pub reduced : Reduced n sets form
-  pub wide : ¬ (IsNarrow form)
+  pub wide : ¬ (IsNarrow width form)

@@ -1,6 +1,6 @@
 -- Records, histories, what a history tells of one column, and which histories are legal and disclose nothing that is guarded.
-use Rattle.std.specs.Prelude.{◌≡◌, ◌≢◌, ℕ, ◌<◌, ◌≤◌, ℤ, ◌==◌, List, [], ◌∷◌, map, length, take, slice_get, Some, All}
-use Rattle.audit_types.specs.Limits.{most_records, most_groups}
+use Rattle.std.specs.Prelude.{◌≡◌, ◌≢◌, ℕ, ◌<◌, ◌≤◌, ℤ, ◌==◌, false, List, [], ◌∷◌, map, length, take, slice_get, Some, All}
+use Rattle.audit_types.specs.Limits.{most_records, most_groups, most_width}
 use Rattle.std.specs.List.{filter, slice_index_or, AllByRecursion}
 use Rattle.audit_types.specs.declared.shapes.Kind.TheVariants.{Sum}
 use Rattle.audit_types.specs.declared.shapes.Shape.{Shape}
@@ -8,10 +8,10 @@ use Rattle.audit_types.specs.declared.records.Answered.{Answered}
 use Rattle.audit_types.specs.declared.records.Protected.{Protected}
 use Rattle.audit_types.specs.declared.records.Verdict.{Verdict}
 use Rattle.audit_types.specs.declared.records.Verdict.TheVariants.{Released}
-use Rattle.audit_types.specs.Rows.{Rows, AreRows}
+use Rattle.audit_types.specs.Rows.{Rows, AreRows, has_row}
 use Rattle.audit_types.specs.Shapes.{columns, kind_at}
 use Rattle.audit_types.specs.Truth.{truth}
-use Rattle.audit_types.specs.Column.{Known, Answer, Agrees, IsGuarded}
+use Rattle.audit_types.specs.Column.{Known, Answer, Agrees, AreOwn, AreSameAt, IsGuarded}
 use Rattle.audit_types.specs.Judgement.{IsDecision, IsJudgement}
 
 -- a question or a record that fits: a column of the shape, and some rows of its table
@@ -38,22 +38,46 @@ entry_of column n (row ∷ rows) = record { column = column; rows = record { n =
 abbrev pub groups_of : ℕ → List Protected → List (List ℕ)
 groups_of column protected = map (λ p. p.rows.list) (filter (λ p. p.column == column) protected)
 
+-- what is guarded, and how: the protected groups, the rows that need no guard, those that stand for several people, of how many rows one
+-- asker may know the numbers, and how wide a reduced form may be
+pub record Protection : Type 0 where
+  pub groups : List Protected
+  pub shared : List ℕ
+  pub several : List ℕ
+  pub own : ℕ
+  pub width : ℕ
+
+-- what is guarded if no asker is in the table
+abbrev pub against_outsiders : List Protected → List ℕ → ℕ → Protection
+against_outsiders groups shared width = record { groups = groups; shared = shared; several = shared; own = 0; width = width }
+
 -- what a decision may read of a table, beside what was answered
 pub record Setting : Type 0 where
   pub shape : Shape
-  pub protected : List Protected
+  pub protected : Protection
 
--- what may be read of a table of this shape, with these groups protected
-abbrev pub setting_of : Shape → List Protected → Setting
+-- what may be read of a table of this shape, with this protection
+abbrev pub setting_of : Shape → Protection → Setting
 setting_of shape protected = record { shape = shape; protected = protected }
 
 -- a protected group that fits: some rows of a column of sums
 abbrev pub IsProtected : Shape → Protected → Type 0
 IsProtected shape p = FitsShape shape p.column p.rows × (kind_at shape p.column ≡ Sum)
 
--- protected groups that fit: at most 64
-abbrev pub AreProtected : Shape → List Protected → Type 0
-AreProtected shape protected = All (IsProtected shape) protected × (length protected ≤ most_groups)
+-- protection that fits: at most 64 groups, an asker knows at most one number, her own, a row of one person is guarded, and a width from 1 to
+-- 2 ^ 56
+abbrev pub AreProtected : Shape → Protection → Type 0
+AreProtected shape protected =
+    All (IsProtected shape) protected.groups × (length protected.groups ≤ most_groups) × (protected.own ≤ 1)
+    × ((row : ℕ) → has_row protected.several row ≡ false → has_row protected.shared row ≡ false) × (0 < protected.width) × (protected.width ≤ most_width)
+
+-- plain protection: each row is guarded, no asker is in the table, and a reduced form may have the greatest width
+abbrev pub IsPlain : Protection → Type 0
+IsPlain protected = protected ≡ against_outsiders protected.groups [] most_width
+
+-- plain protection that fits
+abbrev pub IsPlainFor : Shape → Protection → Type 0
+IsPlainFor shape protected = AreProtected shape protected × IsPlain protected
 
 -- what a history tells of a column
 abbrev pub known_of : Setting → List Answered → ℕ → Known
@@ -61,7 +85,11 @@ known_of setting history column = record {
   kind = kind_at setting.shape column;
   n = setting.shape.rows;
   answers = answers_of column history;
-  groups = groups_of column setting.protected;
+  groups = groups_of column setting.protected.groups;
+  shared = setting.protected.shared;
+  several = setting.protected.several;
+  own = setting.protected.own;
+  width = setting.protected.width;
 }
 
 -- the lists of the secret columns
@@ -111,14 +139,20 @@ pub record IsLegal (table : Table) (history : List Answered) : Type 0 where
   pub few : length history ≤ most_records
   pub each : (i : ℕ) (r : Answered) → slice_get history i ≡ Some r → IsLegalRecord table (take i history) r
 
--- other secrets that give the same answers, and differ in this of a column
-pub record HasTwin (table : Table) (history : List Answered) (column : ℕ) (value : List ℤ → ℤ) : Type 0 where
+-- the secrets have the same numbers at these rows in each column
+abbrev pub AreSameFor : List ℕ → Secrets → Secrets → Type 0
+AreSameFor own secrets other = (column : ℕ) → AreSameAt own (list_of secrets column) (list_of other column)
+
+-- other secrets that give the same answers, have the same numbers at these rows, and differ in this of a column
+pub record HasTwin (table : Table) (history : List Answered) (own : List ℕ) (column : ℕ) (value : List ℤ → ℤ) : Type 0 where
   pub twin : Secrets
   pub are_secrets : AreSecrets table.setting.shape twin
   pub agree : AgreeWithHistory table.setting history twin
+  pub same : AreSameFor own table.secrets twin
   pub differs : value (list_of twin column) ≢ value (list_of table.secrets column)
 
--- nothing that is guarded is disclosed: no number of the secrets, and no total of a protected group
+-- nothing that is guarded is disclosed to any asker: no number of one person, and no total of a protected group
 abbrev pub IsUndisclosed : Table → List Answered → Type 0
 IsUndisclosed table history =
-    (column : ℕ) (value : List ℤ → ℤ) → column < columns table.setting.shape → IsGuarded (known_of table.setting history column) value → HasTwin table history column value
+    (column : ℕ) (own : List ℕ) (value : List ℤ → ℤ) → column < columns table.setting.shape → AreOwn (known_of table.setting history column) own →
+    IsGuarded (known_of table.setting history column) own value → HasTwin table history own column value

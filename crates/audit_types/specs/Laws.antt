@@ -1,5 +1,5 @@
 -- What shows the definitions right: laws that the functions of `laws` state.
-use Rattle.std.specs.Prelude.{◌≡◌, ◌≢◌, ◌↔◌, ℕ, ◌<◌, ℤ, ◌≤ℤ◌, true, List, [], ◌∷◌, ◌++◌}
+use Rattle.std.specs.Prelude.{◌≡◌, ◌≢◌, ◌↔◌, ℕ, ◌<◌, ℤ, ◌≤ℤ◌, true, false, List, [], ◌∷◌, ◌++◌}
 use Rattle.audit_types.specs.declared.shapes.Kind.{Kind}
 use Rattle.audit_types.specs.declared.records.Answered.{Answered}
 use Rattle.audit_types.specs.declared.records.Verdict.{Verdict}
@@ -54,9 +54,9 @@ LegalIsPossible =
     (table : Table) (history : List Answered) → AreSecrets table.setting.shape table.secrets → IsLegal table history →
     IsPossibleHistory table.setting history
 
--- a question on one row is dangerous after every possible history
+-- a question on one person's row is dangerous after every possible history
 abbrev pub OneRowIsDangerous : Type 0
-OneRowIsDangerous = (known : Known) (row : ℕ) → row < known.n → IsPossible known → IsDangerous known (row ∷ [])
+OneRowIsDangerous = (known : Known) (row : ℕ) → row < known.n → has_row known.shared row ≡ false → IsPossible known → IsDangerous known (row ∷ [])
 
 -- a record of another column tells nothing of this one
 abbrev pub OtherColumnsTellNothing : Type 0

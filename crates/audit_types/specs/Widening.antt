@@ -4,7 +4,7 @@ use Rattle.audit_types.specs.declared.shapes.Shape.{Shape}
 use Rattle.audit_types.specs.declared.records.Answered.{Answered}
 use Rattle.audit_types.specs.declared.records.Protected.{Protected}
 use Rattle.audit_types.specs.Rows.{has_row, rows_that}
-use Rattle.audit_types.specs.History.{Table, entry_of, setting_of}
+use Rattle.audit_types.specs.History.{Table, Protection, entry_of, setting_of}
 
 -- the same columns over n rows
 abbrev pub over : ℕ → Shape → Shape
@@ -23,9 +23,17 @@ abbrev pub groups_among : ℕ → List Protected → List Protected
 groups_among n [] = []
 groups_among n (p ∷ protected) = entry_of p.column n (rows_that (has_row p.rows.list) n) ++ groups_among n protected
 
+-- what is protected among the first n rows: an asker may be one of these, or a later one
+abbrev pub protection_among : ℕ → Protection → Protection
+protection_among n protected = record protected {
+  groups = groups_among n protected.groups;
+  shared = rows_that (has_row protected.shared) n;
+  several = rows_that (has_row protected.several) n;
+}
+
 -- the first n rows of a table
 abbrev pub first_rows : ℕ → Table → Table
-first_rows n table = record { setting = setting_of (over n table.setting.shape) (groups_among n table.setting.protected); secrets = map (take n) table.secrets }
+first_rows n table = record { setting = setting_of (over n table.setting.shape) (protection_among n table.setting.protected); secrets = map (take n) table.secrets }
 
 -- a table with more rows, the first of which are those of this one
 abbrev pub Extends : Table → Table → Type 0

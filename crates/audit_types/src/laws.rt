@@ -1,6 +1,7 @@
 //! Laws that show the definitions right. Each function computes nothing: its contract is the law.
 ghost use Rattle.audit_types.specs.Laws.{SameSetInAnyOrder, SameTruthInAnyOrder, GreatestIsBoundAndReached};
 ghost use Rattle.audit_types.specs.Laws.{TrueAnswersKeepAgreement, SomeAnswerStaysPossible, LegalIsPossible};
+ghost use Rattle.audit_types.specs.PeopleLaws.{TruthIsOverPeople, PeopleAreCounted, UndisclosedHidesPeople, DangerIsThatOfPeople};
 ghost use Rattle.audit_types.specs.Laws.{OneRowIsDangerous, OtherColumnsTellNothing, OwnAnswersDecide, OneCanonicalDirection};
 
 /// The order in which the rows of a set were added changes neither the set nor the truth over it.
@@ -21,7 +22,7 @@ pub fn true_answers()
     ensures legal { LegalIsPossible }
 {}
 
-/// A sum or a maximum over one row is dangerous after every possible history: its answer is the row's number.
+/// A sum or a maximum over one person's row is dangerous after every possible history: its answer is the row's number.
 pub fn one_row()
     ensures { OneRowIsDangerous }
 {}
@@ -35,4 +36,13 @@ pub fn own_answers()
 /// A row has at most one canonical direction, whoever computes it.
 pub fn canonical_direction()
     ensures { OneCanonicalDirection }
+{}
+
+/// An answer over lines is the answer over all people behind them, and so is their number. If nothing that is guarded of the lines is
+/// disclosed, no number of any person behind them is. And a question over lines is dangerous exactly if it would be over the people.
+pub fn people_behind_lines()
+    ensures truth { TruthIsOverPeople }
+    ensures counted { PeopleAreCounted }
+    ensures hidden { UndisclosedHidesPeople }
+    ensures dangerous { DangerIsThatOfPeople }
 {}

@@ -10,7 +10,7 @@ use Rattle.std.specs.List.{AllByRecursion, filter}
 use Rattle.std.proofs.lemmas.Int.{ints, clamps}
 use Rattle.std.proofs.lemmas.Bool.Decides.{Decides-int_eq, Decides-like, same_from_decides}
 use Rattle.audit_types.specs.Rows.{has_row}
-use Rattle.audit_types.specs.Column.{Answer, known_max}
+use Rattle.audit_types.specs.Column.{Answer, known_max, guarding}
 use Rattle.audit_types.specs.Extremes.{least_of, upper_bound, is_bound, extremes}
 use Rattle.audit_types.specs.ListLaws.{all-push, all-front}
 use Rattle.max_audit.specs.Laws.{LeavesLoneRow}
@@ -122,8 +122,9 @@ module _ (x y : ℤ) where
       new_extremes = filters_agree _ _ (λ r. new_test _ _ (alike_bounds answers all r)) rows
 
       -- so what leaves a lone row with x does so with y
-      pub moved : (n : ℕ) → LeavesLoneRow (known_max n answers) rows x → LeavesLoneRow (known_max n answers) rows y
-      moved n leaves =
+      pub moved : (n : ℕ) (shared : List ℕ) → LeavesLoneRow (guarding (known_max n answers) shared []) rows x →
+          LeavesLoneRow (guarding (known_max n answers) shared []) rows y
+      moved n shared leaves =
           let some = all-front (λ a. 0 < length (extremes (answers ++ asked_x ∷ []) a)) answers asked_x leaves.possible in
           record {
             possible = all-push (λ a. 0 < length (extremes (answers ++ asked_y ∷ []) a)) answers asked_y
@@ -132,6 +133,7 @@ module _ (x y : ℤ) where
                 (all_at (λ b. 0 < length (extremes (answers ++ asked_x ∷ []) b)) answers a some.0 one)))
                 (subst (λ l. 0 < length l) new_extremes some.1);
             row = leaves.row;
+            own = leaves.own;
             lone = elim (front_or_last answers asked_x leaves.lone.0 leaves.lone.1) [
               | inl one ↦ (
                 leaves.lone.0,

@@ -12,13 +12,13 @@ use Rattle.std.proofs.lemmas.Bool.{true≢false, cases_eq}
 use Rattle.std.proofs.lemmas.Option.{same_Some}
 use Rattle.audit_types.specs.Rows.{has_row, AreRows}
 use Rattle.audit_types.specs.Truth.{greatest_over}
-use Rattle.audit_types.specs.Column.{Answer, IsOneOf, known_max}
+use Rattle.audit_types.specs.Column.{Answer, IsOneOf, known_max, guarding}
 use Rattle.audit_types.specs.Extremes.{upper_bound, is_bound, extremes, IsLone, IsConsistent}
 use Rattle.audit_types.specs.RowLaws.{has_first}
 use Rattle.audit_types.specs.ListLaws.{all-push}
-use Rattle.max_bounds.specs.Outside.{outside, IsBelowBound, HasOneHighest, IsStranded, HasStranded, IsDangerousByExtremes}
+use Rattle.max_bounds.specs.Outside.{outside, IsBelowBound, HasOwnHighest, HasOwnLone, IsStranded, HasStranded, IsDangerousByExtremes}
 use Rattle.max_bounds.specs.AnswerLaws.{all_at, all_from, one_of_front, one_of_last, front_or_last}
-use Rattle.max_bounds.specs.RowListLaws.{has_later, first_or_later, filter-has, filter-ascends, only_or_not, other_row, some_row, not_empty, some_length, one_row}
+use Rattle.max_bounds.specs.RowListLaws.{has_later, first_or_later, filter-has, filter-ascends, only_or_not, other_row, some_row, not_empty, some_length}
 use Rattle.max_bounds.specs.BoundLaws.{exact_bound}
 use Rattle.max_audit.specs.Laws.{LeavesLoneRow, DangerousByExtremes}
 use Rattle.max_bounds.specs.OneMoreLaws.{IsAtLeast, asked, with_asked, keeps_extremes, lower_keeps, higher_loses, asked_has, has_asked}
@@ -36,7 +36,7 @@ just_one n rows r are there alone = elim (only_or_not r rows) [
 ]
 
 -- some row of a list is in a set, or all are outside
-inside_or_all : (set rows : List ℕ) → ((e : ℕ) × (has_row rows e ≡ true) × (has_row set e ≡ true)) ⊎ (outside set rows ≡ rows)
+pub inside_or_all : (set rows : List ℕ) → ((e : ℕ) × (has_row rows e ≡ true) × (has_row set e ≡ true)) ⊎ (outside set rows ≡ rows)
 inside_or_all set [] = inr refl
 inside_or_all set (r ∷ rows) = first (has_row set r) refl (inside_or_all set rows)
   where
@@ -58,9 +58,9 @@ at_least_up x None p high below = absurd below
 at_least_up x (Some b) None high below = tt
 at_least_up x (Some b) (Some c) high below = omega (arith, ints)
 
-module _ (answers : List Answer) (rows : List ℕ) where
+module _ (answers : List Answer) (shared rows : List ℕ) where
   -- to: an answer that is possible and leaves a lone row
-  module _ (n : ℕ) (x : ℤ) (leaves : LeavesLoneRow (known_max n answers) rows x) where
+  module _ (n : ℕ) (x : ℤ) (leaves : LeavesLoneRow (guarding (known_max n answers) shared []) rows x) where
     -- each answer has an extreme row after it
     still : (a : Answer) → IsOneOf a (with_asked answers rows x) → 0 < length (extremes (with_asked answers rows x) a)
     still a one = all_at (λ b. 0 < length (extremes (with_asked answers rows x) b)) (with_asked answers rows x) a leaves.possible one
@@ -77,52 +77,56 @@ module _ (answers : List Answer) (rows : List ℕ) where
         (λ not. subst (λ l. 0 < length l) (lower_keeps answers rows x a one (omega (arith, ints))) now)
 
     -- a lone row of the new answer is the one highest
-    highest_from : (r : ℕ) → extremes (with_asked answers rows x) (asked answers rows x) ≡ r ∷ [] → HasOneHighest (upper_bound answers) rows
-    highest_from r only =
+    highest_from : (r : ℕ) → has_row shared r ≡ false → extremes (with_asked answers rows x) (asked answers rows x) ≡ r ∷ [] →
+        HasOwnHighest shared (upper_bound answers) rows
+    highest_from r own only =
         let first = has_asked answers rows x r (ap (λ l. has_row l r) only ∙ has_first r []) in (
-          r,
-          first.0,
-          λ q there apart.
-              below_from x (upper_bound answers q) (upper_bound answers r)
-              (λ high.
-              let found = ap (λ l. has_row l q) (sym only) ∙ asked_has answers rows x q there high in
-              elim (first_or_later r q [] found) [ inl same ↦ absurd (apart (sym same)) | inr none ↦ absurd (true≢false (sym none)) ])
-              first.1,
+          (
+            r,
+            first.0,
+            λ q there apart.
+                below_from x (upper_bound answers q) (upper_bound answers r)
+                (λ high.
+                let found = ap (λ l. has_row l q) (sym only) ∙ asked_has answers rows x q there high in
+                elim (first_or_later r q [] found) [ inl same ↦ absurd (apart (sym same)) | inr none ↦ absurd (true≢false (sym none)) ])
+                first.1,
+          ),
+          own,
         )
 
     -- a lone row of an earlier answer was lone, or is left by the set
-    earlier_from : (a : Answer) (r : ℕ) → IsOneOf a answers → extremes (with_asked answers rows x) a ≡ r ∷ [] →
-        ((q : ℕ) × IsLone answers q) ⊎ HasStranded (extremes answers) answers rows
-    earlier_from a r one only = by_lt_z x a.value
+    earlier_from : (a : Answer) (r : ℕ) → has_row shared r ≡ false → IsOneOf a answers → extremes (with_asked answers rows x) a ≡ r ∷ [] →
+        HasOwnLone shared answers ⊎ HasStranded shared (extremes answers) answers rows
+    earlier_from a r own one only = by_lt_z x a.value
         (λ less. inr (
           a,
           record {
             one = one;
-            one_left = ap length (sym (higher_loses answers rows x a one less) ∙ only);
+            one_left = (r, sym (higher_loses answers rows x a one less) ∙ only, own);
             lower = λ b among none. by_lt_z x b.value
                 (λ above. absurd (none_in (extremes (with_asked answers rows x) b) (higher_loses answers rows x b among above ∙ none)
                 (still b (one_of_front answers (asked answers rows x) b among))))
                 (λ not. omega (arith, ints));
           },
         ))
-        (λ not. inl (r, (a, one, sym (lower_keeps answers rows x a one (omega (arith, ints))) ∙ only)))
+        (λ not. inl (r, (a, one, sym (lower_keeps answers rows x a one (omega (arith, ints))) ∙ only), own))
 
-    to_extremes : IsDangerousByExtremes answers rows
+    to_extremes : IsDangerousByExtremes shared answers rows
     to_extremes = record {
       consistent = all_from (λ a. 0 < length (extremes answers a)) answers before;
       cause = elim (front_or_last answers (asked answers rows x) leaves.lone.0 leaves.lone.1) [
-        | inl front ↦ elim (earlier_from leaves.lone.0 leaves.row front leaves.lone.2) [ inl lone ↦ inl lone | inr stranded ↦ inr (inr stranded) ]
-        | inr last ↦ inr (inl (highest_from leaves.row (ap (extremes (with_asked answers rows x)) last ∙ leaves.lone.2)))
+        | inl front ↦ elim (earlier_from leaves.lone.0 leaves.row leaves.own front leaves.lone.2) [ inl lone ↦ inl lone | inr stranded ↦ inr (inr stranded) ]
+        | inr last ↦ inr (inl (highest_from leaves.row leaves.own (ap (extremes (with_asked answers rows x)) last ∙ leaves.lone.2)))
       ];
     }
 
   -- an answer that takes no extreme row: no bound in the set is above it, a row is at least it, and bounds are below it if a row has none
-  record IsTop (x : ℤ) : Type 0 where
-    under : (q : ℕ) (b : ℤ) → has_row rows q ≡ true → upper_bound answers q ≡ Some b → b ≤ℤ x
-    row : ℕ
-    there : has_row rows row ≡ true
-    high : IsAtLeast x (upper_bound answers row)
-    free : (t q : ℕ) (b : ℤ) → upper_bound answers t ≡ None → has_row rows t ≡ true → has_row rows q ≡ true → upper_bound answers q ≡ Some b → b <ℤ x
+  pub record IsTop (x : ℤ) : Type 0 where
+    pub under : (q : ℕ) (b : ℤ) → has_row rows q ≡ true → upper_bound answers q ≡ Some b → b ≤ℤ x
+    pub row : ℕ
+    pub there : has_row rows row ≡ true
+    pub high : IsAtLeast x (upper_bound answers row)
+    pub free : (t q : ℕ) (b : ℤ) → upper_bound answers t ≡ None → has_row rows t ≡ true → has_row rows q ≡ true → upper_bound answers q ≡ Some b → b <ℤ x
 
 -- a number that no bound of some rows is above
 limit_of : (bound : ℕ → Option ℤ) (rows : List ℕ) → (m : ℤ) × ((q : ℕ) (b : ℤ) → has_row rows q ≡ true → bound q ≡ Some b → b ≤ℤ m)
@@ -194,9 +198,9 @@ free_or_greatest bound r (s ∷ rows) = more (bound r) refl (free_or_greatest bo
         ))
 
 -- a set that is not empty has such an answer
-top_of : (answers : List Answer) (rows : List ℕ) → rows ≢ [] → (x : ℤ) × IsTop answers rows x
-top_of answers [] some = absurd (some refl)
-top_of answers (r ∷ rows) some = elim (free_or_greatest (upper_bound answers) r rows) [
+pub top_of : (answers : List Answer) (shared rows : List ℕ) → rows ≢ [] → (x : ℤ) × IsTop answers shared rows x
+top_of answers shared [] some = absurd (some refl)
+top_of answers shared (r ∷ rows) some = elim (free_or_greatest (upper_bound answers) r rows) [
   | inl (t, there, none) ↦ let limit = limit_of (upper_bound answers) (r ∷ rows) in (
     limit.0 +ℤ pos 1,
     record {
@@ -220,28 +224,29 @@ top_of answers (r ∷ rows) some = elim (free_or_greatest (upper_bound answers) 
   )
 ]
 
-module _ (n : ℕ) (answers : List Answer) (rows : List ℕ) (are : AreRows n rows) (some : rows ≢ []) (consistent : IsConsistent answers) where
+module _ (n : ℕ) (answers : List Answer) (shared rows : List ℕ) (are : AreRows n rows) (some : rows ≢ []) (consistent : IsConsistent answers) where
   -- each answer had an extreme row
   had : (a : Answer) → IsOneOf a answers → 0 < length (extremes answers a)
   had a one = all_at (λ b. 0 < length (extremes answers b)) answers a consistent one
 
-  module _ (x : ℤ) (top : IsTop answers rows x) where
+  module _ (x : ℤ) (top : IsTop answers shared rows x) where
     -- an earlier answer keeps its extreme rows
-    top_keeps : (a : Answer) → IsOneOf a answers → extremes (with_asked answers rows x) a ≡ extremes answers a
+    pub top_keeps : (a : Answer) → IsOneOf a answers → extremes (with_asked answers rows x) a ≡ extremes answers a
     top_keeps a one = keeps_extremes answers rows x a one (λ r b there in_set is. top.under r b in_set is)
 
     -- the answer is possible
-    top_possible : IsConsistent (with_asked answers rows x)
+    pub top_possible : IsConsistent (with_asked answers rows x)
     top_possible = all-push (λ a. 0 < length (extremes (with_asked answers rows x) a)) answers (asked answers rows x)
         (all_from (λ a. 0 < length (extremes (with_asked answers rows x) a)) answers (λ a one. subst (λ l. 0 < length l) (sym (top_keeps a one)) (had a one)))
         (not_empty (extremes (with_asked answers rows x) (asked answers rows x)) top.row (asked_has answers rows x top.row top.there top.high))
 
     -- a lone row stays so
-    lone_stays : (r : ℕ) → IsLone answers r → LeavesLoneRow (known_max n answers) rows x
-    lone_stays r (a, one, only) = record {
+    lone_stays : (r : ℕ) → IsLone answers r → has_row shared r ≡ false → LeavesLoneRow (guarding (known_max n answers) shared []) rows x
+    lone_stays r (a, one, only) own = record {
       possible = top_possible;
       row = r;
       lone = (a, one_of_front answers (asked answers rows x) a one, top_keeps a one ∙ only);
+      own = own;
     }
 
     -- no other row is at least the answer
@@ -251,8 +256,9 @@ module _ (n : ℕ) (answers : List Answer) (rows : List ℕ) (are : AreRows n ro
     none_beside (Some b) (Some c) free under high below = let low = under c refl in absurd (omega (arith, ints))
 
     -- the one highest row is lone
-    highest_is_lone : HasOneHighest (upper_bound answers) rows → LeavesLoneRow (known_max n answers) rows x
-    highest_is_lone (r, there, alone) = record {
+    highest_is_lone : HasOwnHighest shared (upper_bound answers) rows → LeavesLoneRow (guarding (known_max n answers) shared []) rows x
+    highest_is_lone ((r, there, alone), own) = record {
+      own = own;
       possible = top_possible;
       row = r;
       lone = (
@@ -272,7 +278,7 @@ module _ (n : ℕ) (answers : List Answer) (rows : List ℕ) (are : AreRows n ro
     }
 
   -- so is the row that is left of a stranded answer, below it
-  module _ (p : Answer) (stranded : IsStranded (extremes answers) answers rows p) (e : ℕ) (extreme : has_row (extremes answers p) e ≡ true)
+  module _ (p : Answer) (stranded : IsStranded shared (extremes answers) answers rows p) (e : ℕ) (extreme : has_row (extremes answers p) e ≡ true)
       (in_set : has_row rows e ≡ true) where
     x : ℤ
     x = p.value -ℤ pos 1
@@ -290,10 +296,10 @@ module _ (n : ℕ) (answers : List Answer) (rows : List ℕ) (are : AreRows n ro
         let found = filter-has (λ r. is_bound (upper_bound answers r) p.value) p.rows e extreme in
         subst (IsAtLeast x) (sym (exact_bound (upper_bound answers e) p.value found.1)) (omega (arith, ints))
 
-    stranded_is_lone : LeavesLoneRow (known_max n answers) rows x
+    stranded_is_lone : LeavesLoneRow (guarding (known_max n answers) shared []) rows x
     unfolding x
     stranded_is_lone =
-        let only = one_row (outside rows (extremes answers p)) stranded.one_left in
+        let only = stranded.one_left in
         let less : x <ℤ p.value = omega (arith, ints) in
         record {
           possible = all-push (λ a. 0 < length (extremes (with_asked answers rows x) a)) answers (asked answers rows x)
@@ -301,26 +307,27 @@ module _ (n : ℕ) (answers : List Answer) (rows : List ℕ) (are : AreRows n ro
               (not_empty (extremes (with_asked answers rows x) (asked answers rows x)) e (asked_has answers rows x e in_set high_row));
           row = only.0;
           lone = (p, one_of_front answers (asked answers rows x) p stranded.one, higher_loses answers rows x p stranded.one less ∙ only.1);
+          own = only.2;
         }
 
   -- from the cases
-  from_cause : ((r : ℕ) × IsLone answers r) ⊎ (HasOneHighest (upper_bound answers) rows ⊎ HasStranded (extremes answers) answers rows) →
-      (x : ℤ) × LeavesLoneRow (known_max n answers) rows x
-  from_cause (inl (r, lone)) = let top = top_of answers rows some in (top.0, lone_stays top.0 top.1 r lone)
-  from_cause (inr (inl highest)) = let top = top_of answers rows some in (top.0, highest_is_lone top.0 top.1 highest)
+  from_cause : HasOwnLone shared answers ⊎ (HasOwnHighest shared (upper_bound answers) rows ⊎ HasStranded shared (extremes answers) answers rows) →
+      (x : ℤ) × LeavesLoneRow (guarding (known_max n answers) shared []) rows x
+  from_cause (inl (r, lone, own)) = let top = top_of answers shared rows some in (top.0, lone_stays top.0 top.1 r lone own)
+  from_cause (inr (inl highest)) = let top = top_of answers shared rows some in (top.0, highest_is_lone top.0 top.1 highest)
   from_cause (inr (inr (p, stranded))) = elim (inside_or_all rows (extremes answers p)) [
     | inl (e, extreme, in_set) ↦ (x p stranded e extreme in_set, stranded_is_lone p stranded e extreme in_set)
     | inr all ↦
-        let only = one_row (extremes answers p) (ap length (sym all) ∙ stranded.one_left) in
-        let top = top_of answers rows some in
-        (top.0, lone_stays top.0 top.1 only.0 (p, stranded.one, only.1))
+        let only = stranded.one_left in
+        let top = top_of answers shared rows some in
+        (top.0, lone_stays top.0 top.1 only.0 (p, stranded.one, sym all ∙ only.1) only.2)
   ]
 
 -- the law, both ways
 pub dangerous_by_extremes : DangerousByExtremes
-dangerous_by_extremes n answers rows well are some = (
-  (λ danger. to_extremes answers rows n (greatest_over danger.w rows) (danger_leaves_lone_row n answers rows well are some danger)),
+dangerous_by_extremes n answers shared rows well are some = (
+  (λ danger. to_extremes answers shared rows n (greatest_over danger.w rows) (danger_leaves_lone_row n answers shared rows well are some danger)),
   (λ told.
-      let found = from_cause n answers rows are some told.consistent told.cause in
-      lone_row_endangers n answers rows well are some found.0 found.1),
+      let found = from_cause n answers shared rows are some told.consistent told.cause in
+      lone_row_endangers n answers shared rows well are some found.0 found.1),
 )

@@ -9,3 +9,6 @@ pub mod DangerousByExtremes
 pub mod CandidateLists
 pub mod LeastFixed
 pub mod Verdicts
+pub mod KnownMaxima
+pub mod FewExtremes
+pub mod FewPeople

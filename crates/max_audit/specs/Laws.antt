@@ -1,8 +1,8 @@
 -- The laws of answered maxima: when they are possible, which rows they fix, and when a question is dangerous.
-use Rattle.std.specs.Prelude.{◌≡◌, ◌≢◌, ◌↔◌, ◌⊎◌, ℕ, ◌<◌, ℤ, List, [], Option}
-use Rattle.audit_types.specs.Rows.{AreRows, IsLeast}
+use Rattle.std.specs.Prelude.{◌≡◌, ◌≢◌, ◌↔◌, ◌⊎◌, ℕ, ◌<◌, ℤ, false, List, [], Option}
+use Rattle.audit_types.specs.Rows.{AreRows, IsLeast, has_row}
 use Rattle.audit_types.specs.Truth.{number_at}
-use Rattle.audit_types.specs.Column.{Known, Answer, Agrees, IsWellFormed, IsPossible, IsDangerous, known_max, with_answer}
+use Rattle.audit_types.specs.Column.{Known, Answer, Agrees, IsWellFormed, IsPossible, IsDangerous, known_max, guarding, with_answer}
 use Rattle.audit_types.specs.Extremes.{IsConsistent, IsLone, IsCandidate}
 use Rattle.max_bounds.specs.Outside.{IsDangerousByExtremes}
 use Rattle.max_audit.specs.Witnesses.{highest, lowered_at}
@@ -40,11 +40,12 @@ abbrev pub LoneOrFree : Type 0
 LoneOrFree = (n : ℕ) (answers : List Answer) (i : ℕ) → IsWellFormed (known_max n answers) → IsConsistent answers → i < n →
     IsLone answers i ⊎ ((w : List ℤ) × (v : List ℤ) × Agrees (known_max n answers) w × Agrees (known_max n answers) v × (number_at v i ≢ number_at w i))
 
--- to the question on these rows this answer is possible, and it would leave a lone row
+-- to the question on these rows this answer is possible, and it would leave a lone row that isn't shared
 pub record LeavesLoneRow (known : Known) (rows : List ℕ) (answer : ℤ) : Type 0 where
   pub possible : IsConsistent (with_answer known rows answer).answers
   pub row : ℕ
   pub lone : IsLone (with_answer known rows answer).answers row
+  pub own : has_row known.shared row ≡ false
 
 -- a candidate that leaves a lone row
 pub record HasBadCandidate (known : Known) (rows : List ℕ) : Type 0 where
@@ -54,10 +55,10 @@ pub record HasBadCandidate (known : Known) (rows : List ℕ) : Type 0 where
 
 -- a maximum is dangerous exactly if one of finitely many candidates is bad
 abbrev pub DangerousByCandidates : Type 0
-DangerousByCandidates = (n : ℕ) (answers : List Answer) (rows : List ℕ) → IsWellFormed (known_max n answers) → AreRows n rows → rows ≢ [] →
-    IsDangerous (known_max n answers) rows ↔ HasBadCandidate (known_max n answers) rows
+DangerousByCandidates = (n : ℕ) (answers : List Answer) (shared rows : List ℕ) → IsWellFormed (known_max n answers) → AreRows n rows → rows ≢ [] →
+    IsDangerous (guarding (known_max n answers) shared []) rows ↔ HasBadCandidate (guarding (known_max n answers) shared []) rows
 
 -- a maximum is dangerous exactly if the extreme rows of the answers before it tell so, with no number beyond these answers
 abbrev pub DangerousByExtremes : Type 0
-DangerousByExtremes = (n : ℕ) (answers : List Answer) (rows : List ℕ) → IsWellFormed (known_max n answers) → AreRows n rows → rows ≢ [] →
-    IsDangerous (known_max n answers) rows ↔ IsDangerousByExtremes answers rows
+DangerousByExtremes = (n : ℕ) (answers : List Answer) (shared rows : List ℕ) → IsWellFormed (known_max n answers) → AreRows n rows → rows ≢ [] →
+    IsDangerous (guarding (known_max n answers) shared []) rows ↔ IsDangerousByExtremes shared answers rows

@@ -2,3 +2,4 @@ pub mod Witnesses
 pub mod HighestLaws
 pub mod Laws
 pub mod Candidates
+pub mod Knowing

@@ -2,7 +2,7 @@
 ghost use Rattle.std.specs.Prelude.{◌≡◌, ◌≢◌, ◌<◌, ◌≤◌, [], IfOk, OnOk, OnErr};
 ghost use Rattle.audit_types.specs.Limits.{most_rows};
 ghost use Rattle.std.specs.List.{All};
-ghost use Rattle.audit_types.specs.Column.{known_max, with_answer, IsPossible, IsWellFormed};
+ghost use Rattle.audit_types.specs.Column.{known_max, guarding, with_answer, with_askers, IsPossible, IsWellFormed};
 ghost use Rattle.audit_types.specs.Extremes.{IsConsistent, IsLeastLone};
 ghost use Rattle.audit_types.specs.Judgement.{IsJudgement, IsDecision, IsWithinWidth};
 ghost use Rattle.audit_types.specs.declared.shapes.Kind.TheVariants.{Max};
@@ -61,6 +61,43 @@ impl MaxColumn {
         self.bounds.lone_extreme()
     }
 
+    /// The verdict on a question if the numbers of these rows are shared by several people. `probe` is the case of no shared rows.
+    pub fn probe_sharing(&self, rows: &RowSet, shared: &RowSet) -> Result<Verdict, NoMemory>
+        requires same_n { rows.now.n ≡ self.now.n }
+        requires some { rows.now.list ≢ [] }
+        requires shared { shared.now.n ≡ self.now.n }
+        ensures judged { IfOk result (λ verdict. IsJudgement (guarding self.now shared.now.list []) rows.now.list verdict) }
+        ensures decided { IfOk result (λ verdict. IsPossible self.now → IsDecision (guarding self.now shared.now.list []) rows.now.list verdict) }
+        ensures never_wide { IfOk result (λ verdict. verdict ≢ DeniedWide) }
+
+        // What is true of every column of maxima: it knows of no shared row and of no group itself.
+        ensures plain { guarding self.now [] [] ≡ self.now }
+    {
+        // A set says of itself that its rows are rows of the table.
+        let _ = rows.n();
+        if self.bounds.is_dangerous(rows, shared) {
+            Ok(Verdict::DeniedUnsafe)
+        } else {
+            Ok(Verdict::Released)
+        }
+    }
+
+    /// The verdict on a question if the askers are in the table, so that each may know a number of the column.
+    pub fn probe_inside(&self, rows: &RowSet) -> Verdict
+        requires same_n { rows.now.n ≡ self.now.n }
+        requires some { rows.now.list ≢ [] }
+        ensures judged { IsJudgement (with_askers self.now [] 1) rows.now.list result }
+        ensures decided { IsDecision (with_askers self.now [] 1) rows.now.list result }
+    {
+        // A set says of itself that its rows are rows of the table.
+        let _ = rows.n();
+        if self.bounds.leaves_few(rows, 2) {
+            Verdict::DeniedUnsafe
+        } else {
+            Verdict::Released
+        }
+    }
+
     /// The answers, with what they say of each row.
     pub fn bounds(&self) -> &Bounds
         ensures exact { result.now ≡ record { n = self.now.n; answers = self.now.answers } }
@@ -81,13 +118,8 @@ impl ColumnAudit for MaxColumn {
         ensures decided { IfOk result (λ verdict. IsPossible self.now → IsDecision self.now rows.now.list verdict) }
         ensures never_wide { IfOk result (λ verdict. verdict ≢ DeniedWide) }
     {
-        // A set says of itself that its rows are rows of the table.
-        let _ = rows.n();
-        if self.bounds.is_dangerous(rows) {
-            Ok(Verdict::DeniedUnsafe)
-        } else {
-            Ok(Verdict::Released)
-        }
+        let none = RowSet::new(rows.n());
+        self.probe_sharing(rows, &none)
     }
 
     fn accept(&mut self, rows: &RowSet, answer: i64) -> Result<(), NoMemory> {

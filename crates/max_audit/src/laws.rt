@@ -1,5 +1,7 @@
 //! Laws of answered maxima. Each function computes nothing: its contract is the law.
 ghost use Rattle.max_audit.specs.Laws.{PossibleByExtremes, FixedByLoneRows, HighestAgrees, LoneOrLowered, LoneOrFree, DangerousByCandidates, DangerousByExtremes};
+ghost use Rattle.max_audit.specs.Knowing.{ScarceOrOpen, ScarceTells, ScarceIsFew, ThreeExtremesOpen, DangerousByFew, FewByExtremes, DangerousByOwn, DangerousInside};
+ghost use Rattle.max_audit.specs.Knowing.{ScarceIsFewPeople, DangerousByFewPeople};
 
 /// Answered maxima are possible exactly if each has an extreme row: one whose upper bound is the answer.
 pub fn possible_by_extreme_rows()
@@ -29,4 +31,29 @@ pub fn dangerous_by_candidates()
 /// all of its own is lower. No candidate is tried, and the list of answers may be one that no table gives.
 pub fn dangerous_by_extremes()
     ensures { DangerousByExtremes }
+{}
+
+/// A number is open to one who knows that of another row, unless the two are all extreme rows of some answer; then it isn't for one who is
+/// below that answer. So three extreme rows for each answer keep each number open to whoever knows any one other.
+pub fn known_maxima()
+    ensures scarce_or_open { ScarceOrOpen }
+    ensures told { ScarceTells }
+    ensures few { ScarceIsFew }
+    ensures three { ThreeExtremesOpen }
+{}
+
+/// A maximum is dangerous if the askers are in the table exactly if some answer to it leaves some answer at most two extreme rows, and that
+/// shows in the extreme rows of the answers before it.
+pub fn dangerous_by_few()
+    ensures danger { DangerousByFew }
+    ensures test { FewByExtremes }
+    ensures own { DangerousByOwn }
+    ensures inside { DangerousInside }
+{}
+
+/// Over lines a maximum is dangerous for those in the table exactly if some answer to it leaves extreme rows that stand for two people at most:
+/// one line of one or two people, or two lines of one person each.
+pub fn dangerous_lines()
+    ensures scarce { ScarceIsFewPeople }
+    ensures danger { DangerousByFewPeople }
 {}

@@ -8,7 +8,7 @@ use Rattle.std.proofs.lemmas.Bool.{true≢false, cases_lt, cases_eq, and_parts, 
 use Rattle.audit_types.specs.Rows.{has_row, AreRows, intersection, complement}
 use Rattle.audit_types.specs.Extremes.{least_of}
 use Rattle.audit_types.specs.RowLaws.{ascending_same, AreRows-rows_that, has-rows_that, has-rows_that_above}
-use Rattle.max_bounds.specs.Outside.{IsBelowBound, HasOneHighest}
+use Rattle.max_bounds.specs.Outside.{IsBelowBound, HasOwnHighest}
 use Rattle.max_bounds.specs.Kept.{is_at_least, is_above, rows_at_least, rows_above, IsHigh, AreLow}
 use Rattle.max_bounds.specs.RowListLaws.{filter-has, has-filter, filter-ascends, row_below}
 use Rattle.max_bounds.specs.declared.high_rows.HighRows.{HighRows}
@@ -94,33 +94,40 @@ module _ (n : ℕ) (bound : ℕ → Option ℤ) (high : HighRows) (is : IsHigh n
         | false ↦ λ e. inr refl
       ] refl
 
-  -- if one of the high rows reaches the cut, they tell whether one row is highest
-  pub same_highest : (q : ℕ) → has_row (intersection n rows high.rows.list) q ≡ true → is_at_least high.cut (bound q) ≡ true →
-      HasOneHighest bound (intersection n rows high.rows.list) ↔ HasOneHighest bound rows
-  same_highest q there reaches =
-      let C = intersection n rows high.rows.list in (
-        (λ one. let r = one.0 in
-            let top : is_at_least high.cut (bound r) ≡ true = elim (cases_eq q r) [
-              | inl same ↦ ap (λ p. is_at_least high.cut (bound p)) (sym same) ∙ reaches
-              | inr apart ↦ above_cut (bound q) (bound r) reaches (one.2 q there apart)
-            ] in (
-              r,
-              of_both n rows high.rows.list r one.1,
-              λ p here apart. elim (high_or_below p here) [
-                | inl in_high ↦ one.2 p in_high apart
-                | inr less ↦ below_cut (bound p) (bound r) less top
-              ],
-            )),
-        (λ one. let r = one.0 in
-            let top : is_at_least high.cut (bound r) ≡ true = elim (cases_eq q r) [
-              | inl same ↦ ap (λ p. is_at_least high.cut (bound p)) (sym same) ∙ reaches
-              | inr apart ↦ above_cut (bound q) (bound r) reaches (one.2 q (of_both n rows high.rows.list q there) apart)
-            ] in (
-              r,
-              in_both n rows high.rows.list r are one.1 (is.covers r (row_below n rows r are one.1) top),
-              λ p here apart. one.2 p (of_both n rows high.rows.list p here) apart,
-            )),
-      )
+  -- if one of the high rows reaches the cut, they tell whether one row is highest, and isn't shared
+  pub same_highest : (shared : List ℕ) (q : ℕ) → has_row (intersection n rows high.rows.list) q ≡ true → is_at_least high.cut (bound q) ≡ true →
+      HasOwnHighest shared bound (intersection n rows high.rows.list) ↔ HasOwnHighest shared bound rows
+  same_highest shared q there reaches = (
+    (λ own. let one = own.0 in
+        let r = one.0 in
+        let top : is_at_least high.cut (bound r) ≡ true = elim (cases_eq q r) [
+          | inl same ↦ ap (λ p. is_at_least high.cut (bound p)) (sym same) ∙ reaches
+          | inr apart ↦ above_cut (bound q) (bound r) reaches (one.2 q there apart)
+        ] in (
+          (
+            r,
+            of_both n rows high.rows.list r one.1,
+            λ p here apart. elim (high_or_below p here) [
+              | inl in_high ↦ one.2 p in_high apart
+              | inr less ↦ below_cut (bound p) (bound r) less top
+            ],
+          ),
+          own.1,
+        )),
+    (λ own. let one = own.0 in
+        let r = one.0 in
+        let top : is_at_least high.cut (bound r) ≡ true = elim (cases_eq q r) [
+          | inl same ↦ ap (λ p. is_at_least high.cut (bound p)) (sym same) ∙ reaches
+          | inr apart ↦ above_cut (bound q) (bound r) reaches (one.2 q (of_both n rows high.rows.list q there) apart)
+        ] in (
+          (
+            r,
+            in_both n rows high.rows.list r are one.1 (is.covers r (row_below n rows r are one.1) top),
+            λ p here apart. one.2 p (of_both n rows high.rows.list p here) apart,
+          ),
+          own.1,
+        )),
+  )
 
 -- a number that a row gets for its bound is not above the one before
 fallen : (o : Option ℤ) (cut x : ℤ) → is_at_least x o ≡ true → is_at_least cut (Some x) ≡ true → is_at_least cut o ≡ true

@@ -15,3 +15,5 @@ pub mod DangerCases
 pub mod FailedCalls
 pub mod HeldExtremes
 pub mod WithinSets
+pub mod NearlyHeld
+pub mod HighestCounts

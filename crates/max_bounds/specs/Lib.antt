@@ -7,3 +7,4 @@ pub mod AnswerLaws
 pub mod RowListLaws
 pub mod BoundLaws
 pub mod OneMoreLaws
+pub mod Few

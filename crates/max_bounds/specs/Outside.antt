@@ -1,5 +1,5 @@
 -- When a question on maxima is dangerous, told from the extreme rows of the answers before it.
-use Rattle.std.specs.Prelude.{◌≡◌, ◌≢◌, ◌⊎◌, ℕ, ℤ, ◌<ℤ◌, true, not, List, [], length, Option, Some, None}
+use Rattle.std.specs.Prelude.{◌≡◌, ◌≢◌, ◌⊎◌, ℕ, ℤ, ◌<ℤ◌, true, false, not, List, [], ◌∷◌, Option, Some, None}
 use Rattle.std.specs.List.{filter}
 use Rattle.audit_types.specs.Rows.{has_row}
 use Rattle.audit_types.specs.Column.{Answer, IsOneOf}
@@ -19,15 +19,24 @@ IsBelowBound (Some b) (Some c) = b <ℤ c
 abbrev pub HasOneHighest : (ℕ → Option ℤ) → List ℕ → Type 0
 HasOneHighest bound rows = (r : ℕ) × (has_row rows r ≡ true) × ((q : ℕ) → has_row rows q ≡ true → q ≢ r → IsBelowBound (bound q) (bound r))
 
--- of sets with their answers: of one set all rows but one lie in the question's, and each that lies there whole has a lower answer
-pub record IsStranded (extreme_rows : Answer → List ℕ) (answers : List Answer) (rows : List ℕ) (a : Answer) : Type 0 where
+-- and that row isn't shared
+abbrev pub HasOwnHighest : List ℕ → (ℕ → Option ℤ) → List ℕ → Type 0
+HasOwnHighest shared bound rows = (one : HasOneHighest bound rows) × (has_row shared one.0 ≡ false)
+
+-- the rows are one, which isn't shared
+abbrev pub IsOwn : List ℕ → List ℕ → Type 0
+IsOwn shared rows = (r : ℕ) × (rows ≡ r ∷ []) × (has_row shared r ≡ false)
+
+-- of sets with their answers: of one set all rows but one, which isn't shared, lie in the question's, and each that lies there whole has a
+-- lower answer
+pub record IsStranded (shared : List ℕ) (extreme_rows : Answer → List ℕ) (answers : List Answer) (rows : List ℕ) (a : Answer) : Type 0 where
   pub one : IsOneOf a answers
-  pub one_left : length (outside rows (extreme_rows a)) ≡ 1
+  pub one_left : IsOwn shared (outside rows (extreme_rows a))
   pub lower : (b : Answer) → IsOneOf b answers → outside rows (extreme_rows b) ≡ [] → b.value <ℤ a.value
 
 -- some set is stranded
-abbrev pub HasStranded : (Answer → List ℕ) → List Answer → List ℕ → Type 0
-HasStranded extreme_rows answers rows = (a : Answer) × IsStranded extreme_rows answers rows a
+abbrev pub HasStranded : List ℕ → (Answer → List ℕ) → List Answer → List ℕ → Type 0
+HasStranded shared extreme_rows answers rows = (a : Answer) × IsStranded shared extreme_rows answers rows a
 
 -- a set has this answer and lies in the question's
 pub record IsWithin (rows : List ℕ) (value : ℤ) (a : Answer) : Type 0 where
@@ -45,8 +54,12 @@ pub record HasExtremesWithin (answers : List Answer) (rows : List ℕ) (value : 
   pub same : answer.value ≡ value
   pub within : (r : ℕ) → has_row (extremes answers answer) r ≡ true → has_row rows r ≡ true
 
--- each answer has an extreme row; and some row is lone, or one row of the set is highest, or all extreme rows of some answer but
--- one lie in the set while each answer that loses all of them is lower
-pub record IsDangerousByExtremes (answers : List Answer) (rows : List ℕ) : Type 0 where
+-- a lone row that isn't shared
+abbrev pub HasOwnLone : List ℕ → List Answer → Type 0
+HasOwnLone shared answers = (r : ℕ) × IsLone answers r × (has_row shared r ≡ false)
+
+-- each answer has an extreme row; and some row that isn't shared is lone, or is the highest one of the set, or all extreme rows of some
+-- answer but this one lie in the set while each answer that loses all of them is lower
+pub record IsDangerousByExtremes (shared : List ℕ) (answers : List Answer) (rows : List ℕ) : Type 0 where
   pub consistent : IsConsistent answers
-  pub cause : ((r : ℕ) × IsLone answers r) ⊎ (HasOneHighest (upper_bound answers) rows ⊎ HasStranded (extremes answers) answers rows)
+  pub cause : HasOwnLone shared answers ⊎ (HasOwnHighest shared (upper_bound answers) rows ⊎ HasStranded shared (extremes answers) answers rows)

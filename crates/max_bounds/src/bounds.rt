@@ -5,10 +5,12 @@ ghost use Rattle.audit_types.specs.Column.{Answer};
 ghost use Rattle.audit_types.specs.Extremes.{upper_bound, extremes, IsConsistent, IsLeastLone};
 ghost use Rattle.std.specs.List.{AllByRecursion};
 ghost use Rattle.max_bounds.specs.Maxima.{Maxima, answers_of, and_answer};
-ghost use Rattle.max_bounds.specs.Outside.{HasExtremesWithin, IsDangerousByExtremes};
+ghost use Rattle.max_bounds.specs.Outside.{HasExtremesWithin, HasOwnLone, IsDangerousByExtremes};
+ghost use Rattle.max_bounds.specs.Few.{IsFewByExtremes};
 ghost use Rattle.max_bounds.specs.Kept.{extreme_counts};
 
 use crate::answered::AnsweredMax;
+use crate::few::{few_highest, nearly_holds};
 use crate::high_rows::{HighRows, one_highest_of, reach_high, renew_high};
 use crate::kept::{fall, insert};
 use crate::reach::settle;
@@ -195,16 +197,49 @@ impl Bounds {
         has_within(&self.least, rows, answer)
     }
 
-    /// Whether some answer to a question on these rows would be possible and leave a lone row, told from the extreme rows of
-    /// the answers before it. It takes no memory.
-    pub fn is_dangerous(&self, rows: &RowSet) -> bool
-        requires same_n { rows.now.n ≡ self.now.n }
-        ensures { IsTrue result ↔ IsDangerousByExtremes self.now.answers rows.now.list }
+    // Whether some row that isn't shared is the only extreme row of some answer, if each answer has one.
+    fn has_own_lone(&self, shared: &RowSet) -> bool
+        requires shared { shared.now.n ≡ self.now.n }
+        requires consistent { IsConsistent self.now.answers }
+        ensures { IsTrue result ↔ HasOwnLone shared.now.list self.now.answers }
     {
-        if self.fewest < 2 {
-            // Some answer has no extreme row, or else one has a lone row.
-            return self.fewest == 1;
+        if self.fewest > 1 {
+            // Each answer has two extreme rows or more.
+            return false;
         }
-        one_highest_of(&self.high, &self.upper, rows) || strands(&self.least, rows)
+        // All rows of a set are left by a question on no row.
+        let none = RowSet::new(shared.n());
+        strands(&self.least, &none, shared)
+    }
+
+    /// Whether some answer to a question on these rows would be possible and leave a lone row that isn't shared, told from the extreme
+    /// rows of the answers before it. It takes no memory.
+    pub fn is_dangerous(&self, rows: &RowSet, shared: &RowSet) -> bool
+        requires same_n { rows.now.n ≡ self.now.n }
+        requires shared { shared.now.n ≡ self.now.n }
+        ensures { IsTrue result ↔ IsDangerousByExtremes shared.now.list self.now.answers rows.now.list }
+    {
+        if self.fewest == 0 {
+            // Some answer has no extreme row: no table gives them all.
+            return false;
+        }
+        if self.has_own_lone(shared) {
+            return true;
+        }
+        one_highest_of(&self.high, &self.upper, rows, shared) || strands(&self.least, rows, shared)
+    }
+
+    /// Whether some answer to a question on these rows would be possible and leave some answer at most so many extreme rows, told from
+    /// the extreme rows of the answers before it. For 1 it is `is_dangerous`. It takes no memory.
+    pub fn leaves_few(&self, rows: &RowSet, most: u16) -> bool
+        requires same_n { rows.now.n ≡ self.now.n }
+        requires most { most ≤ most_rows }
+        ensures { IsTrue result ↔ IsFewByExtremes most self.now.answers rows.now.list }
+    {
+        if self.fewest <= most {
+            // Some answer has few extreme rows, or none.
+            return self.fewest > 0;
+        }
+        few_highest(&self.upper, rows, most) || nearly_holds(&self.least, rows, most)
     }
 }

@@ -5,7 +5,7 @@ ghost use Rattle.std.specs.List.{AllByRecursion};
 ghost use Rattle.audit_types.specs.Limits.{most_rows};
 ghost use Rattle.audit_types.specs.Rows.{has_row, complement};
 ghost use Rattle.max_bounds.specs.Reaching.{bound_at};
-ghost use Rattle.max_bounds.specs.Outside.{HasOneHighest};
+ghost use Rattle.max_bounds.specs.Outside.{HasOwnHighest};
 ghost use Rattle.max_bounds.specs.Kept.{is_at_least, rows_at_least, rows_above, AreSettled, IsHigh, AreLow};
 
 use crate::highest::one_highest;
@@ -67,11 +67,12 @@ impl HighRows {
         reach(upper, &high, answer)
     }
 
-    // Whether one row of the set is above the others, if the set has one of the high rows.
-    fn one_highest(&self, upper: &[Option<i64>], rows: &RowSet) -> Option<bool>
+    // Whether one row of the set is above the others, and isn't shared, if the set has one of the high rows.
+    fn one_highest(&self, upper: &[Option<i64>], rows: &RowSet, shared: &RowSet) -> Option<bool>
         requires within { rows.now.n ≤ length upper.now }
+        requires shared { shared.now.n ≡ rows.now.n }
         requires high { IsHigh rows.now.n (bound_at upper.now) self.now }
-        ensures { IfSome result (λ one. IsTrue one ↔ HasOneHighest (bound_at upper.now) rows.now.list) }
+        ensures { IfSome result (λ one. IsTrue one ↔ HasOwnHighest shared.now.list (bound_at upper.now) rows.now.list) }
     {
         // A set says of its n that no row is past it.
         let _ = rows.n();
@@ -80,7 +81,7 @@ impl HighRows {
         if high.is_empty() || !has_at_least(upper, &high, self.cut) {
             return None;
         }
-        Some(one_highest(upper, &high))
+        Some(one_highest(upper, &high, shared))
     }
 }
 
@@ -107,18 +108,25 @@ pub(crate) fn reach_high(
     reach(upper, rows, answer)
 }
 
-/// Whether the bound of one row of the set is above those of its other rows; a row without a bound stands above all.
-pub(crate) fn one_highest_of(high: &[HighRows], upper: &[Option<i64>], rows: &RowSet) -> bool
+/// Whether the bound of one row of the set is above those of its other rows, and this row isn't shared; a row without a bound stands
+/// above all.
+pub(crate) fn one_highest_of(
+    high: &[HighRows],
+    upper: &[Option<i64>],
+    rows: &RowSet,
+    shared: &RowSet,
+) -> bool
     requires within { rows.now.n ≤ length upper.now }
+    requires shared { shared.now.n ≡ rows.now.n }
     requires high { AllByRecursion (IsHigh rows.now.n (bound_at upper.now)) high.now }
-    ensures { IsTrue result ↔ HasOneHighest (bound_at upper.now) rows.now.list }
+    ensures { IsTrue result ↔ HasOwnHighest shared.now.list (bound_at upper.now) rows.now.list }
 {
     for kept in high {
-        if let Some(one) = kept.one_highest(upper, rows) {
+        if let Some(one) = kept.one_highest(upper, rows, shared) {
             return one;
         }
     }
-    one_highest(upper, rows)
+    one_highest(upper, rows, shared)
 }
 
 // Takes the rows of an answer from the high rows of a cut above it. The others are the rows that the answer's set lacks.

@@ -8,6 +8,7 @@ mod answered;
 mod bounds;
 mod counts;
 mod extreme_rows;
+mod few;
 mod high_rows;
 mod highest;
 mod kept;

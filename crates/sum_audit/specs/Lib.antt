@@ -4,3 +4,5 @@ pub mod Shifts
 pub mod Laws
 pub mod Sets
 pub mod Columns
+pub mod Knowing
+pub mod Singles

@@ -14,12 +14,8 @@ use Rattle.audit_types.specs.PrimitiveLines.{one_primitive}
 use Rattle.audit_types.specs.Numbers.{zero_or_not, zero_from_test, test_of_not_zero}
 use Rattle.audit_types.specs.FormRows.{later_zero}
 use Rattle.sum_basis.specs.Laws.{FormsAreUnique}
+use Rattle.sum_basis.specs.Ties.{IsRowOf}
 use Rattle.sum_basis.specs.Spans.{spans_from, spans_times, spans_add, span_zero, span_trans_all, combined_zero, ZeroAtPivots}
-
--- the row is one of these
-abbrev pub IsRowOf : List ℤ → List (List ℤ) → Type 0
-IsRowOf row [] = ⊥
-IsRowOf row (r ∷ rows) = (r ≡ row) ⊎ IsRowOf row rows
 
 -- the pivot entries are positive
 abbrev Leads : List (List ℤ) → Type 0

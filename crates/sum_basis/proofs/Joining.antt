@@ -3,6 +3,7 @@ use Rattle.std.proofs.Common.{◌≡◌, ℕ, ◌<◌, ◌≤◌, ◌^◌, ℤ, 
 use Rattle.std.specs.Prelude.{◌<ℤ◌, unsigned_abs}
 use Rattle.std.proofs.lemmas.Int.{ints}
 use Rattle.std.specs.List.{AllByRecursion}
+use Rattle.audit_types.specs.Limits.{most_width}
 use Rattle.audit_types.specs.Form.{InSpan, IsPrimitive, IsReducedForm, IsNarrow, IsLeastCommonMultiple, pivot, pivot_entry, pivot_entries}
 use Rattle.sum_basis.specs.declared.sparse.FreeEntry.{FreeEntry}
 use Rattle.sum_basis.specs.declared.sparse.SparseRow.{SparseRow}
@@ -28,14 +29,14 @@ foresees_from old v made Fixing row h = (h.0, grows_to old h.0 v made row h.1, h
 foresees_from old v made Open row h = (h.0, grows_to old h.0 v made row h.1, h.2)
 
 -- a row in the span leaves the form as it is
-grows_same : (old : Echelon) (v : List ℤ) → IsSmallForm old.n old.rows → IsNarrow old.rows → InSpan old.rows v → GrowsTo old v old
+grows_same : (old : Echelon) (v : List ℤ) → IsSmallForm old.n old.rows → IsNarrow most_width old.rows → InSpan old.rows v → GrowsTo old v old
 grows_same old v f narrow p = record {
   n = refl;
   reduced = span_keeps_form old.n old.rows old.rows v (record { primitive = f.primitive; echelon = f.echelon; within = own old.rows; spans = own old.rows }) p;
   narrow = narrow;
 }
 
-pub foresees_same : (old : Echelon) (v : List ℤ) (p : Prospect) → IsSmallForm old.n old.rows → IsNarrow old.rows → InSpan old.rows v → IsAsItIs old p →
+pub foresees_same : (old : Echelon) (v : List ℤ) (p : Prospect) → IsSmallForm old.n old.rows → IsNarrow most_width old.rows → InSpan old.rows v → IsAsItIs old p →
     Foresees old v p
 foresees_same old v Wide f narrow p is = absurd is
 foresees_same old v Fixing f narrow p is = (old, grows_same old v f narrow p, is)
@@ -63,13 +64,13 @@ small_heads n (r ∷ rows) h s = ((h.0.leading, head_small n r h.0 s.0), small_h
 -- what is true of the kept rows once a row has joined
 pub record IsJoined (n : ℕ) (rows : List SparseRow) : Type 0 where
   pub form : IsSmallForm n (rows_of n rows)
-  pub narrow : IsNarrow (rows_of n rows)
+  pub narrow : IsNarrow most_width (rows_of n rows)
   pub small : AllByRecursion (λ r. (pos 0 <ℤ r.head) × (unsigned_abs r.head ≤ 2 ^ 56)) rows
   pub same : pivot_entries (rows_of n rows) ≡ heads rows
 
 pub joined : (n : ℕ) (old : List (List ℤ)) (v : List ℤ) (rows : List SparseRow) → ¬ (GrowsWide (record { n = n; rows = old }) v) →
     IsReducedForm n (old ++ v ∷ []) (rows_of n rows) → AllByRecursion (IsKept n) rows → IsJoined n rows
-joined n old v rows other reduced kept = elim (narrow_or_not n (old ++ v ∷ []) (rows_of n rows) reduced) [
+joined n old v rows other reduced kept = elim (narrow_or_not most_width n (old ++ v ∷ []) (rows_of n rows) reduced) [
   | inr wide ↦ absurd (other (rows_of n rows, reduced, wide))
   | inl narrow ↦ record {
     form = record { primitive = reduced.primitive; echelon = reduced.echelon; entries = narrow.entries };
@@ -135,7 +136,7 @@ pub not_grown_wide : (old : Echelon) (v : List ℤ) (p : Prospect) → Foresees 
 not_grown_wide old v p h other wide =
     let grown = not_wide old v p h other in
     let same = forms_are_unique old.n (old.rows ++ v ∷ []) grown.0.rows wide.0 grown.1.reduced wide.1 in
-    wide.2 (subst IsNarrow same grown.1.narrow)
+    wide.2 (subst (IsNarrow most_width) same grown.1.narrow)
 
 -- the rows once the row has joined
 pub after_growth : (seen : Echelon) (n : ℕ) (items before grown : List SparseRow) (list : List FreeEntry) → record { n = n; rows = rows_of n items } ≡ seen
@@ -189,5 +190,5 @@ grown_to old new list v p told other n row reduced =
     record {
       n = n;
       reduced = form;
-      narrow = subst IsNarrow (forms_are_unique old.n (old.rows ++ v ∷ []) grown.0.rows new.rows grown.1.reduced form) grown.1.narrow;
+      narrow = subst (IsNarrow most_width) (forms_are_unique old.n (old.rows ++ v ∷ []) grown.0.rows new.rows grown.1.reduced form) grown.1.narrow;
     }

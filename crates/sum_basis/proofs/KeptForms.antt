@@ -12,7 +12,8 @@ use Rattle.sum_basis.specs.declared.sparse.FreeEntry.{FreeEntry}
 use Rattle.sum_basis.specs.declared.sparse.SparseRow.{SparseRow}
 use Rattle.sum_basis.specs.Basis.{Echelon, IsFreeList}
 use Rattle.sum_basis.specs.Sparse.{entry_at, row_of, rows_of, IsListed, entries_of, IsKept}
-use Rattle.sum_basis.proofs.FormsAreUnique.{IsRowOf, zero_at_others}
+use Rattle.sum_basis.specs.Ties.{IsRowOf}
+use Rattle.sum_basis.proofs.FormsAreUnique.{zero_at_others}
 use Rattle.sum_basis.proofs.SparseRows.{here, elsewhere, zero_below, number_at-row_of, listed_from, first_value}
 use Rattle.sum_basis.proofs.SparseMultiples.{kept_pivot}
 use Rattle.sum_basis.proofs.KeptRows.{row_is, of_row, lone_list}
@@ -20,7 +21,7 @@ use Rattle.sum_basis.specs.Elimination.{IsLone}
 use Rattle.std.proofs.Common.{◌↔◌, Bool, IsTrue}
 
 -- row k is a row of the form
-row_among : (rows : List (List ℤ)) (k : ℕ) → k < length rows → IsRowOf (get_or rows k []) rows
+pub row_among : (rows : List (List ℤ)) (k : ℕ) → k < length rows → IsRowOf (get_or rows k []) rows
 row_among [] k h = absurd (omega arith)
 row_among (r ∷ rows) zero h = inl refl
 row_among (r ∷ rows) (suc k) h = inr (row_among rows k (omega arith))

@@ -17,21 +17,22 @@ use Rattle.audit_types.specs.Numbers.{positive_is}
 use Rattle.audit_types.specs.RowNumbers.{number_at-set_row, length-set_row}
 use Rattle.audit_types.specs.FormRows.{pivot_below}
 use Rattle.sum_basis.specs.Spans.{spans_from, in_span_from, spans_same, spans_times, spans_add, spans_down, span_zero}
-use Rattle.sum_basis.proofs.FormsAreUnique.{IsRowOf, stands_before, pivot_is, pivot_among, zeros_walk, zero_at_others, in_span_at, own, leads_from}
+use Rattle.sum_basis.specs.Ties.{IsRowOf}
+use Rattle.sum_basis.proofs.FormsAreUnique.{stands_before, pivot_is, pivot_among, zeros_walk, zero_at_others, in_span_at, own, leads_from}
 
 -- a unit row has 1 at its place
-unit_here : (n i : ℕ) → i < n → number_at (unit_row n i) i ≡ pos 1
+pub unit_here : (n i : ℕ) → i < n → number_at (unit_row n i) i ≡ pos 1
 unit_here n i h = number_at-set_row n (i ∷ []) i h ∙ ap (λ b. cond (b || false) (pos 1) (pos 0)) (eq-eqb i i refl)
 
 -- and 0 elsewhere
-unit_elsewhere : (n i j : ℕ) → j ≢ i → number_at (unit_row n i) j ≡ pos 0
+pub unit_elsewhere : (n i j : ℕ) → j ≢ i → number_at (unit_row n i) j ≡ pos 0
 unit_elsewhere n i j other = elim (cases_lt j n) [
   | inl lt ↦ number_at-set_row n (i ∷ []) j lt ∙ ap (λ b. cond (b || false) (pos 1) (pos 0)) (ne_eqb i j (λ e. other (sym e)))
   | inr le ↦ get_or_past (unit_row n i) j (pos 0) (let all = length-set_row n (i ∷ []) in omega arith)
 ]
 
 -- so its pivot is its place
-pivot-unit_row : (n i : ℕ) → i < n → pivot (unit_row n i) ≡ i
+pub pivot-unit_row : (n i : ℕ) → i < n → pivot (unit_row n i) ≡ i
 pivot-unit_row n i h = pivot_is (unit_row n i) i (λ j l. unit_elsewhere n i j (λ e. omega arith)) (λ e. let one = unit_here n i h in omega (arith, ints))
 
 -- the row of the form that a unit row in the span comes from

@@ -1,5 +1,6 @@
 -- When the form with a new row is wide, and when it is narrow.
 use Rattle.std.proofs.Common.{ℕ, ◌≤◌, ◌^◌, ℤ, List}
+use Rattle.audit_types.specs.Limits.{most_width}
 use Rattle.audit_types.specs.Form.{IsPrimitive, IsNarrow, IsLeastCommonMultiple, pivot_entries}
 use Rattle.sum_basis.specs.Elimination.{IsSmall, IsSmallForm, IsZeroAtPivots}
 use Rattle.sum_basis.specs.Growth.{ClearsWide, GrowsWide}
@@ -27,5 +28,5 @@ module _ (form : Echelon) (new : List ℤ) (f : IsSmallForm form.n form.rows) (p
   )
 
 -- small entries and a small common multiple make a form narrow
-pub is_narrow : (n m : ℕ) (form : List (List ℤ)) → IsSmallForm n form → IsLeastCommonMultiple (pivot_entries form) m → m ≤ 2 ^ 56 → IsNarrow form
+pub is_narrow : (n m : ℕ) (form : List (List ℤ)) → IsSmallForm n form → IsLeastCommonMultiple (pivot_entries form) m → m ≤ 2 ^ 56 → IsNarrow most_width form
 is_narrow n m form f least small = record { entries = f.entries; common = m; common_is = least; common_small = small }

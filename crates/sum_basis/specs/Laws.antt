@@ -21,4 +21,4 @@ OneMoreSet = (n : ℕ) (sets : List (List ℕ)) (rows : List ℕ) (form new : Li
 
 -- the form of any sets is narrow or wide, and not both
 abbrev pub NarrowOrWide : Type 0
-NarrowOrWide = (n : ℕ) (sets : List (List ℕ)) → (HasNarrowForm n sets ⊎ HasWideForm n sets) × (HasNarrowForm n sets → HasWideForm n sets → ⊥)
+NarrowOrWide = (width n : ℕ) (sets : List (List ℕ)) → (HasNarrowForm width n sets ⊎ HasWideForm width n sets) × (HasNarrowForm width n sets → HasWideForm width n sets → ⊥)

@@ -8,3 +8,5 @@ pub mod Elimination
 pub mod Sparse
 pub mod Merging
 pub mod Holding
+pub mod Ties
+pub mod Points

@@ -1,6 +1,7 @@
 //! The reduced form of rows of whole numbers, kept as long as it is narrow.
 ghost use Rattle.std.specs.Prelude.{◌≡◌, ◌↔◌, ℕ, ◌<◌, ◌≤◌, ◌++◌, ◌^◌, ℤ, List, pos, [], ◌∷◌, false, length, map, Ok, IfOk, OnOk, OnErr, IfSome, IfNone, IsTrue, MatchOption, slice_index_or, unsigned_abs};
 ghost use Rattle.std.specs.List.{AllByRecursion};
+ghost use Rattle.audit_types.specs.Limits.{most_width};
 ghost use Rattle.audit_types.specs.Form.{InSpan, IsNarrow, IsReducedForm, pivot, pivot_entries, IsLeastCommonMultiple};
 ghost use Rattle.audit_types.specs.Truth.{number_at};
 ghost use Rattle.sum_basis.specs.Basis.{IsLeastUnit, IsFreeList};
@@ -9,6 +10,7 @@ ghost use Rattle.sum_basis.specs.Elimination.{IsSmallForm, IsRemainder, IsZeroAt
 ghost use Rattle.std.specs.Vec.{vec_capacity};
 ghost use Rattle.sum_basis.specs.Sparse.{row_of, IsNew};
 ghost use Rattle.sum_basis.specs.Growth.{Grows, GrowsForRows, GrowsWide, Foresees, IsLeft, IsAsItIs, LeavesNoList};
+ghost use Rattle.sum_basis.specs.Ties.{ShowsTie, ShowsTieBut};
 ghost use Rattle.sum_basis.specs.declared.Grown.TheVariants.{Same, Wide};
 ghost use Rattle.sum_basis.specs.declared.form.Left.TheVariants.{Entries};
 
@@ -18,8 +20,9 @@ use crate::growth::{common_multiple, greatest_bound, grow_rows};
 use crate::looking::look_ahead;
 use crate::primitive_list::{are_small, make_primitive};
 use crate::sparse::{FreeEntry, SparseRow, copy_list, copy_rows, list_of, reduce};
+use crate::ties::{ties_some, ties_some_but};
 use crate::{Grown, Prospect};
-use audit_types::NoMemory;
+use audit_types::{NoMemory, RowSet};
 use std::alloc::Global;
 use std::marker::Model;
 
@@ -90,7 +93,7 @@ impl Form {
 
         // What is true of every form.
         ensures form { IsSmallForm self.now.n self.now.rows }
-        ensures narrow { IsNarrow self.now.rows }
+        ensures narrow { IsNarrow most_width self.now.rows }
     {
         scale(row, self.common);
         reduce(row, &self.rows);
@@ -104,7 +107,7 @@ impl Form {
 
         // What is true of every form.
         ensures form { IsSmallForm self.now.n self.now.rows }
-        ensures narrow { IsNarrow self.now.rows }
+        ensures narrow { IsNarrow most_width self.now.rows }
     {
         self.remainder(row);
         let mut list = list_of(self.alloc, row)?;
@@ -128,7 +131,7 @@ impl Form {
 
         // What is true of every form.
         ensures form { IsSmallForm self.now.n self.now.rows }
-        ensures narrow { IsNarrow self.now.rows }
+        ensures narrow { IsNarrow most_width self.now.rows }
     {
         match self.settle(row)? {
             Left::Nothing => Ok(Weighed {
@@ -269,6 +272,21 @@ impl Form {
         None
     }
 
+    /// Whether the span ties some column to another one: whoever knows the number at one of them then knows the number at the other.
+    pub fn shows_tie(&self) -> bool
+        ensures { IsTrue result ↔ ShowsTie self.now.rows }
+    {
+        ties_some(&self.rows, self.columns)
+    }
+
+    /// The same of two columns that aren't in the set.
+    pub fn shows_tie_but(&self, several: &RowSet) -> bool
+        requires { several.now.n ≡ self.now.n }
+        ensures { IsTrue result ↔ ShowsTieBut several.now.list self.now.rows }
+    {
+        ties_some_but(&self.rows, several)
+    }
+
     /// The number of columns.
     pub fn columns(&self) -> u16
         ensures columns { result ≡ self.now.n }
@@ -277,7 +295,7 @@ impl Form {
         ensures some { 0 < self.now.n }
         ensures at_most { self.now.n ≤ 2048 }
         ensures form { IsSmallForm self.now.n self.now.rows }
-        ensures narrow { IsNarrow self.now.rows }
+        ensures narrow { IsNarrow most_width self.now.rows }
     {
         self.columns
     }
@@ -286,7 +304,8 @@ impl Form {
     pub fn rank(&self) -> u16
         ensures rank { result ≡ length self.now.rows }
         ensures at_most { length self.now.rows ≤ self.now.n }
-        ensures narrow { IsNarrow self.now.rows }
+        ensures form { IsSmallForm self.now.n self.now.rows }
+        ensures narrow { IsNarrow most_width self.now.rows }
     {
         self.rows.len() as u16
     }

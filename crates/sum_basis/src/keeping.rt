@@ -1,5 +1,5 @@
 //! What a form leaves of the rows of sets that are to stay out of its span, kept until it would leave something else.
-ghost use Rattle.std.specs.Prelude.{◌≡◌, ◌↔◌, ◌≤◌, ◌++◌, ℤ, List, [], ◌∷◌, length, map, All, IfOk, OnOk, OnErr, IfSome, IsTrue};
+ghost use Rattle.std.specs.Prelude.{◌≡◌, ◌≢◌, ◌↔◌, ◌≤◌, ◌++◌, ℤ, List, [], ◌∷◌, length, map, All, IfOk, OnOk, OnErr, IfSome, IsTrue};
 ghost use Rattle.std.specs.List.{AllByRecursion};
 ghost use Rattle.std.specs.Vec.{vec_capacity};
 ghost use Rattle.audit_types.specs.Form.{set_row, IsReducedForm};
@@ -8,12 +8,13 @@ ghost use Rattle.sum_basis.specs.Elimination.{IsZeroAtPivots};
 ghost use Rattle.sum_basis.specs.Growth.{ForeseesApart, GrowsWide, IsLeftOver, IsWeighed, SpansAfter, SpansOneAfter};
 ghost use Rattle.sum_basis.specs.Holding.{IsKeptOf, IsKeptWithout};
 ghost use Rattle.sum_basis.specs.Sparse.{row_of, IsNew};
+ghost use Rattle.sum_basis.specs.declared.Prospect.TheVariants.{Wide};
 
 use crate::Prospect;
 use crate::cleared_list::value_at;
 use crate::elimination::write_set;
 use crate::form::{Form, Left, Weighed};
-use crate::guarding::spans_after;
+use crate::guarding::{has_own_unit, spans_after};
 use crate::sparse::FreeEntry;
 use audit_types::{NoMemory, RowSet};
 
@@ -199,33 +200,58 @@ fn spans_one_kept(
     false
 }
 
-/// What is told of the form with a row that was weighed, if the rows of these sets are to stay out of its span too, as `tell_apart`
-/// tells it. It keeps what the form leaves of the sets. They are looked at only if no unit row would lie in the span.
+// What is told of a form that is narrow with a row that was weighed. It keeps what the form leaves of the sets.
+fn tell_narrow_kept(
+    form: &Form,
+    kept: &mut Vec<KeptSet>,
+    weighed: &Weighed,
+    row: &mut [i128],
+    shared: &RowSet,
+    apart: &[RowSet],
+) -> Result<Prospect, NoMemory>
+    requires length { length row.old ≡ form.now.n }
+    requires shared { shared.now.n ≡ form.now.n }
+    requires same_n { All (λ s. s.n ≡ form.now.n) apart.now }
+    requires kept { AllByRecursion (IsKeptOf form.now) kept.old.items }
+    requires left { IfSome weighed.now.list (λ list. IsLeftOver form.now list.items) }
+    requires narrow { weighed.now.prospect ≢ Wide }
+    ensures told { (asked : List ℤ) → IsWeighed form.now asked weighed.now → IfOk result (ForeseesApart form.now asked shared.now.list (map (λ s. s.list) apart.now)) }
+    ensures kept { AllByRecursion (IsKeptOf form.now) kept.new.items }
+{
+    if has_own_unit(form, weighed, row, shared) {
+        return Ok(Prospect::Fixing);
+    }
+    keep_all(kept, apart)?;
+    settle_all(form, kept, row)?;
+    if spans_one_kept(form, &weighed.list, row, kept) {
+        Ok(Prospect::Fixing)
+    } else {
+        Ok(Prospect::Open)
+    }
+}
+
+/// What is told of the form with a row that was weighed, if shared rows may lie in its span, and the rows of these sets are to stay
+/// out of it too, as `tell_apart` tells it. It keeps what the form leaves of the sets. They are looked at only if the unit row of no
+/// row that isn't shared would lie in the span.
 pub(crate) fn tell_kept(
     form: &Form,
     kept: &mut Vec<KeptSet>,
     weighed: &Weighed,
     row: &mut [i128],
+    shared: &RowSet,
     apart: &[RowSet],
 ) -> Result<Prospect, NoMemory>
     requires length { length row.old ≡ form.now.n }
+    requires shared { shared.now.n ≡ form.now.n }
     requires same_n { All (λ s. s.n ≡ form.now.n) apart.now }
     requires kept { AllByRecursion (IsKeptOf form.now) kept.old.items }
     requires left { IfSome weighed.now.list (λ list. IsLeftOver form.now list.items) }
-    ensures told { (asked : List ℤ) → IsWeighed form.now asked weighed.now → IfOk result (ForeseesApart form.now asked (map (λ s. s.list) apart.now)) }
+    ensures told { (asked : List ℤ) → IsWeighed form.now asked weighed.now → IfOk result (ForeseesApart form.now asked shared.now.list (map (λ s. s.list) apart.now)) }
     ensures kept { AllByRecursion (IsKeptOf form.now) kept.new.items }
 {
     match weighed.prospect {
         Prospect::Wide => Ok(Prospect::Wide),
-        Prospect::Fixing => Ok(Prospect::Fixing),
-        Prospect::Open => {
-            keep_all(kept, apart)?;
-            settle_all(form, kept, row)?;
-            if spans_one_kept(form, &weighed.list, row, kept) {
-                Ok(Prospect::Fixing)
-            } else {
-                Ok(Prospect::Open)
-            }
-        }
+        Prospect::Fixing => tell_narrow_kept(form, kept, weighed, row, shared, apart),
+        Prospect::Open => tell_narrow_kept(form, kept, weighed, row, shared, apart),
     }
 }

@@ -1,5 +1,7 @@
 //! The laws of reduced forms. Each function computes nothing: its contract is the law.
 ghost use Rattle.sum_basis.specs.Laws.{EveryRowSpaceHasAForm, FormsAreUnique, SpanKeepsForm, OneMoreSet, NarrowOrWide};
+ghost use Rattle.sum_basis.specs.Ties.{TiesByForm, TiesByFormBut};
+ghost use Rattle.sum_basis.specs.Points.{TiesAreInLine};
 
 /// Every list of rows has a reduced form.
 pub fn every_row_space_has_a_form()
@@ -24,4 +26,20 @@ pub fn one_more_set()
 /// The form of any sets is narrow or wide, and never both.
 pub fn narrow_or_wide()
     ensures { NarrowOrWide }
+{}
+
+/// The span of a form holds a row, not 0, with at most two entries exactly if the form has a row with at most one entry beside its pivot, or
+/// two rows that are multiples of each other but for their pivots.
+pub fn ties()
+    ensures { TiesByForm }
+{}
+
+/// The same of two columns that aren't among some.
+pub fn ties_but()
+    ensures { TiesByFormBut }
+{}
+
+/// Two directions modulo a number show a form to tie no two columns: the points of tied columns lie on one line.
+pub fn points()
+    ensures { TiesAreInLine }
 {}

@@ -6,5 +6,5 @@ use Rattle.max_bounds.proofs.highest.one_highest.Given as goal
 abbrev pub invariant-loop-row : goal.invariant-loop-row
 invariant-loop-row l = record {
   together : (l.first ∷ l.yielded) ++ l.row-iterator ≡ l.rows.list;
-  highest : IsHighest (bound_at l.upper) (l.first ∷ l.yielded) l.highest l.alone;
+  highest : IsHighest (bound_at l.upper) (l.first ∷ l.yielded) l.highest l.at l.alone;
 }

@@ -22,8 +22,8 @@ returns-then-not-matters c = λ rows flipped.
     let split : answers_of c.args.least.now ≡ seen ++ x ∷ rest = answers_split c.args.least.now i c.set-item.result c.loop-set-test.true c.set-item.is in
     let not : Matters c.loop-set.lost x.value → ⊥ = λ yes. true≢false
     (sym (c.matters.ensures.1 (subst (Matters c.loop-set.lost) (sym same) yes)) ∙ c.if-not-matters.true) in
-    subst (λ l. IsLost l rows c.loop-set.lost) (sym split)
-    (lost_after seen (x ∷ rest) rows x.value c.loop-set.lost (c.loop-set.invariant rows flipped) not
+    subst (λ l. IsLost c.args.shared.now.list l rows c.loop-set.lost) (sym split)
+    (lost_after c.args.shared.now.list seen (x ∷ rest) rows x.value c.loop-set.lost (c.loop-set.invariant rows flipped) not
     (omega (arith, ints), descends_after seen x rest (subst Descend split c.requires.descend)))
 
 pub loop-set-preserved : goal.loop-set-preserved
@@ -37,10 +37,10 @@ loop-set-preserved c = λ rows flipped.
     let more : answers_of (take (i + 1) c.args.least.now) ≡ seen ++ x ∷ [] =
     map_more answer_of c.args.least.now i c.set-item.result c.loop-set-test.true ∙ ap (λ y. seen ++ answer_of y ∷ []) (sym c.set-item.is) in
     let matters : Matters c.loop-set.lost x.value = subst (Matters c.loop-set.lost) same (c.matters.ensures.0 c.if-not-matters.false) in
-    subst (λ l. IsLost l rows c.match-left_outside.lost) (sym more) (elim c.match-left_outside.branch [
-      | in-Nothing w ↦ subst (IsLost (seen ++ x ∷ []) rows) (sym (w.lost-is ∙ ap Whole same))
-          (lost_whole seen rows x c.loop-set.lost before matters (w.in-Nothing.ensures rows flipped))
-      | in-One w ↦ subst (IsLost (seen ++ x ∷ []) rows) (sym (w.lost-is ∙ ap AllButOne same))
-          (lost_one seen rows x c.loop-set.lost before matters (w.in-One.ensures rows flipped))
-      | in-More w ↦ subst (IsLost (seen ++ x ∷ []) rows) (sym w.lost-is) (lost_more seen rows x c.loop-set.lost before (w.in-More.ensures rows flipped))
+    subst (λ l. IsLost c.args.shared.now.list l rows c.match-left_outside.lost) (sym more) (elim c.match-left_outside.branch [
+      | in-Nothing w ↦ subst (IsLost c.args.shared.now.list (seen ++ x ∷ []) rows) (sym (w.lost-is ∙ ap Whole same))
+          (lost_whole c.args.shared.now.list seen rows x c.loop-set.lost before matters (w.in-Nothing.ensures rows flipped))
+      | in-One w ↦ subst (IsLost c.args.shared.now.list (seen ++ x ∷ []) rows) (sym (w.lost-is ∙ ap AllButOne same))
+          (lost_one c.args.shared.now.list seen rows x c.loop-set.lost before matters (w.in-One.ensures rows flipped))
+      | in-More w ↦ subst (IsLost c.args.shared.now.list (seen ++ x ∷ []) rows) (sym w.lost-is) (lost_more c.args.shared.now.list seen rows x c.loop-set.lost before (w.in-More.ensures rows flipped))
     ])

@@ -1,35 +1,15 @@
-use Rattle.std.proofs.Common.{sym, ◌∙◌}
-use Rattle.std.proofs.lemmas.Bool.{true≢false}
-use Rattle.max_audit.proofs.Verdicts.{danger_told, within, unsafe_is}
+use Rattle.std.proofs.Common.{[], ap, ◌∙◌, subst}
+use Rattle.std.specs.Prelude.{IfOk}
+use Rattle.audit_types.specs.Column.{IsPossible, guarding}
+use Rattle.audit_types.specs.Judgement.{IsJudgement, IsDecision}
 use Rattle.max_audit.proofs.column.MaxColumnColumnAudit.probe.Goals as goal
 
-pub returns-then-is_dangerous-clause-judged : goal.returns-then-is_dangerous-clause-judged
-returns-then-is_dangerous-clause-judged c =
-    let tells = danger_told c.self.inside.bounds.n c.self.inside.bounds.answers c.args.self.now c.self.view_is c.args.rows.now.list c.args.rows.now.n
-    c.self.invariant c.n.ensures.are_rows c.requires.same_n c.requires.some in (
-      within _ _ c.args.self.now c.self.view_is c.args.rows.now.list,
-      (unsafe_is _ _ c.args.self.now c.self.view_is c.args.rows.now.list).1 (tells.1 (c.is_dangerous.ensures.0 c.if-is_dangerous.true)),
-    )
+pub returns-clause-judged : goal.returns-clause-judged
+returns-clause-judged c =
+    subst (λ k. IfOk c.probe_sharing.result (IsJudgement k c.args.rows.now.list))
+    (ap (λ l. guarding c.args.self.now l []) c.new-none.ensures.empty ∙ c.probe_sharing.ensures.plain) c.probe_sharing.ensures.judged
 
-pub returns-then-is_dangerous-clause-decided : goal.returns-then-is_dangerous-clause-decided
-returns-then-is_dangerous-clause-decided c = λ possible.
-    let tells = danger_told c.self.inside.bounds.n c.self.inside.bounds.answers c.args.self.now c.self.view_is c.args.rows.now.list c.args.rows.now.n
-    c.self.invariant c.n.ensures.are_rows c.requires.same_n c.requires.some in
-    (within _ _ c.args.self.now c.self.view_is c.args.rows.now.list, tells.1 (c.is_dangerous.ensures.0 c.if-is_dangerous.true))
-
-pub returns-else-is_dangerous-clause-judged : goal.returns-else-is_dangerous-clause-judged
-returns-else-is_dangerous-clause-judged c =
-    let tells = danger_told c.self.inside.bounds.n c.self.inside.bounds.answers c.args.self.now c.self.view_is c.args.rows.now.list c.args.rows.now.n
-    c.self.invariant c.n.ensures.are_rows c.requires.same_n c.requires.some in (
-      within _ _ c.args.self.now c.self.view_is c.args.rows.now.list,
-      λ unsafe. true≢false (sym (c.is_dangerous.ensures.1 (tells.0 ((unsafe_is _ _ c.args.self.now c.self.view_is c.args.rows.now.list).0 unsafe)))
-          ∙ c.if-is_dangerous.false),
-    )
-
-pub returns-else-is_dangerous-clause-decided : goal.returns-else-is_dangerous-clause-decided
-returns-else-is_dangerous-clause-decided c = λ possible.
-    let tells = danger_told c.self.inside.bounds.n c.self.inside.bounds.answers c.args.self.now c.self.view_is c.args.rows.now.list c.args.rows.now.n
-    c.self.invariant c.n.ensures.are_rows c.requires.same_n c.requires.some in (
-      within _ _ c.args.self.now c.self.view_is c.args.rows.now.list,
-      λ danger. true≢false (sym (c.is_dangerous.ensures.1 (tells.0 danger)) ∙ c.if-is_dangerous.false),
-    )
+pub returns-clause-decided : goal.returns-clause-decided
+returns-clause-decided c =
+    subst (λ k. IfOk c.probe_sharing.result (λ verdict. IsPossible c.args.self.now → IsDecision k c.args.rows.now.list verdict))
+    (ap (λ l. guarding c.args.self.now l []) c.new-none.ensures.empty ∙ c.probe_sharing.ensures.plain) c.probe_sharing.ensures.decided

@@ -4,7 +4,7 @@ use Rattle.std.specs.Int.{w64}
 use Rattle.std.proofs.lemmas.Int.{to_z-of_z}
 use Rattle.audit_types.specs.Rows.{has_row, intersection}
 use Rattle.max_bounds.specs.Reaching.{bound_at}
-use Rattle.max_bounds.specs.Outside.{HasOneHighest}
+use Rattle.max_bounds.specs.Outside.{HasOwnHighest}
 use Rattle.max_bounds.specs.Kept.{is_at_least}
 use Rattle.max_bounds.proofs.HighRows.{same_highest}
 use Rattle.max_bounds.proofs.high_rows.HighRows.one_highest.Goals as goal
@@ -16,8 +16,8 @@ returns c =
     let fits : SFits w64 c.args.self.now.cut = search rules in
     let reaches : is_at_least c.args.self.now.cut (bound found.0) ≡ true =
     ap (λ a. is_at_least a (bound found.0)) (sym (to_z-of_z w64 c.args.self.now.cut fits)) ∙ found.2 in
-    let told : IsTrue c.one_highest.result ↔ HasOneHighest bound (intersection c.args.rows.now.n c.args.rows.now.list c.args.self.now.rows.list) =
-    subst (λ l. IsTrue c.one_highest.result ↔ HasOneHighest bound l) c.and_with.ensures.both c.one_highest.ensures in
-    let same = same_highest c.args.rows.now.n bound c.args.self.now c.requires.high c.args.rows.now.list c.n.ensures.are_rows found.0
+    let told : IsTrue c.one_highest.result ↔ HasOwnHighest c.args.shared.now.list bound (intersection c.args.rows.now.n c.args.rows.now.list c.args.self.now.rows.list) =
+    subst (λ l. IsTrue c.one_highest.result ↔ HasOwnHighest c.args.shared.now.list bound l) c.and_with.ensures.both c.one_highest.ensures in
+    let same = same_highest c.args.rows.now.n bound c.args.self.now c.requires.high c.args.rows.now.list c.n.ensures.are_rows c.args.shared.now.list found.0
     (ap (λ l. has_row l found.0) (sym c.and_with.ensures.both) ∙ found.1) reaches in
-    (λ yes. same.0 (told.0 yes), λ one. told.1 (same.1 one))
+    (λ yes. same.0 (told.0 yes), λ own. told.1 (same.1 own))

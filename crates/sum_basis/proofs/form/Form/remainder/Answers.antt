@@ -6,6 +6,7 @@ use mir.Val.{to_z, of_z}
 use Rattle.std.proofs.lemmas.Int.{to_z-of_z}
 use Rattle.std.proofs.lemmas.List.{length-map}
 use Rattle.audit_types.specs.Truth.{number_at}
+use Rattle.audit_types.specs.Limits.{most_width}
 use Rattle.audit_types.specs.Form.{IsNarrow, pivot, pivot_entry}
 use Rattle.audit_types.specs.Numbers.{size_positive}
 use Rattle.audit_types.specs.PrimitiveLines.{times}
@@ -73,6 +74,6 @@ returns-clause-form c = subst (λ (e : Echelon). IsSmallForm e.n e.rows) c.self.
 
 pub returns-clause-narrow : goal.returns-clause-narrow
 returns-clause-narrow c =
-    subst (λ (e : Echelon). IsNarrow e.rows) c.self.view_is
+    subst (λ (e : Echelon). IsNarrow most_width e.rows) c.self.view_is
     (is_narrow c.self.inside.columns (unsigned_abs c.self.inside.common)
     (rows_of c.self.inside.columns c.self.inside.rows.items) c.self.invariant.form c.self.invariant.multiple c.self.invariant.small)

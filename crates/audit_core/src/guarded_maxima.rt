@@ -1,0 +1,59 @@
+//! A column of maxima, with the rows of the table that several people share.
+ghost use Rattle.std.specs.Prelude.{◌≡◌, ◌<◌, ◌≤◌, [], IfOk};
+ghost use Rattle.audit_types.specs.Column.{known_max, guarding};
+ghost use Rattle.audit_types.specs.Limits.{most_rows};
+
+use audit_types::{ColumnAudit, NoMemory, RowSet, Verdict};
+use max_audit::MaxColumn;
+use std::alloc::Global;
+use std::marker::Model;
+
+/// The answered maxima of a column, and the shared rows.
+#[derive(Drop)]
+pub(crate) struct GuardedMaxima {
+    maxima: MaxColumn,
+    shared: RowSet,
+}
+
+impl Model for GuardedMaxima {
+    ghost use Rattle.std.specs.Prelude.{◌≡◌, []};
+    ghost use Rattle.audit_types.specs.Column.{Known, guarding};
+
+    ghost Value = { Known };
+
+    ghost view = { λ g. guarding g.maxima g.shared.list [] };
+
+    ghost invariant = { λ g. g.shared.n ≡ g.maxima.n };
+}
+
+impl GuardedMaxima {
+    /// No answers yet, over n rows.
+    pub(crate) fn new(alloc: Global, n: u16, shared: RowSet) -> Result<GuardedMaxima, NoMemory>
+        requires some { 0 < n }
+        requires at_most { n ≤ most_rows }
+        requires shared { shared.n ≡ n }
+        ensures { IfOk result (λ column. column ≡ guarding (known_max n []) shared.list []) }
+    {
+        let maxima = MaxColumn::new(alloc, n)?;
+        Ok(GuardedMaxima { maxima, shared })
+    }
+
+    /// The answered maxima, of which no row is shared.
+    pub(crate) fn maxima(&self) -> &MaxColumn
+        ensures { guarding result.now self.now.shared [] ≡ self.now }
+    {
+        &self.maxima
+    }
+}
+
+impl ColumnAudit for GuardedMaxima {
+    ghost known = { λ g. g };
+
+    fn probe(&self, rows: &RowSet) -> Result<Verdict, NoMemory> {
+        self.maxima.probe_sharing(rows, &self.shared)
+    }
+
+    fn accept(&mut self, rows: &RowSet, answer: i64) -> Result<(), NoMemory> {
+        self.maxima.accept(rows, answer)
+    }
+}

@@ -1,0 +1,62 @@
+-- What shows the definitions of people right: laws that the functions of `laws` state.
+use Rattle.std.specs.Prelude.{◌≡◌, ◌≢◌, ◌↔◌, ℕ, ◌+◌, ◌<◌, List, [], ◌∷◌, map, length, true}
+use Rattle.std.specs.List.{AllByRecursion}
+use Rattle.audit_types.specs.declared.shapes.Kind.{Kind}
+use Rattle.audit_types.specs.declared.records.Answered.{Answered}
+use Rattle.audit_types.specs.Limits.{most_width}
+use Rattle.audit_types.specs.Rows.{AreRows, has_row}
+use Rattle.audit_types.specs.Truth.{number_at, truth}
+use Rattle.audit_types.specs.Column.{Known, Answer, IsDangerous}
+use Rattle.audit_types.specs.History.{Table, AreSecrets, AgreeWithHistory, IsUndisclosed}
+use Rattle.audit_types.specs.People.{People, told, of_line, of_lines, count_at, shared_of, HidesPeople}
+
+-- the true answer over some lines is what is told of all their people together
+abbrev pub TruthIsOverPeople : Type 0
+TruthIsOverPeople =
+    (kind : Kind) (people : People) (lines : List ℕ) → AllByRecursion (λ numbers. numbers ≢ []) people → AllByRecursion (λ line. line < length people) lines →
+    truth kind (map (told kind) people) lines ≡ told kind (of_lines people lines)
+
+-- how many people are behind some lines
+abbrev pub people_behind : List ℕ → List ℕ → ℕ
+people_behind counts [] = 0
+people_behind counts (line ∷ lines) = count_at counts line + people_behind counts lines
+
+-- they are as many as the people of the lines
+abbrev pub PeopleAreCounted : Type 0
+PeopleAreCounted =
+    (people : People) (lines : List ℕ) → AllByRecursion (λ line. line < length people) lines → people_behind (map length people) lines ≡ length (of_lines people lines)
+
+-- if behind each line is somebody, and behind each shared one somebody else too, then no person's number can be worked out from what
+-- discloses nothing that is guarded of the lines
+abbrev pub UndisclosedHidesPeople : Type 0
+UndisclosedHidesPeople =
+    (table : Table) (history : List Answered) (counts : List ℕ) → AreSecrets table.setting.shape table.secrets → AgreeWithHistory table.setting history table.secrets →
+    length counts ≡ table.setting.shape.rows → AllByRecursion (λ count. 0 < count) counts →
+    ((line : ℕ) → has_row table.setting.protected.shared line ≡ true → 1 < count_at counts line) → IsUndisclosed table history → HidesPeople table history counts
+
+-- what is known of a column over lines with so many people, of which no group is protected
+abbrev pub known_over : Kind → List ℕ → List Answer → Known
+known_over kind counts answers = record { kind = kind; n = length counts; answers = answers; groups = []; shared = shared_of counts; several = shared_of counts; own = 0; width = most_width }
+
+-- so many people, of whom all the answers over lines are told
+pub record AgreeOver (kind : Kind) (counts : List ℕ) (answers : List Answer) (people : People) : Type 0 where
+  pub counted : map length people ≡ counts
+  pub same : AllByRecursion (λ a. told kind (of_lines people a.rows) ≡ a.value) answers
+
+-- some answer that is still possible would disclose a person's number: of no other people the same is told, with another number of hers
+pub record EndangersSomebody (kind : Kind) (counts : List ℕ) (answers : List Answer) (rows : List ℕ) : Type 0 where
+  pub people : People
+  pub agree : AgreeOver kind counts answers people
+  pub line : ℕ
+  pub person : ℕ
+  pub line_below : line < length counts
+  pub person_below : person < count_at counts line
+  pub disclosed : (others : People) → AgreeOver kind counts answers others → told kind (of_lines others rows) ≡ told kind (of_lines people rows) →
+      number_at (of_line others line) person ≡ number_at (of_line people line) person
+
+-- a question over lines is dangerous exactly if it would be over all their people: no more is denied, and no less
+abbrev pub DangerIsThatOfPeople : Type 0
+DangerIsThatOfPeople =
+    (kind : Kind) (counts : List ℕ) (answers : List Answer) (rows : List ℕ) → AllByRecursion (λ count. 0 < count) counts →
+    AllByRecursion (λ a. AreRows (length counts) a.rows) answers → AreRows (length counts) rows →
+    IsDangerous (known_over kind counts answers) rows ↔ EndangersSomebody kind counts answers rows

@@ -1,0 +1,29 @@
+use Rattle.std.proofs.Common.{sym, ap, ◌∙◌, subst}
+use Rattle.audit_types.specs.Form.{Reduced}
+use Rattle.sum_basis.specs.Basis.{Echelon}
+use Rattle.sum_audit.specs.Sets.{sets_of}
+use Rattle.sum_audit.specs.Columns.{answers_of}
+use Rattle.sum_audit.proofs.Inside.{IsRightInside, right_inside}
+use Rattle.sum_audit.proofs.column.SumColumn.probe_inside.Goals as goal
+
+pub returns-clause-judged : goal.returns-clause-judged
+returns-clause-judged c =
+    let old = c.in_ok-basis.basis in
+    let right = subst (IsRightInside c.args.self.now c.args.rows.now.list) (sym c.verdict_inside.ensures)
+    (right_inside c.ties.ensures c.self.inside.n (answers_of c.self.inside.pairs.items) c.args.self.now c.self.view_is c.args.rows.now.list c.args.rows.now.n
+    c.self.invariant.are_rows c.n.ensures.are_rows c.requires.same_n old c.extend.new.self c.in_ok-grown.grown c.shows_tie-tied.result
+    (ap (λ (e : Echelon). e.n) c.in_ok-basis.ensures ∙ c.self.invariant.same_n) c.in_ok-grown.ensures.n
+    (subst (λ (e : Echelon). Reduced c.self.inside.n (sets_of (answers_of c.self.inside.pairs.items)) e.rows) (sym c.in_ok-basis.ensures) c.self.invariant.form)
+    c.in_ok-grown.ensures.stands c.rank.ensures.narrow c.shows_tie-tied.ensures) in
+    right.judged
+
+pub returns-clause-decided : goal.returns-clause-decided
+returns-clause-decided c =
+    let old = c.in_ok-basis.basis in
+    let right = subst (IsRightInside c.args.self.now c.args.rows.now.list) (sym c.verdict_inside.ensures)
+    (right_inside c.ties.ensures c.self.inside.n (answers_of c.self.inside.pairs.items) c.args.self.now c.self.view_is c.args.rows.now.list c.args.rows.now.n
+    c.self.invariant.are_rows c.n.ensures.are_rows c.requires.same_n old c.extend.new.self c.in_ok-grown.grown c.shows_tie-tied.result
+    (ap (λ (e : Echelon). e.n) c.in_ok-basis.ensures ∙ c.self.invariant.same_n) c.in_ok-grown.ensures.n
+    (subst (λ (e : Echelon). Reduced c.self.inside.n (sets_of (answers_of c.self.inside.pairs.items)) e.rows) (sym c.in_ok-basis.ensures) c.self.invariant.form)
+    c.in_ok-grown.ensures.stands c.rank.ensures.narrow c.shows_tie-tied.ensures) in
+    right.decided

@@ -1,0 +1,63 @@
+-- What one who knows a number of the column, as her own, can work out of answered sums.
+use Rattle.std.specs.Prelude.{◌≡◌, ◌≢◌, ◌↔◌, ◌⊎◌, ℕ, ◌<◌, false, ℤ, pos, List, [], map}
+use Rattle.std.specs.List.{AllByRecursion}
+use Rattle.audit_types.specs.Rows.{AreRows, has_row}
+use Rattle.audit_types.specs.Truth.{number_at}
+use Rattle.audit_types.specs.Column.{Answer, Agrees, known_sum, guarding, with_askers}
+use Rattle.audit_types.specs.Form.{set_row, Reduced}
+use Rattle.audit_types.specs.Direction.{IsDirection}
+use Rattle.audit_types.specs.Judgement.{PinSomeNumber}
+use Rattle.sum_basis.specs.Growth.{HasOwnUnit}
+use Rattle.sum_basis.specs.Ties.{Ties, ShowsTie, ShowsTieBut}
+use Rattle.sum_audit.specs.Sets.{sets_of}
+
+-- whoever knows the number of row q knows that of row i: each direction that is 0 at q is 0 at i. A q past the table knows nothing
+abbrev pub IsStillFor : ℕ → List (List ℕ) → ℕ → ℕ → Type 0
+IsStillFor n sets q i = (d : List ℤ) → IsDirection n sets d → number_at d q ≡ pos 0 → number_at d i ≡ pos 0
+
+-- that is so exactly if their span ties i to q
+abbrev pub StillByTies : Type 0
+StillByTies =
+    (n : ℕ) (sets : List (List ℕ)) (q i : ℕ) → AllByRecursion (AreRows n) sets → i < n → q ≢ i →
+    IsStillFor n sets q i ↔ Ties (map (set_row n) sets) i q
+
+-- another list of whole numbers gives the same answers, has the same number at q, and another one at i
+pub record IsOpenFor (n : ℕ) (answers : List Answer) (w : List ℤ) (q i : ℕ) : Type 0 where
+  pub other : List ℤ
+  pub agrees : Agrees (known_sum n answers) other
+  pub same : number_at other q ≡ number_at w q
+  pub differs : number_at other i ≢ number_at w i
+
+-- whatever the numbers are, row i is tied to q, or its number is open to one who knows that of q
+abbrev pub TiedOrOpen : Type 0
+TiedOrOpen =
+    (n : ℕ) (answers : List Answer) (w : List ℤ) (q i : ℕ) → AllByRecursion (AreRows n) (sets_of answers) → Agrees (known_sum n answers) w → i < n → q ≢ i →
+    Ties (map (set_row n) (sets_of answers)) i q ⊎ IsOpenFor n answers w q i
+
+-- and not both: if it is tied, all lists that give the answers and have one number at q have one number at i
+abbrev pub TiesTell : Type 0
+TiesTell =
+    (n : ℕ) (answers : List Answer) (q i : ℕ) (w v : List ℤ) → AllByRecursion (AreRows n) (sets_of answers) → i < n → q ≢ i →
+    Ties (map (set_row n) (sets_of answers)) i q → Agrees (known_sum n answers) w → Agrees (known_sum n answers) v → number_at v q ≡ number_at w q →
+    number_at v i ≡ number_at w i
+
+-- if the reduced form shows no tie, each number is open to whoever knows any one other
+abbrev pub OpenByForm : Type 0
+OpenByForm =
+    (n : ℕ) (answers : List Answer) (form : List (List ℤ)) (w : List ℤ) (q i : ℕ) → AllByRecursion (AreRows n) (sets_of answers) →
+    Reduced n (sets_of answers) form → ¬ (ShowsTie form) → Agrees (known_sum n answers) w → i < n → q ≢ i → IsOpenFor n answers w q i
+
+-- if each row stands for one person, the sets pin some row for an asker who knows one number, or none, exactly if their form shows a tie
+abbrev pub PinsByTies : Type 0
+PinsByTies =
+    (n : ℕ) (answers : List Answer) (sets : List (List ℕ)) (form : List (List ℤ)) → AllByRecursion (AreRows n) sets → Reduced n sets form →
+    PinSomeNumber (with_askers (known_sum n answers) [] 1) sets ↔ ShowsTie form
+
+-- over lines they pin a number that is guarded from some asker exactly if the unit row of a row that isn't shared lies in the span of their
+-- form, or the form shows a tie of two rows of one person each
+abbrev pub PinsByTiesBut : Type 0
+PinsByTiesBut =
+    (n : ℕ) (answers : List Answer) (shared several : List ℕ) (groups : List (List ℕ)) (sets : List (List ℕ)) (form : List (List ℤ)) →
+    ((r : ℕ) → has_row several r ≡ false → has_row shared r ≡ false) → AllByRecursion (AreRows n) sets → Reduced n sets form →
+    PinSomeNumber (with_askers (guarding (known_sum n answers) shared groups) several 1) sets
+    ↔ (HasOwnUnit (record { n = n; rows = form }) shared ⊎ ShowsTieBut several form)
