@@ -3,9 +3,9 @@ use Rattle.std.proofs.Common.{◌≡◌, ℕ, ◌≤◌, List, ◌++◌, sym, ap
 use Rattle.std.specs.Prelude.{All}
 use Rattle.std.specs.List.{flat_map}
 use Rattle.std.proofs.lemmas.List.{append-nil}
+use Rattle.audit_types.specs.History.{Protection}
 use Rattle.audit_types.specs.declared.records.Answered.{Answered}
 use Rattle.audit_core.specs.Outcomes.{records_made}
-use Rattle.audit_types.specs.declared.records.Protected.{Protected}
 use Rattle.table_load.specs.Cells.{SecretView, IsSecret}
 use Rattle.table_load.specs.Database.{secret_table}
 use Rattle.bench_core.specs.declared.bench.Bench.{Ghosts}
@@ -24,7 +24,7 @@ use Rattle.audit_session.proofs.Planned.{replies_to, replies_are, records_are}
 use Rattle.audit_session.proofs.ToldPlans.{can_all, some_replies}
 use Rattle.audit_session.proofs.Sending.{SendsPart}
 
-module _ {B E : Type 0} (bench : Ghosts B) (spare : Ghosts E) (old new : B) (spare_old spare_new : E) (secret : SecretView) (protected : List Protected)
+module _ {B E : Type 0} (bench : Ghosts B) (spare : Ghosts E) (old new : B) (spare_old spare_new : E) (secret : SecretView) (protected : Protection)
     (history : List Answered) (plans : List Plan) where
   abbrev Both : List ℕ → List ℕ → Type 0
   Both image other =

@@ -3,6 +3,7 @@ use Rattle.std.proofs.Common.{◌≡◌, ℕ, ◌+◌, List, [], ◌∷◌, ◌+
 use Rattle.std.specs.Prelude.{All, IsErrOf, Err}
 use Rattle.std.specs.List.{flat_map}
 use Rattle.std.proofs.lemmas.List.{append-nil}
+use Rattle.audit_types.specs.History.{Protection}
 use Rattle.audit_types.specs.declared.records.Answered.{Answered}
 use Rattle.audit_core.specs.declared.outcome.Outcome.{Outcome}
 use Rattle.audit_core.specs.Outcomes.{AreOutcomes, records_made}
@@ -10,7 +11,6 @@ use Rattle.bench_core.specs.declared.bench.Bench.{Ghosts}
 use Rattle.bench_core.specs.Bench.{AppendsFront}
 use Rattle.bench_core.specs.Calls.{IsQuiet, LeavesOnly}
 use Rattle.bench_core.specs.Moments.{started, weakens, joins}
-use Rattle.audit_types.specs.declared.records.Protected.{Protected}
 use Rattle.table_load.specs.Cells.{SecretView, IsSecret}
 use Rattle.table_load.specs.Database.{secret_table}
 use Rattle.journal_form.specs.Journal.{StandsFor}
@@ -65,7 +65,7 @@ length-told (Ready answer ∷ plans) outcomes (reply ∷ told) tells = omega (ar
 length-told (Ask take asked ∷ plans) [] (reply ∷ told) tells = absurd tells
 length-told (Ask take asked ∷ plans) (outcome ∷ outcomes) (reply ∷ told) tells = omega (arith, length-told plans outcomes told tells.1)
 
-module _ {B : Type 0} (bench : Ghosts B) (old mid : B) (secret : SecretView) (protected : List Protected) (history : List Answered) (plans : List Plan) where
+module _ {B : Type 0} (bench : Ghosts B) (old mid : B) (secret : SecretView) (protected : Protection) (history : List Answered) (plans : List Plan) where
   -- the outcomes were told
   pub told_group : (now : List Answered) (outcomes : List Outcome) (told : List Reply)
       → AreOutcomes (secret_table secret protected) history (questions_of plans) outcomes

@@ -11,9 +11,9 @@ use Rattle.audit_types.specs.declared.records.Verdict.TheVariants.{Released}
 use Rattle.audit_types.specs.Column.{Known, IsGuarded, number, total, IsDangerous, with_groups}
 use Rattle.audit_types.specs.Judgement.{IsDecision, IsWithinWidthFor}
 use Rattle.audit_types.specs.ListLaws.{all_by_place}
-use Rattle.audit_types.specs.Widening.{over, widened, groups_among, first_rows}
+use Rattle.audit_types.specs.Widening.{over, widened, protection_among, first_rows}
 use Rattle.audit_types.specs.WideningLaws.{widened-same}
-use Rattle.audit_types.specs.History.{Table, Secrets, AreSecrets, IsLegal, groups_of, known_of, setting_of}
+use Rattle.audit_types.specs.History.{Protection, Table, Secrets, AreSecrets, IsLegal, groups_of, known_of, setting_of}
 use Rattle.audit_core.specs.WideningLaws.{LegalStays}
 use Rattle.table_load.specs.Database.{Database, IsDatabase, table_in}
 use Rattle.audit_session.specs.Lives.{Follows}
@@ -27,17 +27,20 @@ module _ (known : Known) (groups : List (List ℕ)) (fewer : (group : List ℕ) 
   abbrev less : Known
   less = with_groups known groups
 
-  guarded_more : {value : List ℤ → ℤ} → IsGuarded less value → IsGuarded known value
-  guarded_more (number row below) = number row below
-  guarded_more (total group there) = total group (fewer group there)
+  guarded_more : (own : List ℕ) {value : List ℤ → ℤ} → IsGuarded less own value → IsGuarded known own value
+  guarded_more own (number row below other alone) = number row below other alone
+  guarded_more own (total group row there inside other) = total group row (fewer group there) inside other
 
   danger_more : (rows : List ℕ) → IsDangerous less rows → IsDangerous known rows
   danger_more rows d = record {
     w = d.w;
     agrees = record { one_each = d.agrees.one_each; same = d.agrees.same };
+    own = d.own;
+    are_own = d.are_own;
     value = d.value;
-    guarded = guarded_more d.guarded;
-    disclosed = λ v gives. d.disclosed v (record { agrees = record { one_each = gives.agrees.one_each; same = gives.agrees.same }; same = gives.same });
+    guarded = guarded_more d.own d.guarded;
+    disclosed = λ v gives also.
+        d.disclosed v (record { agrees = record { one_each = gives.agrees.one_each; same = gives.agrees.same }; same = gives.same }) also;
   }
 
   within_same : (kind : Kind) (rows : List ℕ) → IsWithinWidthFor kind known rows → IsWithinWidthFor kind less rows
@@ -48,19 +51,19 @@ module _ (known : Known) (groups : List (List ℕ)) (fewer : (group : List ℕ) 
   released_less rows d = (within_same known.kind rows d.0, λ bad. d.1 (danger_more rows bad))
 
 -- so a legal history stays legal
-fewer_groups : (shape : Shape) (protected less : List Protected) (secrets : Secrets) (history : List Answered) →
-    ((column : ℕ) (group : List ℕ) → Contains (groups_of column less) group → Contains (groups_of column protected) group) →
-    IsLegal (record { setting = setting_of shape protected; secrets = secrets }) history →
-    IsLegal (record { setting = setting_of shape less; secrets = secrets }) history
-fewer_groups shape protected less secrets history fewer legal = record {
+fewer_groups : (shape : Shape) (protected : Protection) (groups : List Protected) (secrets : Secrets) (history : List Answered) →
+    ((column : ℕ) (group : List ℕ) → Contains (groups_of column protected.groups) group → Contains (groups_of column groups) group) →
+    IsLegal (record { setting = setting_of shape (record protected { groups = groups }); secrets = secrets }) history →
+    IsLegal (record { setting = setting_of shape protected; secrets = secrets }) history
+fewer_groups shape protected groups secrets history fewer legal = record {
   few = legal.few;
   each = λ i r here.
       let old = legal.each i r here in
       record {
         fits = old.fits;
         true_answer = old.true_answer;
-        released = released_less (known_of (setting_of shape protected) (take i history) r.column) (groups_of r.column less) (fewer r.column)
-            r.rows.list old.released;
+        released = released_less (known_of (setting_of shape (record protected { groups = groups })) (take i history) r.column)
+            (groups_of r.column protected.groups) (fewer r.column) r.rows.list old.released;
       };
 }
 
@@ -84,11 +87,17 @@ followers_stay stay base later history database are follows numbers keeps legal 
     let same_numbers : IsLegal (record { setting = setting_of (over m later.secret.shape) base.protected; secrets = map (take m) later.secret.lists }) history =
     subst (λ (ls : Secrets). IsLegal (record { setting = setting_of (over m later.secret.shape) base.protected; secrets = ls }) history) numbers
     same_columns in
-    let front : IsLegal (first_rows m table) history =
-    fewer_groups (over m later.secret.shape) base.protected (groups_among m later.protected) (map (take m) later.secret.lists) history keeps
+    let same_guard : IsLegal (record {
+      setting = setting_of (over m later.secret.shape) (record (protection_among m later.protected) { groups = base.protected.groups });
+      secrets = map (take m) later.secret.lists;
+    }) history =
+    subst (λ (p : Protection). IsLegal (record { setting = setting_of (over m later.secret.shape) p; secrets = map (take m) later.secret.lists }) history) keeps.1
     same_numbers in
+    let front : IsLegal (first_rows m table) history =
+    fewer_groups (over m later.secret.shape) (protection_among m later.protected) base.protected.groups (map (take m) later.secret.lists) history keeps.0
+    same_guard in
     elim (cases_lt m n) [
-      | inl lt ↦ stay (first_rows m table) table history database.protected (lt, refl) front
+      | inl lt ↦ stay (first_rows m table) table history database.protected.0 (ap (λ (p : Protection). p.own) database.protected.1) (lt, refl) front
       | inr ge ↦
           let same : m ≡ n = omega (arith, ge, follows.rows) in
           let whole : first_rows m table ≡ table = ap (λ k. first_rows k table) same ∙ whole_table table are database.protected in

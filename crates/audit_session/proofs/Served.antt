@@ -4,6 +4,7 @@ use Rattle.std.proofs.Math.Nat.{suc-mul}
 use Rattle.std.proofs.Math.Seq.{drop-append_seam}
 use Rattle.std.proofs.lemmas.Bool.{false≢true}
 use Rattle.std.proofs.lemmas.List.{append-nil}
+use Rattle.audit_types.specs.History.{Protection}
 use Rattle.audit_types.specs.declared.records.Answered.{Answered}
 use Rattle.bench_core.specs.declared.bench.Bench.{Ghosts}
 use Rattle.bench_core.specs.declared.source.Source.{Ghosts as SourceGhosts}
@@ -11,7 +12,6 @@ use Rattle.audit_store.specs.declared.keeper.Keeper.{Ghosts as KeeperGhosts}
 use Rattle.bench_core.specs.Calls.{IsQuiet, LeavesOnly}
 use Rattle.bench_core.specs.Moments.{weakens, joins}
 use Rattle.schema_json.specs.Columns.{Column}
-use Rattle.audit_types.specs.declared.records.Protected.{Protected}
 use Rattle.table_load.specs.Cells.{PublicView, SecretView}
 use Rattle.table_load.specs.Database.{Database, base_of, secret_table}
 use Rattle.journal_form.specs.Journal.{StandsAt}
@@ -174,8 +174,8 @@ module _ {P B : Type 0} (source : SourceGhosts P) (bench : Ghosts B) (columns : 
     as_many = length-plans columns public gathers.lines plans gathers.planned
 
     -- of the store as it was before the group
-    over_first : (claim : SecretView → List Protected → Type 0) → claim store.secret store.protected → claim first_store.secret first_store.protected
-    over_first claim holds = subst (λ (p : List Protected). claim first_store.secret p) served.protected
+    over_first : (claim : SecretView → Protection → Type 0) → claim store.secret store.protected → claim first_store.secret first_store.protected
+    over_first claim holds = subst (λ (p : Protection). claim first_store.secret p) served.protected
         (subst (λ (s : SecretView). claim s store.protected) served.secret holds)
 
     -- while it is answered

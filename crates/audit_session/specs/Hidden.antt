@@ -1,9 +1,9 @@
 -- The promise as one sentence: other secrets lead the same life, byte for byte, and differ in what is guarded.
-use Rattle.std.specs.Prelude.{◌≡◌, ◌≢◌, ℕ, ◌<◌, ℤ, List, ◌∷◌, ◌++◌, map, take}
+use Rattle.std.specs.Prelude.{◌≡◌, ◌≢◌, ℕ, ◌<◌, ℤ, List, [], ◌∷◌, ◌++◌, map, take}
 use Rattle.audit_types.specs.Shapes.{columns}
-use Rattle.audit_types.specs.Column.{IsGuarded}
+use Rattle.audit_types.specs.Column.{AreOwn, IsGuarded}
 use Rattle.audit_types.specs.Truth.{number_at}
-use Rattle.audit_types.specs.History.{Secrets, AreSecrets, known_of, list_of}
+use Rattle.audit_types.specs.History.{Secrets, AreSecrets, AreSameFor, known_of, list_of}
 use Rattle.table_load.specs.Database.{Database, table_in}
 use Rattle.audit_session.specs.Lives.{Standing, Run, IsLife, history_over}
 
@@ -23,22 +23,25 @@ run_with lists run = record run { left = standing_with lists run.left }
 abbrev pub LeadsLife : Secrets → Database → List Run → Standing → Type 0
 LeadsLife lists base runs last = IsLife (with_secrets lists base) (map (run_with lists) runs) (standing_with lists last)
 
--- other secrets of the last table, all along, lead the same life, and differ in this value of a column from these numbers
-pub record HasTwinLife (base : Database) (runs : List Run) (last : Standing) (column : ℕ) (value : List ℤ → ℤ) (numbers : List ℤ) : Type 0 where
+-- other secrets of the last table, all along, lead the same life, have the same numbers in these rows, which one asker may know, and differ in
+-- this value of a column from these numbers
+pub record HasTwinLife (base : Database) (runs : List Run) (last : Standing) (own : List ℕ) (column : ℕ) (value : List ℤ → ℤ) (numbers : List ℤ) : Type 0 where
   pub lists : Secrets
   pub are_secrets : AreSecrets last.base.secret.shape lists
   pub life : LeadsLife lists base runs last
+  pub same : AreSameFor own last.base.secret.lists lists
   pub differs : value (list_of lists column) ≢ value numbers
 
--- a life hides each number of the last table, and each total that is protected there
+-- a life hides what is guarded of the last table from each asker: each number, if no row is shared, and each protected total
 abbrev pub IsHidden : Database → List Run → Standing → Type 0
 IsHidden base runs last =
-    (column : ℕ) (value : List ℤ → ℤ) → column < columns last.base.secret.shape →
-    IsGuarded (known_of (table_in last.base).setting (history_over last.base last) column) value →
-    HasTwinLife base runs last column value (list_of last.base.secret.lists column)
+    (column : ℕ) (own : List ℕ) (value : List ℤ → ℤ) → column < columns last.base.secret.shape →
+    AreOwn (known_of (table_in last.base).setting (history_over last.base last) column) own →
+    IsGuarded (known_of (table_in last.base).setting (history_over last.base last) column) own value →
+    HasTwinLife base runs last own column value (list_of last.base.secret.lists column)
 
 -- and each number that stood in the table at one of its runs, whether it still does or not
 abbrev pub HidesWhatStood : Database → List Run → Standing → Type 0
 HidesWhatStood base runs last =
     (before after : List Run) (run : Run) (column row : ℕ) → runs ≡ before ++ run ∷ after → column < columns last.base.secret.shape →
-    row < run.left.base.secret.shape.rows → HasTwinLife base runs last column (λ w. number_at w row) (list_of run.left.base.secret.lists column)
+    row < run.left.base.secret.shape.rows → HasTwinLife base runs last [] column (λ w. number_at w row) (list_of run.left.base.secret.lists column)

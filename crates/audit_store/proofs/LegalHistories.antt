@@ -7,8 +7,7 @@ use Rattle.std.proofs.Math.Seq.{take-append-add}
 use Rattle.std.proofs.lemmas.List.{take_more, take-take, get_or-take, get_or-append-add}
 use Rattle.std.proofs.lemmas.Option.{same_Some, slice_get_within, get_or_from_slice_get, slice_get-get_or, slice_get_read}
 use Rattle.audit_types.specs.declared.records.Answered.{Answered}
-use Rattle.audit_types.specs.declared.records.Protected.{Protected}
-use Rattle.audit_types.specs.History.{Table, FitsShape, IsLegal, IsLegalRecord, IsPossibleHistory}
+use Rattle.audit_types.specs.History.{Protection, Table, FitsShape, IsLegal, IsLegalRecord, IsPossibleHistory}
 use Rattle.audit_types.specs.Laws.{LegalIsPossible}
 use Rattle.audit_core.specs.Laws.{LegalGrows}
 use Rattle.table_load.specs.Cells.{SecretView, IsSecret}
@@ -17,7 +16,7 @@ use Rattle.table_load.specs.Database.{secret_table}
 use Rattle.table_load.specs.SecretLists.{are_secrets}
 
 -- a legal history of the secrets of a table is possible
-pub legal_is_possible : (secret : SecretView) (protected : List Protected) (history : List Answered) → LegalIsPossible → IsSecret secret →
+pub legal_is_possible : (secret : SecretView) (protected : Protection) (history : List Answered) → LegalIsPossible → IsSecret secret →
     IsLegal (secret_table secret protected) history → IsPossibleHistory (secret_table secret protected).setting history
 legal_is_possible secret protected history law is legal = law (secret_table secret protected) history (are_secrets secret is) legal
 

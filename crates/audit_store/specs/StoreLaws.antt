@@ -6,9 +6,8 @@ use Rattle.std.proofs.lemmas.Grind.{common_steps}
 use Rattle.std.proofs.Math.Seq.{take-length, drop-append_seam}
 use Rattle.std.proofs.lemmas.List.{take-append-drop, take_all}
 use Rattle.audit_types.specs.declared.records.Answered.{Answered}
-use Rattle.audit_types.specs.declared.records.Protected.{Protected}
 use Rattle.audit_types.specs.declared.shapes.Shape.{Shape}
-use Rattle.audit_types.specs.History.{Table, Setting, AreProtected, IsLegal, setting_of}
+use Rattle.audit_types.specs.History.{Protection, Table, Setting, IsPlainFor, IsLegal, setting_of}
 use Rattle.audit_core.specs.Audited.{Audited}
 use Rattle.table_load.specs.Cells.{SecretView}
 use Rattle.bench_core.specs.declared.bench.Bench.{Ghosts}
@@ -88,7 +87,7 @@ store_in secret core released journal usable =
 abbrev pub table_by : SecretView → Audited → Table
 table_by secret core = secret_table secret core.setting.protected
 
-module _ (secret : SecretView) (protected : List Protected) (journal : JournalContents) (core : Audited) (found : Recovers secret protected journal core) where
+module _ (secret : SecretView) (protected : Protection) (journal : JournalContents) (core : Audited) (found : Recovers secret protected journal core) where
   all_released : take journal.count core.history ≡ core.history
   all_released = ap (λ n. take n core.history) found.counted ∙ take-length core.history
 
@@ -97,20 +96,20 @@ module _ (secret : SecretView) (protected : List Protected) (journal : JournalCo
   recovered_groups = ap (λ (s : Setting). s.protected) found.same_setting
 
   -- what was recovered is a store, all of whose records are released
-  pub recovered_store : AreProtected secret.shape protected →
+  pub recovered_store : IsPlainFor secret.shape protected →
       IsStore (store_in secret core journal.count journal true) × IsAuditedBy (table_by secret core) core journal.count true
   recovered_store fit = (
     record {
       numbers = found.numbers;
-      fit = subst (λ (p : List Protected). AreProtected secret.shape p) (sym recovered_groups) fit;
-      legal = subst (λ (p : List Protected). IsLegal (secret_table secret p) (take journal.count core.history)) (sym recovered_groups)
+      fit = subst (λ (p : Protection). IsPlainFor secret.shape p) (sym recovered_groups) fit;
+      legal = subst (λ (p : Protection). IsLegal (secret_table secret p) (take journal.count core.history)) (sym recovered_groups)
           (subst (λ (h : List Answered). IsLegal (secret_table secret protected) h) (sym all_released) found.legal);
       journal_usable = λ _. found.usable;
       same_shape = λ _. found.same_shape;
       counted = λ _. found.counted ∙ ap length (sym all_released);
     },
     record {
-      same_setting = found.same_setting ∙ ap (λ (p : List Protected). setting_of secret.shape p) (sym recovered_groups);
+      same_setting = found.same_setting ∙ ap (λ (p : Protection). setting_of secret.shape p) (sym recovered_groups);
       within = omega (arith, found.counted);
       all = λ _. found.counted;
     },
@@ -138,8 +137,8 @@ refused_store secret old new released before after usable is_usable store audite
     let groups : old.setting.protected ≡ new.setting.protected = ap (λ (s : Setting). s.protected) (sym setting) in (
       record {
         numbers = store.numbers;
-        fit = subst (λ (p : List Protected). AreProtected secret.shape p) groups store.fit;
-        legal = subst (λ (p : List Protected). IsLegal (secret_table secret p) (take released new.history)) groups
+        fit = subst (λ (p : Protection). IsPlainFor secret.shape p) groups store.fit;
+        legal = subst (λ (p : Protection). IsLegal (secret_table secret p) (take released new.history)) groups
             (subst (λ (h : List Answered). IsLegal (table_by secret old) h) same store.legal);
         journal_usable = λ is. let none : ⊥ = cc in absurd none;
         same_shape = λ is. let none : ⊥ = cc in absurd none;
@@ -175,8 +174,8 @@ kept_store secret old new released now before after usable group made is_usable 
     let groups : old.setting.protected ≡ new.setting.protected = ap (λ (s : Setting). s.protected) (sym setting) in (
       record {
         numbers = store.numbers;
-        fit = subst (λ (p : List Protected). AreProtected secret.shape p) groups store.fit;
-        legal = subst (λ (p : List Protected). IsLegal (secret_table secret p) (take now new.history)) groups
+        fit = subst (λ (p : Protection). IsPlainFor secret.shape p) groups store.fit;
+        legal = subst (λ (p : Protection). IsLegal (secret_table secret p) (take now new.history)) groups
             (subst (λ (h : List Answered). IsLegal (table_by secret old) h) (sym whole) legal);
         journal_usable = λ _. usable_after;
         same_shape = λ _. shape ∙ store.same_shape is_usable;

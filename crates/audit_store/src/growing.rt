@@ -1,13 +1,13 @@
 //! Growing the journal of a table to rows that came at its end.
 ghost use Rattle.std.specs.Prelude.{◌≡◌, ◌≤◌, length, All, IfErr, OnOk};
 ghost use Rattle.audit_types.specs.Limits.{most_records};
-ghost use Rattle.audit_types.specs.History.{FitsShape, AreProtected};
+ghost use Rattle.audit_types.specs.History.{FitsShape, IsPlainFor};
 ghost use Rattle.audit_store.specs.Growing.{grow_fault, GrowsFrom, GrowHistoryCause};
 ghost use Rattle.table_load.specs.Database.{secret_table};
 
 use crate::starting::{StartFault, audited};
 use answer_journal::{BackFault, widen_all};
-use audit_types::{Answered, Protected, Shape};
+use audit_types::{Answered, Guard, Shape};
 use bench_core::Failed;
 use std::alloc::Global;
 use table_load::Secret;
@@ -73,15 +73,15 @@ impl From<Failed> for GrowFault {
 pub fn may_grow(
     alloc: Global,
     secret: &Secret,
-    protected: Vec<Protected>,
+    protected: Guard,
     kept: &Shape,
     list: &mut [Answered],
 ) -> Result<(), GrowFault>
-    requires groups { AreProtected secret.now.shape protected.items }
+    requires groups { IsPlainFor secret.now.shape protected }
     requires few { length list.old ≤ most_records }
     requires fit { All (λ r. FitsShape kept.now r.column r.rows) list.old }
-    ensures ok { OnOk result (GrowsFrom kept.now list.old (secret_table secret.now protected.items)) }
-    ensures err { IfErr result (λ fault. GrowHistoryCause fault kept.now list.old (secret_table secret.now protected.items)) }
+    ensures ok { OnOk result (GrowsFrom kept.now list.old (secret_table secret.now protected)) }
+    ensures err { IfErr result (λ fault. GrowHistoryCause fault kept.now list.old (secret_table secret.now protected)) }
 {
     let now = secret.shape();
     if kept.kinds != now.kinds || now.rows < kept.rows {

@@ -1,9 +1,8 @@
 //! Opening the journal of a table.
 ghost use Rattle.std.specs.Prelude.{◌≡◌, ◌≤◌, ◌+◌, true, false, Ok, Err, List, length, All, IfOk, IfErr, OnOk, IsErrOf};
 ghost use Rattle.audit_types.specs.Limits.{most_records};
-ghost use Rattle.audit_types.specs.History.{FitsShape, AreProtected, IsLegal, IsPossibleHistory, IsDecisionAfter, setting_of};
+ghost use Rattle.audit_types.specs.History.{Protection, FitsShape, IsPlainFor, IsLegal, IsPossibleHistory, IsDecisionAfter, setting_of};
 ghost use Rattle.audit_types.specs.declared.records.Answered.{Answered};
-ghost use Rattle.audit_types.specs.declared.records.Protected.{Protected};
 ghost use Rattle.audit_types.specs.declared.records.Verdict.TheVariants.{Released};
 ghost use Rattle.bench_core.specs.Calls.{OnlyReads, TellsFault};
 ghost use Rattle.journal_form.specs.Journal.{StandsAt, StandsFor};
@@ -18,7 +17,7 @@ use answer_journal::{BackFault, Journal};
 use audit_core::Core;
 use audit_core::laws::released_records;
 use audit_types::laws::true_answers;
-use audit_types::{Answered, Asked, NoMemory, Protected, Shape, Verdict};
+use audit_types::{Answered, Asked, Guard, NoMemory, Shape, Verdict};
 use bench_core::Bench;
 use std::alloc::Global;
 use sum_basis::laws::narrow_or_wide;
@@ -59,8 +58,8 @@ impl From<BackFault> for StartFault {
 fn test_truth(secret: &Secret, list: &[Answered]) -> Result<(), StartFault>
     requires fit { All (λ r. FitsShape secret.now.shape r.column r.rows) list.now }
     requires few { length list.now ≤ most_records }
-    ensures ok { (protected : List Protected) → OnOk result (AreTrue (secret_table secret.now protected) list.now) }
-    ensures err { (protected : List Protected) → IfErr result (λ fault. HistoryCause fault secret.now.shape list.now (secret_table secret.now protected)) }
+    ensures ok { (protected : Protection) → OnOk result (AreTrue (secret_table secret.now protected) list.now) }
+    ensures err { (protected : Protection) → IfErr result (λ fault. HistoryCause fault secret.now.shape list.now (secret_table secret.now protected)) }
 {
     for (place, answered) in list.iter().enumerate() {
         let now = secret.truth(answered.column, &answered.rows);
@@ -99,15 +98,15 @@ fn is_released(core: &mut Core, answered: &Answered) -> Result<bool, NoMemory>
 fn replay(
     alloc: Global,
     secret: &Secret,
-    protected: Vec<Protected>,
+    protected: Guard,
     list: &[Answered],
 ) -> Result<Core, StartFault>
-    requires groups { AreProtected secret.now.shape protected.items }
+    requires groups { IsPlainFor secret.now.shape protected }
     requires fit { All (λ r. FitsShape secret.now.shape r.column r.rows) list.now }
     requires few { length list.now ≤ most_records }
-    requires are_true { AreTrue (secret_table secret.now protected.items) list.now }
-    ensures ok { IfOk result (λ core. (core ≡ record { setting = setting_of secret.now.shape protected.items; history = list.now }) × IsLegal (secret_table secret.now protected.items) list.now) }
-    ensures err { IfErr result (λ fault. HistoryCause fault secret.now.shape list.now (secret_table secret.now protected.items)) }
+    requires are_true { AreTrue (secret_table secret.now protected) list.now }
+    ensures ok { IfOk result (λ core. (core ≡ record { setting = setting_of secret.now.shape protected; history = list.now }) × IsLegal (secret_table secret.now protected) list.now) }
+    ensures err { IfErr result (λ fault. HistoryCause fault secret.now.shape list.now (secret_table secret.now protected)) }
 {
     true_answers();
     released_records();
@@ -137,14 +136,14 @@ fn replay(
 pub fn audited(
     alloc: Global,
     secret: &Secret,
-    protected: Vec<Protected>,
+    protected: Guard,
     list: &[Answered],
 ) -> Result<Core, StartFault>
-    requires groups { AreProtected secret.now.shape protected.items }
+    requires groups { IsPlainFor secret.now.shape protected }
     requires fit { All (λ r. FitsShape secret.now.shape r.column r.rows) list.now }
     requires few { length list.now ≤ most_records }
-    ensures ok { IfOk result (λ core. (core ≡ record { setting = setting_of secret.now.shape protected.items; history = list.now }) × IsLegal (secret_table secret.now protected.items) list.now) }
-    ensures err { IfErr result (λ fault. HistoryCause fault secret.now.shape list.now (secret_table secret.now protected.items)) }
+    ensures ok { IfOk result (λ core. (core ≡ record { setting = setting_of secret.now.shape protected; history = list.now }) × IsLegal (secret_table secret.now protected) list.now) }
+    ensures err { IfErr result (λ fault. HistoryCause fault secret.now.shape list.now (secret_table secret.now protected)) }
 {
     match test_truth(secret, list) {
         Ok(()) => replay(alloc, secret, protected, list),
@@ -156,18 +155,18 @@ pub fn audited(
 fn opened(
     alloc: Global,
     secret: &Secret,
-    protected: Vec<Protected>,
+    protected: Guard,
     kept: &Shape,
     list: &[Answered],
 ) -> Result<Core, StartFault>
-    requires groups { AreProtected secret.now.shape protected.items }
+    requires groups { IsPlainFor secret.now.shape protected }
     requires few { length list.now ≤ most_records }
     requires fit { All (λ r. FitsShape kept.now r.column r.rows) list.now }
-    ensures ok { IfOk result (λ core. (core ≡ record { setting = setting_of secret.now.shape protected.items; history = list.now }) × IsLegal (secret_table secret.now protected.items) list.now) }
+    ensures ok { IfOk result (λ core. (core ≡ record { setting = setting_of secret.now.shape protected; history = list.now }) × IsLegal (secret_table secret.now protected) list.now) }
     ensures same { OnOk result ((kept.now ≡ secret.now.shape) × IsSecret secret.now) }
-    ensures err { IfErr result (λ fault. HistoryCause fault kept.now list.now (secret_table secret.now protected.items)) }
-    ensures due { (fault : StartFault) → (GivesUp fault → ⊥) → HistoryCause fault kept.now list.now (secret_table secret.now protected.items) → RefusedUnlessFailed fault result }
-    ensures opens { kept.now ≡ secret.now.shape → IsLegal (secret_table secret.now protected.items) list.now → StartsUnlessFailed result }
+    ensures err { IfErr result (λ fault. HistoryCause fault kept.now list.now (secret_table secret.now protected)) }
+    ensures due { (fault : StartFault) → (GivesUp fault → ⊥) → HistoryCause fault kept.now list.now (secret_table secret.now protected) → RefusedUnlessFailed fault result }
+    ensures opens { kept.now ≡ secret.now.shape → IsLegal (secret_table secret.now protected) list.now → StartsUnlessFailed result }
 {
     let now = secret.shape();
     if *kept != now {
@@ -181,19 +180,19 @@ fn opened(
 pub fn recover<B: Bench>(
     alloc: Global,
     secret: &Secret,
-    protected: Vec<Protected>,
+    protected: Guard,
     bench: &mut B,
 ) -> Result<(Journal, Core), StartFault>
-    requires fit { AreProtected secret.now.shape protected.items }
+    requires fit { IsPlainFor secret.now.shape protected }
 
     // The core's history is that of the file, and it is legal.
-    ensures recovers { IfOk result (λ found. Recovers secret.now protected.items found.0 found.1) }
+    ensures recovers { IfOk result (λ found. Recovers secret.now protected found.0 found.1) }
     ensures stands { B.told → IfOk result (λ found. StandsAt (B.file bench.old) secret.now.shape found.1.history found.0.gate) }
 
     // Each refusal has its cause in the file, and each cause has its refusal; a legal history is never refused.
-    ensures cause { (fault : StartFault) → B.told → result ≡ Err fault → StartCause fault (B.file bench.old) (secret_table secret.now protected.items) }
-    ensures due { (fault : StartFault) → B.told → (GivesUp fault → ⊥) → StartCause fault (B.file bench.old) (secret_table secret.now protected.items) → RefusedUnlessFailed fault result }
-    ensures opens { (history : List Answered) → B.told → StandsFor (B.file bench.old) secret.now.shape history → IsLegal (secret_table secret.now protected.items) history → StartsUnlessFailed result }
+    ensures cause { (fault : StartFault) → B.told → result ≡ Err fault → StartCause fault (B.file bench.old) (secret_table secret.now protected) }
+    ensures due { (fault : StartFault) → B.told → (GivesUp fault → ⊥) → StartCause fault (B.file bench.old) (secret_table secret.now protected) → RefusedUnlessFailed fault result }
+    ensures opens { (history : List Answered) → B.told → StandsFor (B.file bench.old) secret.now.shape history → IsLegal (secret_table secret.now protected) history → StartsUnlessFailed result }
 
     // Nothing is written and nothing sent.
     ensures reads { OnlyReads B.Bench bench.old bench.new }
@@ -230,7 +229,7 @@ pub fn test_other(
     if agreement(core.history(), list) == list.len() {
         return Ok(());
     }
-    let Ok(protected) = core.protected().to_vec(alloc) else {
+    let Ok(protected) = core.protected().copy(alloc) else {
         return Err(StartFault::NoMemory);
     };
     audited(alloc, secret, protected, list)?;

@@ -1,7 +1,7 @@
 //! The store.
 ghost use Rattle.std.specs.Prelude.{◌≡◌, ◌≢◌, ◌≤◌, ◌+◌, ◌++◌, [], ℕ, List, true, false, length, take, All, IfOk, IfErr, OnOk, OnErr, IsErrOf, Err};
 ghost use Rattle.audit_types.specs.declared.records.Answered.{Answered};
-ghost use Rattle.audit_types.specs.History.{FitsShape, AreProtected, IsLegal, setting_of};
+ghost use Rattle.audit_types.specs.History.{FitsShape, IsPlainFor, IsLegal, setting_of};
 ghost use Rattle.bench_core.specs.Calls.{IsQuiet, LeavesOnly, IsUntouched, OnlyReads, TellsFault};
 ghost use Rattle.journal_form.specs.Journal.{StandsAt, StandsFor};
 ghost use Rattle.answer_journal.specs.Moments.{IsBeforeOrAfter, IsBeforeOrGrown};
@@ -23,7 +23,7 @@ use crate::outcome::StoreFault;
 use crate::starting::{StartFault, recover, recover_other};
 use answer_journal::Journal;
 use audit_core::{Core, Outcome};
-use audit_types::{Answered, Asked, Protected};
+use audit_types::{Answered, Asked, Guard};
 use bench_core::{Bench, Failed};
 use std::alloc::Global;
 use std::marker::Model;
@@ -59,19 +59,19 @@ impl Store {
     pub fn start<B: Bench>(
         alloc: Global,
         secret: Secret,
-        protected: Vec<Protected>,
+        protected: Guard,
         bench: &mut B,
     ) -> Result<Store, StartFault>
-        requires fit { AreProtected secret.shape protected.items }
+        requires fit { IsPlainFor secret.shape protected }
 
         // The store is that of the file's history, which is legal.
-        ensures store { IfOk result (λ store. (store.secret ≡ secret) × (store.protected ≡ protected.items) × (store.usable ≡ true) × IsStore store) }
+        ensures store { IfOk result (λ store. (store.secret ≡ secret) × (store.protected ≡ protected) × (store.usable ≡ true) × IsStore store) }
         ensures stands { B.told → IfOk result (λ store. IsAsLeft (B.file bench.old) store) }
 
         // Each refusal has its cause in the file, and each cause has its refusal; a legal history is never refused.
-        ensures cause { (fault : StartFault) → B.told → result ≡ Err fault → StartCause fault (B.file bench.old) (secret_table secret protected.items) }
-        ensures due { (fault : StartFault) → B.told → (GivesUp fault → ⊥) → StartCause fault (B.file bench.old) (secret_table secret protected.items) → RefusedUnlessFailed fault result }
-        ensures opens { (history : List Answered) → B.told → StandsFor (B.file bench.old) secret.shape history → IsLegal (secret_table secret protected.items) history → StartsUnlessFailed result }
+        ensures cause { (fault : StartFault) → B.told → result ≡ Err fault → StartCause fault (B.file bench.old) (secret_table secret protected) }
+        ensures due { (fault : StartFault) → B.told → (GivesUp fault → ⊥) → StartCause fault (B.file bench.old) (secret_table secret protected) → RefusedUnlessFailed fault result }
+        ensures opens { (history : List Answered) → B.told → StandsFor (B.file bench.old) secret.shape history → IsLegal (secret_table secret protected) history → StartsUnlessFailed result }
 
         // Nothing is written and nothing sent.
         ensures reads { OnlyReads B.Bench bench.old bench.new }
@@ -94,24 +94,24 @@ impl Store {
     pub fn grow<B: Bench>(
         alloc: Global,
         secret: Secret,
-        protected: Vec<Protected>,
+        protected: Guard,
         bench: &mut B,
     ) -> Result<(), GrowFault>
-        requires fit { AreProtected secret.shape protected.items }
+        requires fit { IsPlainFor secret.shape protected }
 
         // Each refusal has its cause in the file, and each cause has its refusal; a history that is legal over all rows is never
         // refused.
-        ensures cause { (fault : GrowFault) → B.told → result ≡ Err fault → GrowCause fault (B.file bench.old) (secret_table secret protected.items) }
-        ensures due { (fault : GrowFault) → B.told → (GivesUpGrowing fault → ⊥) → GrowCause fault (B.file bench.old) (secret_table secret protected.items) → NotGrownUnlessFailed fault result }
-        ensures grows { B.told → CanGrow (B.file bench.old) (secret_table secret protected.items) → GrowsUnlessFailed result }
+        ensures cause { (fault : GrowFault) → B.told → result ≡ Err fault → GrowCause fault (B.file bench.old) (secret_table secret protected) }
+        ensures due { (fault : GrowFault) → B.told → (GivesUpGrowing fault → ⊥) → GrowCause fault (B.file bench.old) (secret_table secret protected) → NotGrownUnlessFailed fault result }
+        ensures grows { B.told → CanGrow (B.file bench.old) (secret_table secret protected) → GrowsUnlessFailed result }
 
         // The file then stands for the history over all rows. A crash at any moment leaves it over the old rows, or over all.
-        ensures done { B.told → OnOk result ((grown : CanGrow (B.file bench.old) (secret_table secret protected.items)) × StandsFor (B.file bench.new) secret.shape (widened secret.shape.rows grown.history)) }
-        ensures any_moment { B.told → IsQuiet B.Bench bench.old → (grown : CanGrow (B.file bench.old) (secret_table secret protected.items))
+        ensures done { B.told → OnOk result ((grown : CanGrow (B.file bench.old) (secret_table secret protected)) × StandsFor (B.file bench.new) secret.shape (widened secret.shape.rows grown.history)) }
+        ensures any_moment { B.told → IsQuiet B.Bench bench.old → (grown : CanGrow (B.file bench.old) (secret_table secret protected))
             → LeavesOnly B.Bench bench.old bench.new (IsBeforeOrGrown (over grown.rows secret.shape) grown.history secret.shape.rows (B.sent bench.old)) }
 
         // If it can't grow, nothing is written, at any moment; nor if memory runs out.
-        ensures untouched { B.told → IsQuiet B.Bench bench.old → (CanGrow (B.file bench.old) (secret_table secret protected.items) → ⊥)
+        ensures untouched { B.told → IsQuiet B.Bench bench.old → (CanGrow (B.file bench.old) (secret_table secret protected) → ⊥)
             → LeavesOnly B.Bench bench.old bench.new (IsUntouched (B.file bench.old) (B.sent bench.old)) }
         ensures kept { OnErr result (result ≢ Err GrowFault.Failed → B.file bench.new ≡ B.file bench.old) }
         ensures quiet { B.told → IsQuiet B.Bench bench.old → result ≢ Err GrowFault.Failed → IsQuiet B.Bench bench.new }
@@ -335,8 +335,8 @@ impl Store {
         &self.secret
     }
 
-    /// The groups whose totals are protected, in order.
-    pub fn protected(&self) -> &[Protected]
+    /// What is guarded of the table.
+    pub fn protected(&self) -> &Guard
         ensures { result.now ≡ self.now.protected }
     {
         self.core.protected()

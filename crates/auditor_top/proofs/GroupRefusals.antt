@@ -1,8 +1,7 @@
 -- What a refusal says if the groups of the schema weren't made ready, and which steps a command takes.
 use Rattle.std.proofs.Common.{◌≡◌, ℕ, Bool, true, false, List, Some, Result, Ok, IsOk, refl, sym, ◌∙◌, ap, subst, rules}
 use Rattle.std.proofs.lemmas.Bool.{true≢false}
-use Rattle.audit_types.specs.History.{Table as Guarded}
-use Rattle.audit_types.specs.declared.records.Protected.{Protected}
+use Rattle.audit_types.specs.History.{Protection, Table as Guarded}
 use Rattle.bench_core.specs.declared.bench.Bench.{Ghosts}
 use Rattle.bench_core.specs.declared.source.Source as source
 use Rattle.schema_json.specs.Columns.{Column, Group, SchemaView}
@@ -12,7 +11,7 @@ use Rattle.table_load.specs.Cells.{PublicView}
 use Rattle.table_load.specs.Database.{Database, table_in}
 use Rattle.table_load.specs.Tables.{table_of, public_of}
 use Rattle.table_load.specs.declared.faults.TableFault.{TableFault}
-use Rattle.set_index.specs.Groups.{AreEntries, IsFirstBad}
+use Rattle.set_index.specs.Groups.{Protects, IsFirstBad}
 use Rattle.set_index.specs.Indexed.{IndexView, OneListOfEntries}
 use Rattle.set_index.specs.declared.index.IndexFault.{IndexFault}
 use Rattle.set_index.specs.declared.index.IndexFault.TheVariants as index
@@ -63,8 +62,8 @@ group_cause : (fault : IndexFault) (columns : List Column) (groups : List Group)
 group_cause (index.BadGroup place) columns groups bad = bad place refl
 group_cause index.NoMemory columns groups bad = tt
 
-pub group_gives_up : OneListOfEntries → (fault : IndexFault) (columns : List Column) (public : PublicView) (groups : List Group) (protected : List Protected) →
-    AreEntries columns public groups protected → ((place : ℕ) → fault ≡ index.BadGroup place → IsFirstBad columns groups place) →
+pub group_gives_up : OneListOfEntries → (fault : IndexFault) (columns : List Column) (public : PublicView) (groups : List Group) (protected : Protection) →
+    Protects columns public groups protected → ((place : ℕ) → fault ≡ index.BadGroup place → IsFirstBad columns groups place) →
     GivesUp (index_status fault)
 group_gives_up law (index.BadGroup place) columns public groups protected entries bad =
     absurd (law.bad columns groups place (bad place refl) (law.sound columns public groups protected entries))

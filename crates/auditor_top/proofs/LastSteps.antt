@@ -8,7 +8,7 @@ use Rattle.schema_json.specs.Reading.{schema_of}
 use Rattle.table_load.specs.Database.{Database, secret_table, table_in}
 use Rattle.table_load.specs.MeaningLaws.{means_read}
 use Rattle.table_load.specs.Tables.{table_of}
-use Rattle.set_index.specs.Groups.{AreEntries}
+use Rattle.set_index.specs.Groups.{Protects}
 use Rattle.set_index.specs.Indexed.{OneListOfEntries}
 use Rattle.auditor_top.specs.declared.words.Command.{Command}
 use Rattle.auditor_top.specs.declared.status.Status.{Status}
@@ -51,12 +51,12 @@ module _ (words : Option Command) (one : Command) (status other : Status) (is_na
   pub file_so : reads_groups one ≡ true → (schema table file : List ℕ) →
       ((base : Database) → AreSoundFilesOf schema table base → FileCause other one file (table_in base)) →
       (asked : Command) → words ≡ Some asked → (base : Database) (files : AreFilesOf schema table base) →
-      OnTrue (reads_groups asked) (AreEntries base.columns base.public files.groups base.protected) → FileCause status asked file (table_in base)
+      OnTrue (reads_groups asked) (Protects base.columns base.public files.groups base.protected) → FileCause status asked file (table_in base)
   file_so grouped schema table file cause asked is_asked base files sound =
       let reads : reads_groups asked ≡ true = ap reads_groups (one_command words asked one is_asked is_named) ∙ grouped in
       named_so (λ (s : Status) (k : Command). FileCause s k file (table_in base)) (cause base (record {
         files = files;
-        entries = subst (λ (b : Bool). OnTrue b (AreEntries base.columns base.public files.groups base.protected)) reads sound;
+        entries = subst (λ (b : Bool). OnTrue b (Protects base.columns base.public files.groups base.protected)) reads sound;
       })) asked is_asked
 
 -- ---- the counts of faults: none changed before the last step

@@ -4,10 +4,10 @@ use Rattle.std.specs.Result.{result_ok}
 use Rattle.std.proofs.Math.Nat.{zero-mul}
 use Rattle.std.proofs.Math.Seq.{take-nil}
 use Rattle.std.proofs.lemmas.List.{append-nil}
+use Rattle.audit_types.specs.History.{Protection}
 use Rattle.audit_types.specs.declared.records.Answered.{Answered}
 use Rattle.audit_types.specs.declared.shapes.Shape.{Shape}
-use Rattle.audit_types.specs.declared.records.Protected.{Protected}
-use Rattle.set_index.specs.Groups.{AreEntries, AreSound}
+use Rattle.set_index.specs.Groups.{Protects, AreSound}
 use Rattle.set_index.specs.Indexed.{OneListOfEntries}
 use Rattle.schema_json.specs.Columns.{Column, Group, SchemaView}
 use Rattle.schema_json.specs.Reading.{schema_of}
@@ -57,10 +57,10 @@ pub one_base : OneListOfEntries → (schema table : List ℕ) (a b : Database) �
 one_base law schema table a b first second =
     let same = same_files schema table a b first.files second.files in
     let kept : a.protected ≡ b.protected = law.one b.columns b.public second.files.groups a.protected b.protected
-    (subst (λ (v : TableView). AreEntries b.columns v.public second.files.groups a.protected) same.1
-    (subst (λ (v : SchemaView). AreEntries v.columns a.public v.groups a.protected) same.0 first.entries)) second.entries in
+    (subst (λ (v : TableView). Protects b.columns v.public second.files.groups a.protected) same.1
+    (subst (λ (v : SchemaView). Protects v.columns a.public v.groups a.protected) same.0 first.entries)) second.entries in
     ap (λ (v : SchemaView). base_of v.columns a.public a.protected a.secret) same.0
-    ∙ ap (λ (v : TableView). base_of b.columns v.public a.protected v.secret) same.1 ∙ ap (λ (p : List Protected). base_of b.columns b.public p b.secret) kept
+    ∙ ap (λ (v : TableView). base_of b.columns v.public a.protected v.secret) same.1 ∙ ap (λ (p : Protection). base_of b.columns b.public p b.secret) kept
 
 -- the file has a history with these secrets, so that is the one that is served
 pub same_given : OneReading → OneListOfEntries → (schema table file : List ℕ) (seen base : Database) (kept history : List Answered) (gate : ℕ)
@@ -87,8 +87,8 @@ table_is_ok {X} {E} meaning schema read asked meant is means also =
     subst (λ (v : SchemaView). IsOk (meaning v.columns)) (same_ok (schema_of schema) read asked is also) (subst (λ (r : Result X E). IsOk r) (sym means) refl)
 
 -- and no group has a fault
-pub groups_are_sound : OneListOfEntries → (schema : List ℕ) (columns : List Column) (public : PublicView) (groups : List Group) (protected : List Protected)
-    (asked : SchemaView) → schema_of schema ≡ Ok (record { columns = columns; groups = groups }) → AreEntries columns public groups protected →
+pub groups_are_sound : OneListOfEntries → (schema : List ℕ) (columns : List Column) (public : PublicView) (groups : List Group) (protected : Protection)
+    (asked : SchemaView) → schema_of schema ≡ Ok (record { columns = columns; groups = groups }) → Protects columns public groups protected →
     schema_of schema ≡ Ok asked → AreSound asked.columns asked.groups
 groups_are_sound law schema columns public groups protected asked is entries also =
     subst (λ (v : SchemaView). AreSound v.columns v.groups) (same_ok (schema_of schema) _ asked is also) (law.sound columns public groups protected entries)

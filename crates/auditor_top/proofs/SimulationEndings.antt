@@ -2,11 +2,10 @@
 use Rattle.std.proofs.Common.{rules, ◌≡◌, ◌≢◌, ℕ, ◌^◌, ◌≤◌, List, [], length, Result, Ok, Err, refl, sym, ◌∙◌, inl, inr, ap, subst, arith, Some, OnOk}
 use Rattle.std.proofs.lemmas.List.{append-nil}
 use Rattle.audit_types.specs.declared.records.Answered.{Answered}
-use Rattle.audit_types.specs.declared.records.Protected.{Protected}
 use Rattle.bench_core.specs.Causes.{Rose}
 use Rattle.schema_json.specs.Columns.{Column, SchemaView}
 use Rattle.schema_json.specs.Reading.{schema_of}
-use Rattle.set_index.specs.Groups.{AreEntries}
+use Rattle.set_index.specs.Groups.{Protects}
 use Rattle.set_index.specs.Indexed.{IndexView, OneListOfEntries}
 use Rattle.table_load.specs.Cells.{PublicView}
 use Rattle.table_load.specs.Tables.{public_of}
@@ -17,7 +16,7 @@ use Rattle.transcript_sim.specs.declared.simulating.SimulationFault.TheVariants 
 use Rattle.transcript_sim.specs.Verdicts.{AreVerdicts}
 use Rattle.transcript_sim.specs.Laws.{FirstLinesHaveVerdicts}
 use Rattle.transcript_sim.specs.Ends.{BeginVerdicts, EndVerdicts, EndSends, EndReads, SimulatesMeanwhile}
-use Rattle.audit_types.specs.History.{Table as Guarded}
+use Rattle.audit_types.specs.History.{Protection, Table as Guarded}
 use Rattle.auditor_top.specs.declared.words.Command.TheVariants as command
 use Rattle.auditor_top.specs.Faults.{simulation_status}
 use Rattle.auditor_top.specs.Ends.{SimulateEnds, SendsLines}
@@ -30,7 +29,7 @@ use Rattle.auditor_top.specs.declared.status.Status.TheVariants.{Done, SourceFau
 use Rattle.auditor_top.specs.Stages.{Before, reading_lines}
 use Rattle.auditor_top.proofs.StepStatuses.{EndsLastStep}
 
-abbrev index_of : PublicView → List Protected → IndexView
+abbrev index_of : PublicView → Protection → IndexView
 index_of public protected = record { public = public; protected = protected }
 
 -- the files mean one schema and one public part, and the entries of its groups are one list
@@ -42,10 +41,10 @@ same_index law schema table opened columns shown index read files =
     let part : shown.public ≡ index.public = same_ok (public_of columns table) shown.public index.public
     (subst (λ (v : SchemaView). public_of v.columns table ≡ Ok shown.public) same read.public_is) files.public_is in
     let kept : shown.protected ≡ index.protected = law.one columns index.public files.groups shown.protected index.protected
-    (subst (λ (p : PublicView). AreEntries columns p files.groups shown.protected) part
-    (subst (λ (v : SchemaView). AreEntries v.columns shown.public v.groups shown.protected) same read.entries)) files.entries in (
+    (subst (λ (p : PublicView). Protects columns p files.groups shown.protected) part
+    (subst (λ (v : SchemaView). Protects v.columns shown.public v.groups shown.protected) same read.entries)) files.entries in (
       ap (λ (v : SchemaView). v.columns) same,
-      ap (λ (p : PublicView). index_of p shown.protected) part ∙ ap (λ (l : List Protected). index_of index.public l) kept,
+      ap (λ (p : PublicView). index_of p shown.protected) part ∙ ap (λ (l : Protection). index_of index.public l) kept,
     )
 
 -- so what is said of what was read is said of what the files mean

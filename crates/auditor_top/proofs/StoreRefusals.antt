@@ -2,9 +2,8 @@
 use Rattle.std.proofs.Common.{rules, ◌≡◌, ℕ, Bool, true, false, List, Result, Ok, Err, IsErrOf, refl, sym, ap, subst}
 use Rattle.std.proofs.lemmas.Bool.{false≢true, true≢false}
 use Rattle.audit_types.specs.declared.records.Answered.{Answered}
-use Rattle.audit_types.specs.History.{IsLegal, Table as Guarded}
+use Rattle.audit_types.specs.History.{Protection, IsLegal, Table as Guarded}
 use Rattle.std.specs.Bool.{OnTrue}
-use Rattle.audit_types.specs.declared.records.Protected.{Protected}
 use Rattle.bench_core.specs.Causes.{Rose}
 use Rattle.bench_core.specs.Calls.{TellsFault}
 use Rattle.bench_core.specs.declared.bench.Bench.{Ghosts}
@@ -15,7 +14,7 @@ use Rattle.table_load.specs.Cells.{TableView}
 use Rattle.table_load.specs.Database.{Database, base_of, secret_table, table_in}
 use Rattle.table_load.specs.MeaningLaws.{read_means}
 use Rattle.table_load.specs.Tables.{table_of}
-use Rattle.set_index.specs.Groups.{AreEntries, IsFirstBad}
+use Rattle.set_index.specs.Groups.{Protects, IsFirstBad}
 use Rattle.set_index.specs.Indexed.{OneListOfEntries}
 use Rattle.set_index.specs.declared.index.IndexFault.{IndexFault}
 use Rattle.set_index.specs.declared.index.IndexFault.TheVariants as index
@@ -102,15 +101,15 @@ module _ {P B : Type 0} (files : source.Ghosts P) (bench : Ghosts B) (law : OneL
   grouped : reads_groups asked ≡ true
   grouped = opens_groups asked (opens_too asked opens)
 
-  abbrev seen : List Protected → Database
+  abbrev seen : Protection → Database
   seen protected = base_of read.columns meant.public protected meant.secret
 
-  sound_files : files.told → (protected : List Protected) → AreEntries read.columns meant.public read.groups protected →
+  sound_files : files.told → (protected : Protection) → Protects read.columns meant.public read.groups protected →
       AreSoundFilesOf (files.left schema) (files.left table) (seen protected)
   sound_files ptold protected entries =
       record { files = record { groups = read.groups; schema_is = schema_is ptold; table_means = read_means _ _ meant (table_is ptold) }; entries = entries }
 
-  pub store_refused : {X : Type 0} (fault : StartFault) (protected : List Protected) → AreEntries read.columns meant.public read.groups protected →
+  pub store_refused : {X : Type 0} (fault : StartFault) (protected : Protection) → Protects read.columns meant.public read.groups protected →
       (bench.told → StartCause fault (bench.file at) (secret_table meant.secret protected) × ((history : List Answered) →
       StandsFor (bench.file at) meant.secret.shape history → IsLegal (secret_table meant.secret protected) history → starting.GivesUp fault)) →
       TellsFault bench at later (IsErrOf {T = X} (Err fault) start.Failed) →
@@ -129,7 +128,7 @@ module _ {P B : Type 0} (files : source.Ghosts P) (bench : Ghosts B) (law : OneL
         file = λ ptold told base given sound.
             let one = one_base law _ _ (seen protected) base (are ptold) (record {
               files = given;
-              entries = subst (λ (b : Bool). OnTrue b (AreEntries base.columns base.public given.groups base.protected)) grouped sound;
+              entries = subst (λ (b : Bool). OnTrue b (Protects base.columns base.public given.groups base.protected)) grouped sound;
             }) in
             subst (λ (b : Database). FileCause status asked (bench.file at) (table_in b)) one
             (says.file asked (bench.file at) (table_in (seen protected)) (refused_so fault asked _ _ opens (cause told).0));
@@ -166,8 +165,8 @@ pub not_started : {P B X : Type 0} (files : source.Ghosts P) (bench : Ghosts B) 
     (schema_is : files.told → schema_of (files.left schema) ≡ Ok read) (table_is : files.told → table_of read.columns (files.left table) ≡ Ok meant)
     (same_schema : files.faults later_schema ≡ files.faults schema) (same_table : files.faults later_table ≡ files.faults table) (fault : NotStarted) →
     ((place : ℕ) → ◌≡◌ {A = Result X NotStarted} (Err fault) (Err (began.Groups (index.BadGroup place))) → IsFirstBad read.columns read.groups place) →
-    ((f : StartFault) → ◌≡◌ {A = Result X NotStarted} (Err fault) (Err (began.Journal f)) → (protected : List Protected) ×
-    AreEntries read.columns meant.public read.groups protected × (bench.told → StartCause f (bench.file at) (secret_table meant.secret protected) ×
+    ((f : StartFault) → ◌≡◌ {A = Result X NotStarted} (Err fault) (Err (began.Journal f)) → (protected : Protection) ×
+    Protects read.columns meant.public read.groups protected × (bench.told → StartCause f (bench.file at) (secret_table meant.secret protected) ×
     ((history : List Answered) → StandsFor (bench.file at) meant.secret.shape history → IsLegal (secret_table meant.secret protected) history →
     starting.GivesUp f))) → TellsFault bench at later (IsErrOf {T = X} (Err fault) (began.Journal start.Failed)) →
     ((f : IndexFault) → ◌≡◌ {A = Result X NotStarted} (Err fault) (Err (began.Groups f)) → later ≡ at) →

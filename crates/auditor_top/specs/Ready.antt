@@ -5,14 +5,14 @@ use Rattle.audit_types.specs.Shapes.{IsShape}
 use Rattle.bench_core.specs.declared.bench.Bench.{Ghosts}
 use Rattle.bench_core.specs.declared.source.Source as source
 use Rattle.std.specs.Bool.{OnTrue}
-use Rattle.audit_types.specs.History.{AreProtected}
+use Rattle.audit_types.specs.History.{IsPlainFor}
 use Rattle.schema_json.specs.Columns.{Column, SchemaView}
 use Rattle.schema_json.specs.Reading.{schema_of, most_schema}
 use Rattle.schema_json.specs.SecretShape.{shape_of}
 use Rattle.schema_json.specs.declared.faults.SchemaFault.TheVariants as schema_fault
 use Rattle.table_load.specs.Cells.{FitsSchema, PublicView}
 use Rattle.table_load.specs.Database.{Database, base_of, table_in}
-use Rattle.set_index.specs.Groups.{AreEntries}
+use Rattle.set_index.specs.Groups.{Protects}
 use Rattle.set_index.specs.Indexed.{IndexView}
 use Rattle.table_load.specs.Reading.{most_table}
 use Rattle.table_load.specs.Tables.{table_of, public_of}
@@ -70,18 +70,18 @@ IsReady bench now (Serve schema index store batch) =
     IsOpened bench now store × FitsSchema schema.columns index.public × (store.secret.shape ≡ shape_of schema.columns index.public.rows) ×
     (index.protected ≡ store.protected)
 IsReady bench now (Twin schema index secret protected batch) =
-    AreProtected secret.shape protected.items × FitsSchema schema.columns index.public × (secret.shape ≡ shape_of schema.columns index.public.rows) ×
-    (index.protected ≡ protected.items)
+    IsPlainFor secret.shape protected × FitsSchema schema.columns index.public × (secret.shape ≡ shape_of schema.columns index.public.rows) ×
+    (index.protected ≡ protected)
 IsReady bench now (Audit schema store) = IsOpened bench now store × (store.secret.shape ≡ shape_of schema.columns store.secret.shape.rows)
 IsReady bench now (Simulate schema index) =
-    FitsSchema schema.columns index.public × AreProtected (shape_of schema.columns index.public.rows) index.protected
+    FitsSchema schema.columns index.public × IsPlainFor (shape_of schema.columns index.public.rows) index.protected
 IsReady bench now (Drill number) = Unit {0}
-IsReady bench now (Grow secret protected) = AreProtected secret.shape protected.items
+IsReady bench now (Grow secret protected) = IsPlainFor secret.shape protected
 IsReady bench now (Explain schema index store) =
     IsOpened bench now store × FitsSchema schema.columns index.public × (store.secret.shape ≡ shape_of schema.columns index.public.rows) ×
     (index.protected ≡ store.protected)
 IsReady bench now (Compact store) = IsOpened bench now store
-IsReady bench now (Restore secret protected) = AreProtected secret.shape protected.items
+IsReady bench now (Restore secret protected) = IsPlainFor secret.shape protected
 
 -- its parts are what the files mean
 abbrev pub IsReadyOver : List ℕ → List ℕ → Ready → Type 0
@@ -94,13 +94,13 @@ IsReadyOver schema_file table_file (Audit schema store) = (public : PublicView) 
 IsReadyOver schema_file table_file (Simulate schema index) = ArePublicFilesOf schema_file table_file schema.columns index
 IsReadyOver schema_file table_file (Drill number) = Unit {0}
 IsReadyOver schema_file table_file (Grow secret protected) =
-    (columns : List Column) × (public : PublicView) × AreSoundFilesOf schema_file table_file (base_of columns public protected.items secret)
+    (columns : List Column) × (public : PublicView) × AreSoundFilesOf schema_file table_file (base_of columns public protected secret)
 IsReadyOver schema_file table_file (Explain schema index store) =
     AreSoundFilesOf schema_file table_file (base_of schema.columns index.public index.protected store.secret)
 IsReadyOver schema_file table_file (Compact store) =
     (columns : List Column) × (public : PublicView) × AreSoundFilesOf schema_file table_file (base_of columns public store.protected store.secret)
 IsReadyOver schema_file table_file (Restore secret protected) =
-    (columns : List Column) × (public : PublicView) × AreSoundFilesOf schema_file table_file (base_of columns public protected.items secret)
+    (columns : List Column) × (public : PublicView) × AreSoundFilesOf schema_file table_file (base_of columns public protected secret)
 
 -- ---- the statuses
 
@@ -140,7 +140,7 @@ pub record Refuses {P B : Type 0} (files : source.Ghosts P) (bench : Ghosts B) (
   pub groups : files.told → reads_groups asked ≡ true → (meant : SchemaView) → schema_of (files.left old_schema) ≡ Ok meant →
       GroupCause status meant.columns meant.groups
   pub file : files.told → bench.told → (base : Database) → (given : AreFilesOf (files.left old_schema) (files.left old_table) base) →
-      OnTrue (reads_groups asked) (AreEntries base.columns base.public given.groups base.protected) → FileCause status asked (bench.file old) (table_in base)
+      OnTrue (reads_groups asked) (Protects base.columns base.public given.groups base.protected) → FileCause status asked (bench.file old) (table_in base)
   pub own_schema_fault : status ≢ BadSchema schema_fault.NoMemory
   pub own_table_fault : status ≢ BadTable table_fault.NoMemory
   pub schema_within : files.told → status ≡ SourceFault Schema → length (files.left old_schema) ≤ most_schema + length (files.left new_schema)

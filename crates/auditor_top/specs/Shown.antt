@@ -6,7 +6,7 @@
 use Rattle.std.specs.Prelude.{◌≡◌, ◌↔◌, ℕ, ◌<◌, ℤ, List, map}
 use Rattle.audit_types.specs.declared.records.Answered.{Answered}
 use Rattle.audit_types.specs.Shapes.{columns}
-use Rattle.audit_types.specs.Column.{IsGuarded}
+use Rattle.audit_types.specs.Column.{AreOwn, IsGuarded}
 use Rattle.audit_types.specs.History.{IsLegal, known_of, list_of}
 use Rattle.table_load.specs.Database.{Database, AreTwins, table_in}
 use Rattle.line_wire.specs.Lines.{CountedLine}
@@ -43,8 +43,8 @@ pub record AreShownAlike (base other : Database) (history : List Answered) : Typ
 
 -- other secrets, which differ in this of a column, lead the same life, byte for byte, which keeps the promise of them too, so that `audit`
 -- takes its journal; and wherever it stands the same is shown of them
-pub record TellsNothingMore (base : Database) (runs : List Run) (last : Standing) (column : ℕ) (value : List ℤ → ℤ) : Type 0 where
-  pub twin : HasTwinLife base runs last column value (list_of last.base.secret.lists column)
+pub record TellsNothingMore (base : Database) (runs : List Run) (last : Standing) (own : List ℕ) (column : ℕ) (value : List ℤ → ℤ) : Type 0 where
+  pub twin : HasTwinLife base runs last own column value (list_of last.base.secret.lists column)
   pub keeps : KeepsPromise (with_secrets twin.lists base) (map (run_with twin.lists) runs) (standing_with twin.lists last)
   pub alike : (at : Standing) → AreShownAlike at.base (with_secrets twin.lists at.base) at.history
 
@@ -58,9 +58,10 @@ TwinsHaveOneReport =
     (base other : Database) (history : List Answered) (before after sent : List ℕ) → AreTwins base other → IsLegal (table_in base) history →
     AuditEnds Done base history before after → AuditEnds Done other history before sent → sent ≡ after
 
--- every life whose last table is that of two files tells nothing more of any number there, or total that is protected there
+-- every life whose last table is that of two files tells no asker more of what is guarded there from her
 abbrev pub LivesTellNothingMore : Type 0
 LivesTellNothingMore =
-    (schema table : List ℕ) (base : Database) (runs : List Run) (last : Standing) (column : ℕ) (value : List ℤ → ℤ) →
+    (schema table : List ℕ) (base : Database) (runs : List Run) (last : Standing) (column : ℕ) (own : List ℕ) (value : List ℤ → ℤ) →
     AreSoundFilesOf schema table last.base → IsLife base runs last → column < columns last.base.secret.shape →
-    IsGuarded (known_of (table_in last.base).setting (history_over last.base last) column) value → TellsNothingMore base runs last column value
+    AreOwn (known_of (table_in last.base).setting (history_over last.base last) column) own →
+    IsGuarded (known_of (table_in last.base).setting (history_over last.base last) column) own value → TellsNothingMore base runs last own column value

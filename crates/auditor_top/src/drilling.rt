@@ -2,7 +2,8 @@
 ghost use Rattle.std.specs.Prelude.{◌≡◌, ◌≢◌, ◌≤◌, ◌+◌, [], List, ℕ, true, Some, length, take, IfOk, OnOk};
 ghost use Rattle.audit_types.specs.Shapes.{IsShape};
 ghost use Rattle.audit_types.specs.declared.records.Answered.{Answered};
-ghost use Rattle.audit_types.specs.History.{Table as Guarded};
+ghost use Rattle.audit_types.specs.Limits.{most_width};
+ghost use Rattle.audit_types.specs.History.{Table as Guarded, against_outsiders};
 ghost use Rattle.schema_json.specs.SecretShape.{shape_of};
 ghost use Rattle.table_load.specs.Cells.{FitsSchema};
 ghost use Rattle.table_load.specs.Database.{base_of};
@@ -24,7 +25,7 @@ use crate::status::Status;
 use answer_journal::{Journal, MakeFault};
 use audit_session::EndFault;
 use audit_store::{StartFault, Store};
-use audit_types::{NoMemory, Shape};
+use audit_types::{Guard, NoMemory, Shape};
 use bench_core::{Bench, Failed, MemoryBench, Room, SteadySource};
 use drill_case::laws::lines_of_replies;
 use drill_case::{drill_lines, drill_schema, drill_table, summary, tally};
@@ -94,14 +95,14 @@ fn answer(
     bench: &mut MemoryBench,
 ) -> Result<(), NoMemory>
     requires fits { FitsSchema schema.now.columns index.now.public }
-    requires none { index.now.protected ≡ [] }
+    requires none { index.now.protected ≡ against_outsiders [] [] most_width }
     requires shape { secret.shape ≡ shape_of schema.now.columns index.now.public.rows }
     requires stands { StandsFor (file_of bench.old) secret.shape [] }
     requires short { length lines.items ≤ 60000 }
     ensures { OnOk result ((last : List Answered) × Serves (base_of schema.now.columns index.now.public index.now.protected secret) [] (counted_lines lines.items) last (sent_of bench.old) (sent_of bench.new)) }
 {
     journal_form::laws::one_reading();
-    match Store::start(alloc, secret, Vec::new(alloc), bench) {
+    match Store::start(alloc, secret, Guard::new(Vec::new(alloc)), bench) {
         Ok(mut store) => answer_over(alloc, schema, index, &mut store, lines, bench),
         Err(fault) => match fault {
             StartFault::Failed | StartFault::NoMemory => Err(NoMemory),
@@ -121,7 +122,7 @@ fn answer_lines(
 ) -> Result<(), NoMemory>
     requires columns { schema.now.columns ≡ drill_columns }
     requires public { index.now.public ≡ drill_public number }
-    requires none { index.now.protected ≡ [] }
+    requires none { index.now.protected ≡ against_outsiders [] [] most_width }
     requires secret { secret ≡ drill_secret number }
     requires fits { FitsSchema schema.now.columns index.now.public }
     requires empty { file_of bench.old ≡ [] }

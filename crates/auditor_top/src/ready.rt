@@ -1,6 +1,6 @@
 //! What each command goes on with: its files are read, and its journal is opened.
 ghost use Rattle.std.specs.Prelude.{◌≡◌, ◌≤◌, ◌+◌, true, false, IfOk, IfErr, IsOk, OnOk};
-ghost use Rattle.audit_types.specs.History.{AreProtected};
+ghost use Rattle.audit_types.specs.History.{IsPlainFor};
 ghost use Rattle.bench_core.specs.Calls.{OnlyReads};
 ghost use Rattle.schema_json.specs.SecretShape.{shape_of};
 ghost use Rattle.table_load.specs.Cells.{FitsSchema};
@@ -13,7 +13,7 @@ use crate::starting::{ReadyTable, Started, make_ready, start};
 use crate::status::Status;
 use crate::words::Command;
 use audit_store::Store;
-use audit_types::{Protected, Shape};
+use audit_types::{Guard, Shape};
 use bench_core::{Bench, Source};
 use schema_json::Schema;
 use set_index::{Index, groups_of_a_schema};
@@ -25,14 +25,14 @@ use table_load::Secret;
 pub enum Ready {
     Init(Shape),
     Serve(Schema, Index, Store, u8),
-    Twin(Schema, Index, Secret, Vec<Protected>, u8),
+    Twin(Schema, Index, Secret, Guard, u8),
     Audit(Schema, Store),
     Simulate(Schema, Index),
     Drill(u32),
-    Grow(Secret, Vec<Protected>),
+    Grow(Secret, Guard),
     Explain(Schema, Index, Store),
     Compact(Store),
-    Restore(Secret, Vec<Protected>),
+    Restore(Secret, Guard),
 }
 
 // Reads the files of a command that stands on a store, makes the groups ready, and opens the journal.
@@ -78,11 +78,11 @@ fn open_groups<P: Source, B: Bench>(
 
     // What is made ready is that of the files.
     ensures over { P.told → IfOk result (λ made. AreSoundFilesOf (P.left schema.old) (P.left table.old)
-        (base_of made.schema.columns made.index.public made.protected.items made.secret)) }
-    ensures fit { IfOk result (λ made. AreProtected made.secret.shape made.protected.items) }
+        (base_of made.schema.columns made.index.public made.protected made.secret)) }
+    ensures fit { IfOk result (λ made. IsPlainFor made.secret.shape made.protected) }
     ensures fits { IfOk result (λ made. FitsSchema made.schema.columns made.index.public) }
     ensures shape { IfOk result (λ made. made.secret.shape ≡ shape_of made.schema.columns made.index.public.rows) }
-    ensures entries { IfOk result (λ made. made.index.protected ≡ made.protected.items) }
+    ensures entries { IfOk result (λ made. made.index.protected ≡ made.protected) }
     ensures steady { OnOk result ((P.faults schema.new ≡ P.faults schema.old) × (P.faults table.new ≡ P.faults table.old)) }
 
     // A refusal has its cause.

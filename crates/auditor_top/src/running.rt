@@ -6,7 +6,7 @@ ghost use Rattle.schema_json.specs.Columns.{SchemaView};
 ghost use Rattle.schema_json.specs.Reading.{schema_of, most_schema};
 ghost use Rattle.table_load.specs.Reading.{most_table};
 ghost use Rattle.table_load.specs.Database.{Database, table_in};
-ghost use Rattle.set_index.specs.Groups.{AreEntries};
+ghost use Rattle.set_index.specs.Groups.{Protects};
 ghost use Rattle.std.specs.Bool.{OnTrue};
 ghost use Rattle.table_load.specs.Tables.{table_of, public_of};
 ghost use Rattle.journal_form.specs.Journal.{StandsFor};
@@ -65,7 +65,7 @@ pub fn run<P: Source, I: Source, B: Bench>(
     ensures own_table_fault { result ≢ Status.BadTable TableFault.NoMemory }
     ensures file { P.told → B.told → (command : Command) → NamesCommand words.now.items command
         → (base : Database) → (files : AreFilesOf (P.left schema.old) (P.left table.old) base)
-        → OnTrue (reads_groups command) (AreEntries base.columns base.public files.groups base.protected) → FileCause result command (B.file bench.old) (table_in base) }
+        → OnTrue (reads_groups command) (Protects base.columns base.public files.groups base.protected) → FileCause result command (B.file bench.old) (table_in base) }
     ensures spare_file { B.told → (command : Command) → NamesCommand words.now.items command → calls_spare command ≡ true → SpareCause result command (B.file spare.old) }
     ensures input { I.told → (command : Command) → NamesCommand words.now.items command → reads_lines command ≡ true → InputCause result (I.left input.old) (I.left input.new) }
 

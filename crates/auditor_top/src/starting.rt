@@ -1,8 +1,7 @@
 //! What every command over a journal stands on, besides the files: the schema's groups are ready, and the journal is open.
 ghost use Rattle.std.specs.Prelude.{◌≡◌, ◌+◌, ℕ, List, true, IfOk, OnOk, IsErrOf, Err};
 ghost use Rattle.audit_types.specs.declared.records.Answered.{Answered};
-ghost use Rattle.audit_types.specs.declared.records.Protected.{Protected as Entry};
-ghost use Rattle.audit_types.specs.History.{IsLegal, AreProtected};
+ghost use Rattle.audit_types.specs.History.{Protection, IsLegal, IsPlainFor};
 ghost use Rattle.bench_core.specs.Calls.{OnlyReads, TellsFault};
 ghost use Rattle.schema_json.specs.SecretShape.{shape_of};
 ghost use Rattle.table_load.specs.Cells.{FitsSchema};
@@ -10,13 +9,13 @@ ghost use Rattle.table_load.specs.Database.{secret_table};
 ghost use Rattle.journal_form.specs.Journal.{StandsFor};
 ghost use Rattle.audit_store.specs.Starting.{StartCause, GivesUp};
 ghost use Rattle.audit_store.specs.Stores.{IsStore, IsAsLeft};
-ghost use Rattle.set_index.specs.Groups.{AreEntries, IsFirstBad};
+ghost use Rattle.set_index.specs.Groups.{Protects, IsFirstBad};
 ghost use Rattle.set_index.specs.declared.index.IndexFault.{IndexFault};
 ghost use Rattle.audit_store.specs.declared.starting.StartFault.{StartFault};
 
 use crate::opening::Opened;
 use audit_store::{StartFault, Store};
-use audit_types::{NoMemory, Protected};
+use audit_types::Guard;
 use bench_core::Bench;
 use schema_json::Schema;
 use set_index::{Index, IndexFault, groups_of_a_schema};
@@ -31,13 +30,13 @@ pub struct Started {
     pub store: Store,
 }
 
-/// The schema of a table, its public part, ready to be asked, its secrets, and the entries of the groups that are protected of them.
+/// The schema of a table, its public part, ready to be asked, its secrets, and what is guarded of them.
 #[derive(Drop)]
 pub struct ReadyTable {
     pub schema: Schema,
     pub index: Index,
     pub secret: Secret,
-    pub protected: Vec<Protected>,
+    pub protected: Guard,
 }
 
 /// Why no store was started over a table.
@@ -49,24 +48,13 @@ pub enum NotStarted {
     Journal(StartFault),
 }
 
-// The same groups in a list of their own.
-fn copied(alloc: Global, groups: &[Protected]) -> Result<Vec<Protected>, NoMemory>
-    ensures { IfOk result (λ copy. copy.items ≡ groups.now) }
-{
-    let mut copy = Vec::new(alloc);
-    match copy.extend_from_slice(groups) {
-        Ok(()) => Ok(copy),
-        Err(_) => Err(NoMemory),
-    }
-}
-
 /// Makes the groups of a table's schema ready.
 pub fn make_ready(alloc: Global, opened: Opened) -> Result<ReadyTable, IndexFault>
     requires fits { FitsSchema opened.schema.columns opened.table.public }
     ensures same { IfOk result (λ made. (made.schema ≡ opened.schema) × (made.index.public ≡ opened.table.public) × (made.secret ≡ opened.table.secret)
-        × (made.index.protected ≡ made.protected.items)) }
-    ensures fit { IfOk result (λ made. AreProtected (shape_of opened.schema.columns opened.table.public.rows) made.protected.items) }
-    ensures entries { IfOk result (λ made. AreEntries opened.schema.columns opened.table.public opened.schema.groups made.protected.items) }
+        × (made.index.protected ≡ made.protected)) }
+    ensures fit { IfOk result (λ made. IsPlainFor (shape_of opened.schema.columns opened.table.public.rows) made.protected) }
+    ensures entries { IfOk result (λ made. Protects opened.schema.columns opened.table.public opened.schema.groups made.protected) }
     ensures bad { (place : ℕ) → result ≡ Err (IndexFault.BadGroup place) → IsFirstBad opened.schema.columns opened.schema.groups place }
 {
     let Opened { schema, table } = opened;
@@ -75,7 +63,7 @@ pub fn make_ready(alloc: Global, opened: Opened) -> Result<ReadyTable, IndexFaul
         Ok(index) => index,
         Err(fault) => return Err(fault),
     };
-    match copied(alloc, index.protected()) {
+    match index.protected().copy(alloc) {
         Ok(protected) => Ok(ReadyTable {
             schema,
             index,
@@ -93,14 +81,14 @@ pub fn start<B: Bench>(alloc: Global, opened: Opened, bench: &mut B) -> Result<S
 
     ensures same { IfOk result (λ started. (started.schema ≡ opened.schema) × (started.index.public ≡ opened.table.public) × (started.store.secret ≡ opened.table.secret)
         × (started.index.protected ≡ started.store.protected)) }
-    ensures entries { IfOk result (λ started. AreEntries opened.schema.columns opened.table.public opened.schema.groups started.store.protected) }
+    ensures entries { IfOk result (λ started. Protects opened.schema.columns opened.table.public opened.schema.groups started.store.protected) }
     ensures store { IfOk result (λ started. (started.store.usable ≡ true) × IsStore started.store) }
     ensures stands { B.told → IfOk result (λ started. IsAsLeft (B.file bench.old) started.store) }
 
     // A refusal has its cause in the groups, or over groups without fault in the file; a legal history isn't refused.
     ensures bad { (place : ℕ) → result ≡ Err (NotStarted.Groups (IndexFault.BadGroup place)) → IsFirstBad opened.schema.columns opened.schema.groups place }
-    ensures cause { (fault : StartFault) → result ≡ Err (NotStarted.Journal fault) → (protected : List Entry)
-        × AreEntries opened.schema.columns opened.table.public opened.schema.groups protected
+    ensures cause { (fault : StartFault) → result ≡ Err (NotStarted.Journal fault) → (protected : Protection)
+        × Protects opened.schema.columns opened.table.public opened.schema.groups protected
         × (B.told → StartCause fault (B.file bench.old) (secret_table opened.table.secret protected)
         × ((history : List Answered) → StandsFor (B.file bench.old) opened.table.secret.shape history → IsLegal (secret_table opened.table.secret protected) history → GivesUp fault)) }
 

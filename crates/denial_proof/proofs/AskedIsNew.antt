@@ -1,22 +1,24 @@
 -- The set of a sum that is dangerous after a legal history lies outside the span of the column's sets: a legal history pins no row
 -- and fixes no protected total, and a set of the span would change neither.
-use Rattle.std.proofs.Common.{◌≡◌, ℕ, zero, suc, ◌+◌, ◌<◌, ◌≤◌, ℤ, pos, List, [], ◌∷◌, ◌++◌, map, length, take, sym, ap, ◌∙◌, subst, arith, inl, inr, add-one}
+use Rattle.std.proofs.Common.{◌≡◌, ◌≢◌, ℕ, zero, suc, ◌+◌, ◌<◌, ◌≤◌, ℤ, pos, List, [], ◌∷◌, ◌++◌, map, length, take, refl, sym, ap, ◌∙◌, subst, arith, inl, inr, add-one}
 use Rattle.std.specs.Prelude.{All, Contains}
 use Rattle.std.specs.List.{AllByRecursion}
 use Rattle.std.proofs.lemmas.List.{map-append, take_all, take_more}
+use Rattle.std.proofs.lemmas.List.Elements.{All-weaker}
 use Rattle.std.proofs.lemmas.Option.{slice_get_cases}
 use Rattle.audit_types.specs.declared.records.Answered.{Answered}
-use Rattle.audit_types.specs.declared.shapes.Kind.{Kind}
 use Rattle.audit_types.specs.declared.shapes.Kind.TheVariants.{Sum}
-use Rattle.audit_types.specs.Rows.{AreRows}
+use Rattle.audit_types.specs.Rows.{AreRows, has_row}
 use Rattle.audit_types.specs.Shapes.{columns, kind_at}
 use Rattle.audit_types.specs.Truth.{sum_over}
 use Rattle.audit_types.specs.Form.{set_row, InSpan}
 use Rattle.audit_types.specs.Column.{Agrees, IsDangerous, known_sum, total, with_groups}
-use Rattle.audit_types.specs.History.{Table, AreSecrets, AreProtected, AgreeWithHistory, IsLegal, answers_of, groups_of, known_of, list_of}
+use Rattle.audit_types.specs.History.{Table, Protection, AreSecrets, IsPlainFor, AgreeWithHistory, IsLegal, answers_of, groups_of, known_of, list_of}
 use Rattle.audit_types.specs.Laws.{TrueAnswersKeepAgreement}
 use Rattle.audit_types.specs.ListLaws.{all-get_or, all-push, all-weaker}
+use Rattle.audit_types.specs.PlainLaws.{some_row}
 use Rattle.audit_core.specs.Laws.{LegalIsUndisclosed, LegalPinsNothing}
+use Rattle.audit_core.specs.PlainColumns.{plain_sums, plain_danger}
 use Rattle.sum_audit.specs.Laws.{FixedTotalsBySpan, DangerousByPins}
 use Rattle.sum_basis.specs.Spans.{span_trans}
 use Rattle.denial_proof.proofs.KeptIndependent.{span_first, span_more}
@@ -39,7 +41,7 @@ pub record LegalLaws : Type 0 where
   pub fixed : FixedTotalsBySpan
   pub dangerous : DangerousByPins
 
-module _ (laws : LegalLaws) (table : Table) (history : List Answered) (secrets : AreSecrets table.setting.shape table.secrets) (protected : AreProtected table.setting.shape table.setting.protected)
+module _ (laws : LegalLaws) (table : Table) (history : List Answered) (secrets : AreSecrets table.setting.shape table.secrets) (protected : IsPlainFor table.setting.shape table.setting.protected)
     (legal : IsLegal table history) where
   -- the table's own secrets agree with each front of the history
   front_agrees : (i : ℕ) → i ≤ length history → AgreeWithHistory table.setting (take i history) table.secrets
@@ -62,9 +64,7 @@ module _ (laws : LegalLaws) (table : Table) (history : List Answered) (secrets :
     -- what agrees with the history on a column of sums
     as_sums : (w : List ℤ) → Agrees (known_of table.setting history column) w → Agrees (known_sum table.setting.shape.rows (answers_of column history)) w
     as_sums w agrees =
-        let AgreesAs : Kind → Type 0
-        = λ kind. Agrees (record { kind = kind; n = table.setting.shape.rows; answers = answers_of column history; groups = groups_of column table.setting.protected }) w in
-        let of_sums = subst AgreesAs sums agrees in
+        let of_sums = subst (λ known. Agrees known w) (plain_sums table.setting history column protected.1 sums) agrees in
         record { one_each = of_sums.one_each; same = of_sums.same }
 
     pub own_agrees : Agrees (known_sum table.setting.shape.rows (answers_of column history)) (list_of table.secrets column)
@@ -74,26 +74,29 @@ module _ (laws : LegalLaws) (table : Table) (history : List Answered) (secrets :
 
     module _ (are : AllByRecursion (AreRows table.setting.shape.rows) (map (λ a. a.rows) (answers_of column history))) where
       -- no protected total is fixed
-      pub group_open : (group : List ℕ) → Contains (groups_of column table.setting.protected) group → AreRows table.setting.shape.rows group →
+      pub group_open : (group : List ℕ) → Contains (groups_of column table.setting.protected.groups) group → AreRows table.setting.shape.rows group → group ≢ [] →
           ¬ (InSpan (map (set_row table.setting.shape.rows) (map (λ a. a.rows) (answers_of column history))) (set_row table.setting.shape.rows group))
-      group_open group guarded rows span =
-          let twin = laws.undisclosed table history secrets protected legal column (λ w. sum_over w group) below (total group guarded) in
+      group_open group guarded rows some span =
+          let hit = some_row group some in
+          let twin = laws.undisclosed table history secrets protected.0 legal column [] (λ w. sum_over w group) below (tt, omega arith, tt) (total group hit.0 guarded hit.1 refl) in
           let fixed = (laws.fixed table.setting.shape.rows (answers_of column history) group are rows (list_of table.secrets column, own_agrees)).1 span in
           twin.differs (fixed (list_of twin.twin column) (list_of table.secrets column) (as_sums (list_of twin.twin column) (twin.agree column below)) own_agrees)
 
-      pub asked_new : (rows : List ℕ) → AreRows table.setting.shape.rows rows → All (AreRows table.setting.shape.rows) (groups_of column table.setting.protected) →
+      pub asked_new : (rows : List ℕ) → AreRows table.setting.shape.rows rows → All (λ group. AreRows table.setting.shape.rows group × (group ≢ [])) (groups_of column table.setting.protected.groups) →
           IsDangerous (known_of table.setting history column) rows →
           ¬ (InSpan (map (set_row table.setting.shape.rows) (map (λ a. a.rows) (answers_of column history))) (set_row table.setting.shape.rows rows))
       asked_new rows own groups danger span =
           let n = table.setting.shape.rows in
           let answers = answers_of column history in
           let sets : List (List ℕ) = map (λ a. a.rows) answers in
-          let DangerousAs : Kind → Type 0 = λ kind. IsDangerous (record { kind = kind; n = n; answers = answers; groups = groups_of column table.setting.protected }) rows in
-          let of_sums : IsDangerous (with_groups (known_sum n answers) (groups_of column table.setting.protected)) rows = subst DangerousAs sums danger in
+          let groups_are = groups_of column table.setting.protected.groups in
+          let known = with_groups (known_sum n answers) groups_are in
+          let of_sums : IsDangerous known rows = subst (λ k. IsDangerous k rows) (plain_sums table.setting history column protected.1 sums) danger in
           let with_asked = all-push (AreRows n) sets rows are own in
-          elim ((laws.dangerous n answers (groups_of column table.setting.protected) rows with_asked groups (list_of table.secrets column, own_agrees)).0 of_sums) [
+          let group_rows = All-weaker (λ group. AreRows n group × (group ≢ [])) (AreRows n) (λ group is. is.0) groups_are groups in
+          elim (plain_danger known (sets ++ rows ∷ []) refl refl ((laws.dangerous n answers [] [] groups_are 0 rows with_asked group_rows (list_of table.secrets column, own_agrees)).0 of_sums)) [
             | inl (i, pinned) ↦
-                laws.pins_nothing table history column i secrets protected legal below sums (record {
+                laws.pins_nothing table history column i secrets protected.0 legal below sums (ap (λ (p : Protection). has_row p.shared i) protected.1) (record {
                   below = pinned.below;
                   still = λ d direction. pinned.still d (record {
                     one_each = direction.one_each;
@@ -101,9 +104,9 @@ module _ (laws : LegalLaws) (table : Table) (history : List Answered) (secrets :
                   });
                 })
             | inr (group, guarded, spanned) ↦
-                let rows_of_group : AreRows n group = in_all (AreRows n) (groups_of column table.setting.protected) group groups guarded in
+                let of_group = in_all (λ group. AreRows n group × (group ≢ [])) groups_are group groups guarded in
                 let whole : map (set_row n) (sets ++ rows ∷ []) ≡ map (set_row n) sets ++ set_row n rows ∷ [] = map-append (set_row n) sets (rows ∷ []) in
-                group_open group guarded rows_of_group
+                group_open group guarded of_group.0 of_group.1
                 (span_with (map (set_row n) sets) (set_row n rows) (set_row n group) span (subst (λ (all : List (List ℤ)). InSpan all (set_row n group)) whole spanned))
           ]
         where

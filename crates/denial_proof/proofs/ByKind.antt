@@ -14,16 +14,16 @@ use Rattle.denial_proof.specs.Certificates.{IsProof}
 use Rattle.denial_proof.specs.Canonical.{IsSumProof, IsMaxProof, IsCanonical, IsSumTooWide, IsTooWide}
 
 module _ (setting : Setting) (history : List Answered) (asked : Asked) (n : ℕ) (records : List Answered) (same_n : n ≡ setting.shape.rows) (same : records ≡ history) where
-  module _ (entries : List Protected) (same_entries : entries ≡ setting.protected) where
+  module _ (entries : List Protected) (same_entries : entries ≡ setting.protected.groups) where
     -- what holds of the column's rows, the lent records and the lent entries, holds of those of the table
-    pub of_table : (P : ℕ → List Answered → List Protected → Type 0) → P n records entries → P setting.shape.rows history setting.protected
-    of_table P holds = subst (λ k. P k history setting.protected) same_n (subst (λ list. P n list setting.protected) same (subst (P n records) same_entries holds))
+    pub of_table : (P : ℕ → List Answered → List Protected → Type 0) → P n records entries → P setting.shape.rows history setting.protected.groups
+    of_table P holds = subst (λ k. P k history setting.protected.groups) same_n (subst (λ list. P n list setting.protected.groups) same (subst (P n records) same_entries holds))
 
-    pub of_column : (P : ℕ → List Answered → List Protected → Type 0) → P setting.shape.rows history setting.protected → P n records entries
+    pub of_column : (P : ℕ → List Answered → List Protected → Type 0) → P setting.shape.rows history setting.protected.groups → P n records entries
     of_column P holds = subst (λ k. P k records entries) (sym same_n) (subst (λ list. P setting.shape.rows list entries) (sym same) (subst (P setting.shape.rows history) (sym same_entries) holds))
 
     module _ (sums : kind_at setting.shape asked.column ≡ kind.Sum) where
-      by_sum : (result : Result Proof ProveFault) → IfOk result (IsSumProof setting.shape.rows history setting.protected asked) →
+      by_sum : (result : Result Proof ProveFault) → IfOk result (IsSumProof setting.shape.rows history setting.protected.groups asked) →
           IfOk result (IsCanonical setting history asked) × IfOk result (IsProof setting history asked)
       by_sum (Ok (Sum target times terms own)) is = ((sums, is.0), (sums, is.1))
       by_sum (Ok (Max answer row place high)) is = absurd is

@@ -109,7 +109,7 @@ module _ (n : ℕ) (answers : List Answer) (rows : List ℕ) (list : List ℤ) (
       IsLeastLone (and_answer answers rows answer) (Some row) → IsFirstAnswer (known_max n answers) rows answer
   first_found i answer row below is none possible least = record {
     candidate = (are.each answer).0 (i, below, is);
-    leaves = record { possible = possible; row = row; lone = least.0 };
+    leaves = record { possible = possible; row = row; lone = least.0; own = refl };
     least = λ other candidate less leaves.
         let found = (are.each other).1 candidate in
         let here = at_place i answer below is in

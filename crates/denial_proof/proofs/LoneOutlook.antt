@@ -1,7 +1,6 @@
 -- What an outlook rules out leaves no lone row: an answer that is possible and leaves one passes.
-use Rattle.std.proofs.Common.{◌≡◌, ℕ, ◌<◌, ◌^◌, true, ℤ, pos, List, [], ◌∷◌, length, Option, Some, None, sym, ap, ◌∙◌, subst, arith, inl, inr, ◌⊎◌}
+use Rattle.std.proofs.Common.{◌≡◌, ℕ, ◌<◌, true, ℤ, List, [], ◌∷◌, length, Option, Some, None, sym, ◌∙◌, subst, arith, inl, inr, ◌⊎◌}
 use Rattle.std.specs.Prelude.{◌<ℤ◌, ◌≤ℤ◌, IsTrue}
-use Rattle.std.specs.List.{AllByRecursion}
 use Rattle.std.proofs.lemmas.Bool.{true≢false}
 use Rattle.std.proofs.lemmas.Int.{ints, by_lt_z}
 use Rattle.audit_types.specs.Rows.{has_row}
@@ -14,7 +13,7 @@ use Rattle.max_bounds.specs.OneMoreLaws.{IsAtLeast, asked, with_asked, lower_kee
 use Rattle.max_bounds.specs.Outside.{outside}
 use Rattle.max_bounds.specs.RowListLaws.{first_or_later, some_row}
 use Rattle.denial_proof.specs.declared.outlook.Outlook.{Outlook}
-use Rattle.denial_proof.specs.Outlook.{reach_of, HasTwoOutside, HaveTwoReached, IsOutlook, MayLeaveOne}
+use Rattle.denial_proof.specs.Outlook.{reach_of, HasTwoOutside, IsOutlook, MayLeaveOne}
 
 -- the row of a list of one row
 only_row : (row r : ℕ) → has_row (row ∷ []) r ≡ true → row ≡ r

@@ -5,6 +5,7 @@ use Rattle.std.proofs.lemmas.List.{length-map, get_or-map, take-append-le, take_
 use Rattle.std.proofs.Math.Nat.{one-dvd}
 use Rattle.audit_types.specs.declared.records.Answered.{Answered}
 use Rattle.denial_proof.specs.Weights.{rows_at}
+use Rattle.audit_types.specs.Limits.{most_width}
 use Rattle.audit_types.specs.Form.{IsReducedForm, IsNarrow}
 use Rattle.audit_types.specs.Rows.{Rows}
 use Rattle.sum_basis.specs.Basis.{Echelon}
@@ -54,11 +55,11 @@ front_step Q n history places k r form l within is same_n form_n reduced next =
 -- ---- fronts that aren't wide
 
 -- no rows have a narrow form
-narrow_nil : IsNarrow []
+narrow_nil : IsNarrow most_width []
 narrow_nil = record { entries = tt; common = 1; common_is = record { multiple = tt; least = λ k all. one-dvd k }; common_small = omega arith }
 
-no_wide_form : FormsAreUnique → (n : ℕ) (rows form : List (List ℤ)) → IsReducedForm n rows form → IsNarrow form → ¬ (HasWideFormOf n rows)
-no_wide_form unique n rows form reduced narrow (other, is, wide) = wide (subst IsNarrow (unique n rows form other reduced is) narrow)
+no_wide_form : FormsAreUnique → (n : ℕ) (rows form : List (List ℤ)) → IsReducedForm n rows form → IsNarrow most_width form → ¬ (HasWideFormOf n rows)
+no_wide_form unique n rows form reduced narrow (other, is, wide) = wide (subst (IsNarrow most_width) (unique n rows form other reduced is) narrow)
 
 pub no_wide_front : FormsAreUnique → (n : ℕ) (rows : List (List ℤ)) → ¬ (HasWideFront n (take 0 rows))
 no_wide_front unique n rows (k, most, wide) =
@@ -79,7 +80,7 @@ wide_front_push n rows row (k, most, wide) =
 pub wide_front_whole : (n : ℕ) (rows : List (List ℤ)) → HasWideFormOf n rows → HasWideFront n rows
 wide_front_whole n rows wide = (length rows, omega arith, subst (HasWideFormOf n) (sym (take_all (length rows) rows (omega arith))) wide)
 
-pub narrow_push : FormsAreUnique → (n : ℕ) (rows : List (List ℤ)) (row : List ℤ) (form : List (List ℤ)) → ¬ (HasWideFront n rows) → IsReducedForm n (rows ++ row ∷ []) form → IsNarrow form →
+pub narrow_push : FormsAreUnique → (n : ℕ) (rows : List (List ℤ)) (row : List ℤ) (form : List (List ℤ)) → ¬ (HasWideFront n rows) → IsReducedForm n (rows ++ row ∷ []) form → IsNarrow most_width form →
     ¬ (HasWideFront n (rows ++ row ∷ []))
 narrow_push unique n rows row form before reduced narrow (k, most, wide) = elim (cases_lt (length rows) k) [
   | inr front ↦ before (k, front, subst (HasWideFormOf n) (take-append-le k rows (row ∷ []) front) wide)
@@ -98,7 +99,7 @@ marked_rows-push n m at sets s is = push_from n m 0 at sets s (omega arith)
 
 -- with the marked row of the asked set
 pub marked_with_asked : FormsAreUnique → (n : ℕ) (history : List Answered) (places : List ℕ) (rows : Rows) (old new : Echelon) → rows.n ≡ n → IsMarked n (length places + 1) (map (rows_at history) places) old →
-    new.n ≡ old.n → IsNarrow new.rows → MarksNext old rows (length places) (λ whole. IsReducedForm old.n whole new.rows) →
+    new.n ≡ old.n → IsNarrow most_width new.rows → MarksNext old rows (length places) (λ whole. IsReducedForm old.n whole new.rows) →
     IsMarked n (length places + 1) (kept_sets history places rows.list) new
 marked_with_asked unique n history places rows old new same_n marked same narrow next =
     let m = length places + 1 in

@@ -1,5 +1,5 @@
 -- A denial as unsafe has at most one canonical proof.
-use Rattle.std.proofs.Common.{◌≡◌, ◌++◌, ◌∷◌, [], ℕ, ◌<◌, ℤ, List, map, length, get_or, Option, Some, None, refl, sym, ap, ◌∙◌, subst, arith}
+use Rattle.std.proofs.Common.{◌≡◌, ℕ, ℤ, List, get_or, Option, Some, None, refl, sym, ap, ◌∙◌, subst, arith}
 use Rattle.std.specs.Prelude.{All}
 use Rattle.std.proofs.lemmas.Int.{ints, by_lt_z}
 use Rattle.std.proofs.lemmas.Option.{slice_get-get_or}
@@ -8,11 +8,10 @@ use Rattle.audit_types.specs.declared.records.Asked.{Asked}
 use Rattle.audit_types.specs.declared.records.Protected.{Protected}
 use Rattle.audit_types.specs.declared.records.Verdict.TheVariants.{DeniedUnsafe}
 use Rattle.audit_types.specs.declared.shapes.Kind.TheVariants as kind
-use Rattle.audit_types.specs.Shapes.{kind_at}
 use Rattle.audit_types.specs.Rows.{IsLeast}
 use Rattle.audit_types.specs.Column.{Known, known_max}
 use Rattle.audit_types.specs.Extremes.{IsLone, IsLeastLone}
-use Rattle.audit_types.specs.History.{Setting, FitsShape, AreProtected, IsDecisionAfter, answers_of}
+use Rattle.audit_types.specs.History.{Setting, FitsShape, IsPlainFor, IsDecisionAfter, answers_of}
 use Rattle.max_audit.specs.Witnesses.{highest}
 use Rattle.denial_proof.specs.declared.proof_parts.Proof.{Proof}
 use Rattle.denial_proof.specs.declared.proof_parts.Proof.TheVariants.{Sum, Max}
@@ -72,7 +71,7 @@ same_maxima n history asked answer other row else place pair high numbers first 
 
 -- ---- both
 
-module _ (unsafe : DeniedSumsAreUnsafe) (setting : Setting) (history : List Answered) (asked : Asked) (fit : AreProtected setting.shape setting.protected)
+module _ (unsafe : DeniedSumsAreUnsafe) (setting : Setting) (history : List Answered) (asked : Asked) (fit : IsPlainFor setting.shape setting.protected)
     (legal : IsLegalIn setting history) (question : FitsShape setting.shape asked.column asked.rows)
     (denied : IsDecisionAfter setting history asked.column asked.rows.list DeniedUnsafe) where
   records_fit : All (λ r. FitsShape setting.shape r.column r.rows) history
@@ -80,7 +79,7 @@ module _ (unsafe : DeniedSumsAreUnsafe) (setting : Setting) (history : List Answ
 
   pub same_proofs : (a b : Proof) → IsCanonical setting history asked a → IsCanonical setting history asked b → a ≡ b
   same_proofs (Sum target times terms own) (Sum goal other others else) (sums, first) (also, second) =
-      same_sums setting.shape.rows history setting.protected asked (unsafe setting history asked records_fit fit legal question sums denied) target goal times other terms
+      same_sums setting.shape.rows history setting.protected.groups asked (unsafe setting history asked records_fit fit legal question sums denied) target goal times other terms
       others own else first second
   same_proofs (Sum target times terms own) (Max answer row place high) (sums, first) (maxima, second) = absurd (let both : kind.Sum ≡ kind.Max = sym sums ∙ maxima in cc)
   same_proofs (Max answer row place high) (Sum target times terms own) (maxima, first) (sums, second) = absurd (let both : kind.Sum ≡ kind.Max = sym sums ∙ maxima in cc)

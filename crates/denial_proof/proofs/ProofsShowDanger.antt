@@ -2,7 +2,7 @@
 --
 -- Sums: each list that gives the earlier answers and the same answer as another has the same sum as it over each counted set,
 -- so the same total over the target. Maxima: `high` gives all answers, and every list that does has the pair's answer at the row.
-use Rattle.std.proofs.Common.{◌≡◌, ◌≢◌, ℕ, zero, suc, ℤ, Bool, true, false, cond, List, [], ◌∷◌, map, sym, ap, ◌∙◌, subst, arith}
+use Rattle.std.proofs.Common.{◌≡◌, ◌≢◌, ℕ, zero, suc, ℤ, Bool, true, false, cond, List, [], ◌∷◌, map, refl, sym, ap, ◌∙◌, subst, arith}
 use Rattle.std.specs.Prelude.{All, Contains, slice_get, Option, Some, ◌==◌}
 use Rattle.std.specs.List.{AllByRecursion, filter}
 use Rattle.std.proofs.lemmas.Int.{ints}
@@ -31,6 +31,8 @@ use Rattle.denial_proof.specs.Weights.{weight_of, weights_of, rows_at}
 use Rattle.denial_proof.specs.Certificates.{IsTerm, IsTarget, rows_of, ShowsTotal, ShowsRow, answers_after}
 use Rattle.denial_proof.specs.Laws.{ProofsShowDanger}
 use Rattle.max_bounds.specs.RowListLaws.{row_below}
+use Rattle.audit_types.specs.PlainLaws.{some_row}
+use Rattle.audit_core.specs.PlainColumns.{plain_as, plain_known}
 use Rattle.denial_proof.proofs.TotalsFollow.{same_total}
 use Rattle.denial_proof.proofs.LoneRowsAreKnown.{lone_row_has_it}
 
@@ -86,7 +88,7 @@ module _ (shape : Shape) (history : List Answered) (protected : List Protected) 
     (question : FitsShape shape asked.column asked.rows) where
   -- what is known of the column before, were it of this kind
   abbrev known_as : Kind → Known
-  known_as kind = record { kind = kind; n = shape.rows; answers = answers_of asked.column history; groups = groups_of asked.column protected }
+  known_as kind = plain_as kind shape.rows (answers_of asked.column history) (groups_of asked.column protected)
 
   -- were it one of sums
   abbrev known : Known
@@ -134,10 +136,11 @@ module _ (shape : Shape) (history : List Answered) (protected : List Protected) 
       (same.same, same_over_terms v w same.agrees agrees terms shown.are_terms)
 
   -- what a target discloses is guarded
-  target_is_guarded : (target : Target) → IsTarget shape.rows protected asked.column target → (value : List ℤ → ℤ) × IsGuarded known value × ((v : List ℤ) → value v ≡ sum_over v (rows_of protected target))
-  target_is_guarded (Row row) is = ((λ v. number_at v row), number row is, λ v. omega (arith, ints))
+  target_is_guarded : (target : Target) → IsTarget shape.rows protected asked.column target → (value : List ℤ → ℤ) × IsGuarded known [] value × ((v : List ℤ) → value v ≡ sum_over v (rows_of protected target))
+  target_is_guarded (Row row) is = ((λ v. number_at v row), number row is refl refl, λ v. omega (arith, ints))
   target_is_guarded (Group place) (p, there, own) =
-      ((λ v. sum_over v p.rows.list), total p.rows.list (group_of_column protected place asked.column p there own), λ v. ap (sum_over v) (sym (group_there protected place p there)))
+      let hit = some_row p.rows.list (entry_fits shape protected place p entries there).some in
+      ((λ v. sum_over v p.rows.list), total p.rows.list hit.0 (group_of_column protected place asked.column p there own) hit.1 refl, λ v. ap (sum_over v) (sym (group_there protected place p there)))
 
   -- a number or a protected total could be given away
   sums_show_danger : (target : Target) (times : ℤ) (terms : List Term) (own : ℤ) → ShowsTotal shape.rows history protected asked target times terms own → IsPossible known →
@@ -148,7 +151,9 @@ module _ (shape : Shape) (history : List Answered) (protected : List Protected) 
         agrees = agrees;
         value = guarded.0;
         guarded = guarded.1;
-        disclosed = λ v same. guarded.2 v ∙ same_over_target target times terms own shown w v agrees same ∙ sym (guarded.2 w);
+        own = [];
+        are_own = (tt, omega arith, tt);
+        disclosed = λ v same also. guarded.2 v ∙ same_over_target target times terms own shown w v agrees same ∙ sym (guarded.2 w);
       }
 
   -- ---- maxima
@@ -183,8 +188,10 @@ module _ (shape : Shape) (history : List Answered) (protected : List Protected) 
         w = high;
         agrees = record { one_each = shown.lone.agrees.one_each; same = gives.0 };
         value = λ v. number_at v row;
-        guarded = number row (row_below shape.rows shown.pair.rows row pair_rows shown.lone.holds);
-        disclosed = λ v same.
+        own = [];
+        are_own = (tt, omega arith, tt);
+        guarded = number row (row_below shape.rows shown.pair.rows row pair_rows shown.lone.holds) refl refl;
+        disclosed = λ v same also.
             let after : Agrees (known_max shape.rows (answers_with answer)) v = record {
               one_each = same.agrees.one_each;
               same = all-push (λ a. greatest_over v a.rows ≡ a.value) (answers_of asked.column history) last same.agrees.same (same.same ∙ gives.1);
@@ -196,13 +203,13 @@ module _ (shape : Shape) (history : List Answered) (protected : List Protected) 
 -- ---- both
 
 pub proofs_show_danger : GreatestIsBoundAndReached → ProofsShowDanger
-proofs_show_danger greatest setting history asked (Sum target times terms own) records entries question possible (sums, shown) =
-    let known = known_as setting.shape history setting.protected asked records entries question in
-    let same : known kind.Sum ≡ known_of setting history asked.column = ap known (sym sums) in
+proofs_show_danger greatest setting history asked (Sum target times terms own) records entries plain question possible (sums, shown) =
+    let known = known_as setting.shape history setting.protected.groups asked records entries question in
+    let same : known kind.Sum ≡ known_of setting history asked.column = ap known (sym sums) ∙ sym (plain_known setting history asked.column plain) in
     subst (λ (k : Known). IsDangerous k asked.rows.list) same
-    (sums_show_danger setting.shape history setting.protected asked records entries question target times terms own shown (subst IsPossible (sym same) possible))
-proofs_show_danger greatest setting history asked (Max answer row place high) records entries question possible (maxima, shown) =
-    let known = known_as setting.shape history setting.protected asked records entries question in
-    let same : known kind.Max ≡ known_of setting history asked.column = ap known (sym maxima) in
+    (sums_show_danger setting.shape history setting.protected.groups asked records entries question target times terms own shown (subst IsPossible (sym same) possible))
+proofs_show_danger greatest setting history asked (Max answer row place high) records entries plain question possible (maxima, shown) =
+    let known = known_as setting.shape history setting.protected.groups asked records entries question in
+    let same : known kind.Max ≡ known_of setting history asked.column = ap known (sym maxima) ∙ sym (plain_known setting history asked.column plain) in
     subst (λ (k : Known). IsDangerous k asked.rows.list) same
-    (maxima_show_danger setting.shape history setting.protected asked records entries question greatest answer row place high shown)
+    (maxima_show_danger setting.shape history setting.protected.groups asked records entries question greatest answer row place high shown)

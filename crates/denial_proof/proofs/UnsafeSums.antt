@@ -5,24 +5,24 @@ use Rattle.std.specs.Prelude.{All, Contains, slice_get}
 use Rattle.std.specs.List.{AllByRecursion, filter}
 use Rattle.std.proofs.lemmas.Bool.{eqb-true}
 use Rattle.std.proofs.lemmas.List.{get_or_default}
-use Rattle.std.proofs.lemmas.List.Elements.{recursion_from_All}
+use Rattle.std.proofs.lemmas.List.Elements.{All-weaker, recursion_from_All}
 use Rattle.std.proofs.lemmas.Option.{get_or_from_slice_get, slice_get_within}
 use Rattle.audit_types.specs.declared.records.Answered.{Answered}
 use Rattle.audit_types.specs.declared.records.Asked.{Asked}
 use Rattle.audit_types.specs.declared.records.Protected.{Protected}
 use Rattle.audit_types.specs.declared.records.Verdict.TheVariants.{DeniedUnsafe}
-use Rattle.audit_types.specs.declared.shapes.Kind.{Kind}
 use Rattle.audit_types.specs.declared.shapes.Shape.{Shape}
 use Rattle.audit_types.specs.declared.shapes.Kind.TheVariants.{Sum, Max}
-use Rattle.audit_types.specs.Rows.{AreRows}
+use Rattle.audit_types.specs.Rows.{AreRows, has_row}
 use Rattle.audit_types.specs.Shapes.{columns, kind_at}
-use Rattle.audit_types.specs.Column.{Answer, IsDangerous, IsWellFormed, known_max}
+use Rattle.audit_types.specs.Column.{Answer, IsDangerous, IsWellFormed, known_sum, known_max, with_groups}
 use Rattle.audit_types.specs.Direction.{PinSomeRow}
-use Rattle.audit_types.specs.Form.{set_row, InSpan}
-use Rattle.audit_types.specs.Judgement.{IsWithinWidthFor}
-use Rattle.audit_types.specs.History.{Setting, Table, FitsShape, IsProtected, AreProtected, IsDecisionAfter, list_of, answers_of, answer_in, groups_of, known_of}
+use Rattle.audit_types.specs.Form.{set_row, InSpan, HasNarrowForm}
+use Rattle.audit_types.specs.Judgement.{IsWithinWidth}
+use Rattle.audit_types.specs.History.{Setting, Protection, Table, FitsShape, IsProtected, IsPlainFor, IsDecisionAfter, list_of, answers_of, answer_in, groups_of}
 use Rattle.audit_types.specs.ListLaws.{all-map, all-filter, all-push, all-weaker}
 use Rattle.audit_core.specs.Laws.{LegalIsNarrow, LegalPinsNothing, sets_before}
+use Rattle.audit_core.specs.PlainColumns.{plain_sums, plain_maxima, plain_danger}
 use Rattle.max_audit.specs.Laws.{DangerousByCandidates, HasBadCandidate}
 use Rattle.sum_audit.specs.Laws.{PinnedByUnitRow}
 use Rattle.denial_proof.specs.Canonical.{sets_with_asked, IsSpannedGroup}
@@ -55,34 +55,34 @@ entry_of_group (p ∷ protected) column group among = by (p.column == column) re
     by true own rest (suc k, within, is) = after (rest (k, omega arith, is))
     by false other rest among = after (rest among)
 
-module _ (setting : Setting) (protected : AreProtected setting.shape setting.protected) where
+module _ (setting : Setting) (protected : IsPlainFor setting.shape setting.protected) where
   -- an entry that is there fits
-  entry_fits : (place : ℕ) (p : Protected) → slice_get setting.protected place ≡ Some p → IsProtected setting.shape p
+  entry_fits : (place : ℕ) (p : Protected) → slice_get setting.protected.groups place ≡ Some p → IsProtected setting.shape p
   entry_fits place p there =
-      subst (IsProtected setting.shape) (get_or_from_slice_get setting.protected place p p there) (protected.0 place p (slice_get_within setting.protected place p there))
+      subst (IsProtected setting.shape) (get_or_from_slice_get setting.protected.groups place p p there) (protected.0.0 place p (slice_get_within setting.protected.groups place p there))
 
-  -- groups are sets of rows of the table
-  groups_are_rows : (column : ℕ) → All (AreRows setting.shape.rows) (groups_of column setting.protected)
+  -- groups are sets of rows of the table, none empty
+  groups_are_rows : (column : ℕ) → All (λ group. AreRows setting.shape.rows group × (group ≢ [])) (groups_of column setting.protected.groups)
   groups_are_rows column = λ k d within.
-      let group = get_or (groups_of column setting.protected) k d in
-      let found = entry_of_group setting.protected column group (k, within, get_or_default (groups_of column setting.protected) k group d within) in
+      let group = get_or (groups_of column setting.protected.groups) k d in
+      let found = entry_of_group setting.protected.groups column group (k, within, get_or_default (groups_of column setting.protected.groups) k group d within) in
       let fits = (entry_fits found.place found.entry found.there).0 in
-      subst (AreRows setting.shape.rows) found.rows_are (subst (λ n. AreRows n found.entry.rows.list) fits.same_n fits.are_rows)
+      subst (λ group. AreRows setting.shape.rows group × (group ≢ [])) found.rows_are (subst (λ n. AreRows n found.entry.rows.list) fits.same_n fits.are_rows, fits.some)
 
   -- a column of maxima has none
-  no_groups : (column : ℕ) → kind_at setting.shape column ≡ Max → groups_of column setting.protected ≡ []
-  no_groups column maxima = go (groups_of column setting.protected) refl
+  no_groups : (column : ℕ) → kind_at setting.shape column ≡ Max → groups_of column setting.protected.groups ≡ []
+  no_groups column maxima = go (groups_of column setting.protected.groups) refl
     where
-      go : (groups : List (List ℕ)) → groups_of column setting.protected ≡ groups → groups_of column setting.protected ≡ []
+      go : (groups : List (List ℕ)) → groups_of column setting.protected.groups ≡ groups → groups_of column setting.protected.groups ≡ []
       go [] e = e
       go (group ∷ groups) e =
-          let found = entry_of_group setting.protected column group (subst (λ (list : List (List ℕ)). Contains list group) (sym e) (0, omega arith, refl)) in
+          let found = entry_of_group setting.protected.groups column group (subst (λ (list : List (List ℕ)). Contains list group) (sym e) (0, omega arith, refl)) in
           let both : Sum ≡ Max = sym (entry_fits found.place found.entry found.there).1 ∙ ap (kind_at setting.shape) found.own ∙ maxima in
           absurd cc
 
 -- entries are over the rows of the table
-pub entries_same_n : (shape : Shape) (list : List Protected) → AreProtected shape list → AllByRecursion (λ (p : Protected). p.rows.n ≡ shape.rows) list
-entries_same_n shape list fit = all-weaker (IsProtected shape) (λ (p : Protected). p.rows.n ≡ shape.rows) (λ p fits. fits.0.same_n) list (recursion_from_All (IsProtected shape) list fit.0)
+pub entries_same_n : (shape : Shape) (list : List Protected) → All (IsProtected shape) list → AllByRecursion (λ (p : Protected). p.rows.n ≡ shape.rows) list
+entries_same_n shape list fit = all-weaker (IsProtected shape) (λ (p : Protected). p.rows.n ≡ shape.rows) (λ p fits. fits.0.same_n) list (recursion_from_All (IsProtected shape) list fit)
 
 -- ---- the answers before
 
@@ -114,36 +114,31 @@ module _ (setting : Setting) (history : List Answered) (fit : All (λ (r : Answe
       InSpan (map (set_row setting.shape.rows) (map (λ a. a.rows) (answers_of column history))) row
   at_end column row span = subst (λ (sets : List (List ℕ)). InSpan (map (set_row setting.shape.rows) sets) row) (sets_at_end column history) span
 
-  pub open_sums : LegalIsNarrow → PinnedByUnitRow → LegalPinsNothing → AreProtected setting.shape setting.protected → IsLegalIn setting history → 0 < setting.shape.rows → (column : ℕ) →
+  pub open_sums : LegalIsNarrow → PinnedByUnitRow → LegalPinsNothing → IsPlainFor setting.shape setting.protected → IsLegalIn setting history → 0 < setting.shape.rows → (column : ℕ) →
       column < columns setting.shape → kind_at setting.shape column ≡ Sum → AreOpenSums setting.shape.rows column history
   open_sums narrow by_unit_row pins_nothing protected legal some column below sums =
       let n = setting.shape.rows in
       let sets = map (λ (a : Answer). a.rows) (answers_of column history) in
       let table : Table = record { setting = setting; secrets = legal.secrets } in record {
-        narrow = λ place within. narrow table history column place legal.legal sums within;
+        narrow = λ place within. subst (λ (p : Protection). HasNarrowForm p.width n (sets_before column history place)) protected.1 (narrow table history column place protected.0 legal.legal sums within);
         leaves_open = λ span.
             let pinned = (by_unit_row n sets 0 (all_sets column) some).1 (at_end column (set_row n (0 ∷ [])) span) in
-            pins_nothing table history column 0 legal.are_secrets protected legal.legal below sums pinned;
+            pins_nothing table history column 0 legal.are_secrets protected.0 legal.legal below sums (ap (λ (p : Protection). has_row p.shared 0) protected.1) pinned;
       }
 
   -- ---- the question
 
-  module _ (protected : AreProtected setting.shape setting.protected) (asked : Asked) (question : FitsShape setting.shape asked.column asked.rows)
+  module _ (protected : IsPlainFor setting.shape setting.protected) (asked : Asked) (question : FitsShape setting.shape asked.column asked.rows)
       (denied : IsDecisionAfter setting history asked.column asked.rows.list DeniedUnsafe) where
     -- its set
     own_rows : AreRows setting.shape.rows asked.rows.list
     own_rows = subst (λ n. AreRows n asked.rows.list) question.same_n question.are_rows
 
-    -- that it is dangerous, were the column of this kind and had it these groups
-    abbrev DangerousAs : Kind → List (List ℕ) → Type 0
-    DangerousAs kind groups = IsDangerous (record { kind = kind; n = setting.shape.rows; answers = answers_of asked.column history; groups = groups }) asked.rows.list
-
     pub bad_candidate : DangerousByCandidates → kind_at setting.shape asked.column ≡ Max → HasBadCandidate (known_max setting.shape.rows (answers_of asked.column history)) asked.rows.list
     bad_candidate by_candidates maxima =
         let formed : IsWellFormed (known_max setting.shape.rows (answers_of asked.column history)) = record { are_rows = sets_are_rows asked.column; some = sets_have_rows asked.column } in
-        let danger = subst (λ kind. DangerousAs kind (groups_of asked.column setting.protected)) maxima denied.1 in
-        (by_candidates setting.shape.rows (answers_of asked.column history) asked.rows.list formed own_rows question.some).0
-        (subst (DangerousAs Max) (no_groups setting protected asked.column maxima) danger)
+        let danger = subst (λ k. IsDangerous k asked.rows.list) (plain_maxima setting history asked.column protected.1 maxima (no_groups setting protected asked.column maxima)) denied.1 in
+        (by_candidates setting.shape.rows (answers_of asked.column history) [] asked.rows.list formed own_rows question.some).0 danger
 
     module _ (laws : LegalLaws) (legal : IsLegalIn setting history) (sums : kind_at setting.shape asked.column ≡ Sum) where
       abbrev table : Table
@@ -151,18 +146,21 @@ module _ (setting : Setting) (history : List Answered) (fit : All (λ (r : Answe
 
       -- the sets give something away
       gives_away : PinSomeRow setting.shape.rows (sets_with_asked history asked)
-          ⊎ ((place : ℕ) × IsSpannedGroup setting.shape.rows setting.protected asked.column (sets_with_asked history asked) place)
+          ⊎ ((place : ℕ) × IsSpannedGroup setting.shape.rows setting.protected.groups asked.column (sets_with_asked history asked) place)
       gives_away =
           let n = setting.shape.rows in
-          let groups = groups_of asked.column setting.protected in
+          let groups = groups_of asked.column setting.protected.groups in
           let answers = answers_of asked.column history in
           let agrees = own_agrees laws table history legal.are_secrets protected legal.legal asked.column question.column_below sums in
           let with_asked = all-push (AreRows n) (map (λ a. a.rows) answers) asked.rows.list (all_sets asked.column) own_rows in
-          let told = (laws.dangerous n answers groups asked.rows.list with_asked (groups_are_rows setting protected asked.column) (list_of legal.secrets asked.column, agrees)).0 (subst (λ kind. DangerousAs kind groups) sums denied.1) in
+          let group_rows = All-weaker (λ group. AreRows n group × (group ≢ [])) (AreRows n) (λ group is. is.0) groups (groups_are_rows setting protected asked.column) in
+          let danger = subst (λ k. IsDangerous k asked.rows.list) (plain_sums setting history asked.column protected.1 sums) denied.1 in
+          let told = plain_danger (with_groups (known_sum n answers) groups) (sets_with_asked history asked) refl refl
+          ((laws.dangerous n answers [] [] groups 0 asked.rows.list with_asked group_rows (list_of legal.secrets asked.column, agrees)).0 danger) in
           elim told [
             | inl pinned ↦ inl pinned
             | inr (group, guarded, spanned) ↦
-                let found = entry_of_group setting.protected asked.column group guarded in
+                let found = entry_of_group setting.protected.groups asked.column group guarded in
                 inr (
                   found.place,
                   record {
@@ -174,11 +172,11 @@ module _ (setting : Setting) (history : List Answered) (fit : All (λ (r : Answe
                 )
           ]
 
-      pub unsafe_sum : IsUnsafeSum setting.shape.rows history setting.protected asked
+      pub unsafe_sum : IsUnsafeSum setting.shape.rows history setting.protected.groups asked
       unsafe_sum = record {
         new = λ span.
             asked_new laws table history legal.are_secrets protected legal.legal asked.column question.column_below sums (all_sets asked.column) asked.rows.list own_rows
             (groups_are_rows setting protected asked.column) denied.1 (at_end asked.column (set_row setting.shape.rows asked.rows.list) span);
-        width = subst (λ kind. IsWithinWidthFor kind (known_of setting history asked.column) asked.rows.list) sums denied.0;
+        width = subst (λ k. IsWithinWidth k asked.rows.list) (plain_sums setting history asked.column protected.1 sums) denied.0;
         gives_away = gives_away;
       }

@@ -102,7 +102,7 @@ IsMaxProof n history asked (Max answer row place high) = IsCanonicalMax n histor
 -- the canonical proof of a question after a history
 abbrev pub IsCanonical : Setting → List Answered → Asked → Proof → Type 0
 IsCanonical setting history asked (Sum target times terms own) =
-    (kind_at setting.shape asked.column ≡ kind.Sum) × IsCanonicalSum setting.shape.rows history setting.protected asked target times terms own
+    (kind_at setting.shape asked.column ≡ kind.Sum) × IsCanonicalSum setting.shape.rows history setting.protected.groups asked target times terms own
 IsCanonical setting history asked (Max answer row place high) =
     (kind_at setting.shape asked.column ≡ kind.Max) × IsCanonicalMax setting.shape.rows history asked answer row place high
 
@@ -127,4 +127,4 @@ IsSumTooWide n history protected asked = AreMarksWide n history asked ⊎ AreNum
 
 -- no proof is given: only sums can be too wide
 abbrev pub IsTooWide : Setting → List Answered → Asked → Type 0
-IsTooWide setting history asked = (kind_at setting.shape asked.column ≡ kind.Sum) × IsSumTooWide setting.shape.rows history setting.protected asked
+IsTooWide setting history asked = (kind_at setting.shape asked.column ≡ kind.Sum) × IsSumTooWide setting.shape.rows history setting.protected.groups asked

@@ -79,6 +79,6 @@ pub record ShowsRow (n : ℕ) (history : List Answered) (asked : Asked) (answer 
 -- a proof that the question is dangerous after this history
 abbrev pub IsProof : Setting → List Answered → Asked → Proof → Type 0
 IsProof setting history asked (Sum target times terms own) =
-    (kind_at setting.shape asked.column ≡ kind.Sum) × ShowsTotal setting.shape.rows history setting.protected asked target times terms own
+    (kind_at setting.shape asked.column ≡ kind.Sum) × ShowsTotal setting.shape.rows history setting.protected.groups asked target times terms own
 IsProof setting history asked (Max answer row pair high) =
     (kind_at setting.shape asked.column ≡ kind.Max) × ShowsRow setting.shape.rows history asked answer row pair high

@@ -5,6 +5,7 @@ use Rattle.audit_types.specs.declared.records.Asked.{Asked}
 use Rattle.audit_types.specs.Rows.{Rows, AscendsFrom, has_row}
 use Rattle.audit_types.specs.Truth.{number_at}
 use Rattle.sum_basis.specs.Basis.{Echelon}
+use Rattle.audit_types.specs.Limits.{most_width}
 use Rattle.audit_types.specs.Form.{set_row, combined, InSpan, IsReducedForm, IsNarrow}
 use Rattle.audit_core.specs.Laws.{sets_before}
 use Rattle.denial_proof.specs.Weights.{rows_at}
@@ -40,7 +41,7 @@ marked_rows n m mark (rows ∷ sets) = marked_row n m mark rows ∷ marked_rows 
 
 -- rows whose reduced form isn't narrow
 abbrev pub HasWideFormOf : ℕ → List (List ℤ) → Type 0
-HasWideFormOf n rows = (form : List (List ℤ)) × IsReducedForm n rows form × ¬ (IsNarrow form)
+HasWideFormOf n rows = (form : List (List ℤ)) × IsReducedForm n rows form × ¬ (IsNarrow most_width form)
 
 -- the first rows up to some place are such rows
 abbrev pub HasWideFront : ℕ → List (List ℤ) → Type 0

@@ -8,19 +8,19 @@ use crate::lone_rows::shows_row;
 use crate::proof_parts::Proof;
 use crate::public_facts::PublicFacts;
 use crate::totals::{Total, shows_total};
-use audit_types::{Answered, Asked, Kind, Protected, Shape};
+use audit_types::{Answered, Asked, Guard, Kind, Shape};
 
 /// Whether this is a proof that the question is dangerous after these records. It takes no memory.
 pub fn check_proof(
     shape: &Shape,
     history: &[Answered],
-    protected: &[Protected],
+    protected: &Guard,
     asked: &Asked,
     proof: &Proof,
 ) -> bool
     requires valid { IsShape shape.now }
     requires records { All (λ r. FitsShape shape.now r.column r.rows) history.now }
-    requires entries { All (λ p. FitsShape shape.now p.column p.rows) protected.now }
+    requires entries { All (λ p. FitsShape shape.now p.column p.rows) protected.now.groups }
     requires question { FitsShape shape.now asked.now.column asked.now.rows }
     ensures exact { IsTrue result ↔ IsProof (setting_of shape.now protected.now) history.now asked.now proof.now }
 {
@@ -34,7 +34,7 @@ pub fn check_proof(
             let facts = PublicFacts {
                 n: shape.rows,
                 history,
-                protected,
+                protected: protected.groups(),
                 asked,
             };
             let total = Total {

@@ -1,7 +1,7 @@
 //! The kept records of a column of sums, and their marked form.
 ghost use Rattle.std.specs.Prelude.{◌≡◌, ◌≢◌, ◌↔◌, ◌+◌, ◌≤◌, ◌<◌, ℕ, false, List, [], ◌∷◌, ◌++◌, map, take, length, IfOk, IfSome, IfNone, true};
 ghost use Rattle.std.specs.List.{AllByRecursion};
-ghost use Rattle.audit_types.specs.Limits.{most_rows};
+ghost use Rattle.audit_types.specs.Limits.{most_rows, most_width};
 ghost use Rattle.audit_types.specs.Form.{set_row, InSpan, Reduced, IsReducedForm, HasNarrowForm, IsNarrow};
 ghost use Rattle.sum_basis.specs.Growth.{GrowsWide};
 ghost use Rattle.audit_core.specs.Laws.{sets_before};
@@ -45,7 +45,7 @@ pub(crate) fn kept_places(
     requires at_most { n ≤ most_rows }
     requires few { length history.now ≤ 65536 }
     requires same_n { AllByRecursion (λ r. r.rows.n ≡ n) history.now }
-    requires narrow { (place : ℕ) → place ≤ length history.now → HasNarrowForm n (sets_before column history.now place) }
+    requires narrow { (place : ℕ) → place ≤ length history.now → HasNarrowForm most_width n (sets_before column history.now place) }
     ensures kept { IfOk result (λ places. AreKept n column history.now places.items) }
 {
     one_more_set();
@@ -66,7 +66,7 @@ fn mark_next(form: &mut Form, rows: &RowSet, mark: u16) -> Result<bool, NoMemory
     ensures n { form.new.n ≡ form.old.n }
     ensures added { IfOk result (λ narrow. narrow ≡ true → MarksNext form.old rows.now mark (λ whole. IsReducedForm form.old.n whole form.new.rows)) }
     ensures wide { IfOk result (λ narrow. narrow ≡ false → MarksNext form.old rows.now mark (HasWideFormOf form.old.n)) }
-    ensures narrow { IfOk result (λ narrow. IsNarrow form.new.rows) }
+    ensures narrow { IfOk result (λ narrow. IsNarrow most_width form.new.rows) }
 {
     let mut room = [0; 2048];
     let bits = &mut room[..form.columns() as usize];
@@ -109,7 +109,7 @@ pub(crate) fn mark_all(
 /// The form with the marked row of the asked set, unless it isn't narrow.
 pub(crate) fn mark_asked(form: &Form, rows: &RowSet, mark: u16) -> Result<Option<Form>, NoMemory>
     requires mark { rows.now.n + mark < form.now.n }
-    ensures some { IfOk result (λ marked. IfSome marked (λ new. (new.n ≡ form.now.n) × IsNarrow new.rows × MarksNext form.now rows.now mark (λ whole. IsReducedForm form.now.n whole new.rows))) }
+    ensures some { IfOk result (λ marked. IfSome marked (λ new. (new.n ≡ form.now.n) × IsNarrow most_width new.rows × MarksNext form.now rows.now mark (λ whole. IsReducedForm form.now.n whole new.rows))) }
     ensures none { IfOk result (λ marked. IfNone marked (MarksNext form.now rows.now mark (HasWideFormOf form.now.n))) }
 {
     let mut with_asked = form.copy()?;

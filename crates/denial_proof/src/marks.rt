@@ -2,7 +2,7 @@
 ghost use Rattle.std.specs.Prelude.{◌≡◌, ◌≤◌, ◌<◌, [], ◌∷◌, ◌+◌, ℕ, List, Err, IfOk, IfSome, length, map};
 ghost use Rattle.std.specs.List.{AllByRecursion};
 ghost use Rattle.audit_types.specs.declared.records.Answered.{Answered};
-ghost use Rattle.audit_types.specs.Limits.{most_rows};
+ghost use Rattle.audit_types.specs.Limits.{most_rows, most_width};
 ghost use Rattle.audit_types.specs.Form.{set_row, InSpan, HasNarrowForm};
 ghost use Rattle.audit_core.specs.Laws.{sets_before};
 ghost use Rattle.denial_proof.specs.Kept.{AreMarks, AreMarksOf};
@@ -35,7 +35,7 @@ pub(crate) fn marks_of(
     requires at_most { n ≤ most_rows }
     requires few { length history.now ≤ 65536 }
     requires same_n { AllByRecursion (λ r. r.rows.n ≡ n) history.now }
-    requires narrow { (place : ℕ) → place ≤ length history.now → HasNarrowForm n (sets_before column history.now place) }
+    requires narrow { (place : ℕ) → place ≤ length history.now → HasNarrowForm most_width n (sets_before column history.now place) }
     requires open { ¬ (InSpan (map (set_row n) (sets_before column history.now (length history.now))) (set_row n (0 ∷ []))) }
     ensures { IfOk result (λ marks. AreMarksOf n column history.now marks.places.items marks.form) }
 {

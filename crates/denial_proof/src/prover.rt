@@ -45,7 +45,7 @@ impl Prover {
     {
         legal_sums();
         // A core says of its protected groups that they fit the table.
-        let _ = core.protected();
+        let _ = core.groups();
         let history = core.history();
         let preparation = match core.column(column) {
             ColumnRef::Sum(sums) => Preparation::Sums(marks_of(alloc, sums.n(), history, column)?),
@@ -82,7 +82,7 @@ impl Prover {
         denied_sums();
         denied_maxima();
         let history = core.history();
-        let protected = core.protected();
+        let protected = core.groups();
         match (core.column(asked.column), &self.preparation) {
             (ColumnRef::Sum(sums), Preparation::Sums(marks)) => {
                 let facts = PublicFacts {

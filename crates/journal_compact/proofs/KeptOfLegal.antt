@@ -19,12 +19,12 @@ use Rattle.audit_types.specs.FormRows.{lengths_of_form}
 use Rattle.audit_types.specs.RowNumbers.{length-set_row, lengths_of_sets}
 use Rattle.audit_types.specs.Column.{Known, Answer, Agrees, IsPossible, IsGuarded, number, total, IsDangerous, known_sum, with_answer}
 use Rattle.audit_types.specs.Judgement.{IsWideFor, IsWithinWidthFor, IsDecision}
-use Rattle.audit_types.specs.History.{Table, AreSecrets, IsLegal, IsDecisionAfter, setting_of, known_of, groups_of, answers_of, answer_in, list_of}
+use Rattle.audit_types.specs.History.{Protection, Table, AreSecrets, IsLegal, IsDecisionAfter, setting_of, known_of, groups_of, answers_of, answer_in, list_of}
 use Rattle.audit_types.specs.Laws.{LegalIsPossible}
 use Rattle.audit_types.specs.ListLaws.{all-push, all_by_place}
 use Rattle.sum_basis.specs.Laws.{FormsAreUnique, EveryRowSpaceHasAForm, SpanKeepsForm, OneMoreSet}
 use Rattle.audit_core.specs.Laws.{LegalGrows}
-use Rattle.journal_compact.specs.Kept.{IsKeptOf, IsImplied, IsImpliedBy}
+use Rattle.journal_compact.specs.Kept.{IsKeptOf, IsImplied, IsImpliedBy, no_groups}
 use Rattle.journal_compact.specs.Kept.IsKeptOf.{none, left_out, stays}
 use Rattle.journal_compact.specs.Laws.{ImpliedBySpan, SameForms, SameDecisions, KeptIsLegal, sets_in}
 use Rattle.journal_compact.proofs.Pushes.{own_answers, other_answers, all_answers, legal_front, legal_last, room_before}
@@ -70,15 +70,15 @@ module _ (laws : FormLaws) (n : ℕ) where
   )
 
   -- with one set more they are narrow, or wide, together
-  narrow_alike : (sets others : List (List ℕ)) (rows : List ℕ) → AreAlike n sets others → HasNarrowForm n (sets ++ rows ∷ []) → HasNarrowForm n (others ++ rows ∷ [])
-  narrow_alike sets others rows alike has = record {
+  narrow_alike : (width : ℕ) (sets others : List (List ℕ)) (rows : List ℕ) → AreAlike n sets others → HasNarrowForm width n (sets ++ rows ∷ []) → HasNarrowForm width n (others ++ rows ∷ [])
+  narrow_alike width sets others rows alike has = record {
     form = has.form;
     reduced = (push_alike sets others rows alike has.form).0 has.reduced;
     narrow = has.narrow;
   }
 
-  wide_alike : (sets others : List (List ℕ)) (rows : List ℕ) → AreAlike n sets others → HasWideForm n (sets ++ rows ∷ []) → HasWideForm n (others ++ rows ∷ [])
-  wide_alike sets others rows alike has = record {
+  wide_alike : (width : ℕ) (sets others : List (List ℕ)) (rows : List ℕ) → AreAlike n sets others → HasWideForm width n (sets ++ rows ∷ []) → HasWideForm width n (others ++ rows ∷ [])
+  wide_alike width sets others rows alike has = record {
     form = has.form;
     reduced = (push_alike sets others rows alike has.form).0 has.reduced;
     wide = has.wide;
@@ -88,42 +88,54 @@ module _ (laws : FormLaws) (n : ℕ) where
 abbrev sets_of : List Answer → List (List ℕ)
 sets_of answers = map (λ a. a.rows) answers
 
--- what is known of a column
-abbrev knows : ℕ → List (List ℕ) → Kind → List Answer → Known
-knows n groups kind answers = record { kind = kind; n = n; answers = answers; groups = groups }
+-- what is known of a column, with these groups of what is guarded
+abbrev knows : ℕ → Protection → List (List ℕ) → Kind → List Answer → Known
+knows n protected groups kind answers = record {
+  kind = kind;
+  n = n;
+  answers = answers;
+  groups = groups;
+  shared = protected.shared;
+  several = protected.several;
+  own = protected.own;
+  width = protected.width;
+}
 
-module _ (n : ℕ) (groups : List (List ℕ)) where
-  guarded : (kind : Kind) (answers others : List Answer) {value : List ℤ → ℤ} → IsGuarded (knows n groups kind answers) value → IsGuarded (knows n groups kind others) value
-  guarded kind answers others (number row below) = number row below
-  guarded kind answers others (total group protected) = total group protected
+module _ (n : ℕ) (protected : Protection) (groups : List (List ℕ)) where
+  guarded : (kind : Kind) (answers others : List Answer) (own : List ℕ) {value : List ℤ → ℤ} → IsGuarded (knows n protected groups kind answers) own value →
+      IsGuarded (knows n protected groups kind others) own value
+  guarded kind answers others own (number row below other alone) = number row below other alone
+  guarded kind answers others own (total group row one inside other) = total group row one inside other
 
   -- if the same lists agree, the same questions are dangerous
   dangerous : (kind : Kind) (answers others : List Answer) (rows : List ℕ) →
-      ((w : List ℤ) → Agrees (knows n groups kind answers) w ↔ Agrees (knows n groups kind others) w) →
-      IsDangerous (knows n groups kind answers) rows → IsDangerous (knows n groups kind others) rows
+      ((w : List ℤ) → Agrees (knows n protected groups kind answers) w ↔ Agrees (knows n protected groups kind others) w) →
+      IsDangerous (knows n protected groups kind answers) rows → IsDangerous (knows n protected groups kind others) rows
   dangerous kind answers others rows lists danger = record {
     w = danger.w;
     agrees = (lists danger.w).0 danger.agrees;
+    own = danger.own;
+    are_own = danger.are_own;
     value = danger.value;
-    guarded = guarded kind answers others danger.guarded;
-    disclosed = λ v gives. danger.disclosed v (record { agrees = (lists v).1 gives.agrees; same = gives.same });
+    guarded = guarded kind answers others danger.own danger.guarded;
+    disclosed = λ v gives also. danger.disclosed v (record { agrees = (lists v).1 gives.agrees; same = gives.same }) also;
   }
 
   module _ (laws : FormLaws) where
     within_width : (kind : Kind) (answers others : List Answer) (rows : List ℕ) → (kind ≡ Sum → AreAlike n (sets_of answers) (sets_of others)) →
-        IsWithinWidthFor kind (knows n groups kind answers) rows → IsWithinWidthFor kind (knows n groups kind others) rows
-    within_width Sum answers others rows alike has = narrow_alike laws n (sets_of answers) (sets_of others) rows (alike refl) has
+        IsWithinWidthFor kind (knows n protected groups kind answers) rows → IsWithinWidthFor kind (knows n protected groups kind others) rows
+    within_width Sum answers others rows alike has = narrow_alike laws n protected.width (sets_of answers) (sets_of others) rows (alike refl) has
     within_width Max answers others rows alike has = has
 
     too_wide : (kind : Kind) (answers others : List Answer) (rows : List ℕ) → (kind ≡ Sum → AreAlike n (sets_of answers) (sets_of others)) →
-        IsWideFor kind (knows n groups kind answers) rows → IsWideFor kind (knows n groups kind others) rows
-    too_wide Sum answers others rows alike has = wide_alike laws n (sets_of answers) (sets_of others) rows (alike refl) has
+        IsWideFor kind (knows n protected groups kind answers) rows → IsWideFor kind (knows n protected groups kind others) rows
+    too_wide Sum answers others rows alike has = wide_alike laws n protected.width (sets_of answers) (sets_of others) rows (alike refl) has
     too_wide Max answers others rows alike has = has
 
     -- a question is decided after some answers as after others
     decided : (kind : Kind) (answers others : List Answer) (rows : List ℕ) (verdict : Verdict) →
-        ((w : List ℤ) → Agrees (knows n groups kind answers) w ↔ Agrees (knows n groups kind others) w) →
-        (kind ≡ Sum → AreAlike n (sets_of answers) (sets_of others)) → IsDecision (knows n groups kind answers) rows verdict → IsDecision (knows n groups kind others) rows verdict
+        ((w : List ℤ) → Agrees (knows n protected groups kind answers) w ↔ Agrees (knows n protected groups kind others) w) →
+        (kind ≡ Sum → AreAlike n (sets_of answers) (sets_of others)) → IsDecision (knows n protected groups kind answers) rows verdict → IsDecision (knows n protected groups kind others) rows verdict
     decided kind answers others rows DeniedWide lists alike is = too_wide kind answers others rows alike is
     decided kind answers others rows DeniedUnsafe lists alike is = (
       within_width kind answers others rows alike is.0,
@@ -162,7 +174,7 @@ module _ (laws : LegalLaws) (table : Table) (secrets : AreSecrets table.setting.
   sums_possible column before r legal below is own =
       let possible = laws.possible table (before ++ r ∷ []) secrets legal in
       let agrees = possible.2 column below in
-      let of_sums = subst (λ (k : Kind). Agrees (knows rows_in [] k (answers_of column (before ++ r ∷ []))) (list_of possible.0 column)) is
+      let of_sums = subst (λ (k : Kind). Agrees (knows rows_in no_groups [] k (answers_of column (before ++ r ∷ []))) (list_of possible.0 column)) is
       (record { one_each = agrees.one_each; same = agrees.same }) in
       (list_of possible.0 column, subst (λ l. Agrees (known_sum rows_in l) (list_of possible.0 column)) (own_answers column before r own) of_sums)
 
@@ -171,8 +183,8 @@ module _ (laws : LegalLaws) (table : Table) (secrets : AreSecrets table.setting.
       r.column ≡ column → IsImpliedBy table.setting.shape before r → InSpan (map (set_row rows_in) (sets_in column before)) (set_row rows_in r.rows.list)
   in_span column before r legal below is own implied =
       let fits = (legal_last table before r legal).fits in
-      let of_column = subst (λ c. IsImplied (known_of (setting_of table.setting.shape []) before c) (answer_in r)) own implied in
-      let of_sums = subst (λ (k : Kind). IsImplied (knows rows_in [] k (answers_of column before)) (answer_in r)) is of_column in
+      let of_column = subst (λ c. IsImplied (known_of (setting_of table.setting.shape no_groups) before c) (answer_in r)) own implied in
+      let of_sums = subst (λ (k : Kind). IsImplied (knows rows_in no_groups [] k (answers_of column before)) (answer_in r)) is of_column in
       (laws.spanned rows_in (answers_of column before) (answer_in r) (sets_are column before (legal_front table before r legal))
       (subst (λ m. AreRows m r.rows.list) fits.same_n fits.are_rows) (sums_possible column before r legal below is own)).0 of_sums
 
@@ -202,11 +214,11 @@ module _ (laws : LegalLaws) (table : Table) (secrets : AreSecrets table.setting.
       IsDecisionAfter table.setting history column rows verdict ↔ IsDecisionAfter table.setting kept column rows verdict
   decisions {history} {kept} is legal column rows verdict below =
       let kind = kind_at table.setting.shape column in
-      let groups = groups_of column table.setting.protected in
+      let groups = groups_of column table.setting.protected.groups in
       let answers = answers_of column history in
       let others = answers_of column kept in (
-        λ d. decided rows_in groups laws.forms kind answers others rows verdict (λ w. same_lists table.setting column w is) (λ sum. forms column below sum is legal) d,
-        λ d. decided rows_in groups laws.forms kind others answers rows verdict
+        λ d. decided rows_in table.setting.protected groups laws.forms kind answers others rows verdict (λ w. same_lists table.setting column w is) (λ sum. forms column below sum is legal) d,
+        λ d. decided rows_in table.setting.protected groups laws.forms kind others answers rows verdict
             (λ w. let both = same_lists table.setting column w is in (both.1, both.0))
             (λ sum form. let both = forms column below sum is legal form in (both.1, both.0)) d,
       )

@@ -10,7 +10,7 @@ use Rattle.audit_types.specs.Laws.{LegalIsPossible}
 use Rattle.audit_types.specs.History.{Setting, Table, FitsShape, IsLegal, IsLegalRecord, IsPossibleHistory, setting_of, known_of}
 use Rattle.audit_types.specs.Judgement.{IsWithinWidth}
 use Rattle.audit_core.specs.Laws.{LegalGrows}
-use Rattle.journal_compact.specs.Kept.{IsKeptOf, IsImpliedBy}
+use Rattle.journal_compact.specs.Kept.{IsKeptOf, IsImpliedBy, no_groups}
 use Rattle.journal_compact.specs.Kept.IsKeptOf.{left_out, stays}
 use Rattle.journal_compact.specs.Laws.{SameDecisions, KeptIsLegal, IsLegalForSome}
 use Rattle.journal_compact.proofs.Pushes.{legal_front, legal_last, room_before}
@@ -38,10 +38,10 @@ taken h k r inside is = take_more h k r inside ∙ ap (λ x. take k h ++ x ∷ [
 
 -- what the records of a history imply, those that are kept of it do, and back
 implied_alike : (shape : Shape) (before kept : List Answered) (r : Answered) → IsKeptOf shape before kept → IsImpliedBy shape kept r → IsImpliedBy shape before r
-implied_alike shape before kept r is implied w agrees = implied w ((same_lists (setting_of shape []) r.column w is).0 agrees)
+implied_alike shape before kept r is implied w agrees = implied w ((same_lists (setting_of shape no_groups) r.column w is).0 agrees)
 
 implied_back : (shape : Shape) (before kept : List Answered) (r : Answered) → IsKeptOf shape before kept → IsImpliedBy shape before r → IsImpliedBy shape kept r
-implied_back shape before kept r is implied w agrees = implied w ((same_lists (setting_of shape []) r.column w is).1 agrees)
+implied_back shape before kept r is implied w agrees = implied w ((same_lists (setting_of shape no_groups) r.column w is).1 agrees)
 
 -- the laws that it wants
 pub record NextLaws : Type 0 where
@@ -50,18 +50,18 @@ pub record NextLaws : Type 0 where
   pub possible : LegalIsPossible
   pub grows : LegalGrows
 
-module _ (laws : NextLaws) (shape : Shape) (h : List Answered) (some : IsLegalForSome shape h) (setting : Setting) (setting_is : setting ≡ setting_of shape [])
+module _ (laws : NextLaws) (shape : Shape) (h : List Answered) (some : IsLegalForSome shape h) (setting : Setting) (setting_is : setting ≡ setting_of shape no_groups)
     (k : ℕ) (r : Answered) (inside : k < length h) (is : r ≡ get_or h k r) (kept : List Answered) (keeps : IsKeptOf shape (take k h) kept) where
   -- the same table without protected groups, of which the core knows none
   abbrev table : Table
   table = without_groups some.table
 
   legal : IsLegal table h
-  legal = legal_without_groups some.table h some.legal
+  legal = legal_without_groups some.table h some.plain some.legal
 
   -- its setting is the core's
   same_setting : table.setting ≡ setting
-  same_setting = ap (λ s. setting_of s []) some.same_shape ∙ sym setting_is
+  same_setting = ap (λ s. setting_of s no_groups) some.same_shape ∙ sym setting_is
 
   with_it : IsLegal table (take k h ++ r ∷ [])
   with_it = subst (IsLegal table) (taken h k r inside is) (legal_take table h (k + 1) legal)

@@ -17,6 +17,7 @@ use Rattle.audit_core.specs.Audited.{Audited}
 use Rattle.audit_core.specs.Columns.{HasItsPart}
 use Rattle.journal_compact.specs.Kept.{IsImplied, IsImpliedBy, IsForced}
 use Rattle.journal_compact.specs.Laws.{ImpliedBySpan, ImpliedByExtremes}
+use Rattle.audit_core.specs.PlainColumns.{plain_as}
 use Rattle.journal_compact.proofs.Pushes.{own_answers}
 
 module _ (audited : Audited) (r : Answered) (fits : FitsShape audited.setting.shape r.column r.rows) (possible : IsPossibleHistory audited.setting (audited.history ++ r ∷ [])) where
@@ -30,7 +31,7 @@ module _ (audited : Audited) (r : Answered) (fits : FitsShape audited.setting.sh
 
   -- what is known of a column, apart from protected groups
   abbrev knows : Kind → List Answer → Known
-  knows kind answers = record { kind = kind; n = size; answers = answers; groups = [] }
+  knows kind answers = plain_as kind size answers []
 
   rows_are : AreRows size r.rows.list
   rows_are = subst (λ m. AreRows m r.rows.list) fits.same_n fits.are_rows

@@ -1,29 +1,33 @@
 -- A history that is legal if groups are protected is legal if none is: fewer questions are dangerous.
-use Rattle.std.proofs.Common.{ℕ, ℤ, List, [], arith}
+use Rattle.std.proofs.Common.{ℕ, ℤ, List, [], take, subst, arith}
 use Rattle.audit_types.specs.declared.shapes.Kind.{Kind}
 use Rattle.audit_types.specs.declared.shapes.Kind.TheVariants.{Sum, Max}
 use Rattle.audit_types.specs.declared.records.Answered.{Answered}
 use Rattle.audit_types.specs.declared.records.Verdict.TheVariants.{Released}
 use Rattle.audit_types.specs.Column.{Known, IsGuarded, number, total, IsDangerous, with_groups}
 use Rattle.audit_types.specs.Judgement.{IsWithinWidthFor, IsDecision}
-use Rattle.audit_types.specs.History.{Table, IsLegal, setting_of}
+use Rattle.audit_types.specs.Limits.{most_width}
+use Rattle.audit_types.specs.History.{Protection, Table, IsPlain, IsLegal, against_outsiders, known_of, setting_of}
+use Rattle.journal_compact.specs.Kept.{no_groups}
 
 -- the same table if no group is protected
 abbrev pub without_groups : Table → Table
-without_groups table = record table { setting = setting_of table.setting.shape [] }
+without_groups table = record table { setting = setting_of table.setting.shape no_groups }
 
-guarded_still : (known : Known) {value : List ℤ → ℤ} → IsGuarded (with_groups known []) value → IsGuarded known value
-guarded_still known (number row below) = number row below
-guarded_still known (total group none) = absurd (omega (arith, none.1))
+guarded_still : (known : Known) (own : List ℕ) {value : List ℤ → ℤ} → IsGuarded (with_groups known []) own value → IsGuarded known own value
+guarded_still known own (number row below other guarded) = number row below other guarded
+guarded_still known own (total group row none inside other) = absurd (omega (arith, none.1))
 
 danger_still : (known : Known) (rows : List ℕ) → IsDangerous (with_groups known []) rows → IsDangerous known rows
 danger_still known rows danger = record {
   w = danger.w;
   agrees = record { one_each = danger.agrees.one_each; same = danger.agrees.same };
+  own = danger.own;
+  are_own = danger.are_own;
   value = danger.value;
-  guarded = guarded_still known danger.guarded;
-  disclosed = λ v gives.
-      danger.disclosed v (record { agrees = record { one_each = gives.agrees.one_each; same = gives.agrees.same }; same = gives.same });
+  guarded = guarded_still known danger.own danger.guarded;
+  disclosed = λ v gives also.
+      danger.disclosed v (record { agrees = record { one_each = gives.agrees.one_each; same = gives.agrees.same }; same = gives.same }) also;
 }
 
 within_still : (kind : Kind) (known : Known) (rows : List ℕ) → IsWithinWidthFor kind known rows → IsWithinWidthFor kind (with_groups known []) rows
@@ -33,10 +37,16 @@ within_still Max known rows within = within
 released_still : (known : Known) (rows : List ℕ) → IsDecision known rows Released → IsDecision (with_groups known []) rows Released
 released_still known rows is = (within_still known.kind known rows is.0, λ danger. is.1 (danger_still known rows danger))
 
-pub legal_without_groups : (table : Table) (history : List Answered) → IsLegal table history → IsLegal (without_groups table) history
-legal_without_groups table history legal = record {
+pub legal_without_groups : (table : Table) (history : List Answered) → IsPlain table.setting.protected → IsLegal table history → IsLegal (without_groups table) history
+legal_without_groups table history plain legal = record {
   few = legal.few;
   each = λ i r here.
       let may_follow = legal.each i r here in
-      record { fits = may_follow.fits; true_answer = may_follow.true_answer; released = released_still _ r.rows.list may_follow.released };
+      let known : Protection → Known = λ protected. known_of (setting_of table.setting.shape protected) (take i history) r.column in
+      record {
+        fits = may_follow.fits;
+        true_answer = may_follow.true_answer;
+        released = released_still (known (against_outsiders table.setting.protected.groups [] most_width)) r.rows.list
+            (subst (λ protected. IsDecision (known protected) r.rows.list Released) plain may_follow.released);
+      };
 }

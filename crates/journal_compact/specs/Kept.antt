@@ -6,16 +6,21 @@ use Rattle.audit_types.specs.Rows.{has_row}
 use Rattle.audit_types.specs.Truth.{truth}
 use Rattle.audit_types.specs.Column.{Known, Answer, Agrees}
 use Rattle.audit_types.specs.Extremes.{upper_bound}
-use Rattle.audit_types.specs.History.{answer_in, known_of, setting_of}
+use Rattle.audit_types.specs.Limits.{most_width}
+use Rattle.audit_types.specs.History.{Protection, against_outsiders, answer_in, known_of, setting_of}
 use Rattle.max_bounds.specs.Outside.{HasExtremesWithin}
 
 -- every list that gives the answers gives this one too
 abbrev pub IsImplied : Known → Answer → Type 0
 IsImplied known a = (w : List ℤ) → Agrees known w → truth known.kind w a.rows ≡ a.value
 
+-- plain protection by no group
+abbrev pub no_groups : Protection
+no_groups = against_outsiders [] [] most_width
+
 -- every list that agrees with the records before it, on its column, gives the record's answer. Which groups are protected doesn't matter
 abbrev pub IsImpliedBy : Shape → List Answered → Answered → Type 0
-IsImpliedBy shape before r = IsImplied (known_of (setting_of shape []) before r.column) (answer_in r)
+IsImpliedBy shape before r = IsImplied (known_of (setting_of shape no_groups) before r.column) (answer_in r)
 
 -- what is kept of a history: of none nothing; a record that those before it imply is left out, and every other one stays
 pub data IsKeptOf (shape : Shape) : List Answered → List Answered → Type 0 where

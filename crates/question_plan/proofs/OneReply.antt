@@ -5,13 +5,12 @@ use Rattle.audit_types.specs.declared.shapes.Kind.{Kind}
 use Rattle.audit_types.specs.declared.shapes.Shape.{Shape}
 use Rattle.audit_types.specs.declared.shapes.Kind.TheVariants as kind
 use Rattle.audit_types.specs.declared.records.Asked.{Asked}
-use Rattle.audit_types.specs.declared.records.Protected.{Protected}
 use Rattle.audit_types.specs.declared.records.Answered.{Answered}
 use Rattle.audit_types.specs.declared.records.Verdict.{Verdict}
 use Rattle.audit_types.specs.declared.records.Verdict.TheVariants.{Released, DeniedUnsafe, DeniedWide}
 use Rattle.audit_types.specs.Column.{Known}
 use Rattle.audit_types.specs.Judgement.{IsDecision, IsJudgement, IsWideFor, IsWithinWidthFor, sets_with}
-use Rattle.audit_types.specs.History.{Table, Setting, setting_of, known_of}
+use Rattle.audit_types.specs.History.{Protection, Table, Setting, setting_of, known_of}
 use Rattle.sum_basis.specs.Laws.{NarrowOrWide}
 use Rattle.audit_core.specs.declared.outcome.Outcome.{Outcome}
 use Rattle.audit_core.specs.declared.outcome.Outcome.TheVariants.{Answer, Denied, Full}
@@ -42,7 +41,7 @@ one_telling Max size answer a b some first second = first ∙ sym second
 
 -- a sum or a maximum isn't both too wide and within width
 never_both : NarrowOrWide → (k : Kind) (known : Known) (rows : List ℕ) → IsWideFor k known rows → IsWithinWidthFor k known rows → ⊥
-never_both forms kind.Sum known rows wide within = (forms known.n (sets_with known rows)).1 within wide
+never_both forms kind.Sum known rows wide within = (forms known.width known.n (sets_with known rows)).1 within wide
 never_both forms kind.Max known rows wide within = wide
 
 -- a decision is one
@@ -143,7 +142,7 @@ replies_alike forms (Ask take asked) table twin same history a b some first seco
     (some take asked refl) first.outcome second.outcome first.answer second.answer a b first.due second.due first.tells second.tells first.replied_is
     second.replied_is
 
-pub due_alike : NarrowOrWide → OneMeaning → (columns : List Column) (public : PublicView) (protected : List Protected) (secret twin : SecretView)
+pub due_alike : NarrowOrWide → OneMeaning → (columns : List Column) (public : PublicView) (protected : Protection) (secret twin : SecretView)
     → twin.shape ≡ secret.shape → (history : List Answered) (line : CountedLine) (a b : Replied Answered)
     → IsDue (base_of columns public protected secret) history line a → IsDue (base_of columns public protected twin) history line b →
     (a ≡ b) ⊎ AreAnswersAlike (secret_table secret protected) (secret_table twin protected) a b

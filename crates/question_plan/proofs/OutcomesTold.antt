@@ -2,14 +2,13 @@
 use Rattle.std.proofs.Common.{◌≡◌, ◌≢◌, ℕ, ℤ, ◌*◌, ◌^◌, ◌<◌, ◌≤◌, List, [], refl, sym, ◌∙◌, ap, subst}
 use Rattle.std.specs.Prelude.{unsigned_abs}
 use Rattle.audit_types.specs.declared.records.Asked.{Asked}
-use Rattle.audit_types.specs.declared.records.Protected.{Protected}
 use Rattle.audit_types.specs.declared.records.Answered.{Answered}
 use Rattle.audit_types.specs.declared.records.Verdict.TheVariants.{Released, DeniedUnsafe, DeniedWide}
 use Rattle.audit_types.specs.declared.shapes.Kind.{Kind}
 use Rattle.audit_types.specs.Rows.{AreRows}
 use Rattle.audit_types.specs.Shapes.{columns, kind_at}
 use Rattle.audit_types.specs.Truth.{truth, sum_over, greatest_over}
-use Rattle.audit_types.specs.History.{FitsShape, list_of}
+use Rattle.audit_types.specs.History.{Protection, FitsShape, list_of}
 use Rattle.audit_core.specs.declared.outcome.Outcome.{Outcome}
 use Rattle.audit_core.specs.declared.outcome.Outcome.TheVariants.{Answer, Denied, Full}
 use Rattle.audit_core.specs.Outcomes.{IsOutcome}
@@ -51,7 +50,7 @@ module _ (sums : SumsAreSmall) (maxima : MaximaAreSmall) (secret : SecretView) (
       subst (λ (y : ℤ). unsigned_abs y ≤ most_of take) (sym (is_true ∙ ap (λ (k : Kind). truth k (list_of secret.lists asked.column) asked.rows.list) own_kind))
       (truth_small take)
 
-  can_be_told : (protected : List Protected) (history : List Answered) (outcome : Outcome) → IsOutcome (secret_table secret protected) history asked outcome →
+  can_be_told : (protected : Protection) (history : List Answered) (outcome : Outcome) → IsOutcome (secret_table secret protected) history asked outcome →
       CanBeTold take outcome
   can_be_told protected history Full due = tt
   can_be_told protected history (Denied verdict) due = due.1

@@ -2,6 +2,7 @@
 //! lines is counted here, and was worked out by demo/drill.py.
 ghost use Rattle.std.specs.Prelude.{◌≡◌, [], true, OnOk};
 ghost use Rattle.audit_types.specs.Shapes.{IsShape};
+ghost use Rattle.audit_types.specs.History.{IsPlainFor};
 ghost use Rattle.schema_json.specs.SecretShape.{shape_of};
 ghost use Rattle.table_load.specs.Cells.{FitsSchema};
 ghost use Rattle.bench_core.specs.BenchContents.{file_of};
@@ -64,13 +65,14 @@ fn start(
     bench: &mut MemoryBench,
 ) -> Result<(), NoMemory>
     requires fits { FitsSchema schema.now.columns index.now.public }
-    requires none { index.now.protected ≡ [] }
+    requires groups { IsPlainFor secret.shape index.now.protected }
     requires shape { secret.shape ≡ shape_of schema.now.columns index.now.public.rows }
     requires empty { file_of bench.old ≡ [] }
 {
     make(bench, &secret.shape())?;
     let lines = drill_lines(alloc, number)?;
-    match Store::start(alloc, secret, Vec::new(alloc), bench) {
+    let protected = index.protected().copy(alloc)?;
+    match Store::start(alloc, secret, protected, bench) {
         Ok(mut store) => serve_lines(alloc, schema, index, &mut store, lines, bench),
         Err(_) => Err(NoMemory),
     }

@@ -5,7 +5,9 @@ use Rattle.std.proofs.lemmas.List.{length-append}
 use Rattle.std.proofs.lemmas.List.Elements.{All-append, All-nil, All-cons}
 use Rattle.audit_types.specs.Rows.{AreRows}
 use Rattle.audit_types.specs.RowLaws.{AreRows-rows_that}
-use Rattle.audit_types.specs.History.{IsProtected, FitsShape, entry_of}
+use Rattle.audit_types.specs.Limits.{most_width}
+use Rattle.audit_types.specs.PlainLaws.{plain_fits}
+use Rattle.audit_types.specs.History.{Protection, IsProtected, IsPlainFor, FitsShape, against_outsiders, entry_of}
 use Rattle.audit_types.specs.declared.records.Protected.{Protected}
 use Rattle.audit_types.specs.declared.shapes.Kind.{Kind}
 use Rattle.audit_types.specs.declared.shapes.Kind.TheVariants as kind
@@ -16,7 +18,7 @@ use Rattle.table_load.specs.Cells.{PublicView}
 use Rattle.predicate_lang.specs.Laws.{OneMeaning}
 use Rattle.predicate_lang.specs.Trees.{Tree}
 use Rattle.set_index.specs.Asked.{meaning}
-use Rattle.set_index.specs.Groups.{AreEntries, AreSound, HasNoFault, IsGroup}
+use Rattle.set_index.specs.Groups.{AreEntries, Protects, AreSound, HasNoFault, IsGroup}
 use Rattle.set_index.specs.Indexed.{EntriesFit, OneListOfEntries}
 use Rattle.set_index.proofs.Entries.{entries_sound}
 
@@ -45,11 +47,21 @@ some_list columns public (g ∷ gs) sound = by (sound 0 g refl) (some_list colum
     by : HasNoFault columns g → ((rest : List Protected) × AreEntries columns public gs rest) → (protected : List Protected) × AreEntries columns public (g ∷ gs) protected
     by (c, t, is) (rest, more) = (entry_of c public.rows (meaning public t) ++ rest, (c, t, rest, is, refl, more))
 
+-- so they protect in one way
+one_way : OneMeaning → (columns : List Column) (public : PublicView) (groups : List Group) (a b : Protection) → Protects columns public groups a → Protects columns public groups b → a ≡ b
+one_way means columns public groups a b first second =
+    first.1 ∙ ap (λ entries. against_outsiders entries [] most_width) (one_list means columns public groups a.groups b.groups first.0 second.0) ∙ sym second.1
+
+some_way : (columns : List Column) (public : PublicView) (groups : List Group) → AreSound columns groups → (protected : Protection) × Protects columns public groups protected
+some_way columns public groups sound =
+    let list = some_list columns public groups sound in
+    (against_outsiders list.0 [] most_width, (list.1, refl))
+
 pub one_list_of_entries : OneMeaning → OneListOfEntries
 one_list_of_entries means = record {
-  one = one_list means;
-  some = some_list;
-  sound = entries_sound;
+  one = one_way means;
+  some = some_way;
+  sound = λ columns public groups protected are. entries_sound columns public groups protected.groups are.0;
   bad = λ columns groups place first sound. first.bad (sound place first.at first.stands);
 }
 
@@ -92,6 +104,7 @@ entries_fit places columns public (g ∷ gs) protected are (c, t, rest, is, prot
     subst (λ xs. All (IsProtected shape) xs × (length xs ≤ length (g ∷ gs))) (sym protected_is) (All-append (IsProtected shape) entry rest first.0 others.0, few)
 
 pub entries_are_protected : PlacesAreColumns → EntriesFit
-entries_are_protected places columns public groups protected are is few entries =
-    let fit = entries_fit places columns public groups protected are entries in
-    (fit.0, omega (arith, fit.1, few))
+entries_are_protected places columns public groups protected are is few protects =
+    let shape = shape_of columns public.rows in
+    let fit = entries_fit places columns public groups protected.groups are protects.0 in
+    subst (IsPlainFor shape) (sym protects.1) (plain_fits shape protected.groups fit.0 (omega (arith, fit.1, few)))

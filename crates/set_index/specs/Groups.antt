@@ -1,7 +1,7 @@
 -- The protected groups of a schema over the public part of a table.
 use Rattle.std.specs.Prelude.{◌≡◌, ℕ, ◌<◌, ◌≤◌, List, [], ◌∷◌, ◌++◌, length, slice_get, Some, option_and_then}
 use Rattle.audit_types.specs.declared.records.Protected.{Protected}
-use Rattle.audit_types.specs.History.{entry_of}
+use Rattle.audit_types.specs.History.{Protection, IsPlain, entry_of}
 use Rattle.schema_json.specs.Columns.{Column, Group, place_of, role_at, secret_place}
 use Rattle.schema_json.specs.declared.roles.Role.TheVariants.{Sum}
 use Rattle.table_load.specs.Cells.{PublicView}
@@ -22,6 +22,10 @@ abbrev pub AreEntries : List Column → PublicView → List Group → List Prote
 AreEntries columns public [] protected = protected ≡ []
 AreEntries columns public (group ∷ groups) protected =
     (column : ℕ) × (t : Tree) × (rest : List Protected) × IsGroup columns group column t × (protected ≡ entry_of column public.rows (meaning public t) ++ rest) × AreEntries columns public groups rest
+
+-- what a schema guards of a table: each row, and the entries of its groups
+abbrev pub Protects : List Column → PublicView → List Group → Protection → Type 0
+Protects columns public groups protected = AreEntries columns public groups protected.groups × IsPlain protected
 
 -- a group has no fault
 abbrev pub HasNoFault : List Column → Group → Type 0

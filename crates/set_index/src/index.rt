@@ -3,7 +3,7 @@ ghost use Rattle.std.specs.Prelude.{◌≡◌, ◌<◌, ◌≤◌, ℕ, true, No
 ghost use Rattle.std.specs.List.Sorted.{IsSorted};
 ghost use Rattle.std.specs.Option.{option_to_list};
 ghost use Rattle.std.specs.Ordering.{nat_cmp};
-ghost use Rattle.audit_types.specs.History.{AreProtected, entry_of};
+ghost use Rattle.audit_types.specs.History.{IsPlainFor, entry_of};
 ghost use Rattle.audit_types.specs.Limits.{most_rows};
 ghost use Rattle.audit_types.specs.Rows.{rows_that};
 ghost use Rattle.schema_json.specs.Columns.{Group};
@@ -12,7 +12,7 @@ ghost use Rattle.predicate_lang.specs.Trees.{Tree, fits, tree_of};
 ghost use Rattle.table_load.specs.Cells.{FitsSchema, cells_at};
 ghost use Rattle.table_load.specs.Kept.{cells_kept};
 ghost use Rattle.set_index.specs.Asked.{meaning, fits_public};
-ghost use Rattle.set_index.specs.Groups.{AreEntries, HasNoFault, IsFirstBad, IsGroup};
+ghost use Rattle.set_index.specs.Groups.{AreEntries, Protects, HasNoFault, IsFirstBad, IsGroup};
 ghost use Rattle.set_index.specs.Marks.{SortsColumn};
 ghost use Rattle.set_index.specs.Ordered.{IsOrder, IsShown, compare_rows};
 
@@ -20,7 +20,7 @@ use crate::asking::rows_of;
 use crate::laws::{groups_of_a_schema, reads_what_fits};
 use crate::sorted::Sorted;
 use crate::values::sort_by_value;
-use audit_types::{NoMemory, Protected, RowSet};
+use audit_types::{Guard, NoMemory, Protected, RowSet};
 use predicate_lang::{Pred, WhereFault, read_where};
 use schema_json::{Role, Schema};
 use std::alloc::Global;
@@ -42,7 +42,7 @@ pub enum IndexFault {
 #[derive(Drop)]
 pub struct Index {
     public: Public,
-    protected: Vec<Protected>,
+    protected: Guard,
     columns: Vec<Option<Sorted>>,
 }
 
@@ -174,9 +174,9 @@ impl Index {
     pub fn new(alloc: Global, schema: &Schema, public: Public) -> Result<Index, IndexFault>
         requires { FitsSchema schema.now.columns public }
         ensures public { IfOk result (λ index. index.public ≡ public) }
-        ensures entries { IfOk result (λ index. AreEntries schema.now.columns public schema.now.groups index.protected) }
+        ensures entries { IfOk result (λ index. Protects schema.now.columns public schema.now.groups index.protected) }
         ensures bad { (place : ℕ) → result ≡ Err (IndexFault.BadGroup place) → IsFirstBad schema.now.columns schema.now.groups place }
-        ensures fit { IfOk result (λ index. AreProtected (shape_of schema.now.columns public.rows) index.protected) }
+        ensures fit { IfOk result (λ index. IsPlainFor (shape_of schema.now.columns public.rows) index.protected) }
     {
         groups_of_a_schema();
         // The counts say that these are a schema's columns, and at most 64 groups.
@@ -186,10 +186,10 @@ impl Index {
         };
         let mut index = Index {
             public,
-            protected: Vec::new(alloc),
+            protected: Guard::new(Vec::new(alloc)),
             columns,
         };
-        index.protected = entries_of(alloc, schema, &index)?;
+        index.protected = Guard::new(entries_of(alloc, schema, &index)?);
         Ok(index)
     }
 
@@ -200,8 +200,8 @@ impl Index {
         &self.public
     }
 
-    /// The protected groups that some row satisfies, in the order of the schema.
-    pub fn protected(&self) -> &[Protected]
+    /// What the schema guards: each row, and the groups that some row satisfies, in the order of the schema.
+    pub fn protected(&self) -> &Guard
         ensures { result.now ≡ self.now.protected }
     {
         &self.protected

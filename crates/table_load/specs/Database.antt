@@ -1,8 +1,7 @@
 -- What the files of a table mean to the auditor.
 use Rattle.std.specs.Prelude.{◌≡◌, ℕ, ◌<◌, List, map, take}
-use Rattle.audit_types.specs.declared.records.Protected.{Protected}
-use Rattle.audit_types.specs.History.{Table, AreProtected, setting_of}
-use Rattle.audit_types.specs.Widening.{over, groups_among}
+use Rattle.audit_types.specs.History.{Table, Protection, IsPlainFor, setting_of}
+use Rattle.audit_types.specs.Widening.{over, protection_among}
 use Rattle.schema_json.specs.Columns.{Column, AreColumns}
 use Rattle.schema_json.specs.SecretShape.{shape_of}
 use Rattle.table_load.specs.Cells.{Cells, hidden, numbers, texts, PublicView, SecretView}
@@ -11,25 +10,25 @@ use Rattle.table_load.specs.Cells.{Cells, hidden, numbers, texts, PublicView, Se
 pub record Database : Type 0 where
   pub columns : List Column
   pub public : PublicView
-  pub protected : List Protected
+  pub protected : Protection
   pub secret : SecretView
 
--- the columns of a schema over the parts of a table, with its protected groups
-abbrev pub base_of : List Column → PublicView → List Protected → SecretView → Database
+-- the columns of a schema over the parts of a table, with what is guarded of it
+abbrev pub base_of : List Column → PublicView → Protection → SecretView → Database
 base_of columns public protected secret = record { columns = columns; public = public; protected = protected; secret = secret }
 
--- a schema's columns, secrets of the shape that they give the table, and groups that fit it
+-- a schema's columns, secrets of the shape that they give the table, and plain protection that fits it
 pub record IsDatabase (base : Database) : Type 0 where
   pub schema : AreColumns base.columns
   pub shape : base.secret.shape ≡ shape_of base.columns base.public.rows
-  pub protected : AreProtected base.secret.shape base.protected
+  pub protected : IsPlainFor base.secret.shape base.protected
 
 -- tables that differ in their secrets alone, which are of one shape
 abbrev pub AreTwins : Database → Database → Type 0
 AreTwins base twin = (twin ≡ record base { secret = twin.secret }) × (twin.secret.shape ≡ base.secret.shape)
 
--- the table whose secrets these are, with these groups protected
-abbrev pub secret_table : SecretView → List Protected → Table
+-- the table whose secrets these are, with this protection
+abbrev pub secret_table : SecretView → Protection → Table
 secret_table secret protected = record { setting = setting_of secret.shape protected; secrets = secret.lists }
 
 -- the table of a database
@@ -48,9 +47,9 @@ first_cells n (texts list) = texts (take n list)
 abbrev pub first_secrets : ℕ → SecretView → SecretView
 first_secrets n secret = record { shape = over n secret.shape; lists = map (take n) secret.lists }
 
--- the first n rows of a table, with the groups among them
+-- the first n rows of a table, with what is guarded among them
 abbrev pub first_of : ℕ → Database → Database
-first_of n base = record base { public = record { rows = n; columns = map (first_cells n) base.public.columns }; protected = groups_among n base.protected; secret = first_secrets n base.secret }
+first_of n base = record base { public = record { rows = n; columns = map (first_cells n) base.public.columns }; protected = protection_among n base.protected; secret = first_secrets n base.secret }
 
 -- a table over the same schema with more rows, the first of which are those of this one
 abbrev pub Grows : Database → Database → Type 0

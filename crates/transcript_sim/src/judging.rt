@@ -1,6 +1,6 @@
 //! One exchange of a transcript: a question, whose verdict is sent, and the line that was shown to it.
 ghost use Rattle.std.specs.Prelude.{◌≡◌, ◌++◌, [], true, false, OnOk, OnErr, IfOk, IfErr};
-ghost use Rattle.audit_types.specs.History.{AreProtected, setting_of};
+ghost use Rattle.audit_types.specs.History.{IsPlainFor, setting_of};
 ghost use Rattle.audit_types.specs.Shapes.{IsShape};
 ghost use Rattle.schema_json.specs.SecretShape.{shape_of};
 ghost use Rattle.table_load.specs.Cells.{FitsSchema};
@@ -12,7 +12,7 @@ use crate::questions::next_shown;
 use crate::shown::Shown;
 use crate::simulating::SimulationFault;
 use audit_core::Core;
-use audit_types::{NoMemory, Protected, Shape};
+use audit_types::{Guard, NoMemory, Shape};
 use bench_core::{Bench, Failed, Source};
 use question_plan::{Due, Planner, verdict_line};
 use schema_json::Schema;
@@ -51,17 +51,17 @@ impl Simulation {
     pub(crate) fn new(
         alloc: Global,
         shape: Shape,
-        protected: &[Protected],
+        protected: &Guard,
     ) -> Result<Simulation, NoMemory>
         requires valid { IsShape shape }
-        requires fit { AreProtected shape protected.now }
+        requires fit { IsPlainFor shape protected.now }
         ensures fresh { IfOk result (λ simulation. (simulation.lines.taken ≡ 0) × (simulation.lines.pending ≡ []) × (simulation.lines.ended ≡ false)) }
         ensures setting { IfOk result (λ simulation. simulation.core.setting ≡ setting_of shape protected.now) }
         ensures nothing { IfOk result (λ simulation. simulation.core.history ≡ []) }
     {
         Ok(Simulation {
             lines: Planner::new(alloc)?,
-            core: Core::new(alloc, shape, protected.to_vec(alloc)?)?,
+            core: Core::new(alloc, shape, protected.copy(alloc)?)?,
         })
     }
 

@@ -1,7 +1,7 @@
 //! Writing a journal whole from another one.
 ghost use Rattle.std.specs.Prelude.{◌≡◌, ◌≢◌, ◌+◌, ℕ, List, Err, OnOk, IsErrOf};
 ghost use Rattle.audit_types.specs.declared.records.Answered.{Answered};
-ghost use Rattle.audit_types.specs.History.{AreProtected, IsLegal};
+ghost use Rattle.audit_types.specs.History.{IsPlainFor, IsLegal};
 ghost use Rattle.bench_core.specs.Calls.{IsQuiet, IsUntouched, LeavesOnly, OnlyReads, TellsFault};
 ghost use Rattle.journal_form.specs.Journal.{StandsFor};
 ghost use Rattle.answer_journal.specs.Make.{calls_to_make};
@@ -14,7 +14,7 @@ ghost use Rattle.twin_journal.specs.Copying.{CopiedUnlessGivenUp, IsKeptFor, Not
 ghost use Rattle.twin_journal.specs.Restoring.{IsLost};
 
 use audit_store::{StartFault, Store};
-use audit_types::Protected;
+use audit_types::Guard;
 use bench_core::Bench;
 use journal_compact::{WholeFault, write_whole};
 use journal_form::laws::one_reading;
@@ -51,28 +51,28 @@ impl From<StartFault> for CopyFault {
 pub fn copy_journal<K: Bench, L: Bench>(
     alloc: Global,
     secret: Secret,
-    protected: Vec<Protected>,
+    protected: Guard,
     kept: &mut K,
     lost: &mut L,
 ) -> Result<(), CopyFault>
-    requires fit { AreProtected secret.shape protected.items }
+    requires fit { IsPlainFor secret.shape protected }
     requires lost { L.told → IsLost (L.file lost.old) }
 
     // The lost one then stands for the history of the kept one, which is only read.
-    ensures done { K.told → L.told → OnOk result ((history : List Answered) × IsKeptFor (secret_table secret protected.items) (K.file kept.old) history × StandsFor (L.file lost.new) secret.shape history) }
+    ensures done { K.told → L.told → OnOk result ((history : List Answered) × IsKeptFor (secret_table secret protected) (K.file kept.old) history × StandsFor (L.file lost.new) secret.shape history) }
     ensures reads { OnlyReads K.Bench kept.old kept.new }
 
     // Each refusal has its cause in the kept file, and each cause has its refusal; a legal history is never refused.
-    ensures cause { (fault : StartFault) → K.told → result ≡ Err (CopyFault.Kept fault) → (GivesUp fault → ⊥) × StartCause fault (K.file kept.old) (secret_table secret protected.items) }
-    ensures due { (fault : StartFault) → K.told → L.told → (GivesUp fault → ⊥) → StartCause fault (K.file kept.old) (secret_table secret protected.items) → NotCopiedUnlessGivenUp fault result }
-    ensures copies { (history : List Answered) → K.told → L.told → IsKeptFor (secret_table secret protected.items) (K.file kept.old) history → CopiedUnlessGivenUp result }
+    ensures cause { (fault : StartFault) → K.told → result ≡ Err (CopyFault.Kept fault) → (GivesUp fault → ⊥) × StartCause fault (K.file kept.old) (secret_table secret protected) }
+    ensures due { (fault : StartFault) → K.told → L.told → (GivesUp fault → ⊥) → StartCause fault (K.file kept.old) (secret_table secret protected) → NotCopiedUnlessGivenUp fault result }
+    ensures copies { (history : List Answered) → K.told → L.told → IsKeptFor (secret_table secret protected) (K.file kept.old) history → CopiedUnlessGivenUp result }
     ensures own { (fault : StartFault) → GivesUp fault → result ≢ Err (CopyFault.Kept fault) }
     ensures already { L.told → IsErrOf result CopyFault.AlreadyThere → ⊥ }
 
     // At every moment the lost file isn't made, or stands for the kept history; if none is kept it isn't called.
-    ensures moments { (history : List Answered) → K.told → L.told → IsQuiet L.Bench lost.old → IsKeptFor (secret_table secret protected.items) (K.file kept.old) history
+    ensures moments { (history : List Answered) → K.told → L.told → IsQuiet L.Bench lost.old → IsKeptFor (secret_table secret protected) (K.file kept.old) history
         → LeavesOnly L.Bench lost.old lost.new (IsUnmadeOrWhole secret.shape history (L.sent lost.old)) }
-    ensures apart { K.told → ((history : List Answered) → IsKeptFor (secret_table secret protected.items) (K.file kept.old) history → ⊥) → lost.new ≡ lost.old }
+    ensures apart { K.told → ((history : List Answered) → IsKeptFor (secret_table secret protected) (K.file kept.old) history → ⊥) → lost.new ≡ lost.old }
     ensures refused { (fault : StartFault) → result ≡ Err (CopyFault.Kept fault) → lost.new ≡ lost.old }
     ensures already_reads { IsErrOf result CopyFault.AlreadyThere → OnlyReads L.Bench lost.old lost.new }
     ensures quiet { L.told → IsQuiet L.Bench lost.old → (IsErrOf result CopyFault.LostFailed → ⊥) → IsQuiet L.Bench lost.new }

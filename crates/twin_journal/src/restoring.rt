@@ -1,7 +1,7 @@
 //! Writing a lost journal anew.
 ghost use Rattle.std.specs.Prelude.{◌≡◌, ◌≢◌, ◌⊎◌, ◌↔◌, ◌+◌, List, ℕ, true, Err, IfOk, OnOk, OnErr, IsErrOf, IsTrue};
 ghost use Rattle.audit_types.specs.declared.records.Answered.{Answered};
-ghost use Rattle.audit_types.specs.History.{AreProtected};
+ghost use Rattle.audit_types.specs.History.{IsPlainFor};
 ghost use Rattle.bench_core.specs.Causes.{HasCause};
 ghost use Rattle.bench_core.specs.Calls.{IsQuiet, IsUntouched, LeavesOnly, OnlyReads, TellsFault};
 ghost use Rattle.answer_journal.specs.Moments.{IsMade};
@@ -14,7 +14,7 @@ ghost use Rattle.twin_journal.specs.Restoring.{CanRestore, GivesUpRestoring, IsL
 
 use crate::copying::{CopyFault, copy_journal};
 use audit_store::StartFault;
-use audit_types::Protected;
+use audit_types::Guard;
 use bench_core::{Bench, Failed};
 use journal_compact::{Found, look};
 use journal_form::laws::one_reading;
@@ -85,36 +85,36 @@ fn is_made<B: Bench>(bench: &mut B) -> Result<bool, Failed>
 pub fn restore<B: Bench, S: Bench>(
     alloc: Global,
     secret: Secret,
-    protected: Vec<Protected>,
+    protected: Guard,
     bench: &mut B,
     spare: &mut S,
 ) -> Result<(), RestoreFault>
-    requires fit { AreProtected secret.shape protected.items }
+    requires fit { IsPlainFor secret.shape protected }
 
     // Both files then stand for the history of the one that wasn't lost, and for nothing that the other doesn't.
     ensures done { B.told → S.told → OnOk result ((history : List Answered)
-        × (Restored (secret_table secret protected.items) (S.file spare.old) (B.file bench.old) (S.file spare.new) (B.file bench.new) history
-        ⊎ Restored (secret_table secret protected.items) (B.file bench.old) (S.file spare.old) (B.file bench.new) (S.file spare.new) history)) }
+        × (Restored (secret_table secret protected) (S.file spare.old) (B.file bench.old) (S.file spare.new) (B.file bench.new) history
+        ⊎ Restored (secret_table secret protected) (B.file bench.old) (S.file spare.old) (B.file bench.new) (S.file spare.new) history)) }
     ensures alike { B.told → S.told → OnOk result (StandForTheSame (B.file bench.new) (S.file spare.new)) }
 
     // Each refusal has its cause in the files, and each cause has its refusal; if one can be restored it is never refused.
-    ensures cause { (fault : RestoreFault) → B.told → S.told → result ≡ Err fault → RestoreCause fault (B.file bench.old) (S.file spare.old) (secret_table secret protected.items) }
-    ensures due { (fault : RestoreFault) → B.told → S.told → (GivesUpRestoring fault → ⊥) → RestoreCause fault (B.file bench.old) (S.file spare.old) (secret_table secret protected.items) → NotRestoredUnlessGivenUp fault result }
-    ensures restores { B.told → S.told → CanRestore (secret_table secret protected.items) (B.file bench.old) (S.file spare.old) → RestoredUnlessGivenUp result }
+    ensures cause { (fault : RestoreFault) → B.told → S.told → result ≡ Err fault → RestoreCause fault (B.file bench.old) (S.file spare.old) (secret_table secret protected) }
+    ensures due { (fault : RestoreFault) → B.told → S.told → (GivesUpRestoring fault → ⊥) → RestoreCause fault (B.file bench.old) (S.file spare.old) (secret_table secret protected) → NotRestoredUnlessGivenUp fault result }
+    ensures restores { B.told → S.told → CanRestore (secret_table secret protected) (B.file bench.old) (S.file spare.old) → RestoredUnlessGivenUp result }
 
     ensures own { (fault : StartFault) → GivesUp fault → (result ≢ Err (RestoreFault.Main fault)) × (result ≢ Err (RestoreFault.Spare fault)) }
 
     // At every moment the lost file isn't made, or stands for the kept history. A made one stays, and so do both if none can be
     // restored.
-    ensures main_moments { (history : List Answered) → B.told → S.told → IsQuiet B.Bench bench.old → IsLostOf (secret_table secret protected.items) (B.file bench.old) (S.file spare.old) history
+    ensures main_moments { (history : List Answered) → B.told → S.told → IsQuiet B.Bench bench.old → IsLostOf (secret_table secret protected) (B.file bench.old) (S.file spare.old) history
         → LeavesOnly B.Bench bench.old bench.new (IsUnmadeOrWhole secret.shape history (B.sent bench.old)) }
-    ensures spare_moments { (history : List Answered) → B.told → S.told → IsQuiet S.Bench spare.old → IsLostOf (secret_table secret protected.items) (S.file spare.old) (B.file bench.old) history
+    ensures spare_moments { (history : List Answered) → B.told → S.told → IsQuiet S.Bench spare.old → IsLostOf (secret_table secret protected) (S.file spare.old) (B.file bench.old) history
         → LeavesOnly S.Bench spare.old spare.new (IsUnmadeOrWhole secret.shape history (S.sent spare.old)) }
     ensures main_kept { B.told → IsQuiet B.Bench bench.old → IsMade (B.file bench.old) → LeavesOnly B.Bench bench.old bench.new (IsUntouched (B.file bench.old) (B.sent bench.old)) }
     ensures spare_kept { S.told → IsQuiet S.Bench spare.old → IsMade (S.file spare.old) → LeavesOnly S.Bench spare.old spare.new (IsUntouched (S.file spare.old) (S.sent spare.old)) }
-    ensures untouched { B.told → S.told → IsQuiet B.Bench bench.old → (CanRestore (secret_table secret protected.items) (B.file bench.old) (S.file spare.old) → ⊥)
+    ensures untouched { B.told → S.told → IsQuiet B.Bench bench.old → (CanRestore (secret_table secret protected) (B.file bench.old) (S.file spare.old) → ⊥)
         → LeavesOnly B.Bench bench.old bench.new (IsUntouched (B.file bench.old) (B.sent bench.old)) }
-    ensures spare_untouched { B.told → S.told → IsQuiet S.Bench spare.old → (CanRestore (secret_table secret protected.items) (B.file bench.old) (S.file spare.old) → ⊥)
+    ensures spare_untouched { B.told → S.told → IsQuiet S.Bench spare.old → (CanRestore (secret_table secret protected) (B.file bench.old) (S.file spare.old) → ⊥)
         → LeavesOnly S.Bench spare.old spare.new (IsUntouched (S.file spare.old) (S.sent spare.old)) }
     ensures reads { (fault : RestoreFault) → result ≡ Err fault → (GivesUpRestoring fault → ⊥) → OnlyReads B.Bench bench.old bench.new × OnlyReads S.Bench spare.old spare.new }
     ensures quiet { B.told → IsQuiet B.Bench bench.old → result ≢ Err RestoreFault.MainFailed → IsQuiet B.Bench bench.new }

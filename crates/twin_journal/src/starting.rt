@@ -1,7 +1,7 @@
 //! Opening two journals of one table, and asking over both.
 ghost use Rattle.std.specs.Prelude.{◌≡◌, ◌≢◌, ◌≤◌, ◌+◌, ◌++◌, [], List, ℕ, true, false, length, All, Err, IfOk, OnOk, OnErr, IsErrOf};
 ghost use Rattle.audit_types.specs.declared.records.Answered.{Answered};
-ghost use Rattle.audit_types.specs.History.{AreProtected, FitsShape};
+ghost use Rattle.audit_types.specs.History.{IsPlainFor, FitsShape};
 ghost use Rattle.audit_core.specs.Outcomes.{AreOutcomes, records_made};
 ghost use Rattle.bench_core.specs.Calls.{IsQuiet, IsUntouched, LeavesOnly, OnlyReads, TellsFault};
 ghost use Rattle.answer_journal.specs.Moments.{IsBeforeOrAfter};
@@ -15,7 +15,7 @@ ghost use Rattle.twin_journal.specs.Twins.{CatchesUp, IsSpareAsLeft, IsTwin, Kee
 use crate::catching::catch_up;
 use answer_journal::Journal;
 use audit_store::{KeepFault, Outcome, StartFault, Store};
-use audit_types::{Answered, Asked, Protected};
+use audit_types::{Answered, Asked, Guard};
 use bench_core::Bench;
 use journal_form::laws::one_reading;
 use std::alloc::Global;
@@ -95,37 +95,37 @@ impl TwinStore {
     pub fn start<B: Bench, S: Bench>(
         alloc: Global,
         secret: Secret,
-        protected: Vec<Protected>,
+        protected: Guard,
         bench: &mut B,
         spare: &mut S,
     ) -> Result<TwinStore, TwinFault>
-        requires fit { AreProtected secret.shape protected.items }
+        requires fit { IsPlainFor secret.shape protected }
 
         // The store is that of the longer history, and both files are as it left them.
-        ensures store { IfOk result (λ twin. (twin.store.secret ≡ secret) × (twin.store.protected ≡ protected.items) × (twin.store.usable ≡ true) × IsStore twin.store × IsTwin twin) }
+        ensures store { IfOk result (λ twin. (twin.store.secret ≡ secret) × (twin.store.protected ≡ protected) × (twin.store.usable ≡ true) × IsStore twin.store × IsTwin twin) }
         ensures stands { B.told → IfOk result (λ twin. IsAsLeft (B.file bench.new) twin.store) }
         ensures spare_stands { S.told → IfOk result (λ twin. IsSpareAsLeft (S.file spare.new) twin) }
-        ensures together { B.told → S.told → IfOk result (λ twin. KeepWhole (secret_table secret protected.items) (B.file bench.old) (S.file spare.old) twin.store.history) }
-        ensures longer { (main other whole : List Answered) → B.told → S.told → KeepTogether (secret_table secret protected.items) (B.file bench.old) (S.file spare.old) main other whole
+        ensures together { B.told → S.told → IfOk result (λ twin. KeepWhole (secret_table secret protected) (B.file bench.old) (S.file spare.old) twin.store.history) }
+        ensures longer { (main other whole : List Answered) → B.told → S.told → KeepTogether (secret_table secret protected) (B.file bench.old) (S.file spare.old) main other whole
             → IfOk result (λ twin. twin.store.history ≡ whole) }
 
         // Each refusal has its cause in the files, and each cause has its refusal; files that keep together are never refused.
-        ensures cause { (fault : TwinFault) → B.told → S.told → result ≡ Err fault → TwinCause fault (B.file bench.old) (S.file spare.old) (secret_table secret protected.items) }
-        ensures due { (fault : TwinFault) → B.told → S.told → (TwinGivesUp fault → ⊥) → TwinCause fault (B.file bench.old) (S.file spare.old) (secret_table secret protected.items) → RefusedUnlessGivenUp fault result }
+        ensures cause { (fault : TwinFault) → B.told → S.told → result ≡ Err fault → TwinCause fault (B.file bench.old) (S.file spare.old) (secret_table secret protected) }
+        ensures due { (fault : TwinFault) → B.told → S.told → (TwinGivesUp fault → ⊥) → TwinCause fault (B.file bench.old) (S.file spare.old) (secret_table secret protected) → RefusedUnlessGivenUp fault result }
         ensures own { (fault : StartFault) → GivesUp fault → (result ≢ Err (TwinFault.Main fault)) × (result ≢ Err (TwinFault.Spare fault)) }
-        ensures opens { (main other whole : List Answered) → B.told → S.told → KeepTogether (secret_table secret protected.items) (B.file bench.old) (S.file spare.old) main other whole → StartsUnlessGivenUp result }
+        ensures opens { (main other whole : List Answered) → B.told → S.told → KeepTogether (secret_table secret protected) (B.file bench.old) (S.file spare.old) main other whole → StartsUnlessGivenUp result }
 
         // At every moment each file stands for a history between its own and the whole, and at the end, too, if memory ran out. Files that
         // don't keep together are only read.
-        ensures main_moments { (main other whole : List Answered) → B.told → S.told → IsQuiet B.Bench bench.old → KeepTogether (secret_table secret protected.items) (B.file bench.old) (S.file spare.old) main other whole
+        ensures main_moments { (main other whole : List Answered) → B.told → S.told → IsQuiet B.Bench bench.old → KeepTogether (secret_table secret protected) (B.file bench.old) (S.file spare.old) main other whole
             → LeavesOnly B.Bench bench.old bench.new (CatchesUp secret.shape main whole (B.sent bench.old)) }
-        ensures spare_moments { (main other whole : List Answered) → B.told → S.told → IsQuiet S.Bench spare.old → KeepTogether (secret_table secret protected.items) (B.file bench.old) (S.file spare.old) main other whole
+        ensures spare_moments { (main other whole : List Answered) → B.told → S.told → IsQuiet S.Bench spare.old → KeepTogether (secret_table secret protected) (B.file bench.old) (S.file spare.old) main other whole
             → LeavesOnly S.Bench spare.old spare.new (CatchesUp secret.shape other whole (S.sent spare.old)) }
-        ensures no_memory { (main other whole : List Answered) → B.told → S.told → KeepTogether (secret_table secret protected.items) (B.file bench.old) (S.file spare.old) main other whole
+        ensures no_memory { (main other whole : List Answered) → B.told → S.told → KeepTogether (secret_table secret protected) (B.file bench.old) (S.file spare.old) main other whole
             → IsErrOf result TwinFault.NoMemory → StandsBetween secret.shape main whole (B.file bench.new) × StandsBetween secret.shape other whole (S.file spare.new) }
-        ensures untouched { B.told → S.told → IsQuiet B.Bench bench.old → KeepApart (secret_table secret protected.items) (B.file bench.old) (S.file spare.old)
+        ensures untouched { B.told → S.told → IsQuiet B.Bench bench.old → KeepApart (secret_table secret protected) (B.file bench.old) (S.file spare.old)
             → LeavesOnly B.Bench bench.old bench.new (IsUntouched (B.file bench.old) (B.sent bench.old)) }
-        ensures spare_untouched { B.told → S.told → IsQuiet S.Bench spare.old → KeepApart (secret_table secret protected.items) (B.file bench.old) (S.file spare.old)
+        ensures spare_untouched { B.told → S.told → IsQuiet S.Bench spare.old → KeepApart (secret_table secret protected) (B.file bench.old) (S.file spare.old)
             → LeavesOnly S.Bench spare.old spare.new (IsUntouched (S.file spare.old) (S.sent spare.old)) }
         ensures quiet { B.told → IsQuiet B.Bench bench.old → result ≢ Err TwinFault.MainFailed → IsQuiet B.Bench bench.new }
         ensures spare_quiet { S.told → IsQuiet S.Bench spare.old → result ≢ Err TwinFault.SpareFailed → IsQuiet S.Bench spare.new }
@@ -135,9 +135,9 @@ impl TwinStore {
         // If the files are refused, both were only read; if the journal is, the spare wasn't called.
         ensures reads { (fault : TwinFault) → result ≡ Err fault → (TwinGivesUp fault → ⊥) → OnlyReads B.Bench bench.old bench.new × OnlyReads S.Bench spare.old spare.new }
         ensures main_first { (fault : StartFault) → result ≡ Err (TwinFault.Main fault) → spare.new ≡ spare.old }
-        ensures ticks { (main other whole : List Answered) → B.told → S.told → KeepTogether (secret_table secret protected.items) (B.file bench.old) (S.file spare.old) main other whole
+        ensures ticks { (main other whole : List Answered) → B.told → S.told → KeepTogether (secret_table secret protected) (B.file bench.old) (S.file spare.old) main other whole
             → OnOk result (B.moment bench.new ≡ B.moment bench.old + calls_to_open main whole) }
-        ensures spare_ticks { (main other whole : List Answered) → B.told → S.told → KeepTogether (secret_table secret protected.items) (B.file bench.old) (S.file spare.old) main other whole
+        ensures spare_ticks { (main other whole : List Answered) → B.told → S.told → KeepTogether (secret_table secret protected) (B.file bench.old) (S.file spare.old) main other whole
             → OnOk result (S.moment spare.new ≡ S.moment spare.old + calls_to_open other whole) }
         ensures fault { TellsFault B.Bench bench.old bench.new (IsErrOf result TwinFault.MainFailed) }
         ensures spare_fault { TellsFault S.Bench spare.old spare.new (IsErrOf result TwinFault.SpareFailed) }

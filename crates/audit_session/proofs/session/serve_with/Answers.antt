@@ -1,7 +1,7 @@
-use Rattle.std.proofs.Common.{◌≡◌, [], List, Result, Err, refl, sym, subst, arith}
+use Rattle.std.proofs.Common.{◌≡◌, [], Result, Err, refl, sym, subst, arith}
 use Rattle.std.proofs.lemmas.Result.{IfOk-from_err}
-use Rattle.audit_types.specs.declared.records.Protected.{Protected}
 use Rattle.std.specs.Prelude.{OnOk}
+use Rattle.audit_types.specs.History.{Protection}
 use Rattle.bench_core.specs.Calls.{LeavesOnly}
 use Rattle.bench_core.specs.Moments.{weakens}
 use Rattle.line_wire.specs.Lines.{counted_lines}
@@ -124,7 +124,7 @@ returns g c =
     let same : store.protected ≡ c.args.index.now.protected = sym c.requires.entries in
     let ends : g.P.Source.told → g.B.Bench.told →
     Ends batch c.answer_groups.result (base_of columns public c.args.index.now.protected store.secret) store.history input left now before after =
-    λ t u. subst (λ (p : List Protected). Ends batch c.answer_groups.result (base_of columns public p store.secret) store.history input left now before after)
+    λ t u. subst (λ (p : Protection). Ends batch c.answer_groups.result (base_of columns public p store.secret) store.history input left now before after)
     same (c.answer_groups.ensures.ends t u) in
     let ends_as : (r : Result (Unit {0}) TwinEnd) → c.answer_groups.result ≡ r → g.P.Source.told → g.B.Bench.told →
     Ends batch r (base_of columns public c.args.index.now.protected store.secret) store.history input left now before after =
@@ -143,11 +143,11 @@ returns g c =
       usable = c.answer_groups.ensures.usable;
       left = c.answer_groups.ensures.left;
       calls = λ t u.
-          subst (λ (p : List Protected). OnOk c.answer_groups.result (TakesCalls (base_of columns public p store.secret) store.history batch
+          subst (λ (p : Protection). OnOk c.answer_groups.result (TakesCalls (base_of columns public p store.secret) store.history batch
           (counted_lines input)
           (g.B.Bench.moment c.args.bench.now) (g.B.Bench.moment c.answer_groups.new.bench))) same (c.answer_groups.ensures.calls t u);
       any_moment = λ t u quiet.
-          subst (λ (p : List Protected). LeavesOnly g.B.Bench c.args.bench.now c.answer_groups.new.bench
+          subst (λ (p : Protection). LeavesOnly g.B.Bench c.args.bench.now c.answer_groups.new.bench
           (StopsOver (base_of columns public p store.secret) batch store.history (counted_lines input) before)) same
           (weakens g.B.Bench c.args.bench.now c.answer_groups.new.bench _ _ (λ image sent stop. stop.1 t) (c.answer_groups.ensures.moments u quiet));
       legal = λ u quiet.
@@ -172,7 +172,7 @@ returns g c =
       fault = c.answer_groups.ensures.fault;
       spare_stands = c.answer_groups.ensures.spare_stands;
       spare_moments = λ spared t told quiet.
-          subst (λ (p : List Protected). LeavesOnly g.S.Bench c.args.spare.now c.answer_groups.new.spare
+          subst (λ (p : Protection). LeavesOnly g.S.Bench c.args.spare.now c.answer_groups.new.spare
           (SpareStops (base_of columns public p store.secret) batch store.history (counted_lines input) (g.S.Bench.sent c.args.spare.now))) same
           (weakens g.S.Bench c.args.spare.now c.answer_groups.new.spare _ _ (λ image sent found. (found.0, (found.1.0, found.1.1.1 t)))
           (c.answer_groups.ensures.spare_moments spared told quiet));
@@ -189,11 +189,11 @@ returns g c =
       spare_quiet = c.answer_groups.ensures.spare_quiet;
       spare_sent = c.answer_groups.ensures.spare_sent;
       both = λ spared t told spare_told quiet spare_quiet image other left spare_left.
-          subst (λ (p : List Protected). LeavesBoth (base_of columns public p store.secret) batch store.history (counted_lines input) before after image
+          subst (λ (p : Protection). LeavesBoth (base_of columns public p store.secret) batch store.history (counted_lines input) before after image
           other) same
           (c.answer_groups.ensures.both spared t told spare_told quiet spare_quiet image other left spare_left);
       spare_calls = λ spared t told.
-          subst (λ (p : List Protected). OnOk c.answer_groups.result (KeepsCalls (base_of columns public p store.secret) store.history batch
+          subst (λ (p : Protection). OnOk c.answer_groups.result (KeepsCalls (base_of columns public p store.secret) store.history batch
           (counted_lines input)
           (g.S.Bench.moment c.args.spare.now) (g.S.Bench.moment c.answer_groups.new.spare))) same (c.answer_groups.ensures.spare_calls spared t told);
       spare_fault = c.answer_groups.ensures.spare_fault;

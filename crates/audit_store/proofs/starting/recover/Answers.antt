@@ -18,7 +18,7 @@ returns-in_err-journal-clause-due g c = λ fault told some cause.
     let given = c.in_err-journal.field-0.0 in
     let read = c.in_err-journal.ensures in
     of_refusal c.from_residual.result (start_fault given) c.from_residual.ensures (RefusedUnlessFailed fault)
-    (due_of_reading (g.B.Bench.file c.args.bench.now) (secret_table c.args.secret.now c.args.protected.items) given fault (read.made told)
+    (due_of_reading (g.B.Bench.file c.args.bench.now) (secret_table c.args.secret.now c.args.protected) given fault (read.made told)
     (λ at. read.damaged_only at told) (λ shape history gate. read.whole shape history gate told) some cause)
 
 pub returns-in_err-journal-clause-opens : goal.returns-in_err-journal-clause-opens
@@ -31,7 +31,7 @@ returns-in_err-journal-clause-opens g c = λ history told stands legal.
 
 pub returns-in_err-core-clause-cause : goal.returns-in_err-core-clause-cause
 returns-in_err-core-clause-cause g c = λ fault told is.
-    let table = secret_table c.args.secret.now c.args.protected.items in
+    let table = secret_table c.args.secret.now c.args.protected in
     let journal = c.in_ok-journal.journal in
     let list = c.in_ok-journal.list.items in
     let found = of_refusal c.from_residual-in_err-core.result c.in_err-core.field-0.0 c.from_residual-in_err-core.ensures
@@ -44,7 +44,7 @@ returns-in_err-core-clause-cause g c = λ fault told is.
 pub returns-in_err-core-clause-due : goal.returns-in_err-core-clause-due
 returns-in_err-core-clause-due g c = λ fault told some cause.
     let file = g.B.Bench.file c.args.bench.now in
-    let table = secret_table c.args.secret.now c.args.protected.items in
+    let table = secret_table c.args.secret.now c.args.protected in
     let read = c.in_ok-journal.ensures in
     let found =
     due_of_history file table c.in_ok-journal.journal.shape c.in_ok-journal.list.items fault (read.made told) (λ at. read.damaged_only at told)
@@ -60,14 +60,14 @@ returns-in_err-core-clause-opens g c = λ history told stands legal.
     let same = c.in_ok-journal.ensures.whole c.args.secret.now.shape history stands.0 told stands.1 in
     of_refusal c.from_residual-in_err-core.result c.in_err-core.field-0.0 c.from_residual-in_err-core.ensures StartsUnlessFailed
     (c.in_err-core.ensures.opens (c.shape.ensures.shape ∙ same.0)
-    (subst (λ (h : List Answered). IsLegal (secret_table c.args.secret.now c.args.protected.items) h) (sym (c.deref.ensures.value ∙ same.1)) legal))
+    (subst (λ (h : List Answered). IsLegal (secret_table c.args.secret.now c.args.protected) h) (sym (c.deref.ensures.value ∙ same.1)) legal))
 
 -- ---- it is
 
 pub returns-clause-due : goal.returns-clause-due
 returns-clause-due g c = λ fault told some cause.
     let file = g.B.Bench.file c.args.bench.now in
-    let table = secret_table c.args.secret.now c.args.protected.items in
+    let table = secret_table c.args.secret.now c.args.protected in
     let read = c.in_ok-journal.ensures in
     let found =
     due_of_history file table c.in_ok-journal.journal.shape c.in_ok-journal.list.items fault (read.made told) (λ at. read.damaged_only at told)

@@ -13,7 +13,7 @@ use Rattle.audit_store.proofs.starting.replay.Goals as goal
 pub is_released-requires-clause-possible : goal.is_released-requires-clause-possible
 is_released-requires-clause-possible c =
     let i = c.loop-place.invariant in
-    let possible = legal_is_possible c.args.secret.now c.args.protected.items (take c.loop-place.place c.args.list.now) c.true_answers.ensures.legal c.shape.ensures.is i.legal in
+    let possible = legal_is_possible c.args.secret.now c.args.protected (take c.loop-place.place c.args.list.now) c.true_answers.ensures.legal c.shape.ensures.is i.legal in
     rw (i.same_setting, i.so_far) possible
 
 abbrev said : Bool → Result Bool NoMemory
@@ -24,7 +24,7 @@ returns-in-Ok-false-clause-err c =
     let i = c.loop-place.invariant in
     let list = c.args.list.now in
     let r = c.index-list-place.result in
-    let table = secret_table c.args.secret.now c.args.protected.items in
+    let table = secret_table c.args.secret.now c.args.protected in
     let denied : IsReleasedAfter table (take c.loop-place.place list) r →
     ⊥ = rw (i.same_setting, i.so_far) at (c.in-Ok-false.ensures.no (ap said c.in-Ok-false.field-0-test)) in (
       refl,
@@ -43,7 +43,7 @@ loop-place-preserved c =
     let list = c.args.list.now in
     let place = c.loop-place.place in
     let r = c.index-list-place.result in
-    let table = secret_table c.args.secret.now c.args.protected.items in
+    let table = secret_table c.args.secret.now c.args.protected in
     let released : IsReleasedAfter table (take place list) r =
     rw (i.same_setting, i.so_far) at (c.in-Ok-true.ensures.yes (ap said c.in-Ok-true.field-0-test)) in
     let inside = c.loop-place-test.true in

@@ -6,7 +6,7 @@ use Rattle.audit_store.proofs.starting.replay.Given as goal
 -- the core has the records so far, and they are legal
 abbrev pub invariant-loop-place : goal.invariant-loop-place
 invariant-loop-place l = record {
-  same_setting : l.core.setting ≡ setting_of l.secret.shape l.fn.protected.items;
+  same_setting : l.core.setting ≡ setting_of l.secret.shape l.fn.protected;
   so_far : l.core.history ≡ take l.place l.list;
-  legal : IsLegal (secret_table l.secret l.fn.protected.items) (take l.place l.list);
+  legal : IsLegal (secret_table l.secret l.fn.protected) (take l.place l.list);
 }

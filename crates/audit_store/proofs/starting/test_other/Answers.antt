@@ -1,9 +1,8 @@
 use Rattle.std.proofs.Common.{◌≡◌, rules, take, sym, ap, subst, List, ◌∙◌}
 use Rattle.std.proofs.Math.Seq.{take-length}
 use Rattle.audit_types.specs.declared.records.Answered.{Answered}
-use Rattle.audit_types.specs.declared.records.Protected.{Protected}
 use Rattle.audit_types.specs.declared.shapes.Shape.{Shape}
-use Rattle.audit_types.specs.History.{IsLegal}
+use Rattle.audit_types.specs.History.{Protection, IsLegal}
 use Rattle.audit_store.specs.Starting.{HistoryCause, StartsUnlessFailed}
 use Rattle.table_load.specs.Database.{secret_table}
 use Rattle.audit_store.proofs.Causes.{legal_has_no_cause}
@@ -33,10 +32,10 @@ pub returns-in_err-audited-clause-opens : goal.returns-in_err-audited-clause-ope
 returns-in_err-audited-clause-opens c = λ same legal.
     let fault = c.in_err-audited.field-0.0 in
     let list = c.args.list.now in
-    let groups : c.in-Ok.protected.items ≡ c.args.core.now.setting.protected = search rules in
+    let groups : c.in-Ok.protected ≡ c.args.core.now.setting.protected = search rules in
     let cause : HistoryCause fault c.args.kept.now list (secret_table c.args.secret.now c.args.core.now.setting.protected) =
     subst (λ (s : Shape). HistoryCause fault s list (secret_table c.args.secret.now c.args.core.now.setting.protected)) (sym same)
-    (subst (λ (p : List Protected). HistoryCause fault c.args.secret.now.shape list (secret_table c.args.secret.now p)) groups c.in_err-audited.ensures.err) in
+    (subst (λ (p : Protection). HistoryCause fault c.args.secret.now.shape list (secret_table c.args.secret.now p)) groups c.in_err-audited.ensures.err) in
     of_refusal c.from_residual.result fault c.from_residual.ensures StartsUnlessFailed
     (legal_has_no_cause c.args.kept.now list (secret_table c.args.secret.now c.args.core.now.setting.protected) fault same legal cause)
 
@@ -44,6 +43,6 @@ pub returns-clause-due : goal.returns-clause-due
 returns-clause-due c = λ due some cause.
     let list = c.args.list.now in
     let same : c.args.kept.now ≡ c.args.secret.now.shape = search rules in
-    let groups : c.in-Ok.protected.items ≡ c.args.core.now.setting.protected = search rules in
+    let groups : c.in-Ok.protected ≡ c.args.core.now.setting.protected = search rules in
     some (legal_has_no_cause c.args.kept.now list (secret_table c.args.secret.now c.args.core.now.setting.protected) due same
-    (subst (λ (p : List Protected). IsLegal (secret_table c.args.secret.now p) list) groups c.in_ok-audited.ensures.ok.1) cause)
+    (subst (λ (p : Protection). IsLegal (secret_table c.args.secret.now p) list) groups c.in_ok-audited.ensures.ok.1) cause)

@@ -1,8 +1,12 @@
-use Rattle.std.proofs.Common.{ℕ, ◌<◌, List, [], length, Err, arith, ap, subst}
+use Rattle.std.proofs.Common.{◌≡◌, ◌∙◌, ℕ, ◌<◌, List, [], length, Err, arith, ap, subst}
 use Rattle.std.proofs.lemmas.Option.{slice_get_within}
 use Rattle.std.proofs.lemmas.Result.{IfOk-from_err}
+use Rattle.audit_types.specs.declared.records.Protected.{Protected}
+use Rattle.audit_types.specs.Limits.{most_width}
+use Rattle.audit_types.specs.History.{Protection, against_outsiders}
 use Rattle.schema_json.specs.Columns.{Column, Group}
-use Rattle.set_index.specs.Groups.{IsFirstBad}
+use Rattle.table_load.specs.Cells.{PublicView}
+use Rattle.set_index.specs.Groups.{Protects, IsFirstBad}
 use Rattle.auditor_top.proofs.drilling.answer_table.Goals as goal
 
 -- of no groups none has a fault
@@ -15,6 +19,17 @@ unreachable-requires c =
     none_bad schema.columns c.in-BadGroup.place
     (subst (λ (groups : List Group). IsFirstBad schema.columns groups c.in-BadGroup.place) c.requires.groups
     (c.in-Err.ensures.bad c.in-BadGroup.place (ap (λ f. Err f) c.in-BadGroup.is)))
+
+-- no group guards each row alone
+none_guarded : (columns : List Column) (public : PublicView) (groups : List Group) (protected : Protection) → groups ≡ [] → Protects columns public groups protected →
+    protected ≡ against_outsiders [] [] most_width
+none_guarded columns public groups protected none protects =
+    let alone = subst (λ (list : List Group). Protects columns public list protected) none protects in
+    alone.1 ∙ ap (λ (entries : List Protected). against_outsiders entries [] most_width) alone.0
+
+pub answer_lines-requires-clause-none : goal.answer_lines-requires-clause-none
+answer_lines-requires-clause-none c =
+    none_guarded c.args.schema.now.columns c.args.table.public c.args.schema.now.groups c.in-Ok.index.protected c.requires.groups c.in-Ok.ensures.entries
 
 -- ---- the lines were not answered
 

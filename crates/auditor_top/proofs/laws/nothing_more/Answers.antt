@@ -20,10 +20,10 @@ returns-clause-one c = λ base other history before after sent twins legal here 
     before after sent here (((twins_alike base other history twins).report Done before sent).1 there)
 
 pub returns-clause-lives : goal.returns-clause-lives
-returns-clause-lives c = λ schema table base runs last column value files life below guarded.
+returns-clause-lives c = λ schema table base runs last column own value files life below are_own guarded.
     let database = c.sound_files.ensures.database schema table last.base files in
     let numbers = c.sound_files.ensures.secret schema table last.base files in
-    let twin = c.hidden.ensures.hide base runs last database numbers life column value below guarded in
+    let twin = c.hidden.ensures.hide base runs last database numbers life column own value below are_own guarded in
     let shape = last.base.secret.shape in
     let there : IsDatabase (with_secrets twin.lists last.base) = record { schema = database.schema; shape = database.shape; protected = database.protected } in
     let whole = map_fixed (take shape.rows) twin.lists (λ k d lt. take_all shape.rows (get_or twin.lists k d)

@@ -1,11 +1,12 @@
 use Rattle.std.proofs.Common.{◌≡◌, ℕ, List, [], Result, Err, refl, sym, ap, subst}
+use Rattle.audit_types.specs.Limits.{most_width}
+use Rattle.audit_types.specs.History.{Protection, against_outsiders}
 use Rattle.table_load.specs.Database.{base_of}
 use Rattle.auditor_top.specs.declared.words.Command.{Command}
 use Rattle.auditor_top.specs.declared.status.Status.{Status}
 use Rattle.auditor_top.specs.Commands.{reads_files, reads_secrets, AreSoundFilesOf, reads_groups}
 use Rattle.auditor_top.specs.Ready.{IsGiven, Refuses}
 use Rattle.auditor_top.proofs.FileRefusals.{files_refused, gives_up_over, gives_up_public, of_status}
-use Rattle.audit_types.specs.declared.records.Protected.{Protected}
 use Rattle.schema_json.specs.Columns.{Column}
 use Rattle.table_load.specs.MeaningLaws.{read_means}
 use Rattle.table_load.specs.Tables.{public_of, table_of}
@@ -39,7 +40,7 @@ returns-in_ok-opened-in-Init-clause-over g c =
     let e = c.in_ok-opened-in-Init.ensures in
     let opened = c.in_ok-opened-in-Init.opened in
     λ ptold. (
-      base_of opened.schema.columns opened.table.public [] opened.table.secret,
+      base_of opened.schema.columns opened.table.public (against_outsiders [] [] most_width) opened.table.secret,
       record { groups = opened.schema.groups; schema_is = e.schema_is ptold; table_means = read_means _ _ _ (e.table_is ptold) },
       c.shape.ensures.shape,
     )
@@ -83,7 +84,7 @@ returns-in_ok-started-in-Serve-default-false-clause-over g c =
     let s = c.in_ok-started-in-Serve-default-false.started in
     let a = c.in_ok-started-in-Serve-default-false.ensures in
     λ ptold.
-    subst (λ (l : List Protected). AreSoundFilesOf (g.P.Source.left c.args.schema.now) (g.P.Source.left c.args.table.now)
+    subst (λ (l : Protection). AreSoundFilesOf (g.P.Source.left c.args.schema.now) (g.P.Source.left c.args.table.now)
     (base_of s.schema.columns s.index.public l s.store.secret)) (sym a.entries) (a.over ptold)
 
 pub returns-in_ok-started-in-Explain-clause-over : goal.returns-in_ok-started-in-Explain-clause-over
@@ -91,7 +92,7 @@ returns-in_ok-started-in-Explain-clause-over g c =
     let s = c.in_ok-started-in-Explain.started in
     let a = c.in_ok-started-in-Explain.ensures in
     λ ptold.
-    subst (λ (l : List Protected). AreSoundFilesOf (g.P.Source.left c.args.schema.now) (g.P.Source.left c.args.table.now)
+    subst (λ (l : Protection). AreSoundFilesOf (g.P.Source.left c.args.schema.now) (g.P.Source.left c.args.table.now)
     (base_of s.schema.columns s.index.public l s.store.secret)) (sym a.entries) (a.over ptold)
 
 pub returns-in_ok-made-in-Serve-default-true-clause-over : goal.returns-in_ok-made-in-Serve-default-true-clause-over
@@ -99,5 +100,5 @@ returns-in_ok-made-in-Serve-default-true-clause-over g c =
     let s = c.in_ok-made-in-Serve-default-true.made in
     let a = c.in_ok-made-in-Serve-default-true.ensures in
     λ ptold.
-    subst (λ (l : List Protected). AreSoundFilesOf (g.P.Source.left c.args.schema.now) (g.P.Source.left c.args.table.now)
+    subst (λ (l : Protection). AreSoundFilesOf (g.P.Source.left c.args.schema.now) (g.P.Source.left c.args.table.now)
     (base_of s.schema.columns s.index.public l s.secret)) (sym a.entries) (a.over ptold)

@@ -1,7 +1,7 @@
 use Rattle.std.proofs.Common.{◌≡◌, ℕ, List, Result, Err, sym, ◌∙◌, ap, subst}
 use Rattle.schema_json.specs.Columns.{Column, SchemaView}
 use Rattle.schema_json.specs.SecretShape.{shape_of}
-use Rattle.audit_types.specs.History.{AreProtected}
+use Rattle.audit_types.specs.History.{IsPlainFor}
 use Rattle.audit_types.specs.declared.shapes.Shape.{Shape}
 use Rattle.table_load.specs.Cells.{FitsSchema, PublicView, SecretView}
 use Rattle.table_load.specs.Database.{base_of}
@@ -68,16 +68,16 @@ returns g c =
     record {
       over = λ ptold.
           subst (λ (v : SchemaView). AreSoundFilesOf (g.P.Source.left c.args.schema.now) (g.P.Source.left c.args.table.now)
-          (base_of v.columns made.index.public made.protected.items made.secret)) (sym a.same.0)
+          (base_of v.columns made.index.public made.protected made.secret)) (sym a.same.0)
           (subst (λ (p : PublicView). AreSoundFilesOf (g.P.Source.left c.args.schema.now) (g.P.Source.left c.args.table.now)
-          (base_of opened.schema.columns p made.protected.items made.secret)) (sym a.same.1)
+          (base_of opened.schema.columns p made.protected made.secret)) (sym a.same.1)
           (subst (λ (v : SecretView). AreSoundFilesOf (g.P.Source.left c.args.schema.now) (g.P.Source.left c.args.table.now)
-          (base_of opened.schema.columns opened.table.public made.protected.items v)) (sym a.same.2)
+          (base_of opened.schema.columns opened.table.public made.protected v)) (sym a.same.2)
           (record {
             files = record { groups = opened.schema.groups; schema_is = e.schema_is ptold; table_means = read_means _ _ _ (e.table_is ptold) };
             entries = a.entries;
           })));
-      fit = subst (λ (s : Shape). AreProtected s made.protected.items) (sym shape) a.fit;
+      fit = subst (λ (s : Shape). IsPlainFor s made.protected) (sym shape) a.fit;
       fits = subst (λ (p : PublicView). FitsSchema made.schema.columns p) (sym a.same.1) (subst (λ (v : SchemaView). FitsSchema v.columns opened.table.public) (sym a.same.0) e.fits);
       shape = shape ∙ ap (λ (v : SchemaView). shape_of v.columns opened.table.public.rows) (sym a.same.0)
           ∙ ap (λ (p : PublicView). shape_of made.schema.columns p.rows) (sym a.same.1);

@@ -1,14 +1,13 @@
 use Rattle.std.proofs.Common.{◌≡◌, List, Result, Err, refl, sym, subst}
 use Rattle.audit_types.specs.declared.records.Answered.{Answered}
-use Rattle.audit_types.specs.declared.records.Protected.{Protected}
-use Rattle.audit_types.specs.History.{IsLegal}
+use Rattle.audit_types.specs.History.{Protection, IsLegal}
 use Rattle.table_load.specs.Cells.{SecretView}
 use Rattle.table_load.specs.Database.{secret_table}
 use Rattle.journal_form.specs.Journal.{StandsFor}
 use Rattle.audit_store.specs.Starting.{StartCause, GivesUp}
 use Rattle.audit_store.specs.declared.starting.StartFault.{StartFault}
 use Rattle.audit_store.specs.declared.starting.StartFault.TheVariants as start
-use Rattle.set_index.specs.Groups.{AreEntries}
+use Rattle.set_index.specs.Groups.{Protects}
 use Rattle.auditor_top.specs.declared.starting.NotStarted.{NotStarted}
 use Rattle.auditor_top.specs.declared.starting.NotStarted.TheVariants as began
 use Rattle.auditor_top.proofs.StoreRefusals.{same_journal, same_start}
@@ -22,9 +21,9 @@ pub returns-in-Err-start-clause-cause : goal.returns-in-Err-start-clause-cause
 returns-in-Err-start-clause-cause g c = λ fault is.
     let opened = c.args.opened in
     let made = c.in-Ok.ensures in
-    let entries : List Protected = c.in-Ok.grouped.protected.items in
+    let entries : Protection = c.in-Ok.grouped.protected in
     let found = c.in-Err-start.fault in
-    subst (λ (f : StartFault). (protected : List Protected) × AreEntries opened.schema.columns opened.table.public opened.schema.groups protected ×
+    subst (λ (f : StartFault). (protected : Protection) × Protects opened.schema.columns opened.table.public opened.schema.groups protected ×
     (g.B.Bench.told → StartCause f (g.B.Bench.file c.args.bench.now) (secret_table opened.table.secret protected) ×
     ((history : List Answered) → StandsFor (g.B.Bench.file c.args.bench.now) opened.table.secret.shape history →
     IsLegal (secret_table opened.table.secret protected) history → GivesUp f))) (one_fault found fault is) (

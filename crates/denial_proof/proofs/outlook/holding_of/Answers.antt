@@ -2,7 +2,7 @@ use Rattle.std.proofs.Common.{◌≡◌, ◌∙◌, ◌++◌, ◌∷◌, [], tak
 use Rattle.std.specs.Int.{w64}
 use Rattle.std.proofs.lemmas.Int.{to_z-of_z}
 use Rattle.std.proofs.lemmas.List.{map_more}
-use Rattle.audit_types.specs.Column.{Answer, IsOneOf}
+use Rattle.audit_types.specs.Column.{IsOneOf}
 use Rattle.max_bounds.specs.Maxima.{answer_of, answers_of}
 use Rattle.max_bounds.specs.AnswerLaws.{one_here}
 use Rattle.denial_proof.specs.Outlook.{IsHolding}

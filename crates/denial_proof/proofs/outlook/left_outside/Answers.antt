@@ -1,4 +1,4 @@
-use Rattle.std.proofs.Common.{◌≡◌, ◌∙◌, ◌++◌, ℕ, sym, ap, subst, arith, append-nil}
+use Rattle.std.proofs.Common.{◌∙◌, ◌++◌, sym, ap, arith, append-nil}
 use Rattle.max_bounds.specs.Maxima.{answer_of}
 use Rattle.audit_types.specs.RowLaws.{walk_row}
 use Rattle.denial_proof.proofs.OutlookWalks.{two_outside, held_whole}

@@ -1,5 +1,7 @@
 use Rattle.std.proofs.Common.{◌≡◌, ◌<◌, [], ◌∷◌, Err, sym, ap, ◌∙◌, subst}
 use Rattle.std.specs.List.{AllByRecursion}
+use Rattle.audit_types.specs.Rows.{has_row}
+use Rattle.audit_types.specs.History.{Protection}
 use Rattle.audit_types.specs.Extremes.{IsConsistent, IsLone}
 use Rattle.max_audit.specs.Witnesses.{highest}
 use Rattle.table_load.specs.Database.{secret_table}
@@ -15,10 +17,11 @@ unreachable-requires g c =
     let secret = c.args.store.now.secret in
     let history = c.args.store.now.history in
     let free = c.free_numbers.ensures.lone (secret_table secret c.args.store.now.protected) history c.args.column
-    (c.lists_of_secrets.ensures secret c.requires.is.numbers) c.requires.is.fit c.requires.is.legal c.requires.below c.requires.part.own_kind in
+    (c.lists_of_secrets.ensures secret c.requires.is.numbers) c.requires.is.fit.0 c.requires.is.legal c.requires.below c.requires.part.own_kind in
     let consistent = subst IsConsistent (sym c.requires.part.answers) free.0 in
     let found = c.in-Some.ensures.fixed consistent in
     free.1 c.in-Some.field-0 (subst (λ n. c.in-Some.field-0 < n) c.requires.part.n found.0.0)
+    (ap (λ (p : Protection). has_row p.shared c.in-Some.field-0) c.requires.is.fit.1)
     (subst (λ a. IsLone a c.in-Some.field-0) c.requires.part.answers c.in-Some.ensures.lone.0)
 
 pub name-name-requires : goal.name-name-requires
@@ -28,7 +31,7 @@ pub write_column-requires-clause-consistent : goal.write_column-requires-clause-
 write_column-requires-clause-consistent g c =
     let secret = c.args.store.now.secret in
     let free = c.free_numbers.ensures.lone (secret_table secret c.args.store.now.protected) c.args.store.now.history c.args.column
-    (c.lists_of_secrets.ensures secret c.requires.is.numbers) c.requires.is.fit c.requires.is.legal c.requires.below c.requires.part.own_kind in
+    (c.lists_of_secrets.ensures secret c.requires.is.numbers) c.requires.is.fit.0 c.requires.is.legal c.requires.below c.requires.part.own_kind in
     subst IsConsistent (sym c.requires.part.answers) free.0
 
 pub write_column-requires-clause-same_n : goal.write_column-requires-clause-same_n

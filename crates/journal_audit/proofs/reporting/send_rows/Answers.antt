@@ -1,6 +1,8 @@
 use Rattle.std.proofs.Common.{◌≡◌, ◌<◌, [], ◌∷◌, Ok, Err, sym, ap, ◌∙◌, subst, arith}
 use Rattle.std.specs.Prelude.{◌==◌, filter, map}
 use Rattle.std.specs.List.{AllByRecursion}
+use Rattle.audit_types.specs.Rows.{has_row}
+use Rattle.audit_types.specs.History.{Protection}
 use Rattle.audit_types.specs.declared.records.Answered.{Answered}
 use Rattle.sum_audit.specs.Sets.{sets_of}
 use Rattle.table_load.specs.Database.{secret_table}
@@ -33,7 +35,8 @@ write_row-requires-clause-free g c =
     let secret = c.args.store.now.secret in
     not_pinned_here audit c.args.column c.loop-row.row c.args.sums.now.n c.args.sums.now.answers c.requires.part.n c.requires.part.answers
     (c.free_numbers.ensures.pinned (secret_table secret c.args.store.now.protected) audit.history c.args.column c.loop-row.row
-    (c.lists_of_secrets.ensures secret c.requires.is.numbers) c.requires.is.fit c.requires.is.legal c.requires.below c.requires.part.own_kind)
+    (c.lists_of_secrets.ensures secret c.requires.is.numbers) c.requires.is.fit.0 c.requires.is.legal c.requires.below c.requires.part.own_kind
+    (ap (λ (p : Protection). has_row p.shared c.loop-row.row) c.requires.is.fit.1))
 
 pub write_row-requires-clause-same_n : goal.write_row-requires-clause-same_n
 write_row-requires-clause-same_n g c =

@@ -29,7 +29,7 @@ returns-in-Err-is_made-clause-spare_moments g c = λ history told spare_told qui
 
 pub returns-then-not-spare_is_made-clause-restores : goal.returns-then-not-spare_is_made-clause-restores
 returns-then-not-spare_is_made-clause-restores g c = λ told spare_told can.
-    let table = secret_table c.args.secret c.args.protected.items in
+    let table = secret_table c.args.secret c.args.protected in
     elim can.1 [
       | inl is ↦ true≢false (sym ((c.in-Ok.ensures.made told).1 (stands_is_made (g.B.Bench.file c.args.bench.now) table.setting.shape can.0 is.stands)) ∙ c.if-main_is_made.false)
       | inr is ↦ true≢false (sym ((c.in-Ok-is_made.ensures.made spare_told).1 (stands_is_made (g.S.Bench.file c.args.spare.now) table.setting.shape can.0 is.stands)) ∙ c.if-not-spare_is_made.true)
@@ -41,7 +41,7 @@ pub returns-in-Ok-copy_journal-clause-done : goal.returns-in-Ok-copy_journal-cla
 returns-in-Ok-copy_journal-clause-done g c = λ told spare_told.
     let file = g.B.Bench.file c.args.bench.now in
     let spare = g.S.Bench.file c.args.spare.now in
-    let table = secret_table c.args.secret c.args.protected.items in
+    let table = secret_table c.args.secret c.args.protected in
     let unmade : IsLost spare = λ made. true≢false (sym ((c.in-Ok-is_made.ensures.made spare_told).1 made) ∙ c.if-spare_is_made.false) in
     let copied = c.in-Ok-copy_journal.ensures.done told spare_told in
     let is = is_lost_of table spare file (g.B.Bench.file c.is_made.new.bench) copied.0 c.is_made.ensures.reads.file unmade copied.1 in
@@ -51,7 +51,7 @@ pub returns-in-Ok-copy_journal-clause-alike : goal.returns-in-Ok-copy_journal-cl
 returns-in-Ok-copy_journal-clause-alike g c = λ told spare_told.
     let file = g.B.Bench.file c.args.bench.now in
     let spare = g.S.Bench.file c.args.spare.now in
-    let table = secret_table c.args.secret c.args.protected.items in
+    let table = secret_table c.args.secret c.args.protected in
     let unmade : IsLost spare = λ made. true≢false (sym ((c.in-Ok-is_made.ensures.made spare_told).1 made) ∙ c.if-spare_is_made.false) in
     let copied = c.in-Ok-copy_journal.ensures.done told spare_told in
     let is = is_lost_of table spare file (g.B.Bench.file c.is_made.new.bench) copied.0 c.is_made.ensures.reads.file unmade copied.1 in
@@ -62,7 +62,7 @@ pub returns-in-Ok-copy_journal-clause-spare_untouched : goal.returns-in-Ok-copy_
 returns-in-Ok-copy_journal-clause-spare_untouched g c = λ told spare_told quiet none.
     let file = g.B.Bench.file c.args.bench.now in
     let spare = g.S.Bench.file c.args.spare.now in
-    let table = secret_table c.args.secret c.args.protected.items in
+    let table = secret_table c.args.secret c.args.protected in
     let unmade : IsLost spare = λ made. true≢false (sym ((c.in-Ok-is_made.ensures.made spare_told).1 made) ∙ c.if-spare_is_made.false) in
     let copied = c.in-Ok-copy_journal.ensures.done told spare_told in
     let is = is_lost_of table spare file (g.B.Bench.file c.is_made.new.bench) copied.0 c.is_made.ensures.reads.file unmade copied.1 in
@@ -72,7 +72,7 @@ pub returns-in-Ok-copy_journal-clause-spare_moments : goal.returns-in-Ok-copy_jo
 returns-in-Ok-copy_journal-clause-spare_moments g c = λ history told spare_told quiet is.
     let file = g.B.Bench.file c.args.bench.now in
     let spare = g.S.Bench.file c.args.spare.now in
-    let table = secret_table c.args.secret c.args.protected.items in
+    let table = secret_table c.args.secret c.args.protected in
     read_and_write g.S.Bench c.args.spare.now c.is_made-2.new.bench c.args.secret.shape history c.is_made-2.ensures.reads quiet is.unmade c.copy_journal.new.lost
     (λ still. c.copy_journal.ensures.moments history told spare_told still (is_kept table spare file (g.B.Bench.file c.is_made.new.bench) history c.is_made.ensures.reads.file is))
 
@@ -80,7 +80,7 @@ pub returns-in-Err-copy_journal-clause-spare_moments : goal.returns-in-Err-copy_
 returns-in-Err-copy_journal-clause-spare_moments g c = λ history told spare_told quiet is.
     let file = g.B.Bench.file c.args.bench.now in
     let spare = g.S.Bench.file c.args.spare.now in
-    let table = secret_table c.args.secret c.args.protected.items in
+    let table = secret_table c.args.secret c.args.protected in
     read_and_write g.S.Bench c.args.spare.now c.is_made-2.new.bench c.args.secret.shape history c.is_made-2.ensures.reads quiet is.unmade c.copy_journal.new.lost
     (λ still. c.copy_journal.ensures.moments history told spare_told still (is_kept table spare file (g.B.Bench.file c.is_made.new.bench) history c.is_made.ensures.reads.file is))
 
@@ -88,7 +88,7 @@ pub returns-in-Err-copy_journal-clause-cause : goal.returns-in-Err-copy_journal-
 returns-in-Err-copy_journal-clause-cause g c = λ fault told spare_told refused.
     let file = g.B.Bench.file c.args.bench.now in
     let spare = g.S.Bench.file c.args.spare.now in
-    let table = secret_table c.args.secret c.args.protected.items in
+    let table = secret_table c.args.secret c.args.protected in
     let unmade : IsLost spare = λ made. true≢false (sym ((c.in-Ok-is_made.ensures.made spare_told).1 made) ∙ c.if-spare_is_made.false) in
     let made : IsMade file = (c.in-Ok.ensures.made told).0 c.if-main_is_made.true in
     let given = c.in-Err-copy_journal.fault in
@@ -107,7 +107,7 @@ pub returns-in-Err-copy_journal-clause-spare_untouched : goal.returns-in-Err-cop
 returns-in-Err-copy_journal-clause-spare_untouched g c = λ told spare_told quiet none.
     let file = g.B.Bench.file c.args.bench.now in
     let spare = g.S.Bench.file c.args.spare.now in
-    let table = secret_table c.args.secret c.args.protected.items in
+    let table = secret_table c.args.secret c.args.protected in
     let unmade : IsLost spare = λ made. true≢false (sym ((c.in-Ok-is_made.ensures.made spare_told).1 made) ∙ c.if-spare_is_made.false) in
     let same = c.copy_journal.ensures.apart told (λ history kept.
     none (history, inl (is_lost_of table spare file (g.B.Bench.file c.is_made.new.bench) history c.is_made.ensures.reads.file unmade kept))) in
@@ -119,7 +119,7 @@ pub returns-in-Ok-copy_journal-2-clause-done : goal.returns-in-Ok-copy_journal-2
 returns-in-Ok-copy_journal-2-clause-done g c = λ told spare_told.
     let file = g.B.Bench.file c.args.bench.now in
     let spare = g.S.Bench.file c.args.spare.now in
-    let table = secret_table c.args.secret c.args.protected.items in
+    let table = secret_table c.args.secret c.args.protected in
     let unmade : IsLost file = λ made. true≢false (sym ((c.in-Ok.ensures.made told).1 made) ∙ c.if-main_is_made.false) in
     let copied = c.in-Ok-copy_journal-2.ensures.done spare_told told in
     let is = is_lost_of table file spare (g.S.Bench.file c.is_made-2.new.bench) copied.0 c.is_made-2.ensures.reads.file unmade copied.1 in
@@ -129,7 +129,7 @@ pub returns-in-Ok-copy_journal-2-clause-alike : goal.returns-in-Ok-copy_journal-
 returns-in-Ok-copy_journal-2-clause-alike g c = λ told spare_told.
     let file = g.B.Bench.file c.args.bench.now in
     let spare = g.S.Bench.file c.args.spare.now in
-    let table = secret_table c.args.secret c.args.protected.items in
+    let table = secret_table c.args.secret c.args.protected in
     let unmade : IsLost file = λ made. true≢false (sym ((c.in-Ok.ensures.made told).1 made) ∙ c.if-main_is_made.false) in
     let copied = c.in-Ok-copy_journal-2.ensures.done spare_told told in
     let is = is_lost_of table file spare (g.S.Bench.file c.is_made-2.new.bench) copied.0 c.is_made-2.ensures.reads.file unmade copied.1 in
@@ -140,7 +140,7 @@ pub returns-in-Ok-copy_journal-2-clause-untouched : goal.returns-in-Ok-copy_jour
 returns-in-Ok-copy_journal-2-clause-untouched g c = λ told spare_told quiet none.
     let file = g.B.Bench.file c.args.bench.now in
     let spare = g.S.Bench.file c.args.spare.now in
-    let table = secret_table c.args.secret c.args.protected.items in
+    let table = secret_table c.args.secret c.args.protected in
     let unmade : IsLost file = λ made. true≢false (sym ((c.in-Ok.ensures.made told).1 made) ∙ c.if-main_is_made.false) in
     let copied = c.in-Ok-copy_journal-2.ensures.done spare_told told in
     let is = is_lost_of table file spare (g.S.Bench.file c.is_made-2.new.bench) copied.0 c.is_made-2.ensures.reads.file unmade copied.1 in
@@ -150,7 +150,7 @@ pub returns-in-Ok-copy_journal-2-clause-main_moments : goal.returns-in-Ok-copy_j
 returns-in-Ok-copy_journal-2-clause-main_moments g c = λ history told spare_told quiet is.
     let file = g.B.Bench.file c.args.bench.now in
     let spare = g.S.Bench.file c.args.spare.now in
-    let table = secret_table c.args.secret c.args.protected.items in
+    let table = secret_table c.args.secret c.args.protected in
     read_and_write g.B.Bench c.args.bench.now c.is_made.new.bench c.args.secret.shape history c.is_made.ensures.reads quiet is.unmade c.copy_journal-2.new.lost
     (λ still. c.copy_journal-2.ensures.moments history spare_told told still (is_kept table file spare (g.S.Bench.file c.is_made-2.new.bench) history c.is_made-2.ensures.reads.file is))
 
@@ -158,7 +158,7 @@ pub returns-in-Err-copy_journal-2-clause-main_moments : goal.returns-in-Err-copy
 returns-in-Err-copy_journal-2-clause-main_moments g c = λ history told spare_told quiet is.
     let file = g.B.Bench.file c.args.bench.now in
     let spare = g.S.Bench.file c.args.spare.now in
-    let table = secret_table c.args.secret c.args.protected.items in
+    let table = secret_table c.args.secret c.args.protected in
     read_and_write g.B.Bench c.args.bench.now c.is_made.new.bench c.args.secret.shape history c.is_made.ensures.reads quiet is.unmade c.copy_journal-2.new.lost
     (λ still. c.copy_journal-2.ensures.moments history spare_told told still (is_kept table file spare (g.S.Bench.file c.is_made-2.new.bench) history c.is_made-2.ensures.reads.file is))
 
@@ -166,7 +166,7 @@ pub returns-in-Err-copy_journal-2-clause-cause : goal.returns-in-Err-copy_journa
 returns-in-Err-copy_journal-2-clause-cause g c = λ fault told spare_told refused.
     let file = g.B.Bench.file c.args.bench.now in
     let spare = g.S.Bench.file c.args.spare.now in
-    let table = secret_table c.args.secret c.args.protected.items in
+    let table = secret_table c.args.secret c.args.protected in
     let unmade : IsLost file = λ made. true≢false (sym ((c.in-Ok.ensures.made told).1 made) ∙ c.if-main_is_made.false) in
     let made : IsMade spare = (c.in-Ok-is_made.ensures.made spare_told).0 c.if-not-spare_is_made.false in
     let given = c.in-Err-copy_journal-2.fault in
@@ -185,7 +185,7 @@ pub returns-in-Err-copy_journal-2-clause-untouched : goal.returns-in-Err-copy_jo
 returns-in-Err-copy_journal-2-clause-untouched g c = λ told spare_told quiet none.
     let file = g.B.Bench.file c.args.bench.now in
     let spare = g.S.Bench.file c.args.spare.now in
-    let table = secret_table c.args.secret c.args.protected.items in
+    let table = secret_table c.args.secret c.args.protected in
     let unmade : IsLost file = λ made. true≢false (sym ((c.in-Ok.ensures.made told).1 made) ∙ c.if-main_is_made.false) in
     let same = c.copy_journal-2.ensures.apart spare_told (λ history kept.
     none (history, inr (is_lost_of table file spare (g.S.Bench.file c.is_made-2.new.bench) history c.is_made-2.ensures.reads.file unmade kept))) in

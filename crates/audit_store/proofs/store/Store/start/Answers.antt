@@ -8,13 +8,13 @@ invariant_of-result g c =
     let found = c.in_ok-journal in
     subst (λ (n : ℕ). IsStore (store_in c.args.secret found.core n found.journal true) × IsAuditedBy (table_by c.args.secret found.core) found.core n true)
     (sym c.count.ensures.count)
-    (recovered_store c.args.secret c.args.protected.items found.journal found.core found.ensures.recovers c.requires.fit)
+    (recovered_store c.args.secret c.args.protected found.journal found.core found.ensures.recovers c.requires.fit)
 
 pub returns-clause-store : goal.returns-clause-store
 returns-clause-store g c =
     let found = c.in_ok-journal in (
       refl,
-      recovered_groups c.args.secret c.args.protected.items found.journal found.core found.ensures.recovers,
+      recovered_groups c.args.secret c.args.protected found.journal found.core found.ensures.recovers,
       refl,
       (invariant_of-result g c).0,
     )

@@ -28,8 +28,7 @@ use Rattle.auditor_top.proofs.Openings.{stays}
 use Rattle.auditor_top.proofs.Refusals.{as_quiet}
 use Rattle.auditor_top.proofs.StepFaults.{session_faults, session_wants, session_says}
 use Rattle.auditor_top.proofs.StepStatuses.{always_before, at_lines, EndsLastStep, past_table, past_journal, no_schema_fault, no_table_fault, schema_was_read, table_was_read}
-use Rattle.audit_types.specs.declared.records.Protected.{Protected}
-use Rattle.audit_types.specs.History.{IsLegal}
+use Rattle.audit_types.specs.History.{Protection, IsLegal}
 use Rattle.auditor_top.proofs.LastSteps.{faults_so, file_so, groups_so, holds_over, later_so, schema_so, table_so, words_so}
 use Rattle.auditor_top.proofs.running.run.Given.{Over}
 use Rattle.auditor_top.proofs.running.run.Goals as goal
@@ -52,7 +51,7 @@ holds g c told =
     let ready = subst (IsReady g.B.Bench c.open.new.bench) c.in-Ok-Explain.field-0-is c.in-Ok-Explain.ensures.ready in (
       store.history,
       (store.journal.gate, stands g c told),
-      subst (λ (p : List Protected). IsLegal (secret_table store.secret p) store.history) (sym ready.3) ready.0.is.legal,
+      subst (λ (p : Protection). IsLegal (secret_table store.secret p) store.history) (sym ready.3) ready.0.is.legal,
     )
 
 explained_faults : (g : Over) (c : goal.After-drop-schema-inside-in-Ok-Explain-2 g) → FaultCause c.explained.result

@@ -42,7 +42,7 @@ same_bench g c = c.open.ensures.unopened (ap opens_store (is_grow g c))
 abbrev seen : (g : Over) (c : goal.After-grown g) → g.P.Source.told → Database
 seen g c ptold =
     let over = subst (IsReadyOver (g.P.Source.left c.args.schema.now) (g.P.Source.left c.args.table.now)) c.in-Ok-Grow.field-0-is (c.in-Ok-Grow.ensures.over ptold) in
-    base_of over.0 over.1 c.in-Ok-Grow.protected.items c.in-Ok-Grow.secret
+    base_of over.0 over.1 c.in-Ok-Grow.protected c.in-Ok-Grow.secret
 
 are : (g : Over) (c : goal.After-grown g) (ptold : g.P.Source.told) →
     AreSoundFilesOf (g.P.Source.left c.args.schema.now) (g.P.Source.left c.args.table.now) (seen g c ptold)
@@ -113,7 +113,7 @@ grew_file : (g : Over) (c : goal.After-grown g) → g.P.Source.told → g.B.Benc
     AreSoundFilesOf (g.P.Source.left c.args.schema.now) (g.P.Source.left c.args.table.now) base →
     FileCause (growing_status c.grow.result) command.Grow (g.B.Bench.file c.args.bench.now) (table_in base)
 grew_file g c ptold told base sound =
-    let table = secret_table c.in-Ok-Grow.secret c.in-Ok-Grow.protected.items in
+    let table = secret_table c.in-Ok-Grow.secret c.in-Ok-Grow.protected in
     subst (λ (b : Database). FileCause (growing_status c.grow.result) command.Grow (g.B.Bench.file c.args.bench.now) (table_in b)) (is_seen g c ptold base sound)
     (subst (λ b. FileCause (growing_status c.grow.result) command.Grow (g.B.Bench.file b) table) (same_bench g c)
     (growth_file c.grow.result (g.B.Bench.file c.open.new.bench) table (done_so c.grow.result (λ grown. grown.0) (c.grow.ensures.done told))
@@ -159,9 +159,9 @@ grow_ends g c =
       nothing_began = λ ptold told command asked opens quiet none.
           subst (λ (b : g.row.B.Denot). LeavesOnly g.B.Bench b later (IsUntouched (g.B.Bench.file b) (g.B.Bench.sent b))) same
           (c.grow.ensures.untouched told (quiet_then quiet) (λ can. none _ (are g c ptold)
-          (subst (λ (k : Command). IsReadyFor k (g.B.Bench.file c.args.bench.now) (secret_table c.in-Ok-Grow.secret c.in-Ok-Grow.protected.items))
+          (subst (λ (k : Command). IsReadyFor k (g.B.Bench.file c.args.bench.now) (secret_table c.in-Ok-Grow.secret c.in-Ok-Grow.protected))
           (one_command _ _ command is_named asked)
-          (subst (λ (f : List ℕ). CanGrow f (secret_table c.in-Ok-Grow.secret c.in-Ok-Grow.protected.items)) (ap g.B.Bench.file same) can))));
+          (subst (λ (f : List ℕ). CanGrow f (secret_table c.in-Ok-Grow.secret c.in-Ok-Grow.protected)) (ap g.B.Bench.file same) can))));
       quiet = λ told quiet fine. c.grow.ensures.quiet told (quiet_then quiet) (λ is. fine (c.grown.ensures ∙ ap growing_status is));
       before_table = past_table _ status last;
       before_bench = past_journal _ status last;

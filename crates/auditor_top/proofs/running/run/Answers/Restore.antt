@@ -32,7 +32,7 @@ use Rattle.auditor_top.proofs.running.run.Goals as goal
 abbrev seen : (g : Over) (c : goal.After-restored g) → g.P.Source.told → Database
 seen g c ptold =
     let are = subst (IsReadyOver (g.P.Source.left c.args.schema.now) (g.P.Source.left c.args.table.now)) c.in-Ok-Restore.field-0-is (c.in-Ok-Restore.ensures.over ptold) in
-    base_of are.0 are.1 c.in-Ok-Restore.protected.items c.in-Ok-Restore.secret
+    base_of are.0 are.1 c.in-Ok-Restore.protected c.in-Ok-Restore.secret
 
 are_of : (g : Over) (c : goal.After-restored g) (ptold : g.P.Source.told) →
     AreSoundFilesOf (g.P.Source.left c.args.schema.now) (g.P.Source.left c.args.table.now) (seen g c ptold)
@@ -59,7 +59,7 @@ restored_faults g c =
 
 -- the table of the files, as the step has it
 abbrev table : (g : Over) → goal.After-restored g → Table
-table g c = secret_table c.in-Ok-Restore.secret c.in-Ok-Restore.protected.items
+table g c = secret_table c.in-Ok-Restore.secret c.in-Ok-Restore.protected
 
 quiet_opened : (g : Over) (c : goal.After-restored g) → IsQuiet g.B.Bench c.args.bench.now → IsQuiet g.B.Bench c.open.new.bench
 quiet_opened g c quiet = subst (λ b. IsQuiet g.B.Bench b) (sym (unopened g c)) quiet

@@ -1,5 +1,6 @@
 -- What `run` says of `serve`.
 use Rattle.std.proofs.Common.{◌≡◌, false, List, Some, refl, sym, ◌∙◌, ap, subst, map, string_bytes}
+use Rattle.audit_types.specs.History.{Protection}
 use Rattle.audit_types.specs.declared.records.Answered.{Answered}
 use Rattle.bench_core.specs.Calls.{LeavesOnly}
 use Rattle.table_load.specs.Cells.{SecretView}
@@ -25,7 +26,6 @@ use Rattle.auditor_top.proofs.Sessions.{ends_so, stops_so, harmless_so, calls_so
 use Rattle.auditor_top.proofs.StepFaults.{session_ends, session_faults, session_reads, session_wants, session_says}
 use Rattle.auditor_top.specs.Stages.{opening_spare}
 use Rattle.auditor_top.proofs.StepStatuses.{at_lines, EndsLastStep, past_table, past_journal, no_schema_fault, no_table_fault, schema_was_read, table_was_read, always_before}
-use Rattle.audit_types.specs.declared.records.Protected.{Protected}
 use Rattle.auditor_top.proofs.LastSteps.{faults_so, file_so, groups_so, holds_over, holds_so, later_so, schema_so, stands_so, table_so, words_so}
 use Rattle.auditor_top.proofs.running.run.Given.{Over}
 use Rattle.auditor_top.proofs.running.run.Goals as goal
@@ -46,7 +46,7 @@ opened g c = (subst (IsReady g.B.Bench c.open.new.bench) c.in-Ok-Serve.field-0-i
 
 holds : (g : Over) (c : goal.After-drop-schema-inside-in-Ok-Serve g) → g.B.Bench.told → HoldsLegal (g.B.Bench.file c.args.bench.now) (table_in (seen g c))
 holds g c told =
-    subst (λ (p : List Protected). HoldsLegal (g.B.Bench.file c.args.bench.now) (secret_table c.in-Ok-Serve.store.secret p)) (sym (entries g c))
+    subst (λ (p : Protection). HoldsLegal (g.B.Bench.file c.args.bench.now) (secret_table c.in-Ok-Serve.store.secret p)) (sym (entries g c))
     (holds_so g.B.Bench c.args.bench.now c.open.new.bench c.in-Ok-Serve.store (opened g c) c.open.ensures.reads.file told)
 
 served_faults : (g : Over) (c : goal.After-drop-schema-inside-in-Ok-Serve g) → FaultCause c.answered.result
@@ -88,7 +88,7 @@ serving g c =
       undisclosed = λ ptold told quiet base history over.
           harmless_so g.B.Bench at c.open.new.bench later reads (seen g c) base kept history (given ptold told base history over) n text c.stops_are_legal.ensures _ _ over
           (reads.untouched quiet)
-          (subst (λ (p : List Protected). LeavesOnly g.B.Bench c.open.new.bench later (λ image sent. IsHarmless (secret_table store.secret p) image)) (sym (entries g c))
+          (subst (λ (p : Protection). LeavesOnly g.B.Bench c.open.new.bench later (λ image sent. IsHarmless (secret_table store.secret p) image)) (sym (entries g c))
           (c.serve.ensures.legal told (as_quiet g.B.Bench at c.open.new.bench reads quiet)));
       serve_calls = λ ptold itold told done base history over.
           calls_so g.B.Bench at c.open.new.bench later reads (seen g c) base kept history (given ptold told base history over) n text

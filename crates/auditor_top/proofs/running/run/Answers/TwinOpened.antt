@@ -1,7 +1,7 @@
 -- Two journals that were opened for a run of `serve`: what is given, and what each goes through until both are brought up.
 use Rattle.std.proofs.Common.{◌≡◌, List, sym, ◌∙◌, ap, subst}
+use Rattle.audit_types.specs.History.{Protection}
 use Rattle.audit_types.specs.declared.records.Answered.{Answered}
-use Rattle.audit_types.specs.declared.records.Protected.{Protected}
 use Rattle.bench_core.specs.Calls.{IsQuiet, LeavesOnly}
 use Rattle.table_load.specs.Cells.{SecretView}
 use Rattle.table_load.specs.Database.{Database, base_of, table_in}
@@ -17,12 +17,12 @@ use Rattle.auditor_top.proofs.running.run.Goals as goal
 
 -- the files are those of the table whose groups were made ready
 abbrev pub seen : (g : Over) → goal.After-drop-schema-inside-in-Ok-start-2 g → Database
-seen g c = base_of c.in-Ok-Twin.schema.columns c.in-Ok-Twin.index.public c.in-Ok-Twin.protected.items c.in-Ok-Twin.secret
+seen g c = base_of c.in-Ok-Twin.schema.columns c.in-Ok-Twin.index.public c.in-Ok-Twin.protected c.in-Ok-Twin.secret
 
 pub are : (g : Over) (c : goal.After-drop-schema-inside-in-Ok-start-2 g) → g.P.Source.told → AreSoundFilesOf (g.P.Source.left c.args.schema.now) (g.P.Source.left c.args.table.now) (seen g c)
 are g c ptold =
     let ready = subst (IsReady g.B.Bench c.open.new.bench) c.in-Ok-Twin.field-0-is c.in-Ok-Twin.ensures.ready in
-    subst (λ (l : List Protected). AreSoundFilesOf (g.P.Source.left c.args.schema.now) (g.P.Source.left c.args.table.now)
+    subst (λ (l : Protection). AreSoundFilesOf (g.P.Source.left c.args.schema.now) (g.P.Source.left c.args.table.now)
     (base_of c.in-Ok-Twin.schema.columns c.in-Ok-Twin.index.public l c.in-Ok-Twin.secret)) ready.3
     (subst (IsReadyOver _ _) c.in-Ok-Twin.field-0-is (c.in-Ok-Twin.ensures.over ptold))
 
@@ -50,8 +50,8 @@ asked g c = base_of c.in-Ok-Twin.schema.columns c.in-Ok-Twin.index.public c.in-O
 pub asks : (g : Over) (c : goal.After-drop-schema-inside-in-Ok-start-2 g) → asked g c ≡ seen g c
 asks g c =
     let ready = subst (IsReady g.B.Bench c.open.new.bench) c.in-Ok-Twin.field-0-is c.in-Ok-Twin.ensures.ready in
-    ap (λ (l : List Protected). base_of c.in-Ok-Twin.schema.columns c.in-Ok-Twin.index.public l c.in-Ok-start.twin.store.secret) ready.3
-    ∙ ap (λ (s : SecretView). base_of c.in-Ok-Twin.schema.columns c.in-Ok-Twin.index.public c.in-Ok-Twin.protected.items s) c.in-Ok-start.ensures.store.0
+    ap (λ (l : Protection). base_of c.in-Ok-Twin.schema.columns c.in-Ok-Twin.index.public l c.in-Ok-start.twin.store.secret) ready.3
+    ∙ ap (λ (s : SecretView). base_of c.in-Ok-Twin.schema.columns c.in-Ok-Twin.index.public c.in-Ok-Twin.protected s) c.in-Ok-start.ensures.store.0
 
 -- the journals keep together, and the history is the longer one
 pub together : (g : Over) (c : goal.After-drop-schema-inside-in-Ok-start-2 g) → g.B.Bench.told →

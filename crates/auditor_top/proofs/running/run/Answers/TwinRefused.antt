@@ -1,7 +1,7 @@
 -- What `run` says of `serve` whose two journals weren't opened.
 use Rattle.std.proofs.Common.{◌≡◌, ℕ, List, Some, refl, sym, ◌∙◌, ap, subst, inl, true, map, string_bytes}
+use Rattle.audit_types.specs.History.{Protection}
 use Rattle.audit_types.specs.declared.records.Answered.{Answered}
-use Rattle.audit_types.specs.declared.records.Protected.{Protected}
 use Rattle.bench_core.specs.Calls.{IsQuiet, IsUntouched, LeavesOnly}
 use Rattle.bench_core.specs.Moments.{weakens}
 use Rattle.table_load.specs.Database.{Database, base_of, table_in}
@@ -33,12 +33,12 @@ use Rattle.auditor_top.proofs.running.run.Goals as goal
 
 -- the files are those of the table whose groups were made ready
 abbrev seen : (g : Over) → goal.After-drop-schema-inside-in-Ok-Twin-2 g → Database
-seen g c = base_of c.in-Ok-Twin.schema.columns c.in-Ok-Twin.index.public c.in-Ok-Twin.protected.items c.in-Ok-Twin.secret
+seen g c = base_of c.in-Ok-Twin.schema.columns c.in-Ok-Twin.index.public c.in-Ok-Twin.protected c.in-Ok-Twin.secret
 
 are : (g : Over) (c : goal.After-drop-schema-inside-in-Ok-Twin-2 g) → g.P.Source.told → AreSoundFilesOf (g.P.Source.left c.args.schema.now) (g.P.Source.left c.args.table.now) (seen g c)
 are g c ptold =
     let ready = subst (IsReady g.B.Bench c.open.new.bench) c.in-Ok-Twin.field-0-is c.in-Ok-Twin.ensures.ready in
-    subst (λ (l : List Protected). AreSoundFilesOf (g.P.Source.left c.args.schema.now) (g.P.Source.left c.args.table.now)
+    subst (λ (l : Protection). AreSoundFilesOf (g.P.Source.left c.args.schema.now) (g.P.Source.left c.args.table.now)
     (base_of c.in-Ok-Twin.schema.columns c.in-Ok-Twin.index.public l c.in-Ok-Twin.secret)) ready.3
     (subst (IsReadyOver _ _) c.in-Ok-Twin.field-0-is (c.in-Ok-Twin.ensures.over ptold))
 

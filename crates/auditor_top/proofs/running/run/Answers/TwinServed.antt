@@ -1,8 +1,7 @@
 -- What is said of two journals that were opened, while lines are answered over them and at the end.
 use Rattle.std.proofs.Common.{◌≡◌, ◌+◌, ℕ, List, ◌∙◌, ap, subst, inr}
 use Rattle.audit_types.specs.declared.records.Answered.{Answered}
-use Rattle.audit_types.specs.declared.records.Protected.{Protected}
-use Rattle.audit_types.specs.History.{IsLegal, IsUndisclosed}
+use Rattle.audit_types.specs.History.{Protection, IsLegal, IsUndisclosed}
 use Rattle.bench_core.specs.Calls.{IsQuiet, LeavesOnly}
 use Rattle.table_load.specs.Cells.{SecretView}
 use Rattle.table_load.specs.Database.{Database, secret_table, table_in}
@@ -93,9 +92,9 @@ pub harmless_for : (g : Over) (c : goal.After-drop-schema-inside-in-Ok-start-2 g
 harmless_for g c ptold base sound started later harmless =
     let store = c.in-Ok-start.twin.store in
     subst (λ (b : Database). LeavesOnly g.B.Bench started later (λ image sent. IsHarmless (table_in b) image)) (is_seen g c ptold base sound)
-    (subst (λ (s : SecretView). LeavesOnly g.B.Bench started later (λ image sent. IsHarmless (secret_table s c.in-Ok-Twin.protected.items) image))
+    (subst (λ (s : SecretView). LeavesOnly g.B.Bench started later (λ image sent. IsHarmless (secret_table s c.in-Ok-Twin.protected) image))
     c.in-Ok-start.ensures.store.0
-    (subst (λ (p : List Protected). LeavesOnly g.B.Bench started later (λ image sent. IsHarmless (secret_table store.secret p) image))
+    (subst (λ (p : Protection). LeavesOnly g.B.Bench started later (λ image sent. IsHarmless (secret_table store.secret p) image))
     c.in-Ok-start.ensures.store.1 harmless))
 
 pub discloses_nothing : (g : Over) (c : goal.After-drop-schema-inside-in-Ok-start-2 g) → g.P.Source.told → g.B.Bench.told → IsQuiet g.B.Bench c.args.bench.now →

@@ -1,8 +1,7 @@
 use Rattle.std.proofs.Common.{◌≡◌, ℕ, List, Result, Err, refl, sym, ap, subst, ◌∙◌}
 use Rattle.audit_types.specs.declared.records.Answered.{Answered}
-use Rattle.audit_types.specs.declared.records.Protected.{Protected}
 use Rattle.audit_types.specs.declared.shapes.Shape.{Shape}
-use Rattle.audit_types.specs.History.{Table, IsLegal}
+use Rattle.audit_types.specs.History.{Protection, Table, IsLegal}
 use Rattle.bench_core.specs.Calls.{IsUntouched, LeavesOnly}
 use Rattle.bench_core.specs.Moments.{still_quiet}
 use Rattle.journal_form.specs.Journal.{StandsAt, StandsFor}
@@ -25,7 +24,7 @@ use Rattle.twin_journal.proofs.starting.TwinStore.start.Goals as goal
 
 pub returns-in-Err-clause-opens : goal.returns-in-Err-clause-opens
 returns-in-Err-clause-opens g c = λ main other whole told spare_told keep.
-    let table = secret_table c.args.secret c.args.protected.items in
+    let table = secret_table c.args.secret c.args.protected in
     subst (λ (f : TwinFault). TwinGivesUp f) (sym c.main_fault.ensures)
     (main_gives_up c.in-Err.fault (c.in-Err.ensures.opens main told keep.main_stands
     (main_is_legal table (g.B.Bench.file c.args.bench.now) (g.S.Bench.file c.args.spare.now) main other whole keep)))
@@ -41,7 +40,7 @@ returns-in-Err-clause-spare_moments g c = λ main other whole told spare_told qu
 
 pub returns-in-Err-clause-no_memory : goal.returns-in-Err-clause-no_memory
 returns-in-Err-clause-no_memory g c = λ main other whole told spare_told keep refused.
-    read_between (secret_table c.args.secret c.args.protected.items) (g.B.Bench.file c.args.bench.now) (g.S.Bench.file c.args.spare.now)
+    read_between (secret_table c.args.secret c.args.protected) (g.B.Bench.file c.args.bench.now) (g.S.Bench.file c.args.spare.now)
     (g.B.Bench.file c.start.new.bench) (g.S.Bench.file c.args.spare.now) main other whole c.start.ensures.reads.file refl keep
 
 -- ---- the spare has one
@@ -50,10 +49,10 @@ pub returns-in-Err-open_other-clause-cause : goal.returns-in-Err-open_other-clau
 returns-in-Err-open_other-clause-cause g c = λ fault told spare_told refused.
     let file = g.B.Bench.file c.args.bench.now in
     let spare = g.S.Bench.file c.args.spare.now in
-    let table = secret_table c.args.secret c.args.protected.items in
+    let table = secret_table c.args.secret c.args.protected in
     let store = c.in-Ok.store in
     let is = c.in-Ok.ensures.store in
-    let same_table : table_of store ≡ table = ap (λ (s : SecretView). secret_table s store.protected) is.0 ∙ ap (λ (p : List Protected). secret_table c.args.secret p) is.1 in
+    let same_table : table_of store ≡ table = ap (λ (s : SecretView). secret_table s store.protected) is.0 ∙ ap (λ (p : Protection). secret_table c.args.secret p) is.1 in
     let same_shape : store.secret.shape ≡ c.args.secret.shape = ap (λ (s : SecretView). s.shape) is.0 in
     let main = store.history in
     let legal : IsLegal table main = subst (λ (t : Table). IsLegal t main) same_table is.3.legal in
@@ -69,10 +68,10 @@ pub returns-in-Err-open_other-clause-due : goal.returns-in-Err-open_other-clause
 returns-in-Err-open_other-clause-due g c = λ due told spare_told some cause.
     let file = g.B.Bench.file c.args.bench.now in
     let spare = g.S.Bench.file c.args.spare.now in
-    let table = secret_table c.args.secret c.args.protected.items in
+    let table = secret_table c.args.secret c.args.protected in
     let store = c.in-Ok.store in
     let is = c.in-Ok.ensures.store in
-    let same_table : table_of store ≡ table = ap (λ (s : SecretView). secret_table s store.protected) is.0 ∙ ap (λ (p : List Protected). secret_table c.args.secret p) is.1 in
+    let same_table : table_of store ≡ table = ap (λ (s : SecretView). secret_table s store.protected) is.0 ∙ ap (λ (p : Protection). secret_table c.args.secret p) is.1 in
     let same_shape : store.secret.shape ≡ c.args.secret.shape = ap (λ (s : SecretView). s.shape) is.0 in
     let none : (d : StartFault) → (GivesUp d → ⊥) → StartCause d file table → ⊥ = λ d some cause. c.in-Ok.ensures.due d told some cause in
     let given = c.in-Err-open_other.fault in
@@ -86,10 +85,10 @@ pub returns-in-Err-open_other-clause-opens : goal.returns-in-Err-open_other-clau
 returns-in-Err-open_other-clause-opens g c = λ m o whole told spare_told keep.
     let file = g.B.Bench.file c.args.bench.now in
     let spare = g.S.Bench.file c.args.spare.now in
-    let table = secret_table c.args.secret c.args.protected.items in
+    let table = secret_table c.args.secret c.args.protected in
     let store = c.in-Ok.store in
     let is = c.in-Ok.ensures.store in
-    let same_table : table_of store ≡ table = ap (λ (s : SecretView). secret_table s store.protected) is.0 ∙ ap (λ (p : List Protected). secret_table c.args.secret p) is.1 in
+    let same_table : table_of store ≡ table = ap (λ (s : SecretView). secret_table s store.protected) is.0 ∙ ap (λ (p : Protection). secret_table c.args.secret p) is.1 in
     let same_shape : store.secret.shape ≡ c.args.secret.shape = ap (λ (s : SecretView). s.shape) is.0 in
     let given = c.in-Err-open_other.fault in
     subst (λ (f : TwinFault). TwinGivesUp f) (sym c.spare_fault.ensures)
@@ -106,7 +105,7 @@ returns-in-Err-open_other-clause-spare_moments g c = λ main other whole told sp
 
 pub returns-in-Err-open_other-clause-no_memory : goal.returns-in-Err-open_other-clause-no_memory
 returns-in-Err-open_other-clause-no_memory g c = λ main other whole told spare_told keep refused.
-    read_between (secret_table c.args.secret c.args.protected.items) (g.B.Bench.file c.args.bench.now) (g.S.Bench.file c.args.spare.now)
+    read_between (secret_table c.args.secret c.args.protected) (g.B.Bench.file c.args.bench.now) (g.S.Bench.file c.args.spare.now)
     (g.B.Bench.file c.start.new.bench) (g.S.Bench.file c.open_other.new.spare) main other whole c.start.ensures.reads.file c.open_other.ensures.reads.file keep
 
 -- ---- one was to be brought up to the other
@@ -118,10 +117,10 @@ pub returns-in-Err-catch_up-clause-cause : goal.returns-in-Err-catch_up-clause-c
 returns-in-Err-catch_up-clause-cause g c = λ fault told spare_told refused.
     let file = g.B.Bench.file c.args.bench.now in
     let spare = g.S.Bench.file c.args.spare.now in
-    let table = secret_table c.args.secret c.args.protected.items in
+    let table = secret_table c.args.secret c.args.protected in
     let store = c.in-Ok.store in
     let is = c.in-Ok.ensures.store in
-    let same_table : table_of store ≡ table = ap (λ (s : SecretView). secret_table s store.protected) is.0 ∙ ap (λ (p : List Protected). secret_table c.args.secret p) is.1 in
+    let same_table : table_of store ≡ table = ap (λ (s : SecretView). secret_table s store.protected) is.0 ∙ ap (λ (p : Protection). secret_table c.args.secret p) is.1 in
     let same_shape : store.secret.shape ≡ c.args.secret.shape = ap (λ (s : SecretView). s.shape) is.0 in
     let main = store.history in
     let legal : IsLegal table main = subst (λ (t : Table). IsLegal t main) same_table is.3.legal in
@@ -145,10 +144,10 @@ pub returns-in-Err-catch_up-clause-due : goal.returns-in-Err-catch_up-clause-due
 returns-in-Err-catch_up-clause-due g c = λ due told spare_told some cause.
     let file = g.B.Bench.file c.args.bench.now in
     let spare = g.S.Bench.file c.args.spare.now in
-    let table = secret_table c.args.secret c.args.protected.items in
+    let table = secret_table c.args.secret c.args.protected in
     let store = c.in-Ok.store in
     let is = c.in-Ok.ensures.store in
-    let same_table : table_of store ≡ table = ap (λ (s : SecretView). secret_table s store.protected) is.0 ∙ ap (λ (p : List Protected). secret_table c.args.secret p) is.1 in
+    let same_table : table_of store ≡ table = ap (λ (s : SecretView). secret_table s store.protected) is.0 ∙ ap (λ (p : Protection). secret_table c.args.secret p) is.1 in
     let same_shape : store.secret.shape ≡ c.args.secret.shape = ap (λ (s : SecretView). s.shape) is.0 in
     let main = store.history in
     let legal : IsLegal table main = subst (λ (t : Table). IsLegal t main) same_table is.3.legal in
@@ -174,10 +173,10 @@ pub returns-in-Err-catch_up-clause-opens : goal.returns-in-Err-catch_up-clause-o
 returns-in-Err-catch_up-clause-opens g c = λ m o whole told spare_told keep.
     let file = g.B.Bench.file c.args.bench.now in
     let spare = g.S.Bench.file c.args.spare.now in
-    let table = secret_table c.args.secret c.args.protected.items in
+    let table = secret_table c.args.secret c.args.protected in
     let store = c.in-Ok.store in
     let is = c.in-Ok.ensures.store in
-    let same_table : table_of store ≡ table = ap (λ (s : SecretView). secret_table s store.protected) is.0 ∙ ap (λ (p : List Protected). secret_table c.args.secret p) is.1 in
+    let same_table : table_of store ≡ table = ap (λ (s : SecretView). secret_table s store.protected) is.0 ∙ ap (λ (p : Protection). secret_table c.args.secret p) is.1 in
     let same_shape : store.secret.shape ≡ c.args.secret.shape = ap (λ (s : SecretView). s.shape) is.0 in
     let main = store.history in
     let legal : IsLegal table main = subst (λ (t : Table). IsLegal t main) same_table is.3.legal in
@@ -200,10 +199,10 @@ pub returns-in-Err-catch_up-clause-no_memory : goal.returns-in-Err-catch_up-clau
 returns-in-Err-catch_up-clause-no_memory g c = λ m o whole told spare_told keep refused.
     let file = g.B.Bench.file c.args.bench.now in
     let spare = g.S.Bench.file c.args.spare.now in
-    let table = secret_table c.args.secret c.args.protected.items in
+    let table = secret_table c.args.secret c.args.protected in
     let store = c.in-Ok.store in
     let is = c.in-Ok.ensures.store in
-    let same_table : table_of store ≡ table = ap (λ (s : SecretView). secret_table s store.protected) is.0 ∙ ap (λ (p : List Protected). secret_table c.args.secret p) is.1 in
+    let same_table : table_of store ≡ table = ap (λ (s : SecretView). secret_table s store.protected) is.0 ∙ ap (λ (p : Protection). secret_table c.args.secret p) is.1 in
     let same_shape : store.secret.shape ≡ c.args.secret.shape = ap (λ (s : SecretView). s.shape) is.0 in
     let main = store.history in
     let legal : IsLegal table main = subst (λ (t : Table). IsLegal t main) same_table is.3.legal in
@@ -227,10 +226,10 @@ pub returns-in-Err-catch_up-clause-main_moments : goal.returns-in-Err-catch_up-c
 returns-in-Err-catch_up-clause-main_moments g c = λ m o whole told spare_told quiet keep.
     let file = g.B.Bench.file c.args.bench.now in
     let spare = g.S.Bench.file c.args.spare.now in
-    let table = secret_table c.args.secret c.args.protected.items in
+    let table = secret_table c.args.secret c.args.protected in
     let store = c.in-Ok.store in
     let is = c.in-Ok.ensures.store in
-    let same_table : table_of store ≡ table = ap (λ (s : SecretView). secret_table s store.protected) is.0 ∙ ap (λ (p : List Protected). secret_table c.args.secret p) is.1 in
+    let same_table : table_of store ≡ table = ap (λ (s : SecretView). secret_table s store.protected) is.0 ∙ ap (λ (p : Protection). secret_table c.args.secret p) is.1 in
     let same_shape : store.secret.shape ≡ c.args.secret.shape = ap (λ (s : SecretView). s.shape) is.0 in
     let main = store.history in
     let legal : IsLegal table main = subst (λ (t : Table). IsLegal t main) same_table is.3.legal in
@@ -252,10 +251,10 @@ pub returns-in-Err-catch_up-clause-spare_moments : goal.returns-in-Err-catch_up-
 returns-in-Err-catch_up-clause-spare_moments g c = λ m o whole told spare_told quiet keep.
     let file = g.B.Bench.file c.args.bench.now in
     let spare = g.S.Bench.file c.args.spare.now in
-    let table = secret_table c.args.secret c.args.protected.items in
+    let table = secret_table c.args.secret c.args.protected in
     let store = c.in-Ok.store in
     let is = c.in-Ok.ensures.store in
-    let same_table : table_of store ≡ table = ap (λ (s : SecretView). secret_table s store.protected) is.0 ∙ ap (λ (p : List Protected). secret_table c.args.secret p) is.1 in
+    let same_table : table_of store ≡ table = ap (λ (s : SecretView). secret_table s store.protected) is.0 ∙ ap (λ (p : Protection). secret_table c.args.secret p) is.1 in
     let same_shape : store.secret.shape ≡ c.args.secret.shape = ap (λ (s : SecretView). s.shape) is.0 in
     let main = store.history in
     let legal : IsLegal table main = subst (λ (t : Table). IsLegal t main) same_table is.3.legal in
@@ -277,10 +276,10 @@ pub returns-in-Err-catch_up-clause-untouched : goal.returns-in-Err-catch_up-clau
 returns-in-Err-catch_up-clause-untouched g c = λ told spare_told quiet apart.
     let file = g.B.Bench.file c.args.bench.now in
     let spare = g.S.Bench.file c.args.spare.now in
-    let table = secret_table c.args.secret c.args.protected.items in
+    let table = secret_table c.args.secret c.args.protected in
     let store = c.in-Ok.store in
     let is = c.in-Ok.ensures.store in
-    let same_table : table_of store ≡ table = ap (λ (s : SecretView). secret_table s store.protected) is.0 ∙ ap (λ (p : List Protected). secret_table c.args.secret p) is.1 in
+    let same_table : table_of store ≡ table = ap (λ (s : SecretView). secret_table s store.protected) is.0 ∙ ap (λ (p : Protection). secret_table c.args.secret p) is.1 in
     let same_shape : store.secret.shape ≡ c.args.secret.shape = ap (λ (s : SecretView). s.shape) is.0 in
     let main = store.history in
     let legal : IsLegal table main = subst (λ (t : Table). IsLegal t main) same_table is.3.legal in
@@ -301,10 +300,10 @@ pub returns-in-Err-catch_up-clause-spare_untouched : goal.returns-in-Err-catch_u
 returns-in-Err-catch_up-clause-spare_untouched g c = λ told spare_told quiet apart.
     let file = g.B.Bench.file c.args.bench.now in
     let spare = g.S.Bench.file c.args.spare.now in
-    let table = secret_table c.args.secret c.args.protected.items in
+    let table = secret_table c.args.secret c.args.protected in
     let store = c.in-Ok.store in
     let is = c.in-Ok.ensures.store in
-    let same_table : table_of store ≡ table = ap (λ (s : SecretView). secret_table s store.protected) is.0 ∙ ap (λ (p : List Protected). secret_table c.args.secret p) is.1 in
+    let same_table : table_of store ≡ table = ap (λ (s : SecretView). secret_table s store.protected) is.0 ∙ ap (λ (p : Protection). secret_table c.args.secret p) is.1 in
     let same_shape : store.secret.shape ≡ c.args.secret.shape = ap (λ (s : SecretView). s.shape) is.0 in
     let main = store.history in
     let legal : IsLegal table main = subst (λ (t : Table). IsLegal t main) same_table is.3.legal in
@@ -333,10 +332,10 @@ pub returns-in-Ok-catch_up-clause-together : goal.returns-in-Ok-catch_up-clause-
 returns-in-Ok-catch_up-clause-together g c = λ told spare_told.
     let file = g.B.Bench.file c.args.bench.now in
     let spare = g.S.Bench.file c.args.spare.now in
-    let table = secret_table c.args.secret c.args.protected.items in
+    let table = secret_table c.args.secret c.args.protected in
     let store = c.in-Ok.store in
     let is = c.in-Ok.ensures.store in
-    let same_table : table_of store ≡ table = ap (λ (s : SecretView). secret_table s store.protected) is.0 ∙ ap (λ (p : List Protected). secret_table c.args.secret p) is.1 in
+    let same_table : table_of store ≡ table = ap (λ (s : SecretView). secret_table s store.protected) is.0 ∙ ap (λ (p : Protection). secret_table c.args.secret p) is.1 in
     let same_shape : store.secret.shape ≡ c.args.secret.shape = ap (λ (s : SecretView). s.shape) is.0 in
     let main = store.history in
     let legal : IsLegal table main = subst (λ (t : Table). IsLegal t main) same_table is.3.legal in
@@ -358,10 +357,10 @@ pub returns-in-Ok-catch_up-clause-longer : goal.returns-in-Ok-catch_up-clause-lo
 returns-in-Ok-catch_up-clause-longer g c = λ m o whole told spare_told keep.
     let file = g.B.Bench.file c.args.bench.now in
     let spare = g.S.Bench.file c.args.spare.now in
-    let table = secret_table c.args.secret c.args.protected.items in
+    let table = secret_table c.args.secret c.args.protected in
     let store = c.in-Ok.store in
     let is = c.in-Ok.ensures.store in
-    let same_table : table_of store ≡ table = ap (λ (s : SecretView). secret_table s store.protected) is.0 ∙ ap (λ (p : List Protected). secret_table c.args.secret p) is.1 in
+    let same_table : table_of store ≡ table = ap (λ (s : SecretView). secret_table s store.protected) is.0 ∙ ap (λ (p : Protection). secret_table c.args.secret p) is.1 in
     let same_shape : store.secret.shape ≡ c.args.secret.shape = ap (λ (s : SecretView). s.shape) is.0 in
     let main = store.history in
     let legal : IsLegal table main = subst (λ (t : Table). IsLegal t main) same_table is.3.legal in
@@ -383,10 +382,10 @@ pub returns-in-Ok-catch_up-clause-due : goal.returns-in-Ok-catch_up-clause-due
 returns-in-Ok-catch_up-clause-due g c = λ due told spare_told some cause.
     let file = g.B.Bench.file c.args.bench.now in
     let spare = g.S.Bench.file c.args.spare.now in
-    let table = secret_table c.args.secret c.args.protected.items in
+    let table = secret_table c.args.secret c.args.protected in
     let store = c.in-Ok.store in
     let is = c.in-Ok.ensures.store in
-    let same_table : table_of store ≡ table = ap (λ (s : SecretView). secret_table s store.protected) is.0 ∙ ap (λ (p : List Protected). secret_table c.args.secret p) is.1 in
+    let same_table : table_of store ≡ table = ap (λ (s : SecretView). secret_table s store.protected) is.0 ∙ ap (λ (p : Protection). secret_table c.args.secret p) is.1 in
     let same_shape : store.secret.shape ≡ c.args.secret.shape = ap (λ (s : SecretView). s.shape) is.0 in
     let main = store.history in
     let legal : IsLegal table main = subst (λ (t : Table). IsLegal t main) same_table is.3.legal in
@@ -419,10 +418,10 @@ pub returns-in-Ok-catch_up-clause-ticks : goal.returns-in-Ok-catch_up-clause-tic
 returns-in-Ok-catch_up-clause-ticks g c = λ m o whole told spare_told keep.
     let file = g.B.Bench.file c.args.bench.now in
     let spare = g.S.Bench.file c.args.spare.now in
-    let table = secret_table c.args.secret c.args.protected.items in
+    let table = secret_table c.args.secret c.args.protected in
     let store = c.in-Ok.store in
     let is = c.in-Ok.ensures.store in
-    let same_table : table_of store ≡ table = ap (λ (s : SecretView). secret_table s store.protected) is.0 ∙ ap (λ (p : List Protected). secret_table c.args.secret p) is.1 in
+    let same_table : table_of store ≡ table = ap (λ (s : SecretView). secret_table s store.protected) is.0 ∙ ap (λ (p : Protection). secret_table c.args.secret p) is.1 in
     let same_shape : store.secret.shape ≡ c.args.secret.shape = ap (λ (s : SecretView). s.shape) is.0 in
     let main = store.history in
     let legal : IsLegal table main = subst (λ (t : Table). IsLegal t main) same_table is.3.legal in
@@ -445,10 +444,10 @@ pub returns-in-Ok-catch_up-clause-spare_ticks : goal.returns-in-Ok-catch_up-clau
 returns-in-Ok-catch_up-clause-spare_ticks g c = λ m o whole told spare_told keep.
     let file = g.B.Bench.file c.args.bench.now in
     let spare = g.S.Bench.file c.args.spare.now in
-    let table = secret_table c.args.secret c.args.protected.items in
+    let table = secret_table c.args.secret c.args.protected in
     let store = c.in-Ok.store in
     let is = c.in-Ok.ensures.store in
-    let same_table : table_of store ≡ table = ap (λ (s : SecretView). secret_table s store.protected) is.0 ∙ ap (λ (p : List Protected). secret_table c.args.secret p) is.1 in
+    let same_table : table_of store ≡ table = ap (λ (s : SecretView). secret_table s store.protected) is.0 ∙ ap (λ (p : Protection). secret_table c.args.secret p) is.1 in
     let same_shape : store.secret.shape ≡ c.args.secret.shape = ap (λ (s : SecretView). s.shape) is.0 in
     let main = store.history in
     let legal : IsLegal table main = subst (λ (t : Table). IsLegal t main) same_table is.3.legal in
@@ -471,10 +470,10 @@ pub returns-in-Ok-catch_up-clause-main_moments : goal.returns-in-Ok-catch_up-cla
 returns-in-Ok-catch_up-clause-main_moments g c = λ m o whole told spare_told quiet keep.
     let file = g.B.Bench.file c.args.bench.now in
     let spare = g.S.Bench.file c.args.spare.now in
-    let table = secret_table c.args.secret c.args.protected.items in
+    let table = secret_table c.args.secret c.args.protected in
     let store = c.in-Ok.store in
     let is = c.in-Ok.ensures.store in
-    let same_table : table_of store ≡ table = ap (λ (s : SecretView). secret_table s store.protected) is.0 ∙ ap (λ (p : List Protected). secret_table c.args.secret p) is.1 in
+    let same_table : table_of store ≡ table = ap (λ (s : SecretView). secret_table s store.protected) is.0 ∙ ap (λ (p : Protection). secret_table c.args.secret p) is.1 in
     let same_shape : store.secret.shape ≡ c.args.secret.shape = ap (λ (s : SecretView). s.shape) is.0 in
     let main = store.history in
     let legal : IsLegal table main = subst (λ (t : Table). IsLegal t main) same_table is.3.legal in
@@ -496,10 +495,10 @@ pub returns-in-Ok-catch_up-clause-spare_moments : goal.returns-in-Ok-catch_up-cl
 returns-in-Ok-catch_up-clause-spare_moments g c = λ m o whole told spare_told quiet keep.
     let file = g.B.Bench.file c.args.bench.now in
     let spare = g.S.Bench.file c.args.spare.now in
-    let table = secret_table c.args.secret c.args.protected.items in
+    let table = secret_table c.args.secret c.args.protected in
     let store = c.in-Ok.store in
     let is = c.in-Ok.ensures.store in
-    let same_table : table_of store ≡ table = ap (λ (s : SecretView). secret_table s store.protected) is.0 ∙ ap (λ (p : List Protected). secret_table c.args.secret p) is.1 in
+    let same_table : table_of store ≡ table = ap (λ (s : SecretView). secret_table s store.protected) is.0 ∙ ap (λ (p : Protection). secret_table c.args.secret p) is.1 in
     let same_shape : store.secret.shape ≡ c.args.secret.shape = ap (λ (s : SecretView). s.shape) is.0 in
     let main = store.history in
     let legal : IsLegal table main = subst (λ (t : Table). IsLegal t main) same_table is.3.legal in
@@ -521,10 +520,10 @@ pub returns-in-Ok-catch_up-clause-untouched : goal.returns-in-Ok-catch_up-clause
 returns-in-Ok-catch_up-clause-untouched g c = λ told spare_told quiet apart.
     let file = g.B.Bench.file c.args.bench.now in
     let spare = g.S.Bench.file c.args.spare.now in
-    let table = secret_table c.args.secret c.args.protected.items in
+    let table = secret_table c.args.secret c.args.protected in
     let store = c.in-Ok.store in
     let is = c.in-Ok.ensures.store in
-    let same_table : table_of store ≡ table = ap (λ (s : SecretView). secret_table s store.protected) is.0 ∙ ap (λ (p : List Protected). secret_table c.args.secret p) is.1 in
+    let same_table : table_of store ≡ table = ap (λ (s : SecretView). secret_table s store.protected) is.0 ∙ ap (λ (p : Protection). secret_table c.args.secret p) is.1 in
     let same_shape : store.secret.shape ≡ c.args.secret.shape = ap (λ (s : SecretView). s.shape) is.0 in
     let main = store.history in
     let legal : IsLegal table main = subst (λ (t : Table). IsLegal t main) same_table is.3.legal in
@@ -545,10 +544,10 @@ pub returns-in-Ok-catch_up-clause-spare_untouched : goal.returns-in-Ok-catch_up-
 returns-in-Ok-catch_up-clause-spare_untouched g c = λ told spare_told quiet apart.
     let file = g.B.Bench.file c.args.bench.now in
     let spare = g.S.Bench.file c.args.spare.now in
-    let table = secret_table c.args.secret c.args.protected.items in
+    let table = secret_table c.args.secret c.args.protected in
     let store = c.in-Ok.store in
     let is = c.in-Ok.ensures.store in
-    let same_table : table_of store ≡ table = ap (λ (s : SecretView). secret_table s store.protected) is.0 ∙ ap (λ (p : List Protected). secret_table c.args.secret p) is.1 in
+    let same_table : table_of store ≡ table = ap (λ (s : SecretView). secret_table s store.protected) is.0 ∙ ap (λ (p : Protection). secret_table c.args.secret p) is.1 in
     let same_shape : store.secret.shape ≡ c.args.secret.shape = ap (λ (s : SecretView). s.shape) is.0 in
     let main = store.history in
     let legal : IsLegal table main = subst (λ (t : Table). IsLegal t main) same_table is.3.legal in
