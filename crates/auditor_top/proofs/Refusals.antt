@@ -193,6 +193,7 @@ module _ {P I B : Type 0} (files : source.Ghosts P) (lines : source.Ghosts I) (b
         same = λ told done. never_done status early done;
         cause = λ ptold told base sound.
             by_giving_up (λ (s : Status). BothCause s Restore (bench.file at) (bench.file spare) (table_in base)) status (gave ptold told (base, sound)) tt tt tt tt;
+        no_memory = λ is. (reads.file, refl);
         restoring = λ ptold told quiet base history sound lost.
             still quiet (λ image sent same. (same.0, inl (λ made. lost.unmade (subst IsMade same.1 made))));
         spare_restoring = λ ptold told quiet base history sound lost.

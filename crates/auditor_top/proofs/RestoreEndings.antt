@@ -10,7 +10,7 @@ use Rattle.twin_journal.specs.declared.restoring.RestoreFault.{RestoreFault}
 use Rattle.twin_journal.specs.declared.restoring.RestoreFault.TheVariants as restore
 use Rattle.auditor_top.specs.declared.words.Command.TheVariants.{Restore}
 use Rattle.auditor_top.specs.declared.status.Which.TheVariants.{Input}
-use Rattle.auditor_top.specs.declared.status.Status.TheVariants.{Done, SourceFault, BenchFault, SpareFault}
+use Rattle.auditor_top.specs.declared.status.Status.TheVariants.{Done, SourceFault, BenchFault, SpareFault, NoMemory}
 use Rattle.auditor_top.specs.Causes.{BothCause, FaultCounts, FaultCause, WordCause, FileCause, SpareCause, NothingFailed, IsDoneOrWants}
 use Rattle.auditor_top.specs.Stages.{Before, opening_journal, reading_lines}
 use Rattle.auditor_top.specs.Faults.{restoring_status, start_status}
@@ -25,6 +25,9 @@ IsOwn ended = (fault : StartFault) → GivesUp fault → (ended ≢ Err (restore
 pub own_fault : {X : Type 0} (fault : StartFault) → IsOwn {X = X} (Err (restore.Main fault)) → fault ≢ start.Failed
 own_fault fault own is = (own fault (subst GivesUp (sym is) tt)).0 refl
 
+pub own_memory : {X : Type 0} (fault : StartFault) → IsOwn {X = X} (Err (restore.Main fault)) → fault ≢ start.NoMemory
+own_memory fault own is = (own fault (subst GivesUp (sym is) tt)).0 refl
+
 -- what its status says by itself
 pub record RestoreSays {X : Type 0} (ended : Result X RestoreFault) : Type 1 where
   pub last : EndsLastStep (restoring_status ended)
@@ -32,6 +35,7 @@ pub record RestoreSays {X : Type 0} (ended : Result X RestoreFault) : Type 1 whe
   pub spare_file : (file : List ℕ) → SpareCause (restoring_status ended) Restore file
   pub bench : IsOwn ended → restoring_status ended ≡ BenchFault → IsErrOf ended restore.MainFailed
   pub spare : restoring_status ended ≡ SpareFault → IsErrOf ended restore.SpareFailed
+  pub memory : IsOwn ended → restoring_status ended ≡ NoMemory → IsErrOf ended restore.NoMemory
   pub no_input : restoring_status ended ≢ SourceFault Input
   pub done : (P : Type 0) → restoring_status ended ≡ Done → OnOk ended P → P
   pub at_journal : (P : Type 0) → Before opening_journal (restoring_status ended) P
@@ -43,6 +47,7 @@ restore_says (Err (restore.Main fault)) = let says = start_says fault in record 
   spare_file = says.spare Restore;
   bench = λ own is. absurd (own_fault fault own (says.bench is));
   spare = λ is. absurd (says.no_spare is);
+  memory = λ own is. absurd (own_memory fault own (says.memory is));
   no_input = says.no_input;
   done = λ P is holds. absurd (says.undone is);
   at_journal = says.at_journal;
@@ -66,7 +71,9 @@ restore_cause (Err (restore.Main fault)) file spare table own cause = of_main fa
   where
     of_main : (fault : StartFault) → RestoreCause (restore.Main fault) file spare table → BothCause (start_status fault) Restore file spare table
     of_main start.NotMade main = absurd (main.3 main.1)
-    of_main fault main = tt
+    of_main start.Failed main = tt
+    of_main start.NoMemory main = tt
+    of_main fault main = main
 restore_cause (Err (restore.Spare fault)) file spare table own cause = cause (restore.Spare fault) refl
 restore_cause (Err fault) file spare table own cause = tt
 

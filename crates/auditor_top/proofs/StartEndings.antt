@@ -6,7 +6,7 @@ use Rattle.audit_store.specs.declared.starting.StartFault.{StartFault}
 use Rattle.audit_store.specs.declared.starting.StartFault.TheVariants as start
 use Rattle.auditor_top.specs.declared.words.Command.{Command}
 use Rattle.auditor_top.specs.declared.status.Which.TheVariants.{Input}
-use Rattle.auditor_top.specs.declared.status.Status.TheVariants.{Done, SourceFault, BenchFault, SpareFault}
+use Rattle.auditor_top.specs.declared.status.Status.TheVariants.{Done, SourceFault, BenchFault, SpareFault, NoMemory}
 use Rattle.auditor_top.specs.Causes.{FaultCounts, FaultCause, FileCause, InputCause, OpeningCause, SpareCause, WordCause}
 use Rattle.auditor_top.specs.Commands.{opens_journal}
 use Rattle.auditor_top.specs.Ready.{EndsEarly}
@@ -28,6 +28,7 @@ pub record StartSays (fault : StartFault) : Type 1 where
   pub no_spare : start_status fault ≢ SpareFault
   pub no_input : start_status fault ≢ SourceFault Input
   pub bench : start_status fault ≡ BenchFault → fault ≡ start.Failed
+  pub memory : start_status fault ≡ NoMemory → fault ≡ start.NoMemory
   -- it came to the journal, and to nothing later
   pub at_journal : (P : Type 0) → Before opening_journal (start_status fault) P
   pub at_spare : (P : Type 0) → P → Before opening_spare (start_status fault) P

@@ -156,7 +156,8 @@ pub record TwinsSay {X : Type 0} (ended : Result X TwinEnd) : Type 1 where
   pub words : (batch : ℕ) → WordCause (twin_session_status ended) (Some (Serve batch true))
   pub file : (batch : ℕ) (file : List ℕ) (table : Guarded) → HoldsLegal file table → FileCause (twin_session_status ended) (Serve batch true) file table
   pub spare_file : (batch : ℕ) (file : List ℕ) → SpareCause (twin_session_status ended) (Serve batch true) file
-  pub cause : (batch : ℕ) (file spare : List ℕ) (table : Guarded) → BothCause (twin_session_status ended) (Serve batch true) file spare table
+  pub cause : (batch : ℕ) (file spare : List ℕ) (table : Guarded) → (whole : List Answered) → KeepWhole table file spare whole →
+      BothCause (twin_session_status ended) (Serve batch true) file spare table
   pub bench : twin_session_status ended ≡ BenchFault → ended ≡ Err end.Bench
   pub spare : twin_session_status ended ≡ SpareFault → ended ≡ Err end.Spare
   pub input : twin_session_status ended ≡ SourceFault Input → ended ≡ Err end.Input

@@ -317,6 +317,8 @@ pub record Restoring {P I B : Type 0} (files : source.Ghosts P) (lines : source.
   -- each refusal has its cause in both files
   pub cause : files.told → bench.told → (base : Database) → AreSoundFilesOf (files.left old.schema) (files.left old.table) base →
       BothCause status Restore (bench.file old.bench) (bench.file old.spare) (table_in base)
+  -- where memory runs out both files are as they were
+  pub no_memory : status ≡ NoMemory → (bench.file new.bench ≡ bench.file old.bench) × (bench.file new.spare ≡ bench.file old.spare)
   -- at every moment a lost file isn't made, or stands for what the other does, and a made one stays
   pub restoring : files.told → bench.told → IsQuiet bench old.bench → (base : Database) (history : List Answered) →
       AreSoundFilesOf (files.left old.schema) (files.left old.table) base → IsLostOf (table_in base) (bench.file old.bench) (bench.file old.spare) history →

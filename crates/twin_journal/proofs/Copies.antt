@@ -17,6 +17,7 @@ use Rattle.twin_journal.specs.declared.copying.CopyFault.{CopyFault}
 use Rattle.twin_journal.specs.declared.copying.CopyFault.TheVariants.{Kept, AlreadyThere, KeptFailed, LostFailed, NoMemory}
 use Rattle.twin_journal.specs.declared.restoring.RestoreFault.{RestoreFault}
 use Rattle.twin_journal.specs.declared.restoring.RestoreFault.TheVariants.{Main, Spare}
+use Rattle.twin_journal.specs.declared.restoring.RestoreFault.TheVariants as restore
 use Rattle.twin_journal.specs.Copying.{GivesUpCopying, IsKeptFor, fault_of_kept}
 use Rattle.twin_journal.specs.Restoring.{GivesUpRestoring, IsLost, IsLostOf, RestoreCause, StandForTheSame, fault_from_main, fault_from_spare}
 use Rattle.twin_journal.proofs.TwinCauses.{OneHistory}
@@ -118,6 +119,21 @@ module _ {D : Type 0} (bench : Ghosts D) (old mid new : D) (reads : OnlyReads be
       same KeptFailed gives = tt
       same LostFailed gives = tt
       same NoMemory gives = tt
+
+-- memory ran out in the copying
+pub main_memory : (given : CopyFault) → fault_from_main given ≡ restore.NoMemory → given ≡ NoMemory
+main_memory (Kept fault) is = let none : ⊥ = cc in absurd none
+main_memory AlreadyThere is = let none : ⊥ = cc in absurd none
+main_memory KeptFailed is = let none : ⊥ = cc in absurd none
+main_memory LostFailed is = let none : ⊥ = cc in absurd none
+main_memory NoMemory is = refl
+
+pub spare_memory : (given : CopyFault) → fault_from_spare given ≡ restore.NoMemory → given ≡ NoMemory
+spare_memory (Kept fault) is = let none : ⊥ = cc in absurd none
+spare_memory AlreadyThere is = let none : ⊥ = cc in absurd none
+spare_memory KeptFailed is = let none : ⊥ = cc in absurd none
+spare_memory LostFailed is = let none : ⊥ = cc in absurd none
+spare_memory NoMemory is = refl
 
 -- a fault of a file isn't one that may come whatever the file is
 abbrev pub IsOwnCopy : CopyFault → Type 0

@@ -75,6 +75,7 @@ pub fn copy_journal<K: Bench, L: Bench>(
     ensures apart { K.told → ((history : List Answered) → IsKeptFor (secret_table secret protected) (K.file kept.old) history → ⊥) → lost.new ≡ lost.old }
     ensures refused { (fault : StartFault) → result ≡ Err (CopyFault.Kept fault) → lost.new ≡ lost.old }
     ensures already_reads { IsErrOf result CopyFault.AlreadyThere → OnlyReads L.Bench lost.old lost.new }
+    ensures no_memory { IsErrOf result CopyFault.NoMemory → lost.new ≡ lost.old }
     ensures quiet { L.told → IsQuiet L.Bench lost.old → (IsErrOf result CopyFault.LostFailed → ⊥) → IsQuiet L.Bench lost.new }
     ensures sent { L.sent lost.new ≡ L.sent lost.old }
     ensures kept_ticks { K.told → OnOk result (K.moment kept.new ≡ K.moment kept.old + 2) }

@@ -117,6 +117,7 @@ pub fn restore<B: Bench, S: Bench>(
     ensures spare_untouched { B.told → S.told → IsQuiet S.Bench spare.old → (CanRestore (secret_table secret protected) (B.file bench.old) (S.file spare.old) → ⊥)
         → LeavesOnly S.Bench spare.old spare.new (IsUntouched (S.file spare.old) (S.sent spare.old)) }
     ensures reads { (fault : RestoreFault) → result ≡ Err fault → (GivesUpRestoring fault → ⊥) → OnlyReads B.Bench bench.old bench.new × OnlyReads S.Bench spare.old spare.new }
+    ensures no_memory { IsErrOf result RestoreFault.NoMemory → OnlyReads B.Bench bench.old bench.new × OnlyReads S.Bench spare.old spare.new }
     ensures quiet { B.told → IsQuiet B.Bench bench.old → result ≢ Err RestoreFault.MainFailed → IsQuiet B.Bench bench.new }
     ensures spare_quiet { S.told → IsQuiet S.Bench spare.old → result ≢ Err RestoreFault.SpareFailed → IsQuiet S.Bench spare.new }
     ensures sent { B.sent bench.new ≡ B.sent bench.old }

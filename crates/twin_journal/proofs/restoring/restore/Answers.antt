@@ -1,6 +1,6 @@
 use Rattle.std.proofs.Common.{◌≡◌, inl, inr, ℕ, List, sym, ap, subst, ◌∙◌}
 use Rattle.std.proofs.lemmas.Bool.{true≢false}
-use Rattle.bench_core.specs.Calls.{IsUntouched, LeavesOnly}
+use Rattle.bench_core.specs.Calls.{IsUntouched, LeavesOnly, OnlyReads}
 use Rattle.bench_core.specs.Moments.{then_reads}
 use Rattle.journal_form.specs.Journal.{StandsFor}
 use Rattle.answer_journal.specs.MadeFiles.{stands_is_made}
@@ -11,8 +11,9 @@ use Rattle.audit_store.specs.declared.starting.StartFault.{StartFault}
 use Rattle.twin_journal.specs.declared.copying.CopyFault.{CopyFault}
 use Rattle.twin_journal.specs.declared.copying.CopyFault.TheVariants.{Kept}
 use Rattle.twin_journal.specs.declared.restoring.RestoreFault.{RestoreFault}
+use Rattle.twin_journal.specs.declared.restoring.RestoreFault.TheVariants as restore
 use Rattle.twin_journal.specs.Restoring.{GivesUpRestoring, IsLost, RestoreCause, fault_from_main, fault_from_spare}
-use Rattle.twin_journal.proofs.Copies.{err, is_kept, is_lost_of, journal_only_read, main_refused, never_from_main, never_from_spare, read_and_write, read_lost, spare_only_read, spare_refused, stand_alike}
+use Rattle.twin_journal.proofs.Copies.{err, is_kept, is_lost_of, journal_only_read, main_refused, main_memory, never_from_main, never_from_spare, read_and_write, read_lost, spare_memory, spare_only_read, spare_refused, stand_alike}
 use Rattle.twin_journal.proofs.restoring.restore.Goals as goal
 
 -- ---- it wasn't found whether the spare is made
@@ -220,3 +221,25 @@ returns-in-Err-copy_journal-2-clause-reads g c = λ fault refused some.
 pub returns-in-Err-copy_journal-2-clause-own : goal.returns-in-Err-copy_journal-2-clause-own
 returns-in-Err-copy_journal-2-clause-own g c = λ fault gives.
     never_from_spare c.in-Err-copy_journal-2.fault (λ f up is. c.in-Err-copy_journal-2.ensures.own f up (ap (λ (x : CopyFault). err x) is)) c.from_spare.result fault gives c.from_spare.ensures
+
+-- ---- memory ran out in the copying, before a byte was written
+
+pub returns-in-Err-copy_journal-clause-no_memory : goal.returns-in-Err-copy_journal-clause-no_memory
+returns-in-Err-copy_journal-clause-no_memory g c = λ is.
+    let given = c.in-Err-copy_journal.fault in
+    let answered : c.from_main.result ≡ restore.NoMemory = cc in
+    let memory = main_memory given (sym c.from_main.ensures ∙ answered) in
+    let same = c.in-Err-copy_journal.ensures.no_memory (ap (λ (x : CopyFault). err x) memory) in (
+      (then_reads g.B.Bench c.args.bench.now c.is_made.new.bench c.copy_journal.new.kept c.is_made.ensures.reads c.copy_journal.ensures.reads),
+      (subst (λ (b : g.row.S.Denot). OnlyReads g.S.Bench c.args.spare.now b) (sym same) c.is_made-2.ensures.reads),
+    )
+
+pub returns-in-Err-copy_journal-2-clause-no_memory : goal.returns-in-Err-copy_journal-2-clause-no_memory
+returns-in-Err-copy_journal-2-clause-no_memory g c = λ is.
+    let given = c.in-Err-copy_journal-2.fault in
+    let answered : c.from_spare.result ≡ restore.NoMemory = cc in
+    let memory = spare_memory given (sym c.from_spare.ensures ∙ answered) in
+    let same = c.in-Err-copy_journal-2.ensures.no_memory (ap (λ (x : CopyFault). err x) memory) in (
+      (subst (λ (b : g.row.B.Denot). OnlyReads g.B.Bench c.args.bench.now b) (sym same) c.is_made.ensures.reads),
+      (then_reads g.S.Bench c.args.spare.now c.is_made-2.new.bench c.copy_journal-2.new.kept c.is_made-2.ensures.reads c.copy_journal-2.ensures.reads),
+    )

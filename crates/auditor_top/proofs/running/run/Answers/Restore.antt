@@ -144,6 +144,7 @@ restoring g c =
       cause = λ ptold told base sound.
           subst (λ (b : Database). BothCause (restoring_status ended) command.Restore file spare (table_in b)) (is_seen g c ptold base sound)
           (restore_cause ended file spare (table g c) does.own (cause g c told));
+      no_memory = λ is. let read = does.no_memory ((restore_says ended).memory does.own is) in (read.0.file ∙ ap g.B.Bench.file same, read.1.file);
       restoring = moments g c;
       spare_restoring = spare_moments g c;
       kept = λ told quiet made. untouched (does.main_kept told (quiet_opened g c quiet) (subst (λ b. IsMade (g.B.Bench.file b)) (sym same) made));

@@ -1,7 +1,7 @@
 -- What `run` says of `serve` over two journals that were opened.
 use Rattle.std.proofs.Common.{◌≡◌, ℕ, Some, refl, sym, ◌∙◌, ap, subst, true, map, string_bytes}
 use Rattle.bench_core.specs.Causes.{Rose}
-use Rattle.table_load.specs.Database.{table_in}
+use Rattle.table_load.specs.Database.{Database, table_in}
 use Rattle.line_wire.specs.Lines.{counted_lines}
 use Rattle.auditor_top.specs.Faults.{twin_session_status}
 use Rattle.auditor_top.proofs.TwinEndings.{twins_faults, twins_reads, twins_say, twins_want}
@@ -10,7 +10,7 @@ use Rattle.auditor_top.specs.declared.words.Command.TheVariants as command
 use Rattle.auditor_top.specs.declared.status.Status.{Status}
 use Rattle.auditor_top.specs.Words.{command_of}
 use Rattle.auditor_top.specs.Commands.{calls_spare, reads_files, reads_lines, writes}
-use Rattle.auditor_top.specs.Causes.{FaultCause, InputCause, SpareCause, IsReadyFor}
+use Rattle.auditor_top.specs.Causes.{BothCause, FaultCause, InputCause, SpareCause, IsReadyFor}
 use Rattle.auditor_top.specs.Stages.{Before, opening_spare}
 use Rattle.auditor_top.specs.Runs.{objects, faults_of, TwinServing}
 use Rattle.auditor_top.proofs.OneCommand.{one_command, asked_for, not_asked, none_asked, takes_step}
@@ -19,7 +19,7 @@ use Rattle.auditor_top.proofs.StepFaults.{not_both}
 use Rattle.auditor_top.proofs.StepStatuses.{at_lines, EndsLastStep, past_table, past_journal, no_schema_fault, no_table_fault, schema_was_read, table_was_read}
 use Rattle.auditor_top.proofs.LastSteps.{schema_so, table_so, groups_so, words_so, named_so, file_so, faults_so, later_so, holds_over}
 use Rattle.auditor_top.proofs.Openings.{later_still}
-use Rattle.auditor_top.proofs.running.run.Answers.TwinOpened.{are, holds_legal, quiet_started, seen, spare_quiet_started, together}
+use Rattle.auditor_top.proofs.running.run.Answers.TwinOpened.{are, holds_legal, is_seen, quiet_started, seen, spare_quiet_started, together}
 use Rattle.auditor_top.proofs.running.run.Answers.TwinServed.{takes_calls, both_left, moments_so, served, spare_takes_calls, spare_moments_so, spare_discloses_nothing, discloses_nothing}
 use Rattle.auditor_top.proofs.running.run.Given.{Over}
 use Rattle.auditor_top.proofs.running.run.Goals as goal
@@ -72,7 +72,9 @@ answering g c =
           absurd (none (seen g c) keeps.0 keeps.1 c.in-Ok-start.twin.store.history (record { files = are g c ptold; together = keeps.2 }));
       spare_apart = λ ptold told quiet none. let keeps = together g c told in
           absurd (none (seen g c) keeps.0 keeps.1 c.in-Ok-start.twin.store.history (record { files = are g c ptold; together = keeps.2 }));
-      cause = λ ptold told base sound. (twins_say ended).cause n _ _ _;
+      cause = λ ptold told base sound.
+          subst (λ (b : Database). BothCause (twin_session_status ended) (command.Serve n true) (g.B.Bench.file old.bench) (g.B.Bench.file old.spare) (table_in b))
+          (is_seen g c ptold base sound) ((twins_say ended).cause n _ _ _ c.in-Ok-start.twin.store.history (together g c told));
       spare_quiet = λ told quiet fine. c.serve_twin.ensures.spare_quiet told (spare_quiet_started g c told quiet) (λ is. fine (ap twin_session_status is));
       spare_unsent = c.serve_twin.ensures.spare_sent ∙ c.in-Ok-start.ensures.spare_sent;
       twin_calls = takes_calls g c;
