@@ -18,7 +18,7 @@ pub enum Which {
     Input,
 }
 
-/// How a run ended. docs/OPERATIONS.md says what to do at each.
+/// How a run ended. docs/STATUSES.md says what to do at each.
 #[derive(Clone, Copy, PartialEq, Eq)]
 pub enum Status {
     /// Each step of the command was taken to its end. Of `serve` that is: the input was read, and each line has its reply.
