@@ -19,6 +19,7 @@ from doorway import settings as arguments
 from doorway.access import AccessLog
 from doorway.askers import WRITE, Askers, Tokens
 from doorway.gates import GatedRunner, Gates, most_connections, say_little
+from doorway.first import First, ask_first
 from doorway.groups import Groups
 from doorway.handlers import Guard, TableHandlers, application
 from doorway.least import LeastSize
@@ -111,7 +112,9 @@ async def run(settings):
     # Bodies come as they are sent: a small compressed one could be a large one.
     runner = GatedRunner(gates, app, access_log=None, auto_decompress=False)
     await runner.setup()
-    await listen(runner, settings.listen)
+    firsts = [First(path.read_bytes(), handlers[name]) for name, path in settings.first.items()]
+    if not firsts:
+        await listen(runner, settings.listen)
 
     def stop():
         for table in tables.values():
@@ -120,7 +123,10 @@ async def run(settings):
         asyncio.get_running_loop().add_signal_handler(name, stop)
     counting = asyncio.ensure_future(write_what_is_used(tokens)) if tokens else None
     try:
-        await asyncio.gather(*(keep(table, len(tables) == 1) for table in tables.values()))
+        serving = asyncio.gather(*(keep(table, len(tables) == 1) for table in tables.values()))
+        if firsts and await ask_first(firsts, serving):
+            await listen(runner, settings.listen)
+        await serving
         await asyncio.sleep(0.05)           # the last replies leave
     finally:
         for table in tables.values():

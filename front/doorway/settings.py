@@ -8,7 +8,7 @@ from dataclasses import dataclass
 RUN = 2**30 - 2**20                 # bytes of input after which a run is ended, before the program ends it
 NAME = re.compile(r"[A-Za-z0-9_][A-Za-z0-9_.-]{0,63}")
 LISTEN = re.compile(r"unix:.+|[^:]+:\d{1,5}|\[[0-9A-Fa-f:.]+\]:\d{1,5}")
-TAKEN = {"ask", "would", "why", "health", "total", "schema.json", "notes.json", "table.csv", "report.jsonl",
+TAKEN = {"ask", "would", "why", "near", "health", "total", "schema.json", "notes.json", "table.csv", "report.jsonl",
          "transcript.jsonl", "tables.json", "words.json"}
 PLACE = "{table}"
 
@@ -45,6 +45,7 @@ def parser():
     add("--tokens", metavar="FILE", help="the file of tokens.py: nobody else may ask")
     add("--log", metavar="FILE", help="where it is written who asked what; nowhere by default")
     add("--proxy", action="append", default=[], metavar="ADDRESS", help="an address at which a proxy says whose requests it hands on; repeated")
+    add("--first", metavar="FILE", help="questions that are asked once before the door listens, as plan.py prints them")
     add("--table", action="append", default=[], metavar="NAME", help="a table by name; repeated for several")
     add("--connections", type=int, default=0, metavar="N", help="the most connections; by default as many as the system has descriptors for")
     add("--run-limit", type=int, default=RUN, help=argparse.SUPPRESS)
@@ -79,12 +80,13 @@ def read(arguments=None):
     if "/" in settings.auditor:             # it is started in other folders
         settings.auditor = os.path.abspath(settings.auditor)
     settings.places = {name: _places(settings, name) for name in settings.table or [""]}
+    settings.first = {name: pathlib.Path(settings.first.replace(PLACE, name)) for name in settings.places} if settings.first else {}
     return settings
 
 
 def _fault_of_names(settings):
     names, fixed = settings.table, [text for text in (settings.folder, settings.public, settings.keep, settings.serve,
-                                                      settings.audit, settings.explain) if text and PLACE not in text]
+                                                      settings.audit, settings.explain, settings.first) if text and PLACE not in text]
     if len(set(names)) < len(names):
         return "a table is named twice"
     for name in names:

@@ -80,6 +80,11 @@ def make(path, choices_path, folder, program):
         f"written: {each}{folder}, with the public columns alone in public. Next: auditor init in {each}{folder}, once;"
         " then ask.py with it"
     )
+    print(
+        "Before anybody asks, plan the report that is wanted: each answer may close others. plan.py AUDITOR"
+        f" {folder}/{'PART/' if choices['split by'] else ''}public WANTED > first.jsonl says which questions would be"
+        " answered, and in which order; ask these first, as door.py --first does"
+    )
 
 
 def read_as_chosen(path, choices):

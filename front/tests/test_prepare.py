@@ -25,6 +25,13 @@ class Reading(TableTest):
                 )
                 self.assertIn("'mäßig'", said)
 
+    def test_the_last_sentence_says_to_plan_the_report_first(self):
+        said = self.made(STAFF, *STAFF_KINDS)
+        last = said.strip().rsplit("\n", 1)[-1]
+        self.assertIn("plan the report that is wanted", last)
+        self.assertIn(f"plan.py AUDITOR {self.out}/public WANTED > first.jsonl", last)
+        self.assertIn("door.py --first", last)
+
     def test_an_encoding_can_be_named(self):
         status, said = self.look("Größe;Lohn\nx;5\ny;7\n".encode("cp850"), "encoding=cp850")
         self.assertEqual((status, self.chosen()["columns"][0]["from"]), (0, "Größe"), said)
