@@ -12,6 +12,7 @@ from aiohttp.http_exceptions import HttpProcessingError
 
 from .askers import NOBODY
 from .lines import LONGEST, Turned, line_of
+from .near import Nears
 from .totals import total
 
 BODY_PATIENCE = 30                  # seconds that a body may take
@@ -92,6 +93,7 @@ class TableHandlers:
 
     def __init__(self, table, least):
         self.table, self.least = table, least
+        self.nears = Nears(table, least)
 
     def routes(self, prefix):
         public = self.table.places.public
@@ -99,6 +101,7 @@ class TableHandlers:
             ("POST", prefix + "/ask"): self.ask_request,
             ("POST", prefix + "/would"): self.would_request,
             ("POST", prefix + "/why"): self.why_request,
+            ("POST", prefix + "/near"): self.near_request,
             ("GET", prefix + "/health"): self.health,
             ("GET", prefix + "/schema.json"): sender(public / "schema.json", JSON),
             ("GET", prefix + "/notes.json"): sender(public / "notes.json", JSON),
@@ -132,6 +135,9 @@ class TableHandlers:
 
     async def why_request(self, request):
         return reply(await self.why(await question_of(request), request["asker"]))
+
+    async def near_request(self, request):
+        return said(await self.nears.ask(await question_of(request)))
 
     async def health(self, _):
         health = self.table.health()
