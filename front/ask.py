@@ -10,8 +10,11 @@
     count where age >= 41                   how many rows
     sum salary where team = 'Design'        a total, exactly; avg for an average, max for the greatest
     totals salary by team                   a total for each team, a question each; avg salary by team, count by team
+    totals salary by team, site             a table with all totals over it; what isn't answered is ////
+    csv totals salary by team, site         the same as CSV
     would sum salary where age >= 41        whether it would be answered; nothing is asked (over a front door)
     why sum salary where age = 41           why it is denied, by the answers given so far; nothing is asked
+    near sum salary where age = 41          what is near a denied question and would be answered; nothing is asked
     columns                                 what there is to ask about
     help                                    this
 
@@ -19,7 +22,6 @@ Without questions they are read from the terminal until its end. The status is 0
 wasn't, and 2 if the arguments aren't these. What is said of a denial follows from the program's reply alone.
 """
 
-import collections
 import getpass
 import json
 import os
@@ -30,9 +32,12 @@ from clients.auditor import login_of
 
 from asking.places import SECRET, Away, place
 from asking.questions import Question, Unclear, parse
-from asking.words import answer_of, number_words, reply_words, step, verdict_words, why_words
+from asking.tables import HATCHED, ask_cells, cells_to_ask, csv_text, table_lines, value_words
+from asking.words import WORDS, answer_of, near_words, reply_words, step, verdict_words, why_words
+from preparing.conditions import Wrong
 
 MOST_GROUPS = 100
+MOST_CELLS = 1000
 
 
 def answer(there, text):
@@ -52,7 +57,10 @@ def answer(there, text):
 
 
 def answer_one(there, question):
-    """Asks one question, or what would be said of it, or why it is denied."""
+    """Asks one question, or what would be said of it, why it is denied, or what is near."""
+    if question.near:
+        print(near_words(there.near(question)))
+        return True
     if question.why:
         say_why(there, question)
         return True
@@ -84,40 +92,53 @@ def target_words(there, line):
 
 
 def answer_groups(there, question):
-    """Asks a question for each value of a public column, and prints a line for each that some row has."""
-    sizes = collections.Counter(row[question.by] for row in there.rows())
-    if len(sizes) > MOST_GROUPS:
-        raise Unclear(
-            f"{question.by} has {len(sizes):,} values, and at most {MOST_GROUPS} questions are asked at once"
-        )
-    answered = True
-    for value in largest_first(sizes):
-        reply = there.would(question.over(value)) if question.would else there.ask(question.over(value))
-        if reply.get("refused") == "empty":
-            continue
-        if reply.get("refused") == "where":
-            # The fault lies in what was typed, a bracket further left than in what was sent.
-            reply["at"] = min(max(reply["at"] - 1, 0), len(question.where.encode()))
-            print(reply_words(question, reply, there.columns, there.notes))
-            return False
-        words = (
-            verdict_words(reply)
-            if question.would
-            else reply_words(question.over(value), reply, there.columns, there.notes, there.protected)
-        )
-        print(f"{value_words(value, there.notes.get(question.by, {}))}: {words}")
-        answered = answered and ("verdict" in reply or answer_of(reply) is not None)
-    return answered
+    """Asks a question for each value of a public column, or each cell by two, the largest first, and prints what came back."""
+    rows = there.rows()
+    for name in question.by:
+        need_few(name, len({row[name] for row in rows}), MOST_GROUPS)
+    publics = {name: kind for name, kind in there.columns.items() if kind not in SECRET}
+    try:
+        cells = cells_to_ask(question, rows, publics)
+    except Wrong:
+        print(reply_words(question, there.ask(Question("count", where=question.where)), there.columns, there.notes))
+        return False
+    need_few(" and ".join(question.by), len(cells), MOST_CELLS)
+    cells = ask_cells(cells, there.would if question.would else there.ask)
+    print_cells(there, question, cells)
+    return all("verdict" in cell.reply or answer_of(cell.reply) is not None for cell in cells)
 
 
-def largest_first(sizes):
-    """Values by their rows: the first denial comes where one person is left over, and then it is of a small group."""
-    return sorted(sorted(sizes), key=lambda value: -sizes[value])
+def need_few(name, number, most):
+    if number > most:
+        raise Unclear(f"{name} has {number:,} values, and at most {most:,} questions are asked at once")
 
 
-def value_words(value, note):
-    """A value of a public column as people read it."""
-    return number_words(value, note) if isinstance(value, int) else value
+def print_cells(there, question, cells):
+    """Prints the cells as CSV, as a table, or as a line each."""
+    if question.csv:
+        print(csv_text(question.by, cells, question.ask, there.notes.get(question.column, {})), end="")
+    elif len(question.by) == 1:
+        for cell in cells:
+            print(f"{value_words(cell.values[0], there.notes.get(question.by[0], {}))}: {cell_words(there, cell)}")
+    else:
+        for line in table_lines(question.by, cells, there.notes, lambda cell: short_words(there, cell)):
+            print(line)
+        for reason in dict.fromkeys(cell.reply.get("denied") for cell in cells if "denied" in cell.reply):
+            print(f"{HATCHED}: not answered: {WORDS['denied'].get(reason, reason)}")
+
+
+def cell_words(there, cell):
+    """The reply to a cell's question in a line."""
+    if "verdict" in cell.reply:
+        return verdict_words(cell.reply)
+    return reply_words(cell.question, cell.reply, there.columns, there.notes, there.protected)
+
+
+def short_words(there, cell):
+    """The same in a cell of a table."""
+    if "verdict" in cell.reply:
+        return cell.reply["verdict"]
+    return HATCHED if "denied" in cell.reply else cell_words(there, cell)
 
 
 def say_columns(there):

@@ -1,10 +1,11 @@
 """Where questions go: the program in a folder, or a front door by its address.
 
-Both have the schema's columns and protected totals, notes for people, the public rows, `ask`, `would` and `why`. A place that can't be asked
+Both have the schema's columns and protected totals, notes for people, the public rows, `ask`, `would`, `why` and `near`. A place that can't be asked
 raises Away with a sentence.
 """
 
 import csv
+import dataclasses
 import http.client
 import io
 import json
@@ -14,9 +15,14 @@ import socket
 import subprocess
 import urllib.parse
 
+from planning.columns import Columns
+from planning.nearness import near
+from preparing.conditions import Wrong
+
 from .words import ended_words
 
 PATIENCE = 90
+MOST_NEAR = 50                      # questions near one that are looked at
 SECRET = ("sum", "max")
 NUMBERS = ("den", "num", "count", "sum", "max", "at")
 
@@ -76,12 +82,31 @@ class Folder:
         raise Away("only a front door says beforehand whether a question would be answered")
 
     def why(self, question):
-        """The line of `explain`. The journal is free for it: `serve` is started again at the next question."""
+        """The line of `explain`."""
+        line, = self._explained(line_of(question) + b"\n")
+        return line
+
+    def near(self, question):
+        """What a front door says of it, worked out by `explain`: the first question near this one that would be answered."""
+        try:
+            others = near(question.where, Columns(self._text("schema.json").encode(), self._text("public/table.csv", "table.csv").encode()))[:MOST_NEAR]
+        except Wrong:
+            others = []
+        lines = [question, *(dataclasses.replace(question, where=other.where) for other in others)]
+        verdicts = self._explained(b"".join(line_of(line) + b"\n" for line in lines))
+        found = next((place for place, said in enumerate(verdicts) if said["verdict"] == "released"), 0)
+        if not found:
+            return {"verdict": verdicts[0]["verdict"], "near": None}
+        other = others[found - 1]
+        return {"verdict": verdicts[0]["verdict"], "near": lines[found].line(), "rows": other.rows.bit_count(), "more": other.more, "fewer": other.fewer}
+
+    def _explained(self, lines):
+        """What `explain` says of some lines. The journal is free for it: `serve` is started again at the next question."""
         self.close()
-        done = subprocess.run([self.program, "explain"], cwd=self.path, input=line_of(question) + b"\n", capture_output=True)
+        done = subprocess.run([self.program, "explain"], cwd=self.path, input=lines, capture_output=True)
         if done.returncode != 0:
             raise Away("auditor explain: " + ended_words(done.stderr.decode(errors="replace").strip(), done.returncode))
-        return reply_of(done.stdout.decode())
+        return [reply_of(line) for line in done.stdout.decode().splitlines()]
 
     def close(self):
         if self.child is not None:
@@ -146,6 +171,12 @@ class Door:
 
     def why(self, question):
         return self._post("why", question)
+
+    def near(self, question):
+        said = self._post("near", question)
+        if not {"verdict", "near"} <= said.keys() or said["near"] is not None and not {"rows", "more", "fewer"} <= said.keys():
+            raise Away(f"what comes back isn't a reply of a front door: {said}")
+        return said
 
     def close(self):
         """Nothing is held between two questions."""

@@ -4,6 +4,8 @@ import dataclasses
 import difflib
 import re
 
+from planning.columns import within
+
 ASKS = {
     "count": "count",
     "sum": "sum",
@@ -15,6 +17,7 @@ ASKS = {
     "maximum": "max",
     "greatest": "max",
 }
+FIRST = ("would", "why", "near", "csv")
 LEAST = ("min", "minimum", "least", "median")
 SECRET = {"sum": ("sum", "avg"), "max": ("max",)}
 
@@ -25,52 +28,56 @@ class Unclear(Exception):
 
 @dataclasses.dataclass(frozen=True)
 class Question:
-    """What is asked, of which column and rows, for each value of which column, and whether only the verdict or its reason is wanted."""
+    """What is asked, of which column and rows, for each value of which columns, and whether something else than its answer is wanted:
+    the verdict, its reason, or what is near; `csv` if the answers are to be CSV."""
 
     ask: str
     column: str = None
     where: str = "all"
-    by: str = None
+    by: tuple = ()
     would: bool = False
     why: bool = False
+    near: bool = False
+    csv: bool = False
 
     def line(self):
         """The question as the program reads it."""
         keys = {"ask": self.ask, "column": self.column, "where": self.where}
         return {key: value for key, value in keys.items() if value is not None}
 
-    def over(self, value):
-        """The same question over the rows with one value of the column `by`."""
-        part = f"{self.by} = {literal(value)}"
-        return dataclasses.replace(self, where=part if self.where == "all" else f"({self.where}) and {part}", by=None)
-
-
-def literal(value):
-    """A value as it stands in a condition."""
-    return str(value) if isinstance(value, int) else "'" + value.replace("'", "''") + "'"
+    def over(self, part):
+        """The same question over that part of its rows for which a condition holds."""
+        return Question(self.ask, self.column, within(self.where, part))
 
 
 def parse(text, kinds):
     """The question of a line. `kinds` has the kind of each column by name."""
     parts = re.split(r"\s+where(?=\s|$)", " " + text.strip(), maxsplit=1, flags=re.IGNORECASE)
     words, where = parts[0].split(), parts[1].strip() if len(parts) == 2 else "all"
-    first = words[0] if words[:1] in (["would"], ["why"]) else None
+    first = words[0] if words[:1] and words[0] in FIRST else None
     words = words[first is not None :]
     totals = words[:1] == ["totals"]
     ask = "sum" if totals else ask_named(words[0] if words else "")
-    rest = words[1:]
-    by = None
-    if len(rest) >= 2 and rest[-2] == "by":
-        rest, by = rest[:-2], rest[-1]
-    if (totals and by is None) or len(rest) != (0 if ask == "count" else 1):
+    rest, by = split_by(words[1:])
+    if (totals and not by) or len(rest) != (0 if ask == "count" else 1) or len(by) > 2:
         raise Unclear(usage(ask, totals))
-    if by is not None and first == "why":
-        raise Unclear("why is asked of one question: write the condition of the group into it")
-    if by is not None:
-        need_public(by, kinds)
+    if by and first in ("why", "near"):
+        raise Unclear(f"{first} is asked of one question: write the condition of the group into it")
+    if first == "csv" and not by:
+        raise Unclear("csv is of groups: write it as csv totals COLUMN by COLUMN")
+    for name in by:
+        need_public(name, kinds)
     for column in rest:
         need_asked(ask, column, kinds)
-    return Question(ask, rest[0] if rest else None, where, by, first == "would", first == "why")
+    return Question(ask, rest[0] if rest else None, where, by, **({first: True} if first else {}))
+
+
+def split_by(words):
+    """The words before `by`, and the columns after it, which commas stand between."""
+    if "by" not in words[:-1]:
+        return words, ()
+    place = words.index("by")
+    return words[:place], tuple(re.split(r"\s*,\s*", " ".join(words[place + 1 :])))
 
 
 def ask_named(word):
@@ -88,7 +95,7 @@ def ask_named(word):
 def usage(ask, totals):
     """How a question of this kind is written."""
     if totals:
-        return "write it as: totals COLUMN by COLUMN where CONDITION"
+        return "write it as: totals COLUMN by COLUMN where CONDITION, or by COLUMN, COLUMN"
     return f"write it as: {ask}{'' if ask == 'count' else ' COLUMN'} where CONDITION" + (
         "; a count has no column" if ask == "count" else ""
     )

@@ -4,7 +4,7 @@ import fractions
 import json
 import pathlib
 
-from clients.auditor import max_words, sum_words
+from clients.auditor import max_words, rows_words, sum_words
 
 from .hints import hint, marked, mended
 
@@ -85,6 +85,13 @@ def why_words(line, target, note):
     if "proof" in line:
         return WORDS["why"]["proof"]
     return max_words(line, lambda number: number_words(number, note)) if "high" in line else sum_words(line, target)
+
+
+def near_words(said):
+    """What is near a question, in a sentence."""
+    if said["near"] is None:
+        return WORDS["near"]["none"] if said["verdict"] in ("unsafe", "wide", "withheld") else verdict_words(said)
+    return f"{said['near']['where']}: {rows_words(said['rows'], said['more'], said['fewer'])}"
 
 
 def verdict_words(reply):

@@ -3,7 +3,9 @@
 #   source("auditor.R")
 #   auditor_sum("http://127.0.0.1:8087", "salary", "age >= 41")
 #   auditor_totals("unix:/run/auditor/door.sock", "salary", by = "team")
+#   auditor_totals("http://127.0.0.1:8087", "salary", by = c("team", "site"))  a table with all totals over it
 #   auditor_why("http://127.0.0.1:8087", "sum", "salary", "age = 41")          why it is denied
+#   auditor_near("http://127.0.0.1:8087", "sum", "salary", "age = 41")         what is near and would be answered
 #
 # With several tables behind a door the table's name ends the address, "http://127.0.0.1:8087/north"; not that of a socket.
 #   auditor_login(token = readline("token: "))                                 or name = and password =, for a proxy's login
@@ -106,6 +108,19 @@ auditor_why <- function(url, ask, column = NULL, where = "all") {
   structure(reply, line = sub("\n$", "", response$text))
 }
 
+# What is near a denied question and would be answered now: its condition, its rows, and how many of them are more and fewer. NULL if there is
+# nothing, or if the question isn't denied. Nothing is asked.
+auditor_near <- function(url, ask, column, where = "all") {
+  response <- auditor_send(url, "near", auditor_question(ask, column, where))
+  reply <- tryCatch(jsonlite::fromJSON(response$text), error = function(fault) list())
+  if (response$status != 200) {
+    stop(if (is.character(reply$error)) reply$error else paste("the door, or a proxy before it, says", response$status), call. = FALSE)
+  }
+  if (is.null(reply$verdict)) stop("what came isn't the reply of a door", call. = FALSE)
+  if (is.null(reply$near)) return(NULL)
+  list(where = reply$near$where, rows = reply$rows, more = reply$more, fewer = reply$fewer)
+}
+
 # The public columns as a data frame: texts as they are, also "NA", and numbers as doubles.
 auditor_public <- function(url) {
   schema <- auditor_send(url, "schema.json")
@@ -117,25 +132,48 @@ auditor_public <- function(url) {
                   na.strings = character(), check.names = FALSE, encoding = "UTF-8")
 }
 
-# The totals of the groups of a public column: a data frame of the value, rows, sum (NA if denied) and denied (its reason or "").
-# The largest group is asked first: the first denial comes where one person is left over, and then it is of a small group.
+# A value as it stands in a condition.
+auditor_literal <- function(values) {
+  if (is.numeric(values)) sprintf("%.0f", values) else paste0("'", gsub("'", "''", values, fixed = TRUE), "'")
+}
+
+# The cells by some columns, NA for all values of one: the totals over them first if there are two.
+auditor_cells <- function(public, by) {
+  kept <- if (length(by) > 1) expand.grid(rep(list(c(FALSE, TRUE)), length(by))) else data.frame(TRUE)
+  cells <- lapply(seq_len(nrow(kept)), function(line) {
+    names <- by[unlist(kept[line, ])]
+    some <- if (length(names)) unique(public[names]) else public[1, 0, drop = FALSE]
+    if (length(names)) some <- some[do.call(order, c(unname(as.list(some)), list(method = "radix"))), , drop = FALSE]
+    for (name in setdiff(by, names)) some[[name]] <- rep(public[[name]][NA_integer_], nrow(some))
+    some[by]
+  })
+  do.call(rbind, cells)
+}
+
+# The condition of each cell, its columns in the table's order.
+auditor_parts <- function(cells, order, where) {
+  vapply(seq_len(nrow(cells)), function(line) {
+    names <- order[vapply(order, function(name) !is.na(cells[[name]][line]), TRUE)]
+    part <- paste(vapply(names, function(name) paste(name, "=", auditor_literal(cells[[name]][line])), ""), collapse = " and ")
+    if (part == "") where else if (where == "all") part else paste0("(", where, ") and ", part)
+  }, "")
+}
+
+# The totals of the groups of a public column: a data frame of the value, rows, sum (NA if denied) and denied (its reason or ""). By two
+# columns it has both, and NA for all values of one. The group with the most rows is asked first.
 auditor_totals <- function(url, column, by, where = "all", steps = FALSE) {
   public <- auditor_public(url)
-  if (!by %in% names(public)) stop(by, ": there is no such public column", call. = FALSE)
-  values <- sort(unique(public[[by]]), method = "radix")
-  literals <- if (is.numeric(values)) sprintf("%.0f", values) else paste0("'", gsub("'", "''", values, fixed = TRUE), "'")
-  parts <- paste(by, "=", literals)
-  if (where != "all") parts <- paste0("(", where, ") and ", parts)
+  if (!all(by %in% names(public)) || anyDuplicated(by)) stop(paste(by, collapse = ", "), ": there is no such public column", call. = FALSE)
+  cells <- auditor_cells(public, by)
+  parts <- auditor_parts(cells, intersect(names(public), by), where)
   rows <- vapply(parts, function(part) auditor_count(url, part), 0, USE.NAMES = FALSE)
-  asked <- which(rows > 0)
-  asked <- asked[order(-rows[asked])]
+  sums <- vector("list", length(parts))
   note <- if (steps) list(decimals = 0) else auditor_note(url, column)
-  sums <- lapply(parts[asked], function(part) auditor_in_units(auditor_ask(url, "sum", column, part), note))
+  for (place in order(-rows)) if (rows[place] > 0) sums[[place]] <- auditor_in_units(auditor_ask(url, "sum", column, parts[place]), note)
+  sums <- sums[rows > 0]
   reason <- function(sum) if (is.null(attr(sum, "denied"))) "" else attr(sum, "denied")
-  frame <- data.frame(values[asked], rows = rows[asked], sum = vapply(sums, as.numeric, 0), denied = vapply(sums, reason, ""))
-  names(frame)[1] <- by
-  frame <- frame[order(asked), ]
-  rownames(frame) <- NULL
+  frame <- data.frame(cells[rows > 0, , drop = FALSE], rows = rows[rows > 0], sum = vapply(sums, as.numeric, 0), denied = vapply(sums, reason, ""),
+                      row.names = NULL, check.names = FALSE)
   if (!is.null(note$unit)) attr(frame$sum, "unit") <- note$unit
   frame
 }

@@ -22,6 +22,7 @@ import decimal
 import fractions
 import http.client
 import io
+import itertools
 import json
 import re
 import socket
@@ -30,6 +31,7 @@ import time
 import urllib.parse
 
 Group = collections.namedtuple("Group", "value rows answer")
+Near = collections.namedtuple("Near", "where rows more fewer")
 EXACT = decimal.Context(prec=60)
 MORE_PLACES = 6                     # of an average
 
@@ -169,7 +171,21 @@ def parsed(name, text):
 
 def within(where, part):
     """The condition of a group within another, as the page writes it, too: the same question asked again makes no record."""
+    if part == "all":
+        return where
     return part if where.strip() == "all" else f"({where}) and {part}"
+
+
+def cells_of(by, rows, order):
+    """The values and the condition of each cell by some columns, the totals over them first; a condition has the columns in an order."""
+    found = []
+    for kept in sorted(itertools.product((True, False), repeat=len(by)), key=sum) if len(by) > 1 else [(True,)]:
+        names = [name for name, one in zip(by, kept) if one]
+        for values in sorted({tuple(row[name] for name in names) for row in rows}):
+            known = dict(zip(names, values))
+            parts = [equals(name, known[name]) for name in order if name in known]
+            found.append((tuple(known.get(name) for name in by), " and ".join(parts) or "all"))
+    return found
 
 
 def equals(column, value):
@@ -230,6 +246,12 @@ def max_words(line, value):
     return f"were the answer {answer}, row {row} would be the only one of record {line['pair']} that can have the {value(line['high'][row])}"
 
 
+def rows_words(rows, more, fewer):
+    """How many rows a question is over, and how they differ from another one's."""
+    counts = [f"{number} {word}" for number, word in ((more, "more"), (fewer, "fewer")) if number]
+    return f"{rows} row{'' if rows == 1 else 's'}, {' and '.join(counts) or 'as many'}"
+
+
 class Asker:
     """The questions that a table and tables as parts of one have in common."""
 
@@ -255,20 +277,27 @@ class Asker:
         return answer if steps else self.in_units(column, answer)
 
     def groups(self, column, by, kind="sum", where="all", steps=False):
-        """A Group (value, rows, answer) for each value of a public column, in their order; a group of no rows isn't asked. The largest is
-        asked first: the first denial comes where an answer and earlier ones leave one person, and then it is of a small group."""
-        if self.kinds.get(by) not in ("text", "number"):
-            raise Refused("column", f"{by}: there is no such public column.")
-        conditions = {value: within(where, equals(by, value)) for value in sorted({row[by] for row in self.public()})}
-        sizes = {value: self.count(condition) for value, condition in conditions.items()}
-        found = {}
-        for value in sorted((value for value, rows in sizes.items() if rows), key=lambda value: -sizes[value]):
-            answer = sizes[value] if kind == "count" else self.number(kind, column, conditions[value], steps)
-            found[value] = Group(value, sizes[value], answer)
-        return [found[value] for value in sizes if value in found]
+        """A Group (value, rows, answer) for each value of a public column, in their order; a group of no rows isn't asked.
+
+        If `by` has two columns the values are pairs, and all totals over them are there too, with None for all values of a column.
+        The group with the most rows is asked first: what is answered first closes other answers.
+        """
+        names = [by] if isinstance(by, str) else list(by)
+        for name in names:
+            if self.kinds.get(name) not in ("text", "number") or names.count(name) > 1:
+                raise Refused("column", f"{name}: there is no such public column.")
+        cells = cells_of(names, self.public(), [name for name in self.kinds if name in names])
+        found = [(values, within(where, part)) for values, part in cells]
+        counted_cells = [(values, condition, self.count(condition)) for values, condition in found]
+        asked = {values: rows if kind == "count" else self.number(kind, column, condition, steps)
+                 for values, condition, rows in sorted(counted_cells, key=lambda cell: -cell[2]) if rows}
+        return [Group(values[0] if isinstance(by, str) else values, rows, asked[values]) for values, _, rows in counted_cells if rows]
 
     def totals(self, column, by, where="all", steps=False):
-        """The totals of groups as a pandas DataFrame: rows, sum (pandas.NA if denied), denied (the reason, or "")."""
+        """The totals of groups as a pandas DataFrame: rows, sum (pandas.NA if denied), denied (the reason, or "").
+
+        By one column its values are the index; by two they are columns, with pandas.NA in the totals over all values of one.
+        """
         try:
             import pandas
         except ImportError:
@@ -276,11 +305,17 @@ class Asker:
         groups = self.groups(column, by, "sum", where, steps)
         denied = [isinstance(group.answer, Denied) for group in groups]
         sums = [pandas.NA if no else group.answer for group, no in zip(groups, denied)]
-        return pandas.DataFrame({
+        frame = pandas.DataFrame({
             "rows": [group.rows for group in groups],
             "sum": pandas.array(sums, dtype="Int64" if steps else object),
             "denied": [group.answer.reason if no else "" for group, no in zip(groups, denied)],
-        }, index=pandas.Index([group.value for group in groups], name=by))
+        })
+        if isinstance(by, str):
+            return frame.set_index(pandas.Index([group.value for group in groups], name=by))
+        for place, name in enumerate(by):
+            values = [pandas.NA if group.value[place] is None else group.value[place] for group in groups]
+            frame.insert(place, name, pandas.array(values, dtype="Int64" if self.kinds[name] == "number" else "string"))
+        return frame
 
     def places(self, column):
         """How many decimals of a column are in its whole numbers, by notes.json."""
@@ -365,6 +400,15 @@ class Table(Asker):
         except (LookupError, TypeError, ValueError, decimal.InvalidOperation):
             raise DoorFault(f"why: what came isn't a line of auditor explain, but {ascii(json.dumps(line)[:60])}", 200) from None
 
+    def near(self, kind, column, where="all"):
+        """The nearest question that would be answered now, as a Near of its condition, its rows, and how many of them are more and fewer;
+        None if there is none, or if this one isn't denied. Nothing is asked."""
+        said = self._post("near", kind, column, where)
+        try:
+            return None if said["near"] is None else Near(said["near"]["where"], said["rows"], said["more"], said["fewer"])
+        except (LookupError, TypeError):
+            raise DoorFault(f"near: what came isn't the reply of a door, but {ascii(json.dumps(said)[:60])}", 200) from None
+
     def _why_words(self, line, column):
         if line["verdict"] != "unsafe" or "proof" in line:
             return self.sentence("why", "proof" if "proof" in line else line["verdict"])
@@ -419,6 +463,10 @@ class Parts(Asker):
         found = [table.why(kind, column, where) for table in self.tables]
         return next((why for why in found if why.verdict in ("unsafe", "wide")), found[0])
 
+    def near(self, kind, column, where="all"):
+        """The nearest question that each part by itself would answer, by its name."""
+        return {table.name: table.near(kind, column, where) for table in self.tables}
+
     def ask(self, kind, column, where="all"):
         """The answer over all parts. `table` of a Denied is the part that wouldn't answer."""
         counts = [(table, table.count(where)) for table in self.tables]
@@ -471,14 +519,16 @@ def connect(url, headers=None, timeout=90, patience=10, token=None, login=None):
 HELP = """count [where CONDITION]                        how many rows
 sum COLUMN [where CONDITION]                   a total; avg for an average, max for the greatest number
 totals COLUMN by COLUMN [where CONDITION]      a total for each value of a public column; so avg .. by, count by
+totals COLUMN by COLUMN, COLUMN [where ..]     a total for each cell of a table, and all totals over them
 would sum COLUMN [where CONDITION]             whether it would be answered; nothing is asked
 why sum COLUMN [where CONDITION]               why it is denied: a certificate, in words; nothing is asked
+near sum COLUMN [where CONDITION]              what is near it and would be answered; nothing is asked
 columns                                        what there is
 quit                                           so does the end of the input"""
 
 KINDS = {"count": "count", "sum": "sum", "total": "sum", "totals": "sum", "avg": "avg", "average": "avg", "mean": "avg",
          "max": "max", "maximum": "max", "greatest": "max"}
-LINE = re.compile(rf"(?:(?P<first>would|why)\s+)?(?P<kind>{'|'.join(KINDS)})(?:\s+(?!by\s)(?P<column>\w+))?(?:\s+by\s+(?P<by>\w+))?"
+LINE = re.compile(rf"(?:(?P<first>would|why|near)\s+)?(?P<kind>{'|'.join(KINDS)})(?:\s+(?!by\s)(?P<column>\w+))?(?:\s+by\s+(?P<by>\w+(?:\s*,\s*\w+)?))?"
                   r"(?:\s+where\s+(?P<where>.*))?", re.DOTALL)
 
 
@@ -511,6 +561,16 @@ def shown_average(average, places, unit):
     return f"about {text}{unit} (exactly {total:f} / {average.denominator})"
 
 
+def near_words(asker, found):
+    """What is near a question, in words."""
+    return asker.sentence("near", "none") if found is None else f"{found.where}: {rows_words(found.rows, found.more, found.fewer)}"
+
+
+def value_words(value):
+    """The value of a group, or the values of a cell."""
+    return ", ".join("all" if one is None else str(one) for one in value) if isinstance(value, tuple) else str(value)
+
+
 def answer_line(asker, line):
     """The lines that answer one typed line; Refused and DoorFault are raised."""
     if line == "columns":
@@ -523,13 +583,18 @@ def answer_line(asker, line):
     if match["first"] == "why":
         why = asker.why(kind, column, where)
         return [(f"{why.table}: " if why.table else "") + str(why), json.dumps(why.line, separators=(",", ":"))]
+    if match["first"] == "near":
+        found = asker.near(kind, column, where)
+        named = found.items() if isinstance(found, dict) else [("", found)]
+        return [(f"{name}: " if name else "") + near_words(asker, one) for name, one in named]
     if match["first"]:
         verdicts = asker.would(kind, column, where)
         named = verdicts.items() if isinstance(verdicts, dict) else [("", verdicts)]
         return [(f"{name}: " if name else "") + asker.sentence("verdict", verdict) for name, verdict in named]
     if match["by"]:
-        return [f"{group.value}: {shown(asker, column, group.answer)}" + ("" if kind == "count" else f" ({group.rows} rows)")
-                for group in asker.groups(column, match["by"], kind, where, steps=True)]
+        by = re.split(r"\s*,\s*", match["by"])
+        return [f"{value_words(group.value)}: {shown(asker, column, group.answer)}" + ("" if kind == "count" else f" ({group.rows} rows)")
+                for group in asker.groups(column, by if len(by) > 1 else by[0], kind, where, steps=True)]
     return [shown(asker, column, asker.ask(kind, column, where))]
 
 

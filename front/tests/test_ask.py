@@ -77,9 +77,12 @@ class Lines(unittest.TestCase):
             ("avg salary", Question("avg", "salary")),
             ("average salary WHERE age = 3", Question("avg", "salary", "age = 3")),
             ("max bonus where team = ' where '", Question("max", "bonus", "team = ' where '")),
-            ("totals salary by team", Question("sum", "salary", by="team")),
-            ("avg salary by team where age > 3", Question("avg", "salary", "age > 3", "team")),
-            ("count by age", Question("count", by="age")),
+            ("totals salary by team", Question("sum", "salary", by=("team",))),
+            ("avg salary by team where age > 3", Question("avg", "salary", "age > 3", ("team",))),
+            ("count by age", Question("count", by=("age",))),
+            ("totals salary by team, age", Question("sum", "salary", by=("team", "age"))),
+            ("csv avg salary by age ,team", Question("avg", "salary", by=("age", "team"), csv=True)),
+            ("near sum salary where age = 3", Question("sum", "salary", "age = 3", near=True)),
             ("would sum salary where age = 3", Question("sum", "salary", "age = 3", would=True)),
             ("why max bonus where age = 3", Question("max", "bonus", "age = 3", why=True)),
         ):
@@ -98,6 +101,10 @@ class Lines(unittest.TestCase):
             ("max salary", "kept for sum and avg"),
             ("totals salary", "totals COLUMN by COLUMN"),
             ("why totals salary by team", "why is asked of one question"),
+            ("near totals salary by team", "near is asked of one question"),
+            ("csv sum salary", "csv is of groups"),
+            ("totals salary by team, tem", "did you mean team?"),
+            ("totals salary by team, age, team", "or by COLUMN, COLUMN"),
             ("totals salary by bonus", "bonus is secret"),
             ("sum salary by tem", "did you mean team?"),
             ("", "'' isn't something"),
@@ -108,11 +115,11 @@ class Lines(unittest.TestCase):
 
     def test_a_question_is_asked_over_one_value(self):
         self.assertEqual(
-            Question("sum", "salary", by="team").over("Ann's").line(),
+            Question("sum", "salary", by=("team",)).over("team = 'Ann''s'").line(),
             {"ask": "sum", "column": "salary", "where": "team = 'Ann''s'"},
         )
         self.assertEqual(
-            Question("count", where="a or b", by="age").over(-3).line(),
+            Question("count", where="a or b", by=("age",)).over("age = -3").line(),
             {"ask": "count", "where": "(a or b) and age = -3"},
         )
 
@@ -424,9 +431,9 @@ class OverADoor(unittest.TestCase):
             self.assertIn('each entry of "protect" has the keys column and where', self.ask([], "columns")[1])
 
     def test_groups_are_those_of_the_public_table(self):
-        status, said = self.ask(['{"sum":1}', '{"denied":"wide"}'], "totals salary by team")
-        self.assertEqual((status, said.splitlines()[0]), (1, "QA: 0.01 EUR"))
-        self.assertIn("OPS: not answered: To see whether an answer is safe", said)
+        status, said = self.ask(['{"denied":"wide"}', '{"sum":1}'], "totals salary by team")
+        self.assertEqual((status, said.splitlines()[0]), (1, "OPS: 0.01 EUR"))
+        self.assertIn("QA: not answered: To see whether an answer is safe", said)
         self.assertEqual([asked["where"] for _, _, asked in ListedDoor.asked], ["team = 'QA'", "team = 'OPS'"])
 
     def test_every_refusal_has_a_sentence(self):

@@ -3,9 +3,12 @@
 Start: AUDITOR=/path/of/the/program /usr/bin/python3 -m unittest -v test_page. SHOTS names a folder for pictures.
 """
 import base64
+import csv
+import io
 import json
 import os
 import unittest
+import urllib.parse
 
 import staff
 from browser import Browser
@@ -172,7 +175,7 @@ class OverTheProgram(PageCase):
         said = self.browser.text("answer")
         self.assertIn(f"The number of row {row} is the answer asked for. Row {row}: team {self.single().team}, site {self.single().site}", said)
         self.assertIn("it tells nothing more", said)
-        self.assertEqual(self.browser.all("#answer button"), [])
+        self.assertEqual([button.text for button in self.browser.all("#answer button")], ["What is near?"])
         self.browser.click("#answer summary")
         self.assertEqual(json.loads(self.browser.find("#answer code").text), {"verdict": "unsafe", "row": row, "times": 1, "by": [], "asked": 1})
         self.browser.screen(360)
@@ -222,6 +225,65 @@ class OverTheProgram(PageCase):
         self.assertIn("<b>Legal</b> & Co", denied)
         self.assertIn(f"Not answered (hatched): {len(denied)} of 6 groups", self.browser.text("chart-hint"))
         self.picture("groups")
+
+    def test_what_is_near_is_shown_and_not_asked(self):
+        self.browser.write(self.alone())
+        self.browser.ask()
+        before = self.records()
+        self.browser.run("[...document.querySelectorAll('#answer button')].find(one => one.textContent === 'What is near?').focus()")
+        self.browser.keys("Enter")
+        self.browser.wait(lambda: self.browser.all("#answer code"))
+        where = self.browser.find("#answer code").text
+        self.assertRegex(self.browser.text("answer"), r"Near, and it would be answered: .* for \d+ rows, 1 more\. Take it\nNothing was asked")
+        self.assertEqual(self.records(), before)
+        self.browser.screen(360)
+        self.assertEqual(self.browser.too_wide(360), [])
+        self.browser.screen(1200)
+        self.picture("near")
+        self.browser.run("[...document.querySelectorAll('#answer button')].find(one => one.textContent === 'Take it').focus()")
+        self.browser.keys("Enter")
+        self.assertEqual(self.browser.find("#where").get_property("value"), where)
+        self.assertEqual(self.browser.run("return document.activeElement.id"), "ask")
+        self.browser.ask()
+        self.assertTrue(self.browser.all("#answer .number"))
+
+    def cross(self):
+        """The text and the look of each cell of the table, by its row's and its column's label."""
+        return self.browser.run("""const heads = [...document.querySelectorAll('.cross thead th')].slice(1).map(one => one.textContent);
+            return Object.fromEntries([...document.querySelectorAll('.cross tbody tr')].flatMap(line => heads.map((head, place) =>
+            [line.children[0].textContent + " / " + head, [line.children[place + 1].textContent, line.children[place + 1].className]])))""")
+
+    def test_a_table_by_two_columns_has_all_totals_and_hatched_cells(self):
+        self.browser.write("age >= 40")
+        self.browser.choose("#by", "team")
+        self.browser.choose("#by-too", "site")
+        self.assertIn("Draw asks at most 28 questions, one for each cell and total, each within: age >= 40", self.browser.text("chart-hint"))
+        self.browser.choose("#chart-kind", "sum balance")
+        self.browser.click("#draw")
+        self.browser.wait(lambda: self.browser.text("draw") == "Draw" and self.browser.all("#chart-file a"))
+        cells, old = self.cross(), [row for row in self.rows if row.age >= 40]
+        self.assertEqual(cells["all / all"], [f"{sum(row.balance for row in old):,}", "value all"])
+        for label, (text, look) in cells.items():
+            team, site = label.split(" / ")
+            inside = [row.balance for row in old if team in ("all", row.team) and site in ("all", row.site)]
+            if look == "no":
+                self.assertEqual(text, "not answered")
+            elif inside:
+                self.assertEqual(text, f"{sum(inside):,}")
+            else:
+                self.assertEqual((text, look), ("", ""))
+        self.assertTrue(any(look == "no" for _, look in cells.values()))
+        self.assertIn("cells and totals", self.browser.text("chart-hint"))
+        saved = list(csv.reader(io.StringIO(urllib.parse.unquote(self.browser.find("#chart-file a").get_attribute("href").partition(",")[2]))))
+        self.assertEqual(saved[0], ["team", "site", "rows", "sum", "not answered"])
+        self.assertIn(["", "", str(len(old)), str(sum(row.balance for row in old)), ""], saved)
+        for team, site, rows, total, reason in saved[1:]:
+            inside = [row.balance for row in old if team in ("", row.team) and site in ("", row.site)]
+            self.assertEqual((int(rows), total or "unsafe", reason or "0"), (len(inside), "unsafe" if reason else str(sum(inside)), "unsafe" if reason else "0"))
+        self.browser.screen(360)
+        self.assertEqual(self.browser.too_wide(360), [])
+        self.browser.screen(1200)
+        self.picture("table")
 
     def test_negative_totals_have_their_sign_and_go_to_the_left(self):
         self.draw("sum balance", "site", 3)
