@@ -234,6 +234,34 @@ class OverAFolder(TableTest):
         self.assertEqual(status, 1)
 
     @needs_program
+    def test_a_table_by_two_columns_is_drawn_and_is_csv(self):
+        """Six people, two of a team: each cell but one is over one person."""
+        self.journal()
+        status, said = self.ask("totals salary by team, age where team in ('Design', 'Support, Leeds') or age = 35", "csv totals salary by age, team where age <= 41",
+                                "would totals salary by team, age", "csv count by team")
+        lines = said.splitlines()
+        self.assertEqual(lines[0].split(), ["team", "/", "age", "30", "35", "41", "44", "all"])
+        self.assertEqual(lines[1].split()[:2], ["Ann's", "////"])
+        self.assertEqual([line.split()[0] for line in lines[1:6]], ["Ann's", "Design", "Support,", "Tea", "all"])
+        self.assertTrue(lines[6].startswith("////: not answered: Some answer"))
+        self.assertIn("age,team,rows,sum,not answered", lines)
+        place = lines.index("age,team,rows,sum,not answered")
+        self.assertRegex(lines[place + 1], r"^,,4,\d+\.\d\d,$")
+        self.assertIn('30,"Support, Leeds",1,,unsafe', lines)
+        self.assertEqual(lines[-5:], ["team,rows,count,not answered", "Ann's,2,2,", "Design,1,1,", '"Support, Leeds",2,2,', '"Tea ""&"" cake",1,1,'])
+        self.assertEqual(status, 1)
+
+    @needs_program
+    def test_what_is_near_is_said_over_a_folder(self):
+        self.journal()
+        status, said = self.ask("sum salary where age >= 35", "near sum salary where age >= 41", "near sum salary where age = 30", "near sum salary",
+                                "near sum salary where age == 3", "near count", "avg salary where age in (30, 41)")
+        lines = said.splitlines()
+        self.assertEqual(lines[1:6], ["It would be answered now.", "age in (30, 41): 2 rows, 1 more", "No question near this one would be answered now.",
+                                      "It would be refused.", "It would be answered: counts always are."])
+        self.assertEqual((status, len(lines)), (0, 7))
+
+    @needs_program
     def test_a_value_that_no_row_has_left_has_no_line(self):
         self.journal()
         status, said = self.ask("max bonus by team where age >= 44 or team = 'Support, Leeds'")

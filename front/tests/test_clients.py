@@ -56,8 +56,8 @@ def in_r(script):
     return run.stdout.splitlines()
 
 
-class OverTheProgram(unittest.TestCase):
-    """Over HTTP; what is due is worked out from the rows."""
+class OneOffice(unittest.TestCase):
+    """An office behind a door over HTTP; what is due is worked out from the rows."""
     unix = False
 
     @classmethod
@@ -74,6 +74,10 @@ class OverTheProgram(unittest.TestCase):
         of_team = [row for row in self.rows if row.team.startswith("<b>")]
         person = next(row for row in of_team if [other.age for other in of_team].count(row.age) == 1)
         return f"team = '{person.team}' and age = {person.age}"
+
+
+class OverTheProgram(OneOffice):
+    """Single questions and groups."""
 
     def test_answers_are_exact(self):
         table, shop = self.table, [row for row in self.rows if row.team == "Bob's workshop"]
@@ -218,6 +222,63 @@ class OverASocket(OverTheProgram):
     unix = True
 
 
+class AtOnce(OneOffice):
+    """Tables by two columns, and what is near a denied question."""
+
+    def due(self, team, site, age=0):
+        """The balances of a cell, None for all values of a column."""
+        return [row.balance for row in self.rows if team in (None, row.team) and site in (None, row.site) and row.age >= age]
+
+    def test_a_table_by_two_columns_has_all_totals(self):
+        groups = self.table.groups("balance", by=["site", "team"], where="age >= 21")
+        self.assertEqual(groups[0].value, (None, None))
+        self.assertEqual([group.value for group in groups if None in group.value][1:4], [("Hull", None), ("Leeds", None), ("York", None)])
+        self.assertEqual(len(groups), len({group.value for group in groups}))
+        for group in groups:
+            inside = self.due(*group.value[::-1], age=21)
+            self.assertEqual(group.rows, len(inside))
+            self.assertIn(group.answer, [sum(inside), auditor.Denied("unsafe")])
+        self.assertEqual(groups[0].answer, sum(self.due(None, None, 21)))
+        said, faults, status = typed(self.url, "totals balance by site, team where age >= 21")
+        self.assertEqual((said[0], faults, status), (f"all, all: {groups[0].answer} ({groups[0].rows} rows)", "", 0))
+
+    @missing(not has_pandas(), NO_PANDAS)
+    def test_a_table_is_a_frame(self):
+        frame = self.table.totals("balance", by=["team", "site"])
+        self.assertEqual(list(frame.columns), ["team", "site", "rows", "sum", "denied"])
+        for line in frame.itertuples():
+            inside = self.due(*(None if value is frame["team"].dtype.na_value else value for value in (line.team, line.site)))
+            self.assertEqual((line.rows, line.denied or line.sum), (len(inside), line.denied or sum(inside)))
+        self.assertEqual(frame["rows"].iloc[0], 200)
+
+    def test_what_is_near_is_said_and_not_asked(self):
+        before = self.table.transcript()
+        near = self.table.near("sum", "salary", where=self.alone())
+        self.assertEqual((near.more, near.rows), (1 + near.fewer, 2))
+        self.assertEqual(self.table.would("sum", "salary", where=near.where), "released")
+        self.assertIsNone(self.table.near("sum", "balance"))
+        said, faults, status = typed(self.url, f"near sum salary where {self.alone()}", "near sum salary")
+        self.assertEqual(said, [f"{near.where}: 2 rows, 1 more", "No question near this one would be answered now."])
+        self.assertEqual((faults, status, self.table.transcript()), ("", 0, before))
+
+    @missing(not shutil.which("Rscript"), NO_R)
+    def test_r_has_a_table_and_what_is_near(self):
+        near = self.table.near("sum", "salary", where=self.alone())
+        lines = in_r(f'''
+            frame <- auditor_totals("{self.url}", "balance", by = c("team", "site"), where = "age >= 22")
+            near <- auditor_near("{self.url}", "sum", "salary", "{self.alone()}")
+            cat(near$where, near$rows, near$more, near$fewer, is.null(auditor_near("{self.url}", "sum", "salary")), "\\n", sep = "|")
+            cat(names(frame), "\\n", sep = "|")
+            for (line in seq_len(nrow(frame))) cat(frame$team[line], frame$site[line], frame$rows[line], sprintf("%.0f", frame$sum[line]), frame$denied[line],
+                                                   is.na(frame$team[line]), is.na(frame$site[line]), "\\n", sep = "|")''')
+        self.assertEqual(lines[:2], [f"{near.where}|2|1|0|TRUE|", "team|site|rows|sum|denied|"])
+        self.assertEqual(len(lines) - 2, len({(team, site) for row in self.rows if row.age >= 22 for team in (None, row.team) for site in (None, row.site)}))
+        for line in lines[2:]:
+            team, site, rows, total, denied, every_team, every_site, _ = line.split("|")
+            inside = self.due(None if every_team == "TRUE" else team, None if every_site == "TRUE" else site, 22)
+            self.assertEqual((int(rows), denied or total), (len(inside), denied or str(sum(inside))))
+
+
 class SeveralTables(unittest.TestCase):
     """Two tables of one office, by site, behind one door."""
 
@@ -343,6 +404,35 @@ class Scripted(unittest.TestCase):
         for by, where in (("team", self.BASE), ("age", self.BASE), ("age", "all")):
             self.assertEqual([group.answer for group in table.groups("pay", by, where=where, steps=True)], [5])
         self.assertEqual([question["where"] for question in door.questions("sum")], self.WITHIN)
+
+    SIZES = {"team = 'A'": 2, "team = 'B'": 5, "team = 'C'": 3}
+
+    def sized(self, _, question):
+        """Three teams, of which the second is the largest."""
+        return 200, json.dumps({question["ask"]: next((size for team, size in self.SIZES.items() if team in question["where"]), 10)})
+
+    def test_the_largest_group_is_asked_first_and_they_come_in_their_values_order(self):
+        door = self.door(self.sized, **{"table.csv": "team,age\nA,3\nB,3\nC,3\n"})
+        self.assertEqual([group.value for group in self.table(door).groups("pay", "team")], ["A", "B", "C"])
+        self.assertEqual([question["where"] for question in door.questions("sum")], ["team = 'B'", "team = 'C'", "team = 'A'"])
+        self.table(door).groups("pay", ["age", "team"])
+        self.assertEqual([question["where"] for question in door.questions("sum")[3:]][:3], ["all", "age = 3", "team = 'B'"])
+        self.assertIn("team = 'B' and age = 3", [question["where"] for question in door.questions("sum")])
+        for by in (["team", "team"], ["team", "pay"], "pay"):
+            with self.assertRaises(auditor.Refused):
+                self.table(door).groups("pay", by)
+
+    @missing(not shutil.which("Rscript"), NO_R)
+    def test_r_asks_the_largest_group_first(self):
+        door = self.door(self.sized, **{"table.csv": "team,age\nA,3\nB,3\nC,3\n"})
+        in_r(f'''frame <- auditor_totals("{door.url}", "pay", by = "team")
+            stopifnot(identical(frame$team, c("A", "B", "C")), identical(frame$rows, c(2, 5, 3)))''')
+        self.assertEqual([question["where"] for question in door.questions("sum")], ["team = 'B'", "team = 'C'", "team = 'A'"])
+
+    def test_a_reply_that_isnt_one_on_what_is_near_is_a_fault(self):
+        for text in ("{}", "[]", '{"verdict":"unsafe","near":{}}', '{"verdict":"unsafe","near":{"where":"all"}}'):
+            with self.subTest(text=text), self.assertRaisesRegex(auditor.DoorFault, "isn't the reply of a door"):
+                self.table(self.door(text)).near("sum", "pay")
 
     @missing(not shutil.which("Rscript"), NO_R)
     def test_r_asks_groups_within_the_whole_condition(self):
