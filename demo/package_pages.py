@@ -44,10 +44,10 @@ def linked(page, prefix):
 
 
 def is_page(path):
-    return path in PAGES or path == PICTURE
+    return path in PAGES or path in PICTURES
 
 
-PICTURE = TOP / "docs/front.png"
+PICTURES = sorted(TOP.glob("docs/*.png"))
 PAGES = [TOP / "README.md", TOP / "CHANGELOG.md", *(page for page in sorted(TOP.glob("docs/*.md")) if page.name not in DEVELOPERS)]
 
 
@@ -56,7 +56,8 @@ def main(prefix):
         place = prefix / placed(page)
         place.parent.mkdir(parents=True, exist_ok=True)
         place.write_text(linked(page, prefix))
-    (prefix / placed(PICTURE)).write_bytes(PICTURE.read_bytes())
+    for picture in PICTURES:
+        (prefix / placed(picture)).write_bytes(picture.read_bytes())
 
 
 if __name__ == "__main__":

@@ -1,8 +1,9 @@
-"""Takes the picture of the page that the pages of docs/ show: docs/front.png, over the table of demo.sh.
+"""Takes the pictures of the page that the pages of docs/ show: front.png, table.png and near.png, each over the table of demo.sh.
 
-    AUDITOR=/path/of/the/program /usr/bin/python3 front/tests/picture.py [FILE]
+    AUDITOR=/path/of/the/program /usr/bin/python3 front/tests/picture.py [FOLDER [NAME ..]]
 """
 import json
+import pathlib
 import signal
 import subprocess
 import sys
@@ -12,7 +13,7 @@ import urllib.request
 from browser import Browser
 from kit import AUDITOR, FRONT, PATIENCE, free_port
 
-PICTURE = FRONT.parent / "docs" / "front.png"
+DOCS = FRONT.parent / "docs"
 
 
 def serving(address):
@@ -38,7 +39,29 @@ def ask_and_draw(browser):
     browser.wait(lambda: browser.text("draw") == "Draw" and len(browser.all(".bars tr")) == 7)
 
 
-def main(path):
+def draw_table(browser):
+    """Salaries by team and site, with all totals over them: what the board earns is protected, so its total isn't answered."""
+    browser.choose("#by", "team")
+    browser.choose("#by-too", "site")
+    browser.click("#draw")
+    browser.wait(lambda: browser.text("draw") == "Draw" and browser.all("#chart-file a"))
+
+
+def ask_near(browser):
+    """The same, and then a cell that isn't answered, with what is near it."""
+    draw_table(browser)
+    browser.click("#kinds label:nth-child(2)")
+    browser.choose("#column", "salary")
+    browser.write("team = 'Board' and site = 'York'")
+    browser.ask()
+    browser.run("[...document.querySelectorAll('#answer button')].find(one => one.textContent === 'What is near?').click()")
+    browser.wait(lambda: browser.all("#answer code"))
+
+
+PICTURES = {"front.png": (ask_and_draw, 760), "table.png": (draw_table, 700), "near.png": (ask_near, 860)}
+
+
+def take(path, make, height):
     port = free_port()
     address = f"http://127.0.0.1:{port}"
     door = subprocess.Popen([FRONT / "demo.sh", AUDITOR, str(port)])
@@ -46,9 +69,9 @@ def main(path):
     try:
         while not serving(address):
             time.sleep(0.1)
-        browser.screen(1200, 760)
+        browser.screen(1200, height)
         browser.open(address)
-        ask_and_draw(browser)
+        make(browser)
         browser.run("window.scrollTo(0, 0)")
         browser.driver.save_screenshot(str(path))
     finally:
@@ -57,5 +80,10 @@ def main(path):
         door.wait(PATIENCE)
 
 
+def main(folder=DOCS, *names):
+    for name in names or PICTURES:
+        take(pathlib.Path(folder) / name, *PICTURES[name])
+
+
 if __name__ == "__main__":
-    main(sys.argv[1] if len(sys.argv) > 1 else PICTURE)
+    main(*sys.argv[1:])

@@ -137,6 +137,32 @@ class Scripted(OneTable):
                 self.assertIn(words, self.why(json.dumps({"verdict": "unsafe", **line}), kind))
                 self.assertEqual(self.browser.all("#answer p b"), [])
 
+    def test_what_is_near_is_said_whatever_comes(self):
+        found = {"ask": "sum", "column": "pay", "where": "constructor in ('A', '<b>')"}
+        near = lambda **more: json.dumps({"verdict": "unsafe", "near": found, "rows": 1200, "more": 1000, "fewer": 3, **more})
+        self.open("")
+        for text, words in ((near(), "would be answered: constructor in ('A', '<b>') for 1,200 rows, 1,000 more and 3 fewer."), (near(rows=1, more=0), "for 1 row, 3 fewer."),
+                            (near(near=None), "No question near this one"), (near(near=None, verdict="released"), "It would be answered now."),
+                            ((503, '{"error":"too many verdicts are wanted"}'), "too many verdicts are wanted"), ((502, "<b>no</b>"), "says 502")):
+            with self.subTest(words=words):
+                self.reply = lambda path, _: (text if isinstance(text, tuple) else (200, text)) if path == "/near" else (200, '{"denied":"wide"}')
+                self.browser.ask()
+                self.assertEqual([button.text for button in self.browser.all("#answer button")], ["What is near?"])
+                self.browser.click("#answer button")
+                self.browser.wait(lambda: "Nothing was asked" in self.browser.text("answer"))
+                self.assertIn(words, self.browser.text("answer"))
+                self.assertEqual(self.browser.all("#answer p b"), [])
+        self.browser.faults()               # the two that aren't 200
+
+    def test_a_table_of_too_many_cells_isnt_asked(self):
+        rows = "constructor,age\n" + "".join(f"team {number},{number % 12}\n" for number in range(400))
+        self.open('{"sum":500}', {"table.csv": rows})
+        self.browser.choose("#by-too", "age")
+        self.assertIn("That would be 403 questions (the 30 largest of 400 groups), and at most 400 are asked at once.", self.browser.text("chart-hint"))
+        before = len(self.door.asked)
+        self.browser.click("#draw")
+        self.assertEqual((len(self.door.asked), self.browser.text("draw")), (before, "Draw"))
+
     def test_what_is_no_certificate_is_said(self):
         self.open("")
         for line, words in (('{"verdict":"released"}', "It would be answered now"), ('{"verdict":"another"}', "another"), ("<p>", "JSON"),
@@ -151,7 +177,7 @@ class Scripted(OneTable):
         said = line if isinstance(line, tuple) else (200, line)
         self.say(lambda path, question: said if path == "/why" else (200, '{"denied":"unsafe"}'), kind)
         self.browser.click("#answer button")
-        self.browser.wait(lambda: not self.browser.all("#answer button"))
+        self.browser.wait(lambda: len(self.browser.all("#answer button")) == 1)         # what is near
         return self.browser.text("answer")
 
     def test_a_list_of_protected_totals_that_isnt_one_is_passed_over(self):
