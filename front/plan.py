@@ -37,6 +37,7 @@ def read(arguments):
     add("--merge", action="store_true", help="put a question over more rows in the place of each that is left out")
     add("--fewest", type=int, default=0, metavar="N", help="the fewest rows that a question may be over, or leave out")
     add("--seconds", type=float, default=12, metavar="S", help="how long to look for a better order; 12 by default")
+    add("--orders", type=int, default=10**9, metavar="N", help="how many other orders to try at most; as many as the time allows by default")
     add("--transcript", metavar="FILE", help="the questions and replies that there are, as a front door keeps them: the plan goes on from them")
     add("--report", metavar="FILE", help="says of each wanted question what becomes of it, a line of JSON each")
     settings = words.parse_args(arguments)

@@ -1,5 +1,6 @@
 """Makes a plan: which of the wanted questions would be answered, in which order, and what stands in the place of the others."""
 import dataclasses
+import itertools
 import json
 import time
 
@@ -59,7 +60,7 @@ def make(simulate, questions, columns, settings, say):
     searches = [Search(simulate, [question for question in many if question.column == name])
                 for name in dict.fromkeys(question.column for question in many)]
     try:
-        search_all(searches, settings.seconds, progress)
+        search_all(searches, settings, progress)
     except KeyboardInterrupt:
         plan.whole = False
     for search in searches:
@@ -77,16 +78,19 @@ def make(simulate, questions, columns, settings, say):
     return plan
 
 
-def search_all(searches, seconds, progress):
-    """Looks for better orders, of one column after the other, until the time is over."""
+def search_all(searches, settings, progress):
+    """Looks for better orders, of one column after the other, until the time is over or enough were tried."""
+    end = time.monotonic() + settings.seconds
     for search in searches:
         search.begin()
-        progress(f"{search.questions[0].column}: the heaviest first and as listed were tried")
-    end = time.monotonic() + seconds
-    while time.monotonic() < end and any(search.left for search in searches):
-        for search in searches:
-            if search.left and time.monotonic() < end:
-                search.step()
+        progress(f"{search.questions[0].column}: the heaviest first is tried")
+    for search in searches:
+        search.look(lambda: time.monotonic() >= end)
+    for search in itertools.cycle(searches):
+        if time.monotonic() >= end or sum(one.tries for one in searches) >= settings.orders or not any(one.left for one in searches):
+            return
+        if search.left:
+            search.step()
         progress(said_of(searches, end))
 
 

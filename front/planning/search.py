@@ -39,16 +39,18 @@ class Search:
         return [place for place in self.order if place not in self.answered and place not in self.never]
 
     def begin(self):
-        """Asks the heaviest first, and then as listed, and keeps what gives more. What is denied even if it is asked first never comes
-        to the front."""
+        """Asks the heaviest first."""
         self.answered = self.asked_in(self.order, {})
         self.begun = True
+
+    def look(self, is_over):
+        """Asks as listed, and keeps that if it gives more. What is denied even if it is asked first never comes to the front."""
         listed = list(range(len(self.questions)))
-        answered = self.asked_in(listed, {}, self.lost)
+        answered = None if is_over() else self.asked_in(listed, {}, self.lost)
         if answered is not None and self.weight(answered) > self.weight(self.answered):
             self.order, self.answered = listed, answered
         for place in self.left:
-            if self.simulate.verdict(self.questions[place]) != RELEASED:
+            if not is_over() and self.simulate.verdict(self.questions[place]) != RELEASED:
                 self.never.add(place)
 
     @property

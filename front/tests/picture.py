@@ -52,7 +52,7 @@ def ask_near(browser):
     draw_table(browser)
     browser.click("#kinds label:nth-child(2)")
     browser.choose("#column", "salary")
-    browser.write("team = 'Board' and site = 'York'")
+    browser.write("team = 'Board' and site = 'Hull'")
     browser.ask()
     browser.run("[...document.querySelectorAll('#answer button')].find(one => one.textContent === 'What is near?').click()")
     browser.wait(lambda: browser.all("#answer code"))

@@ -20,6 +20,7 @@ sys.path.insert(0, str(FRONT))
 import demo_table  # noqa: E402
 
 PLAN = str(FRONT / "plan.py")
+ORDERS = 20
 
 
 def question(where, weight=None, ask="sum", column="pay"):
@@ -73,6 +74,8 @@ class PlanCase(unittest.TestCase):
     def plan(self, *lines, words=(), status=0):
         """The questions that are planned, as lines, and what was said."""
         self.wanted.write_text("".join(line + "\n" for line in lines))
+        # So many orders, however long a busy machine takes for them.
+        words = [*words, *([] if "--seconds" in words else ["--orders", ORDERS, "--seconds", PATIENCE])]
         run = subprocess.run([sys.executable, PLAN, AUDITOR, self.public, self.wanted, *map(str, words)], capture_output=True)
         self.assertEqual(run.returncode, status, run.stderr.decode())
         return run.stdout.splitlines(), run.stderr.decode()
@@ -91,7 +94,7 @@ class Plans(PlanCase):
     def test_serve_answers_each_question_of_a_plan(self):
         self.office()
         planned, said = self.plan("by team, site of sum salary with margins", "by grade of avg sick_days", "by site, grade of sum salary",
-                                  "max bonus where all", words=["--merge", "--fewest", 2, "--seconds", 4])
+                                  "max bonus where all", words=["--merge", "--fewest", 2])
         sums = [line for line in planned if json.loads(line)["ask"] != "max"]
         self.assertEqual(json.loads(planned[-1])["ask"], "max")
         self.assertGreater(len(sums), 40)
@@ -108,7 +111,7 @@ class Plans(PlanCase):
     def test_another_order_than_listed_or_heaviest_first_is_found(self):
         """Of three people everybody's total weighs most, but two totals over two of them, which close it, weigh more."""
         self.table("AAA")
-        planned, said = self.plan(question("all", 3), question("k <= 1", 2), question("k >= 1", 2), words=["--seconds", 2])
+        planned, said = self.plan(question("all", 3), question("k <= 1", 2), question("k >= 1", 2))
         self.assertEqual(sorted(self.wheres(planned)), ["k <= 1", "k >= 1"])
         self.assertIn("2 of 3 questions are answered, 57.1% of the weight", said)
         self.assertIn("line 1: sum pay where all (3 rows)", said)
@@ -116,7 +119,7 @@ class Plans(PlanCase):
     def test_the_heaviest_come_first_and_what_depends_on_answers_last(self):
         self.table("AABBBCCCC", "xxxxxyyyy")
         planned, _ = self.plan("max bonus where team = 'C'", "max bonus", question("team = 'C'"), "count", question("all"), question("site = 'x'", 3),
-                               question("site = 'y'"), words=["--seconds", 1])
+                               question("site = 'y'"))
         self.assertEqual([(json.loads(line)["ask"], json.loads(line)["where"]) for line in planned],
                          [("sum", "all"), ("sum", "team = 'C'"), ("sum", "site = 'y'"), ("sum", "site = 'x'"), ("count", "all"),
                           ("max", "all"), ("max", "team = 'C'")])
@@ -124,7 +127,7 @@ class Plans(PlanCase):
     def test_a_protected_total_follows_from_no_plan(self):
         """The totals of all and of both other teams would give the protected one."""
         self.table("AABBBCCCC", protect=["team = 'A'"])
-        planned, _ = self.plan(question("team = 'B'", 1), question("team = 'C'", 1), question("all", 9), words=["--seconds", 1])
+        planned, _ = self.plan(question("team = 'B'", 1), question("team = 'C'", 1), question("all", 9))
         self.assertEqual([list(reply) for reply in self.serve(planned)], [["sum"]] * len(planned))
         self.assertEqual(len(planned), 2)
 
@@ -144,7 +147,7 @@ class Plans(PlanCase):
                        if not is_pinned([sets[place] for place in chosen], people))
             self.table("A" * people)
             lines = [question(f"k in ({', '.join(map(str, sorted(some)))})", weight) for some, weight in zip(sets, weights)]
-            planned, _ = self.plan(*lines, words=["--seconds", 3])
+            planned, _ = self.plan(*lines, words=["--seconds", PATIENCE, "--orders", 80])
             found = [frozenset(map(int, re.findall(r"\d+", where))) for where in self.wheres(planned)]
             self.assertGreaterEqual(sum(weights[sets.index(some)] for some in found), best - 0.01 * sum(weights))
             self.assertFalse(is_pinned(found, people))
@@ -159,7 +162,7 @@ class Plans(PlanCase):
         transcript = self.folder / "transcript.jsonl"
         transcript.write_bytes(b"".join(line + b"\n" + json.dumps(reply, separators=(",", ":")).encode() + b"\n"
                                         for line, reply in zip(asked, replies)))
-        planned, _ = self.plan("by team, site of sum salary with margins where age >= 30", words=["--seconds", 2, "--transcript", transcript])
+        planned, _ = self.plan("by team, site of sum salary with margins where age >= 30", words=["--transcript", transcript])
         self.assertGreater(len(planned), 15)
         self.assertTrue(all("sum" in reply for reply in self.serve(planned)))
         transcript.write_bytes(asked[0] + b'\n{"denied":"unsafe"}\n')
@@ -171,7 +174,7 @@ class Merging(PlanCase):
     def test_what_is_left_out_has_a_question_over_more_rows_in_its_place(self):
         """Four teams of one person each: two totals of two stand in their places, and no person is in both."""
         self.table("ABDECCCCC")
-        planned, said = self.plan("by team of sum pay", "sum pay where all", words=["--merge", "--seconds", 1])
+        planned, said = self.plan("by team of sum pay", "sum pay where all", words=["--merge"])
         self.assertEqual(self.wheres(planned)[2:], ["team in ('A', 'B')", "team in ('D', 'E')"])
         self.assertEqual(sorted(self.wheres(planned)[:2]), ["all", "team = 'C'"])
         self.assertIn("line 1: sum pay where team = 'B' (1 row); in its place: team in ('A', 'B') (1 more)", said)
@@ -181,7 +184,7 @@ class Merging(PlanCase):
     def test_merged_cells_of_a_table_share_no_row_with_each_other_or_with_an_answered_one(self):
         self.office()
         report = self.folder / "report.jsonl"
-        planned, _ = self.plan("by team, grade of sum salary with margins", "by site, age of sum salary", words=["--merge", "--seconds", 1, "--report", report])
+        planned, _ = self.plan("by team, grade of sum salary with margins", "by site, age of sum salary", words=["--merge", "--report", report])
         with open(self.public / "table.csv", newline="") as file:
             people = list(csv.DictReader(file))
         lines = [json.loads(line) for line in report.read_text().splitlines()][:-1]
@@ -205,7 +208,7 @@ class Merging(PlanCase):
 
     def test_the_least_size_holds_for_all(self):
         self.table("ABDECCCCC")
-        planned, said = self.plan("by team of sum pay", "sum pay where all", words=["--merge", "--seconds", 1, "--fewest", 4])
+        planned, said = self.plan("by team of sum pay", "sum pay where all", words=["--merge", "--fewest", 4])
         self.assertEqual(sorted(self.wheres(planned)), ["all", "team = 'C'"])
         self.assertIn("where team = 'A' (1 row); it is over fewer than 4 rows, or leaves fewer out", said)
 
@@ -244,7 +247,7 @@ class Words(PlanCase):
     def test_a_report_has_a_line_for_each_wanted_question(self):
         self.table("ABCCCC")
         report = self.folder / "report.jsonl"
-        self.plan("by team of sum pay with margins", "max bonus", "count", words=["--seconds", 1, "--merge", "--report", report])
+        self.plan("by team of sum pay with margins", "max bonus", "count", words=["--merge", "--report", report])
         lines = [json.loads(line) for line in report.read_text().splitlines()]
         self.assertEqual([(line["where"], line["answered"]) for line in lines[:-1]],
                          [("all", True), ("team = 'C'", True), ("team = 'A'", False), ("team = 'B'", False), ("all", None), ("all", True)])
