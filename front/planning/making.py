@@ -57,7 +57,7 @@ def make(simulate, questions, columns, settings, say):
     sums = [question for question in questions if question.ask in ("sum", "avg")]
     plan.few = {question for question in sums if not columns.are_enough(question.rows, settings.fewest)}
     many = [question for question in sums if question not in plan.few]
-    searches = [Search(simulate, [question for question in many if question.column == name])
+    searches = [Search(simulate, [question for question in many if question.column == name], progress)
                 for name in dict.fromkeys(question.column for question in many)]
     try:
         search_all(searches, settings, progress)
@@ -83,7 +83,6 @@ def search_all(searches, settings, progress):
     end = time.monotonic() + settings.seconds
     for search in searches:
         search.begin()
-        progress(f"{search.questions[0].column}: the heaviest first is tried")
     for search in searches:
         search.look(lambda: time.monotonic() >= end)
     for search in itertools.cycle(searches):

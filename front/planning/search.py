@@ -25,8 +25,8 @@ class Unexpected(Exception):
 class Search:
     """The questions of one column. `order` and `answered` are the best so far, as places in the list of questions."""
 
-    def __init__(self, simulate, questions, seed=1):
-        self.simulate, self.questions, self.chance = simulate, questions, random.Random(seed)
+    def __init__(self, simulate, questions, say=lambda text: None, seed=1):
+        self.simulate, self.questions, self.say, self.chance = simulate, questions, say, random.Random(seed)
         self.order = sorted(range(len(questions)), key=lambda place: -questions[place].weight)
         self.answered, self.never, self.tries, self.begun = set(), set(), 0, False
 
@@ -50,6 +50,7 @@ class Search:
         if answered is not None and self.weight(answered) > self.weight(self.answered):
             self.order, self.answered = listed, answered
         for place in self.left:
+            self.say(f"{self.questions[place].column}: of what is left {len(self.never):,} would be denied even if it were asked first")
             if not is_over() and self.simulate.verdict(self.questions[place]) != RELEASED:
                 self.never.add(place)
 
@@ -107,9 +108,10 @@ class Search:
 
     def _heard(self, run, places):
         """The verdicts on questions, each waited for."""
-        for place in places:
+        for done, place in enumerate(places):
             verdict = self._decided(place, run.verdict(self.questions[place].line))
             run.reply(self.questions[place], verdict)
+            self.say(f"{self.questions[place].column}: an order is tried, {done:,} questions of it so far")
             yield place, verdict
 
     def _decided(self, place, verdict):

@@ -20,7 +20,7 @@ sys.path.insert(0, str(FRONT))
 import demo_table  # noqa: E402
 
 PLAN = str(FRONT / "plan.py")
-ORDERS = 20
+ORDERS = 12
 
 
 def question(where, weight=None, ask="sum", column="pay"):
@@ -255,22 +255,27 @@ class Words(PlanCase):
         self.assertEqual({key: lines[-1][key] for key in ("wanted", "answered", "instead", "maxima", "whole")},
                          {"wanted": 6, "answered": 3, "instead": 1, "maxima": 1, "whole": True})
 
+    def interrupted(self, how, once):
+        """The questions of a plan that is stopped once something is said."""
+        with open(self.folder / "said", "wb") as said:
+            run = subprocess.Popen([sys.executable, PLAN, AUDITOR, self.public, self.wanted, "--seconds", "6000"], stdout=subprocess.PIPE, stderr=said)
+        end = time.monotonic() + PATIENCE
+        while once not in (self.folder / "said").read_text():
+            self.assertLess(time.monotonic(), end)
+            time.sleep(0.05)
+        run.send_signal(how)
+        planned = run.communicate(timeout=PATIENCE)[0].splitlines()
+        self.assertEqual(run.returncode, 1)
+        self.assertIn("stopped: this is the best so far", (self.folder / "said").read_text())
+        return planned
+
     def test_an_interrupted_plan_prints_the_best_so_far(self):
-        self.office()
-        self.wanted.write_text("by team, grade of sum salary with margins\n")
+        self.table("AAA")
+        self.wanted.write_text("".join(question(where, 2) + "\n" for where in ("all", "k <= 1", "k >= 1")))
         for how in (signal.SIGINT, signal.SIGTERM):
-            with open(self.folder / "said", "wb") as said:
-                run = subprocess.Popen([sys.executable, PLAN, AUDITOR, self.public, self.wanted, "--seconds", "6000"], stdout=subprocess.PIPE, stderr=said)
-            end = time.monotonic() + PATIENCE
-            while "orders tried" not in (self.folder / "said").read_text():
-                self.assertLess(time.monotonic(), end)
-                time.sleep(0.05)
-            run.send_signal(how)
-            planned = run.communicate(timeout=PATIENCE)[0].splitlines()
-            self.assertEqual(run.returncode, 1)
-            self.assertIn("stopped: this is the best so far", (self.folder / "said").read_text())
-            self.assertGreater(len(planned), 20)
-            self.assertTrue(all("sum" in reply for reply in self.serve(planned)))
+            planned = self.interrupted(how, "orders tried")
+            self.assertEqual(sorted(self.wheres(planned)), ["k <= 1", "k >= 1"])
+        self.assertTrue(all("sum" in reply for reply in self.serve(planned)))
 
 
 if __name__ == "__main__":
