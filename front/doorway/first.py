@@ -11,6 +11,7 @@ import time
 
 from preparing.faults import listed
 
+from .askers import NOBODY
 from .files import write_whole
 from .lines import Turned, line_of
 
@@ -49,7 +50,7 @@ class First:
         why = ""
         while True:
             try:
-                return await self.handlers.ask(line)
+                return await self.handlers.ask(line, NOBODY)
             except Turned as turned:
                 if turned.status not in AWAY:
                     raise

@@ -137,7 +137,9 @@ class TableHandlers:
         return reply(await self.why(await question_of(request), request["asker"]))
 
     async def near_request(self, request):
-        return said(await self.nears.ask(await question_of(request)))
+        line, asker = await question_of(request), request["asker"]
+        asker.spend("verdicts")
+        return said(await self.nears.ask(line, asker))
 
     async def health(self, _):
         health = self.table.health()

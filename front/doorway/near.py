@@ -1,7 +1,7 @@
 """What is near a denied question: the nearest one that would be answered, by the public columns and the transcript.
 
-One run of `auditor simulate` reads the transcript, and is asked one question after the other, the nearest first, until one is released:
-a denied one makes no record, so all go by the same history. Nothing is asked of the program that has the table.
+`auditor simulate`, which has read the answers, is asked one question after the other, the nearest first, until one is released: a denied one
+makes no record, so one run says it of all. Nothing is asked of the program that has the table.
 """
 import asyncio
 import json
@@ -11,8 +11,8 @@ from planning.nearness import near
 from preparing.conditions import Wrong
 
 from .lines import Turned, read_question
-from .recovery import DENIALS
-from .simulation import Simulation
+from .runs import Ended, cause_of, sentence_of
+from .simulation import DENIALS
 
 MOST = 200                          # questions that are looked at
 ASKS = ("sum", "avg", "max")
@@ -26,17 +26,15 @@ class Nears:
     def __init__(self, table, least):
         self.table, self.fewest, self.columns = table, least.fewest if least else 0, None
 
-    async def ask(self, line):
+    async def ask(self, line, asker):
         """What is near a question, as a dict: the verdict on itself, the nearest question, and how its rows differ."""
         question = read_question(line)
         if not question or question.get("ask") not in ASKS or not all(isinstance(question.get(key), str) for key in ("column", "where")):
             raise Turned(422, "this isn't a question that may be denied: it wants ask, column and where")
-        async with self.table.verdict_turn():
+        with self.table.verdicts.one(asker):
             few, others = await asyncio.to_thread(self._others, question["where"])
-            async with Simulation(self.table.auditor, self.table.places.public) as simulation:
-                await simulation.read(self.table.transcript.text())
-                first = WITHHELD if few else await self._verdict(simulation, line)
-                found = await self._nearest(simulation, question, others if few or first in DENIALS else [])
+            first = WITHHELD if few else await self._verdict(line_of(question["ask"], question["column"], question["where"]))
+            found = await self._nearest(question, others if few or first in DENIALS else [])
         return {**json.loads(first), **(found or {"near": None})}
 
     def _others(self, where):
@@ -49,25 +47,23 @@ class Nears:
         except Wrong:
             return False, []
 
-    async def _nearest(self, simulation, question, others):
+    async def _nearest(self, question, others):
         """The first of some conditions with which the question is released, or None."""
         for tried, other in enumerate(others, 1):
-            verdict = await self._verdict(simulation, line_of(question["ask"], question["column"], other.where))
+            verdict = await self._verdict(line_of(question["ask"], question["column"], other.where))
             if verdict == RELEASED:
                 return said_of(question, other, tried)
             if verdict not in DENIALS:
                 break
         return None
 
-    @staticmethod
-    async def _verdict(simulation, line):
-        """The verdict on a question; a denial is told, and makes no record."""
-        verdict = await simulation.verdict(line)
-        if verdict is None:
-            raise Turned(503, "auditor simulate says nothing after this transcript: it has a gap")
-        if verdict in DENIALS:
-            simulation.reply(DENIALS[verdict])
-        return verdict
+    async def _verdict(self, line):
+        """The verdict on a question. A denial is told, and makes no record, so the same run goes on."""
+        try:
+            return await self.table.simulated.on(line)
+        except (Ended, OSError) as fault:
+            self.table.say(f"auditor simulate: {fault}")
+            raise Turned(503, sentence_of(cause_of(fault)), again=True)
 
 
 def said_of(question, other, tried):

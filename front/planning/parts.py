@@ -72,10 +72,10 @@ class PartReader(Reader):
         elif self.kind == "not":
             self.unit()
         else:
-            return [self.compared()]
+            return [self.one_comparison()]
         return [Part(self.text[start:self.before])]
 
-    def compared(self):
+    def one_comparison(self):
         """A comparison of a column; the base class says what one is."""
         start, name = self.place, self.token
         self.comparison()

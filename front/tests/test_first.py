@@ -87,7 +87,7 @@ class Away(FirstCase):
 
     async def test_the_door_listens_once_the_plan_could_be_asked(self):
         self.door.start()
-        await self.until(lambda: "first: waits, and the door doesn't listen: no journal" in self.folder.said())
+        await self.until(lambda: "first: waits, and the door doesn't listen: The history of answers isn't there" in self.folder.said())
         self.assertFalse(os.path.exists(self.door.socket))
         subprocess.run([AUDITOR, "init"], cwd=self.folder.path, check=True)
         async with self.door.session() as session:
