@@ -454,7 +454,7 @@ class OverADoor(unittest.TestCase):
         ListedDoor.files["/t/schema.json"] = json.dumps({**schema, "protect": [{"column": "salary", "where": "team = 'QA' "}]})
         status, said = self.ask(['{"denied":"unsafe"}'] * 5, "totals salary by team", "avg salary where team = 'QA'", "sum salary where team != 'QA'")
         named = "not answered: This total is protected, so it is never answered."
-        self.assertEqual((status, [line.endswith(named) for line in said.splitlines()]), (1, [True, False, True, False]))
+        self.assertEqual((status, [line.endswith(named) for line in said.splitlines()]), (1, [False, True, True, False]))
         for protect in (1, [1], [{"column": "salary"}], None):
             ListedDoor.files["/t/schema.json"] = json.dumps({**schema, "protect": protect})
             self.assertIn('each entry of "protect" has the keys column and where', self.ask([], "columns")[1])
