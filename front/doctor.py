@@ -22,7 +22,7 @@ import time
 
 HERE = pathlib.Path(__file__).resolve().parent
 JOURNAL, SPARE = "answers.journal", "answers.spare"
-DOOR = "auditor-door"
+DOOR, TRANSCRIPT = "auditor-door", "transcript.jsonl"
 RECORDS = 65_536                    # that a journal takes
 NETWORK = {"nfs", "nfs4", "cifs", "smb3", "9p", "fuse.sshfs"}
 PASSING = {"tmpfs", "ramfs"}
@@ -135,10 +135,13 @@ def of_public(folder, public, program):
         yield ok(f"{public}: the public columns of the table, and nothing else")
 
 
-def of_users(folder, sockets):
+def of_users(folder, public, sockets):
     """Whether the door, behind sockets, is another user than the program's, and who may connect."""
     if not sockets.is_dir():
-        yield look(f"{sockets}: no sockets, so a door that is there starts the program itself, and could read the table")
+        if is_door_there(public):
+            yield look(f"{sockets}: no sockets, so the door starts the program itself, and could read the table")
+        else:
+            yield ok("no door is set up: nothing to do")
         return
     try:
         door = pwd.getpwnam(DOOR)
@@ -156,6 +159,15 @@ def of_users(folder, sockets):
             yield wrong(f"{path}: others than the group {DOOR} may connect, or it can't: {DOOR} and mode 0660 are due")
         else:
             yield ok(f"{path}: {DOOR} may connect, and nobody else")
+
+
+def is_door_there(public):
+    """Whether a door has its user, or has kept a transcript where it keeps one by default."""
+    try:
+        pwd.getpwnam(DOOR)
+    except KeyError:
+        return (public / TRANSCRIPT).exists()
+    return True
 
 
 def of_clock(folder):
@@ -204,7 +216,7 @@ def looked_at(folder, public, sockets, program):
     yield from of_journal(folder / SPARE)
     yield from of_modes(folder)
     yield from of_public(folder, public, program)
-    yield from of_users(folder, sockets)
+    yield from of_users(folder, public, sockets)
     yield from of_clock(folder)
     yield from of_disk(folder)
 
@@ -234,6 +246,8 @@ def main(words):
         for state, text in looked_at(found.folder, found.public, found.sockets, found.program):
             print(f"{state:<6} {text}")
             states.append(state)
+    except BrokenPipeError:
+        raise
     except OSError as fault:
         print(f"WRONG  {fault.filename or found.folder}: {fault.strerror}")
         states.append("WRONG")
@@ -242,4 +256,10 @@ def main(words):
 
 
 if __name__ == "__main__":
-    sys.exit(main(sys.argv[1:]))
+    try:
+        end = main(sys.argv[1:])
+        sys.stdout.flush()
+    except BrokenPipeError:             # whoever reads has read enough, as head does
+        os.dup2(os.open(os.devnull, os.O_WRONLY), sys.stdout.fileno())
+        end = 1
+    sys.exit(end)

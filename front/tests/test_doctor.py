@@ -1,6 +1,7 @@
 """doctor.py: a folder as it should be has nothing wrong, and each thing that is out of place is named."""
 import os
 import pathlib
+import pwd
 import shutil
 import socket
 import subprocess
@@ -14,6 +15,13 @@ from kit import AUDITOR, FRONT, Folder
 
 def doctor(folder, *words, program=AUDITOR):
     return subprocess.run([sys.executable, FRONT / "doctor.py", folder, "--auditor", program, *words], capture_output=True, text=True)
+
+
+def has_user(name):
+    try:
+        return bool(pwd.getpwnam(name))
+    except KeyError:
+        return False
 
 
 class Doctor(unittest.TestCase):
@@ -106,6 +114,25 @@ class Doctor(unittest.TestCase):
             self.assertEqual(done.returncode, 1)
             wanted = "no user and group auditor-door" if "no user and group" in done.stdout else "serve.sock: no socket"
             self.assertIn(wanted, done.stdout)
+
+    def test_no_door_is_nothing_to_do_and_a_door_without_sockets_is_to_look_at(self):
+        words = ("--sockets", self.path / "nothing")
+        if not has_user("auditor-door"):
+            self.assertIn("ok     no door is set up: nothing to do\n", doctor(self.path, *words).stdout)
+        (self.path / "public" / "transcript.jsonl").touch()
+        said = doctor(self.path, *words).stdout
+        self.assertIn("look   " + str(self.path / "nothing") + ": no sockets, so the door starts the program itself", said)
+        self.assertNotIn("no door is set up", said)
+
+    def test_whoever_reads_may_stop_reading(self):
+        """What is written to a pipe that nobody reads ends it, without a word on standard error."""
+        reading, writing = os.pipe()
+        os.close(reading)
+        command = [sys.executable, FRONT / "doctor.py", self.path, "--auditor", AUDITOR]
+        for world in ({}, {"PYTHONUNBUFFERED": "1"}):
+            done = subprocess.run(command, stdout=writing, stderr=subprocess.PIPE, text=True, env={**os.environ, **world})
+            self.assertEqual((done.returncode, done.stderr), (1, ""), world)
+        os.close(writing)
 
     def test_a_socket_that_all_may_use(self):
         with tempfile.TemporaryDirectory() as sockets:
