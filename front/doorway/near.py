@@ -1,7 +1,8 @@
 """What is near a denied question: the nearest one that would be answered, by the public columns and the transcript.
 
-`auditor simulate`, which has read the answers, is asked one question after the other, the nearest first, until one is released: a denied one
-makes no record, so one run says it of all. Nothing is asked of the program that has the table.
+The door's run of `auditor simulate`, by which `/would` goes too, is asked one question after the other, the nearest first, until one is
+released. Others' verdicts and answers may come in between: each question is judged by all answers up to then. Nothing is asked of the program
+that has the table.
 """
 import asyncio
 import json
@@ -58,7 +59,7 @@ class Nears:
         return None
 
     async def _verdict(self, line):
-        """The verdict on a question. A denial is told, and makes no record, so the same run goes on."""
+        """The verdict on a question, by the door's shared run."""
         try:
             return await self.table.simulated.on(line)
         except (Ended, OSError) as fault:
