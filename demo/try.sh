@@ -17,33 +17,52 @@ if ! command -v rt >/dev/null; then
     exit 1
 fi
 
+due=80                              # seconds on four processors that do nothing else; twice that is a multiple of ten
 folder=$(mktemp -d) || exit 1
-clock=
+clock='' work=''
 finish() {
-    [ -z "$clock" ] || kill "$clock" 2>/dev/null
+    for one in $clock $work; do
+        kill "$one" 2>/dev/null
+        wait "$one" 2>/dev/null
+    done
     rm -rf "$folder"
 }
+stop() {
+    trap '' HUP INT TERM
+    finish
+    printf '\ntry: stopped; nothing is left behind\n' >&2
+    exit 130
+}
 trap finish EXIT
-trap 'exit 130' HUP INT TERM
+trap stop HUP INT TERM
 
-# Says every ten seconds that it is still at work.
+# Says every ten seconds that it is still at work, and once that it takes longer than it should.
 tell_time() {
+    trap 'kill "$nap" 2>/dev/null; exit' TERM
     seconds=0
-    while sleep 10; do
+    while sleep 10 & nap=$!; wait "$nap"; do
         seconds=$((seconds + 10))
         printf ' %d s' "$seconds" >&2
+        [ "$seconds" != $((2 * due)) ] ||
+            printf '\nit is still building, and this machine is busy: Ctrl-C is safe, and leaves nothing behind\n' >&2
     done
 }
 
 echo "nothing here is proved: this is the program as it runs without its proof" >&2
-printf 'building it, about 75 s on four processors that do nothing else:' >&2
+printf 'building it, about %d s on four processors that do nothing else:' "$due" >&2
 tell_time &
 clock=$!
 # A program that reads files can't run on the interpreter, which would try for some seconds: so one step.
-cd "$crate" && rt try --steps 1 --data schema.json="$demo/schema.json" --data table.csv="$demo/table.csv" \
-    --data answers.journal=data/answers.journal -- serve <"$demo/questions.jsonl" >"$folder/replies.jsonl" 2>"$folder/said"
+cd "$crate" || exit 1
+rt try --steps 1 --data schema.json="$demo/schema.json" --data table.csv="$demo/table.csv" --data answers.journal=data/answers.journal \
+    -- serve <"$demo/questions.jsonl" >"$folder/replies.jsonl" 2>"$folder/said" &
+work=$!
+wait "$work"
 status=$?
+work=
 kill "$clock" 2>/dev/null
+wait "$clock" 2>/dev/null
+clock=
 echo >&2
 if [ "$status" != 0 ]; then
     cat "$folder/said" >&2

@@ -17,6 +17,9 @@ RT = f"""#!{sys.executable}
 import os, pathlib, subprocess, sys, tempfile, time
 words = sys.argv[1:]
 if words[0] == "try":
+    if os.environ.get("HANGS") == "try":
+        pathlib.Path(os.environ["TMPDIR"], "pid").write_text(str(os.getpid()))
+        time.sleep(600)
     with tempfile.TemporaryDirectory() as folder:
         for name, file in (word.split("=") for flag, word in zip(words, words[1:]) if flag == "--data"):
             pathlib.Path(folder, name).write_bytes(pathlib.Path(file).read_bytes())
@@ -83,6 +86,29 @@ class Try(Demo):
         self.assertEqual(done.returncode, 1)
         self.assertIn("run=ended proved=no", done.stderr)
         self.assertIn("ended with status 4", done.stderr)
+
+    def start_slow(self):
+        """A run whose kit never ends, and whose ten seconds are short."""
+        (self.top / "bin/sleep").write_text("#!/bin/sh\nexec /bin/sleep 0.02\n")
+        (self.top / "bin/sleep").chmod(0o755)
+        return subprocess.Popen([self.top / "demo/try.sh"], env=self.world | {"HANGS": "try"}, stdout=subprocess.PIPE, stderr=subprocess.PIPE,
+                                text=True, start_new_session=True)
+
+    def test_it_says_once_that_it_takes_long_and_is_stopped_by_a_signal(self):
+        for sends, number in ((os.kill, signal.SIGTERM), (os.killpg, signal.SIGINT)):
+            run, said = self.start_slow(), ""
+            while " 200 s" not in said:
+                said += run.stderr.read(1)
+            kit = int((self.top / "tmp/pid").read_text())
+            (self.top / "tmp/pid").unlink()
+            sends(run.pid, number)
+            out, rest = run.communicate(timeout=PATIENCE)
+            self.assertEqual((run.returncode, out), (130, ""))
+            self.assertEqual(re.findall("it is still building, and this machine is busy: Ctrl-C is safe", said + rest), ["it is still building, and this machine is busy: Ctrl-C is safe"])
+            self.assertEqual(rest.split("\n")[-2:], ["try: stopped; nothing is left behind", ""])
+            self.assertEqual(os.listdir(self.top / "tmp"), [])
+            with self.assertRaises(ProcessLookupError):
+                os.kill(kit, 0)
 
     def test_without_the_kit(self):
         done = self.run_it(self.top / "demo/try.sh", PATH="/usr/bin:/bin")
