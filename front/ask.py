@@ -33,7 +33,7 @@ from clients.auditor import login_of
 from asking.places import SECRET, Away, place
 from asking.questions import Question, Unclear, parse
 from asking.tables import HATCHED, ask_cells, cells_to_ask, csv_text, table_lines, value_words
-from asking.words import WORDS, answer_of, near_words, reply_words, step, verdict_words, why_words
+from asking.words import WORDS, answer_of, denial_words, is_protected, near_words, reply_words, step, verdict_words, why_words
 from preparing.conditions import Wrong
 
 MOST_GROUPS = 100
@@ -76,11 +76,22 @@ def say_why(there, question):
     """Prints why a question is denied: a sentence, and the line of `explain` itself."""
     line = there.why(question)
     try:
+        if line["verdict"] == "refused":
+            print(refusal_words(there, question))
+            return
         words = why_words(line, target_words(there, line), there.notes.get(question.column, {}))
     except (LookupError, TypeError, ValueError):
         raise Away("what comes back isn't a line of auditor explain") from None
     print(words)
     print("  " + shown(json.dumps(line, ensure_ascii=False, separators=(",", ":"))))
+
+
+def refusal_words(there, question):
+    """The sentence that asking gives: a count over the same rows is refused for the same condition, and makes no record."""
+    reply = there.ask(Question("count", where=question.where))
+    if reply.get("count") == 0:
+        reply = {"refused": "empty"}
+    return reply_words(question, reply, there.columns, there.notes) if "refused" in reply else WORDS["why"]["refused"]
 
 
 def target_words(there, line):
@@ -119,12 +130,22 @@ def print_cells(there, question, cells):
         print(csv_text(question.by, cells, question.ask, there.notes.get(question.column, {})), end="")
     elif len(question.by) == 1:
         for cell in cells:
-            print(f"{value_words(cell.values[0], there.notes.get(question.by[0], {}))}: {cell_words(there, cell)}")
+            print(f"{value_words(cell.values[0], there.notes.get(question.by[0], {}))}: {group_words(there, cell)}")
+        say_denials(there, cells, "")
     else:
         for line in table_lines(question.by, cells, there.notes, lambda cell: short_words(there, cell)):
             print(line)
-        for reason in dict.fromkeys(cell.reply.get("denied") for cell in cells if "denied" in cell.reply):
-            print(f"{HATCHED}: not answered: {WORDS['denied'].get(reason, reason)}")
+        say_denials(there, cells, f"{HATCHED}: ")
+
+
+def say_denials(there, cells, mark):
+    """What each kind of denial means, once, with a question to which it was said."""
+    first = {}
+    for cell in cells:
+        if "denied" in cell.reply and not is_protected(cell.question, there.protected):
+            first.setdefault(cell.reply["denied"], cell.question)
+    for reason, question in first.items():
+        print(mark + shown(denial_words(reason, question)))
 
 
 def cell_words(there, cell):
@@ -132,6 +153,13 @@ def cell_words(there, cell):
     if "verdict" in cell.reply:
         return verdict_words(cell.reply)
     return reply_words(cell.question, cell.reply, there.columns, there.notes, there.protected)
+
+
+def group_words(there, cell):
+    """The same in the line of a group: what a denial means is said once, below all groups."""
+    if "denied" in cell.reply and not is_protected(cell.question, there.protected):
+        return "not answered"
+    return cell_words(there, cell)
 
 
 def short_words(there, cell):

@@ -45,6 +45,11 @@ class Question:
         keys = {"ask": self.ask, "column": self.column, "where": self.where}
         return {key: value for key, value in keys.items() if value is not None}
 
+    def typed(self):
+        """The question of one group as a person types it."""
+        words = ["why"] * self.why + [self.ask] + [self.column] * (self.column is not None)
+        return " ".join(words + ([] if self.where == "all" else ["where", self.where]))
+
     def over(self, part):
         """The same question over that part of its rows for which a condition holds."""
         return Question(self.ask, self.column, within(self.where, part))
@@ -59,7 +64,9 @@ def parse(text, kinds):
     totals = words[:1] == ["totals"]
     ask = "sum" if totals else ask_named(words[0] if words else "")
     rest, by = split_by(words[1:])
-    if (totals and not by) or len(rest) != (0 if ask == "count" else 1) or len(by) > 2:
+    if len(by) > 2:
+        raise Unclear("by takes one column, or two for a table: write it as by COLUMN, COLUMN")
+    if (totals and not by) or len(rest) != (0 if ask == "count" else 1):
         raise Unclear(usage(ask, totals))
     if by and first in ("why", "near"):
         raise Unclear(f"{first} is asked of one question: write the condition of the group into it")
@@ -73,11 +80,11 @@ def parse(text, kinds):
 
 
 def split_by(words):
-    """The words before `by`, and the columns after it, which commas stand between."""
+    """The words before `by`, and the columns after it, which commas or `and` stand between."""
     if "by" not in words[:-1]:
         return words, ()
     place = words.index("by")
-    return words[:place], tuple(re.split(r"\s*,\s*", " ".join(words[place + 1 :])))
+    return words[:place], tuple(re.split(r"\s*,\s*|\s+and\s+", " ".join(words[place + 1 :])))
 
 
 def ask_named(word):
@@ -96,7 +103,7 @@ def usage(ask, totals):
     """How a question of this kind is written."""
     if totals:
         return "write it as: totals COLUMN by COLUMN where CONDITION, or by COLUMN, COLUMN"
-    return f"write it as: {ask}{'' if ask == 'count' else ' COLUMN'} where CONDITION" + (
+    return f"write it as: {ask}{'' if ask == 'count' else ' COLUMN'} where CONDITION, or by COLUMN, or by COLUMN, COLUMN" + (
         "; a count has no column" if ask == "count" else ""
     )
 

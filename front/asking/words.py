@@ -1,5 +1,6 @@
 """Replies in words: numbers with their decimals and units set back, denials and refusals as sentences of words.json."""
 
+import dataclasses
 import fractions
 import json
 import pathlib
@@ -52,12 +53,23 @@ def reply_words(question, reply, kinds, notes, protected=()):
     if number is not None:
         return number_words(number, notes.get(question.column, {}) if question.ask != "count" else {})
     if "denied" in reply:
-        named = (question.column, question.where.strip()) in [(column, where.strip()) for column, where in protected]
-        why = WORDS["note"]["protected"] if named else WORDS["denied"].get(reply["denied"], reply["denied"])
-        return "not answered: " + why
+        if is_protected(question, protected):
+            return "not answered: " + WORDS["note"]["protected"]
+        return denial_words(reply["denied"], question)
     if reply.get("refused") == "where":
         return condition_words(question.where, reply["at"], kinds, notes)
     return "refused: " + WORDS["refused"].get(reply.get("refused"), f"The program says {json.dumps(reply)}.")
+
+
+def is_protected(question, protected):
+    """Whether a question is written as one of the totals that are never answered."""
+    return (question.column, question.where.strip()) in [(column, where.strip()) for column, where in protected]
+
+
+def denial_words(reason, question):
+    """What a denial means, and how to ask why the question is denied, if there is a certificate of that."""
+    how = f" To see why, ask: {dataclasses.replace(question, by=(), csv=False, why=True).typed()}" if reason == "unsafe" else ""
+    return "not answered: " + WORDS["denied"].get(reason, reason) + how
 
 
 def condition_words(condition, at, kinds, notes):

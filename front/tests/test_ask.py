@@ -85,6 +85,7 @@ class Lines(unittest.TestCase):
             ("near sum salary where age = 3", Question("sum", "salary", "age = 3", near=True)),
             ("would sum salary where age = 3", Question("sum", "salary", "age = 3", would=True)),
             ("why max bonus where age = 3", Question("max", "bonus", "age = 3", why=True)),
+            ("avg salary by team and age where age = 3", Question("avg", "salary", "age = 3", by=("team", "age"))),
         ):
             with self.subTest(text):
                 self.assertEqual(parse(text, KINDS), due)
@@ -104,7 +105,9 @@ class Lines(unittest.TestCase):
             ("near totals salary by team", "near is asked of one question"),
             ("csv sum salary", "csv is of groups"),
             ("totals salary by team, tem", "did you mean team?"),
-            ("totals salary by team, age, team", "or by COLUMN, COLUMN"),
+            ("totals salary by team, age, team", "by takes one column, or two for a table"),
+            ("avg salary by team and age and team", "by takes one column, or two for a table"),
+            ("avg by team", "avg COLUMN where CONDITION, or by COLUMN, or by COLUMN, COLUMN"),
             ("totals salary by bonus", "bonus is secret"),
             ("sum salary by tem", "did you mean team?"),
             ("", "'' isn't something"),
@@ -208,6 +211,24 @@ class OverAFolder(TableTest):
             ),
             said,
         )
+        self.assertTrue(said.endswith(" To see why, ask: why sum salary where age >= 41 and not team = 'Design'\n"), said)
+
+    @needs_program
+    def test_why_of_what_would_be_refused_is_the_sentence_that_asking_gives(self):
+        self.journal()
+        asked = ("sum salary where team = 'Nowhere'", "sum salary where age == 3")
+        _, due = self.ask(*asked)
+        self.assertIn("refused: No row satisfies the condition.", due)
+        self.assertEqual(self.ask(*("why " + line for line in asked)), (0, due))
+
+    @needs_program
+    def test_what_a_denial_means_is_said_once_below_all_groups(self):
+        self.journal()
+        status, said = self.ask("totals salary by age")
+        lines = said.splitlines()
+        self.assertEqual((status, lines[:5]), (1, ["30: not answered", "35: 960.25", *(f"{age}: not answered" for age in (41, 44, 52))]))
+        self.assertRegex(lines[5], "^not answered: Some answer .* To see why, ask: why sum salary where age = 30$")
+        self.assertEqual(len(lines), 6)
 
     @needs_program
     def test_why_is_said_between_two_questions(self):
@@ -216,7 +237,7 @@ class OverAFolder(TableTest):
         status, said = self.ask("why " + two, all_three, "why " + two, "why max bonus where age = 44", "why count", two)
         lines = said.splitlines()
         self.assertEqual(lines[:6], [
-            "It would be answered now: what was answered since makes it safe. Ask it again.", '  {"verdict":"released"}', "1765.00",
+            "It would be answered now. If it was denied before, what was answered since makes it safe: ask it again.", '  {"verdict":"released"}', "1765.00",
             "the number of row 2 is record 0, less the answer asked for", '  {"verdict":"unsafe","row":2,"times":1,"by":[[0,1]],"asked":-1}',
             "were the answer 0, row 2 would be the only one that can have it"])
         self.assertEqual((status, lines[7], lines[9][:12]), (1, "It would be answered: counts always are.", "not answered"))
@@ -228,9 +249,9 @@ class OverAFolder(TableTest):
         lines = said.splitlines()
         self.assertEqual(lines[0], "Ann's: 1210.25")
         self.assertIn("Support, Leeds: 995.50", lines)
-        self.assertTrue(any(line.startswith("Design: not answered") for line in lines))
-        self.assertTrue(any(line.startswith('Tea "&" cake: not answered') for line in lines))
-        self.assertEqual(lines[-5:], ["35: 2", "30: 1", "41: 1", "44: 1", "52: 1"])
+        self.assertIn("Design: not answered", lines)
+        self.assertIn('Tea "&" cake: not answered', lines)
+        self.assertEqual(lines[-5:], ["30: 1", "35: 2", "41: 1", "44: 1", "52: 1"])
         self.assertEqual(status, 1)
 
     @needs_program
@@ -266,7 +287,7 @@ class OverAFolder(TableTest):
     def test_a_value_that_no_row_has_left_has_no_line(self):
         self.journal()
         status, said = self.ask("max bonus by team where age >= 44 or team = 'Support, Leeds'")
-        self.assertEqual([line.split(": ")[0] for line in said.splitlines()], ["Ann's", "Support, Leeds", "Design"])
+        self.assertEqual([line.split(": ")[0] for line in said.splitlines()], ["Ann's", "Design", "Support, Leeds", "not answered"])
 
     @needs_program
     def test_the_program_stops_where_the_table_of_wrong_conditions_says(self):
@@ -454,7 +475,7 @@ class OverADoor(unittest.TestCase):
         ListedDoor.files["/t/schema.json"] = json.dumps({**schema, "protect": [{"column": "salary", "where": "team = 'QA' "}]})
         status, said = self.ask(['{"denied":"unsafe"}'] * 5, "totals salary by team", "avg salary where team = 'QA'", "sum salary where team != 'QA'")
         named = "not answered: This total is protected, so it is never answered."
-        self.assertEqual((status, [line.endswith(named) for line in said.splitlines()]), (1, [False, True, True, False]))
+        self.assertEqual((status, [line.endswith(named) for line in said.splitlines()]), (1, [False, True, False, True, False]))
         for protect in (1, [1], [{"column": "salary"}], None):
             ListedDoor.files["/t/schema.json"] = json.dumps({**schema, "protect": protect})
             self.assertIn('each entry of "protect" has the keys column and where', self.ask([], "columns")[1])
@@ -462,7 +483,7 @@ class OverADoor(unittest.TestCase):
     def test_groups_are_those_of_the_public_table(self):
         status, said = self.ask(['{"denied":"wide"}', '{"sum":1}'], "totals salary by team")
         self.assertEqual((status, said.splitlines()[0]), (1, "OPS: 0.01 EUR"))
-        self.assertIn("QA: not answered: To see whether an answer is safe", said)
+        self.assertIn("QA: not answered\nnot answered: To see whether an answer is safe", said)
         self.assertEqual([asked["where"] for _, _, asked in ListedDoor.asked], ["team = 'QA'", "team = 'OPS'"])
 
     def test_every_refusal_has_a_sentence(self):
