@@ -6,6 +6,7 @@ Two columns that follow from each other by a plain rule are refused. What may be
 import collections
 import fractions
 import itertools
+import pathlib
 import statistics
 
 from .cells import NUMBER_FORMS
@@ -14,6 +15,7 @@ from .faults import MOST_SHOWN, Fault, counted, listed, shown
 
 FEW_VALUES = 3
 FEW_ROWS = 5  # of one public value, of which something can be said
+OTHERS_READ, OTHERS_ENTER = 0o044, 0o011
 ENOUGH_ROWS = 10  # of a table whose columns may go together by more than chance
 
 
@@ -105,6 +107,22 @@ def say_what_is_known(rows, public, secret):
         f"{single:,} of {counted(len(rows), 'row')} have public values that no other row has: whoever knows these finds"
         " the row, though not its secret numbers"
     )
+
+
+def say_of_two():
+    """What two people who are in the table learn of each other, over every table that has sums."""
+    print(
+        "A sum over two people tells each of them the other's number. If people in the table may ask, publish a report over"
+        " disjoint groups and open no door. door.py --fewest 5 hands on no question over fewer than five people, but two that are"
+        " answered may still differ by two of them"
+    )
+
+
+def say_readers(path):
+    """Points out that the file with the secrets can be read by others. A folder that they can't enter shuts it."""
+    path = pathlib.Path(path)
+    if path.stat().st_mode & OTHERS_READ and path.resolve().parent.stat().st_mode & OTHERS_ENTER:
+        print(f"CAREFUL: others than its owner may read {path}, which has the secret numbers: chmod 600, or put it away")
 
 
 def say_of_secret(name, rows, public):

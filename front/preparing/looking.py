@@ -195,7 +195,8 @@ def say_next(out, choices):
     )
     print(
         '"range" is what people know of a secret number before they ask, as 0 to none if none is below 0: choose'
-        ' NAME.range="0 to none", or range=none for every column of which they know no range.'
+        ' NAME.range="0 to none", or range=none for every column of which they know no range. It is for the warnings of'
+        " make alone: it protects nothing."
     )
     print(
         '"protect" lists totals that must stay open, whatever is asked: choose protect="salary where dept = \'QA\'", once for'

@@ -8,7 +8,7 @@ from . import choices as choosing
 from .cells import FORMS, without_unit
 from .choices import PUBLIC, SECRET
 from .faults import Fault, counted, first_numbers, listed, shown
-from .guards import say_what_is_known, secrets_apart
+from .guards import say_of_two, say_readers, say_what_is_known, secrets_apart
 from .looking import step
 from .names import free
 from .ordering import by_public_cells, say_order
@@ -75,6 +75,9 @@ def make(path, choices_path, folder, program):
     say_totals(totals, columns, tables)
     say_what_is_known(rows, public, [column.name for column in secret])
     say_ranges(rows, secret, places)
+    if any(column.kind == "sum" for column in secret):
+        say_of_two()
+    say_readers(path)
     each = "each folder of " if choices["split by"] else ""
     print(
         f"written: {each}{folder}, with the public columns alone in public. Next: auditor init in {each}{folder}, once;"

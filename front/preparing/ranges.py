@@ -67,7 +67,8 @@ def need_ranges(rows, secret, places):
 
 
 def say_ranges(rows, secret, places):
-    """Points out whoever stands near an end of a range, and the far largest of a column."""
+    """Points out that a range protects nothing, whoever stands near an end of one, and the far largest of a column."""
+    say_known([column.name for column, _, known in with_ranges(rows, secret) if known != Range(None, None)])
     for column, numbers, known in with_ranges(rows, secret):
         if column.kind == "sum":
             say_near_ends(column.name, numbers, known, places)
@@ -76,6 +77,15 @@ def say_ranges(rows, secret, places):
     for column in secret:
         if column.kind == "sum":
             say_largest(column.name, [row[column.name] for row in rows], places)
+
+
+def say_known(names):
+    """Points out what follows from a range that people know, wherever the numbers stand in it."""
+    if names:
+        print(
+            f"CAREFUL: people know a range of {', '.join(names)}, and naming it here protects nothing: whoever knows it can work"
+            ' out exact numbers by questions that are all answered (THREATS.md, "What a range gives away")'
+        )
 
 
 def say_near_ends(name, numbers, known, places):

@@ -23,7 +23,11 @@ class Warnings(TableTest):
         os.environ.pop("AUDITOR", None)
 
     def careful(self, columns, *words):
-        """The warnings on a table with these columns, given as lists of cells by name."""
+        """The warnings on a table with these columns, given as lists of cells by name, without the one on every range."""
+        return [line for line in self.all_said(columns, *words) if not line.startswith("people know a range of ")]
+
+    def all_said(self, columns, *words):
+        """All warnings on it."""
         self.choices.unlink(missing_ok=True)
         self.out = self.folder / f"out{len(list(self.folder.iterdir()))}"
         rows = "".join(",".join(map(str, cells)) + "\n" for cells in zip(*columns.values()))
@@ -37,6 +41,42 @@ class Warnings(TableTest):
     def pays(self, count=40):
         """Different numbers from 1,000 to 1,999."""
         return self.draw.sample(range(1000, 2000), count)
+
+
+class Always(Warnings):
+    """What is said wherever the numbers stand."""
+
+    def test_a_range_protects_nothing(self):
+        columns = {"team": ["A", "B", "C", "A"], "pay": [1000, 1100, 1205, 1300], "bonus": [50, 42, 65, 71], "cost": [900, 100, 420, 777]}
+        kinds = ("team=text", "pay=sum", "bonus=max", "cost=sum")
+        for words, names in (((), None), (("pay.range=none to none",), None), (("pay.range=0 to none",), "pay"),
+                             (("bonus.range=none to 99", "pay.range=0 to 9999"), "pay, bonus")):
+            said = [line for line in self.all_said(columns, *kinds, *words) if line.startswith("people know a range")]
+            self.assertEqual(said, [] if names is None else [
+                f"people know a range of {names}, and naming it here protects nothing: whoever knows it can work out exact numbers by"
+                ' questions that are all answered (THREATS.md, "What a range gives away")'])
+
+    def test_look_says_that_a_range_is_for_the_warnings_alone(self):
+        self.assertIn("It is for the warnings of make alone: it protects nothing.", self.look("team,pay\nA,5\nB,7\n")[1])
+
+    def test_a_sum_over_two_people_is_spoken_of_once_where_there_are_sums(self):
+        for kind, times in (("sum", 1), ("max", 0)):
+            self.choices.unlink(missing_ok=True)
+            self.out = self.folder / kind
+            said = self.made("team,pay,cost\nA,5,9\nB,7,3\nC,9,4\n", "team=text", f"pay={kind}", f"cost={kind}")
+            self.assertEqual(said.count("tells each of them the other's number. "), times)
+            self.assertEqual(said.count("door.py --fewest 5"), times)
+
+    def test_a_file_that_others_may_read_is_named(self):
+        for file, folder, careful in ((0o644, 0o755, True), (0o640, 0o710, True), (0o600, 0o755, False), (0o644, 0o700, False)):
+            self.choices.unlink(missing_ok=True)
+            self.out = self.folder / f"{file:o}-{folder:o}"
+            self.look("team,pay\nA,5\nB,7\nC,9\n")
+            self.choose("protect=none", "range=none", "team=text", "pay=sum")
+            self.file.chmod(file)
+            self.folder.chmod(folder)
+            status, said = self.make()
+            self.assertEqual((status, f"CAREFUL: others than its owner may read {self.file}, " in said), (0, careful), said)
 
 
 class Ranges(Warnings):
