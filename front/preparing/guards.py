@@ -119,9 +119,10 @@ def say_of_two():
 
 
 def say_readers(path):
-    """Points out that the file with the secrets can be read by others. A folder that they can't enter shuts it."""
+    """Points out that the file with the secrets can be read by others, unless a folder above it keeps them out."""
     path = pathlib.Path(path)
-    if path.stat().st_mode & OTHERS_READ and path.resolve().parent.stat().st_mode & OTHERS_ENTER:
+    reached = all(folder.stat().st_mode & OTHERS_ENTER for folder in path.resolve().parents)
+    if reached and path.stat().st_mode & OTHERS_READ:
         print(f"CAREFUL: others than its owner may read {path}, which has the secret numbers: chmod 600, or put it away")
 
 

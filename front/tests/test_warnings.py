@@ -68,6 +68,9 @@ class Always(Warnings):
             self.assertEqual(said.count("door.py --fewest 5"), times)
 
     def test_a_file_that_others_may_read_is_named(self):
+        inner = self.folder / "inner"
+        inner.mkdir(mode=0o755)
+        self.file, self.choices = inner / "t.csv", inner / "t.choices.json"
         for file, folder, careful in ((0o644, 0o755, True), (0o640, 0o710, True), (0o600, 0o755, False), (0o644, 0o700, False)):
             self.choices.unlink(missing_ok=True)
             self.out = self.folder / f"{file:o}-{folder:o}"
