@@ -78,6 +78,11 @@ def make(path, choices_path, folder, program):
     if any(column.kind == "sum" for column in secret):
         say_of_two()
     say_readers(path)
+    say_next(folder, choices)
+
+
+def say_next(folder, choices):
+    """What is written, and what comes before the first question."""
     each = "each folder of " if choices["split by"] else ""
     print(
         f"written: {each}{folder}, with the public columns alone in public. Next: auditor init in {each}{folder}, once;"
