@@ -21,10 +21,9 @@ due=80                              # seconds on four processors that do nothing
 folder=$(mktemp -d) || exit 1
 clock='' work=''
 finish() {
-    for one in $clock $work; do
-        kill "$one" 2>/dev/null
-        wait "$one" 2>/dev/null
-    done
+    [ -z "$clock" ] || kill "$clock" 2>/dev/null
+    [ -z "$work" ] || { kill "$work" 2>/dev/null; wait "$work" 2>/dev/null; }
+    clock='' work=''
     rm -rf "$folder"
 }
 stop() {
@@ -38,9 +37,8 @@ trap stop HUP INT TERM
 
 # Says every ten seconds that it is still at work, and once that it takes longer than it should.
 tell_time() {
-    trap 'kill "$nap" 2>/dev/null; exit' TERM
     seconds=0
-    while sleep 10 & nap=$!; wait "$nap"; do
+    while sleep 10 >/dev/null 2>&1; do
         seconds=$((seconds + 10))
         printf ' %d s' "$seconds" >&2
         [ "$seconds" != $((2 * due)) ] ||
@@ -61,7 +59,6 @@ wait "$work"
 status=$?
 work=
 kill "$clock" 2>/dev/null
-wait "$clock" 2>/dev/null
 clock=
 echo >&2
 if [ "$status" != 0 ]; then

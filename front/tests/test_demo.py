@@ -94,10 +94,14 @@ class Try(Demo):
         return subprocess.Popen([self.top / "demo/try.sh"], env=self.world | {"HANGS": "try"}, stdout=subprocess.PIPE, stderr=subprocess.PIPE,
                                 text=True, start_new_session=True)
 
+    def has_pid(self):
+        """Whether the kit that never ends has begun."""
+        return (self.top / "tmp/pid").exists() and (self.top / "tmp/pid").read_text() != ""
+
     def test_it_says_once_that_it_takes_long_and_is_stopped_by_a_signal(self):
         for sends, number in ((os.kill, signal.SIGTERM), (os.killpg, signal.SIGINT)):
             run, said = self.start_slow(), ""
-            while " 200 s" not in said:
+            while " 200 s" not in said or not self.has_pid():
                 said += run.stderr.read(1)
             kit = int((self.top / "tmp/pid").read_text())
             (self.top / "tmp/pid").unlink()
