@@ -5,7 +5,7 @@
 
 Works in the folder that it is called in, over tables that it draws, whose public column is a number for each row. KEY=VALUE are further keys
 of the schema. Each attack reads the replies alone, and what it works out is compared with the table afterwards: a number that it takes for
-known and that is another one is a fault. It is also said, as front/openness.py does, of how many numbers the report shows another one within the range
+known and that is another one is a fault. It is also said, as front/near.py does, of how many numbers the report shows another one within the range
 that is known. The exit status is 1 if an attack ends otherwise than is expected: without further keys all of them succeed."""
 import json
 import math
@@ -19,8 +19,8 @@ from scipy.optimize import linprog
 
 sys.path.insert(0, os.path.join(os.path.dirname(os.path.abspath(__file__)), "..", "front"))
 
-from opening.columns import Sums  # noqa: E402
-from opening.ranges import Range, shown_by  # noqa: E402
+from nearing.columns import Sums  # noqa: E402
+from nearing.ranges import Range, shown_by  # noqa: E402
 
 HIGHEST = 10**12  # what the format of the table's file allows, either way
 

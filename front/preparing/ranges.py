@@ -5,7 +5,7 @@ It is chosen as text in the file's own units, such as `0 to 2500.50` or `0 to no
 
 import statistics
 
-from opening.ranges import Range
+from nearing.ranges import Range
 
 from .cells import FORMS
 from .faults import Fault, counted, first_numbers, listed, shown

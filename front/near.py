@@ -1,7 +1,7 @@
 #!/usr/bin/python3
 """Says how far each number of a column is shown to be open within a range that people know. For the table's owner alone.
 
-    openness.py REPORT TABLE COLUMN LOW HIGH [--share 10] [--search]
+    near.py REPORT TABLE COLUMN LOW HIGH [--share 10] [--search]
 
 REPORT is what auditor audit prints, TABLE the whole table.csv, COLUMN a secret column of it; LOW and HIGH are the least
 and the greatest number that people hold for possible, as the table keeps them, or none. Each change of the report
@@ -24,8 +24,8 @@ import argparse
 import sys
 import time
 
-from opening.columns import Maxima, read_column
-from opening.ranges import Range, is_open, need_inside, shown_by
+from nearing.columns import Maxima, read_column
+from nearing.ranges import Range, is_open, need_inside, shown_by
 from preparing.faults import Fault, counted, os_words
 
 EVERY = 5  # seconds between two lines on how far the search is
@@ -34,7 +34,7 @@ EVERY = 5  # seconds between two lines on how far the search is
 def arguments(words):
     """The arguments as they have to be; others end the program with status 2."""
     parser = argparse.ArgumentParser(
-        prog="openness.py",
+        prog="near.py",
         description=__doc__,
         formatter_class=argparse.RawDescriptionHelpFormatter,
         usage=argparse.SUPPRESS,
@@ -87,7 +87,7 @@ def near_rows(column, shown, share):
 def search(column, known, shown, rows, share):
     """Widens what is shown of some rows, and says on standard error how far it is."""
     try:
-        from opening.searching import Search
+        from nearing.searching import Search
     except ImportError:
         raise Fault("--search needs scipy: apt-get install --no-install-recommends python3-scipy") from None
     found, told = Search(column, known), time.monotonic()
@@ -111,13 +111,13 @@ def main(words):
     try:
         return 0 if look(arguments(words)) else 1
     except Fault as fault:
-        print(f"openness: {fault}", file=sys.stderr)
+        print(f"near: {fault}", file=sys.stderr)
     except OSError as fault:
-        print(f"openness: {os_words(fault)}", file=sys.stderr)
+        print(f"near: {os_words(fault)}", file=sys.stderr)
     except MemoryError:
-        print("openness: out of memory", file=sys.stderr)
+        print("near: out of memory", file=sys.stderr)
     except KeyboardInterrupt:
-        print("openness: stopped", file=sys.stderr)
+        print("near: stopped", file=sys.stderr)
     return 2
 
 

@@ -1,6 +1,6 @@
-"""What openness.py shows of reports and numbers worked out by hand, and after attacks over the program.
+"""What near.py shows of reports and numbers worked out by hand, and after attacks over the program.
 
-AUDITOR=.. /usr/bin/python3 -m unittest test_openness
+AUDITOR=.. /usr/bin/python3 -m unittest test_near
 """
 
 import json
@@ -16,7 +16,7 @@ from table_kit import AUDITOR, FRONT, needs_program, said_by
 
 sys.path.insert(0, str(FRONT))
 
-import openness  # noqa: E402
+import near  # noqa: E402
 
 # Six salaries, and changes that leave the sums over rows 0 and 1, over all, over rows 1, 3 and 5, and over rows 2 and 3.
 SALARIES = [100, 200, 300, 400, 500, 600]
@@ -31,11 +31,11 @@ def turned(change):
 CHANGES = [FIRST, turned(FIRST), turned(FIRST), FIRST, turned(SECOND), SECOND]
 
 
-class OpennessTest(unittest.TestCase):
+class NearTest(unittest.TestCase):
     """A test with a fresh folder for a table and a report."""
 
     def setUp(self):
-        folder = tempfile.TemporaryDirectory(prefix="openness-")
+        folder = tempfile.TemporaryDirectory(prefix="near-")
         self.addCleanup(folder.cleanup)
         self.folder = pathlib.Path(folder.name)
         self.report, self.table = self.folder / "report.jsonl", self.folder / "table.csv"
@@ -50,57 +50,57 @@ class OpennessTest(unittest.TestCase):
         self.write(numbers, [{"column": "v", "row": row, "direction": sorted(map(list, change.items()))}
                              for row, change in enumerate(changes)])
 
-    def openness(self, *words):
-        return said_by(openness.main, [self.report, self.table, "v", *words])
+    def near(self, *words):
+        return said_by(near.main, [self.report, self.table, "v", *words])
 
 
-class Shown(OpennessTest):
+class Shown(NearTest):
     def test_a_change_is_added_as_often_as_it_fits(self):
         self.sums(SALARIES, CHANGES)
         # Adding the second change is stopped by row 5 at 650, after 50 times; taking it off by row 0 at 0, after 100.
-        self.assertEqual(self.openness(0, 650, "--share", 21), (1, (
+        self.assertEqual(self.near(0, 650, "--share", 21), (1, (
             "v: 6 numbers, of which 4 are shown to be open by 21 % or more by the report's lines alone\n"
             "row 4: 500, shown only from 450 to 600\nrow 5: 600, shown only from 500 to 650\n")))
 
     def test_a_share_that_is_just_reached_counts(self):
         self.sums(SALARIES, CHANGES)
-        said = self.openness(0, 650, "--share", 20)[1]
+        said = self.near(0, 650, "--share", 20)[1]
         self.assertNotIn("row 4", said)
         self.assertIn("row 5: 600, shown only from 500 to 650", said)
-        self.assertEqual(self.openness(0, 650, "--share", 16)[0], 0)
+        self.assertEqual(self.near(0, 650, "--share", 16)[0], 0)
 
     def test_a_change_of_several_shows_steps_of_its_own(self):
         self.sums([10, 10], [{0: 3, 1: -2}, {0: -3, 1: 2}])
         # To either end of the range it is 10, into which 3 fits three times: row 0 may be 19 or 1, and row 1 then is 4 or 16.
-        said = self.openness(0, 20, "--share", 91)[1]
+        said = self.near(0, 20, "--share", 91)[1]
         self.assertIn("row 0: 10, shown only from 1 to 19", said)
         self.assertIn("row 1: 10, shown only from 4 to 16", said)
-        self.assertEqual(self.openness(0, 20, "--share", 60)[0], 0)
+        self.assertEqual(self.near(0, 20, "--share", 60)[0], 0)
 
     def test_without_an_end_nothing_stops_it(self):
         self.sums([10, 10], [{0: 1, 1: -1}, {0: -1, 1: 1}])
-        self.assertEqual(self.openness("none", "none", "--share", 1000)[0], 0)
-        self.assertEqual(self.openness("none", 10, "--share", 1)[0], 1)
-        self.assertEqual(self.openness(10, "none", "--share", 1)[0], 1)
+        self.assertEqual(self.near("none", "none", "--share", 1000)[0], 0)
+        self.assertEqual(self.near("none", 10, "--share", 1)[0], 1)
+        self.assertEqual(self.near(10, "none", "--share", 1)[0], 1)
 
     def test_two_at_the_range_s_end_hold_a_chain(self):
         changes = [{row: (-1) ** (row + own) for row in range(6)} for own in range(6)]
         self.sums([5, 0, 7, 8, 0, 9], changes)
-        said = self.openness(0, "none")[1]
+        said = self.near(0, "none")[1]
         self.assertEqual(said.count("and no other number is shown: take it for known"), 6)
         self.sums([5, 0, 7, 0, 8, 9], changes)
-        self.assertEqual(self.openness(0, "none")[0], 0)
+        self.assertEqual(self.near(0, "none")[0], 0)
 
     def test_numbers_wider_than_a_double_are_exact(self):
         large = 2**80 + 1
         self.sums([0, 10**12], [{0: 1, 1: -large}, {0: -1, 1: large}])
-        self.assertEqual(self.openness(0, 10**12)[1].count("take it for known"), 2)
-        self.assertEqual(self.openness(-large, large, "--share", 1000)[0], 0)
+        self.assertEqual(self.near(0, 10**12)[1].count("take it for known"), 2)
+        self.assertEqual(self.near(-large, large, "--share", 1000)[0], 0)
 
     def test_a_maximum_may_be_anything_up_to_what_is_printed(self):
         self.write([3, 9, 9, 0, 4], [{"column": "v", "high": [9, 9, 9, 4, 0]}])
         # Of row 3 it is 4 up to which it may go. No set holds row 4, or 0 would be below its number.
-        said = self.openness(0, 10, "--share", 101)[1]
+        said = self.near(0, 10, "--share", 101)[1]
         self.assertIn("row 1: 9, shown only from 0 to 9", said)
         self.assertIn("row 2: 9, shown only from 0 to 9", said)
         self.assertNotIn("row 3", said)
@@ -108,29 +108,29 @@ class Shown(OpennessTest):
 
     def test_a_maximum_of_0_at_most_isnt_taken_for_a_row_that_no_set_holds(self):
         self.write([-5, -1], [{"column": "v", "high": [0, 0]}])
-        self.assertIn("row 0: -5, shown only from -10 to 0", self.openness(-10, 10, "--share", 101)[1])
+        self.assertIn("row 0: -5, shown only from -10 to 0", self.near(-10, 10, "--share", 101)[1])
 
     def test_a_maximum_that_is_the_lowest_number_is_known(self):
         self.write([3, 3, 9], [{"column": "v", "high": [3, 3, 9]}])
-        said = self.openness(3, 10)[1]
+        said = self.near(3, 10)[1]
         self.assertIn("row 0: 3, and no other number is shown", said)
         self.assertIn("row 1: 3, and no other number is shown", said)
         self.assertNotIn("row 2", said)
 
 
-class Searched(OpennessTest):
+class Searched(NearTest):
     def solver(self, counts):
         """In place of the solver, one that finds these counts for the two changes, and no way to stay away from the ends."""
-        return mock.patch("opening.searching.solved", side_effect=lambda cost, *_: counts if len(cost) == 2 else None)
+        return mock.patch("nearing.searching.solved", side_effect=lambda cost, *_: counts if len(cost) == 2 else None)
 
     def test_changes_together_show_more_than_each_alone(self):
         self.sums(SALARIES, CHANGES)
         # Taking the second change off 150 times brings row 4 to 650; the first one, added 50 times, keeps row 0 at 0.
-        status, said = self.openness(0, 650, "--share", 26, "--search")
+        status, said = self.near(0, 650, "--share", 26, "--search")
         self.assertEqual(status, 1, said)
         self.assertEqual(said.splitlines()[1:], [
             "searched besides: 5 are shown to be open by 26 % or more", "row 5: 600, shown only from 450 to 650"])
-        self.assertEqual(self.openness(0, 650, "--share", 25, "--search")[0], 0)
+        self.assertEqual(self.near(0, 650, "--share", 25, "--search")[0], 0)
 
     def test_counts_that_have_to_be_rounded_are_kept_away_from_the_ends(self):
         # Twelve numbers, some of them 0, and five changes of small numbers: where the best counts are rounded some number is below 0.
@@ -139,38 +139,38 @@ class Searched(OpennessTest):
         first = [next(change for change in base if row in change) for row in range(12)]
         numbers = [draw.choice([0, 0, draw.randrange(500, 2000)]) for _ in range(12)]
         self.sums(numbers, [change if change[row] > 0 else turned(change) for row, change in enumerate(first)])
-        status, said = self.openness(0, "none", "--search")
+        status, said = self.near(0, "none", "--search")
         self.assertEqual(status, 0, said)
-        with mock.patch("opening.searching.SHARES", (0,)):
-            self.assertEqual(self.openness(0, "none", "--search")[0], 1)
+        with mock.patch("nearing.searching.SHARES", (0,)):
+            self.assertEqual(self.near(0, "none", "--search")[0], 1)
 
     def test_what_the_solver_finds_counts_only_if_it_fits_in_whole_numbers(self):
         self.sums(SALARIES, CHANGES)
         for counts in ([0.0, -151.0], [0.0, -120.0], [49.4, -150.4], [1000.0, 1000.0]):
             with self.subTest(counts), self.solver(counts):
-                said = self.openness(0, 650, "--share", 26, "--search")[1]
+                said = self.near(0, 650, "--share", 26, "--search")[1]
                 self.assertIn("row 5: 600, shown only from 500 to 650", said)
 
     def test_a_solver_that_finds_nothing_leaves_what_was_shown(self):
         self.sums(SALARIES, CHANGES)
         with self.solver(None):
-            said = self.openness(0, 650, "--share", 26, "--search")[1]
+            said = self.near(0, 650, "--share", 26, "--search")[1]
         self.assertIn("row 5: 600, shown only from 500 to 650", said)
 
     def test_without_scipy_it_says_what_to_install(self):
         self.sums(SALARIES, CHANGES)
-        with mock.patch.dict(sys.modules, {"opening.searching": None}):
-            status, said = self.openness(0, 650, "--share", 26, "--search")
+        with mock.patch.dict(sys.modules, {"nearing.searching": None}):
+            status, said = self.near(0, 650, "--share", 26, "--search")
         self.assertEqual(status, 2)
         self.assertIn("apt-get install --no-install-recommends python3-scipy", said)
 
 
-class Refused(OpennessTest):
+class Refused(NearTest):
     def refused(self, due, *words):
-        status, said = self.openness(*(words or (0, 650)))
+        status, said = self.near(*(words or (0, 650)))
         self.assertEqual(status, 2, said)
         self.assertIn(due, said)
-        self.assertTrue(said.startswith("openness: "), said)
+        self.assertTrue(said.startswith("near: "), said)
 
     def test_numbers_outside_of_the_range_are_named(self):
         self.sums(SALARIES, CHANGES)
@@ -214,13 +214,13 @@ class Refused(OpennessTest):
     def test_wrong_arguments_end_with_status_2(self):
         for words in ((0,), ("low", 5), (0, 650, "--share", 0), (0, 650, "--share", "ten"), (0, 650, "--publish")):
             with self.subTest(words), self.assertRaises(SystemExit) as ended:
-                self.openness(*words)
+                self.near(*words)
             self.assertEqual(ended.exception.code, 2)
 
     def test_help_says_that_the_output_stays_with_the_owner(self):
         with self.assertRaises(SystemExit):
-            self.openness("--help")
-        self.assertIn("Never publish either", openness.__doc__)
+            self.near("--help")
+        self.assertIn("Never publish either", near.__doc__)
 
 
 def doubling(levels):
@@ -232,7 +232,7 @@ def doubling(levels):
     return sets + [[free, first, second]]
 
 
-class AfterAnAttack(OpennessTest):
+class AfterAnAttack(NearTest):
     @needs_program
     def test_it_names_exactly_those_whose_numbers_are_known(self):
         draw = random.Random(17)
@@ -246,7 +246,7 @@ class AfterAnAttack(OpennessTest):
         said = self.run_program("serve", "".join(json.dumps(line) + "\n" for line in lines))
         self.assertEqual(said.count("sum"), 56, said)
         self.report.write_text(self.run_program("audit"))
-        status, said = self.openness(0, 250_000)
+        status, said = self.near(0, 250_000)
         self.assertEqual(status, 1)
         self.assertIn("80 numbers, of which 25 are shown to be open by 10 % or more", said)
         self.assertEqual([f"row {row}: {numbers[row]:,}, and no other number is shown: take it for known" for row in range(55)],

@@ -1,1 +1,0 @@
-"""What openness.py is made of: report and numbers, how often a change fits into a range, and a search for other changes."""
