@@ -441,7 +441,7 @@ class Scripted(unittest.TestCase):
             stopifnot(identical(auditor_totals("{door.url}", "pay", by = ask[1], where = ask[2], steps = TRUE)$sum, 5))''')
         self.assertEqual([question["where"] for question in door.questions("sum")], self.WITHIN)
 
-    def test_the_largest_group_is_asked_first(self):
+    def test_each_client_asks_the_largest_group_first_and_shows_them_by_value(self):
         sizes = {"A": 2, "B": 7, "C": 5}
         rows = "team,age\n" + "".join(f"{team},30\n" * size for team, size in sizes.items())
 
@@ -455,7 +455,7 @@ class Scripted(unittest.TestCase):
         self.assertEqual([question["where"] for question in door.questions("sum")], due)
         door = self.door(reply, rows)
         ask = subprocess.run([sys.executable, FRONT / "ask.py", door.url, "totals pay by team"], capture_output=True, text=True, check=True)
-        self.assertEqual(ask.stdout.splitlines(), ["B: 0.66 EUR", "C: 0.67 EUR", "A: 0.65 EUR"])
+        self.assertEqual(ask.stdout.splitlines(), ["A: 0.65 EUR", "B: 0.66 EUR", "C: 0.67 EUR"])
         self.assertEqual([question["where"] for question in door.questions("sum")], due)
         if shutil.which("Rscript"):
             door = self.door(reply, rows)
