@@ -21,7 +21,7 @@ from kit import FRONT, PATIENCE, SEED, Door, Folder, ask, free_port, line_of
 NGINX = shutil.which("nginx") or shutil.which("/usr/sbin/nginx")
 NAME = "auditor.example.org"
 SHELL = """worker_processes 1; daemon off; pid {folder}/nginx.pid; error_log {folder}/nginx.err;
-events {{ worker_connections 512; }}
+events {{ worker_connections 4096; }}
 http {{ access_log off; client_body_temp_path {folder}/body; proxy_temp_path {folder}/proxy; fastcgi_temp_path {folder}/f;
 uwsgi_temp_path {folder}/u; scgi_temp_path {folder}/s; include {folder}/block.conf; }}
 """
