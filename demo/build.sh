@@ -52,14 +52,18 @@ is_new() {
     grep -q ': proved$' "$proved.said" && ! grep -q 'begins with what a check kept' "$proved.said"
 }
 
-# At a signal the crate that is being proved is left, and then the run.
+# At a signal the crate that is being proved is left, and then the run. One that has hardly begun may miss the first signal.
 stop_prover() {
     stopped=1
-    [ -z "$prover" ] || kill "$prover" 2>/dev/null
+    [ -n "$prover" ] || return 0
+    kill "$prover" 2>/dev/null
+    (sleep 1; kill "$prover") >/dev/null 2>&1 &
+    again=$!
 }
 
 leave_off() {
     wait "$prover" 2>/dev/null
+    kill "$again" 2>/dev/null
     printf 'stopped\nrun it again to go on with %s\n' "$crate" >&2
     rm -f "$proved" "$proved.said"
     exit 130
@@ -82,7 +86,7 @@ build() {
         prove "$crate" >"$proved.said" 2>&1 &
         prover=$!
         # The signal may have come before its number was known.
-        [ -z "$stopped" ] || kill "$prover" 2>/dev/null
+        [ -z "$stopped" ] || stop_prover
         wait "$prover"
         status=$?
         [ -z "$stopped" ] || leave_off
