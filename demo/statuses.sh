@@ -47,9 +47,50 @@ cmp -s answers.journal served.journal || complain 'the journal was written by ex
 
 usage='usage: auditor init, serve [--batch N] [--twin], audit, simulate, drill N, grow, explain, compact, restore'
 begin
-for words in '' help 'serve 3' '--batch 65 serve' 'audit --batch 2' 'grow 7' 'compact 3' 'explain 3' 'explain --batch 2' drill 'drill x' 'drill 4294967296' 'audit --twin' 'restore --twin' 'restore 3'; do
+for words in 'help nothing' 'help serve 3' 'help --help' 'serve --help' '--version serve' -v 'serve 3' '--batch 65 serve' 'audit --batch 2' 'grow 7' 'compact 3' 'explain 3' 'explain --batch 2' drill 'drill x' 'drill 4294967296' 'audit --twin' 'restore --twin' 'restore 3'; do
     due 2 "$usage" $words
 done
+
+
+# What the program says of itself needs no file: on standard output if it is asked, and as what is wrong if there are no arguments.
+fresh
+rm schema.json table.csv answers.journal
+limit=
+: >asked
+cat >replies <<'END'
+usage: auditor COMMAND
+
+  init                         make the journal of a table, once
+  serve [--batch N] [--twin]   answer or deny the questions of standard input
+  audit                        show each secret number to be open
+  explain                      tell why questions are denied
+  simulate                     compute the verdicts on a transcript again
+  grow                         take over rows that came at the table's end
+  compact                      write a shorter journal to answers.spare
+  restore                      write the lost one of two journals anew
+  drill N                      take a drawn table and 600 questions through the program
+
+It works in the folder that it is started in, on schema.json, table.csv and answers.journal.
+`auditor help COMMAND` says more of a command. To ask in words, use front/ask.py.
+END
+for words in --help -h help; do
+    due 0 '' $words
+done
+commands=$(cat replies)
+: >replies
+due 2 "$commands"
+"$program" --version >sent 2>said
+tell --version 0 $?
+grep -Eqx 'auditor [0-9]+\.[0-9]+\.[0-9]+' sent || complain '--version is no name and version'
+cat >replies <<'END'
+usage: auditor drill N
+Draws a table and 600 questions from the number N, 0 to 4294967295, and sends one line that counts the answers and the denials.
+No file is read or written. The line is the same on every machine.
+END
+due 0 '' help drill
+"$program" --help >/dev/full 2>said
+tell '--help on a full disk' 6 $?
+echo 'journal or output failed' | cmp -s - said || complain 'a text that could not be printed is not told'
 
 begin
 echo '{"columns":[{"name":"age","is":"secret"}]}' >schema.json

@@ -131,13 +131,15 @@ def stale_copies():
 
 
 def stale_version():
-    """README's tarball and the manual page have the version and the date of the newest release."""
+    """README's tarball, the manual page and `--version` have the version, and the manual page the date, of the newest release."""
     version, date = re.search(r"(?m)^## ([\d.]+) \((\d{4}-\d\d-\d\d)\)$", (TOP / "CHANGELOG.md").read_text()).groups()
     for named in re.findall(r"auditor[-_](\d[\d.]*\d)[-_]", (TOP / "README.md").read_text()):
         if named != version:
             yield f"README.md: version {named}, and {version} is the newest of CHANGELOG.md"
     if f'\n.TH AUDITOR 1 {date} "auditor {version}" ' not in (TOP / "docs/auditor.1").read_text():
         yield f"docs/auditor.1: its head isn't of version {version} and {date}"
+    if f'codes "auditor {version}"' not in (TOP / "crates/usage/specs/Usage.antt").read_text():
+        yield f"crates/usage: its version isn't {version}"
 
 
 def wrong_entries():

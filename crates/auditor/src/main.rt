@@ -1,25 +1,53 @@
-//! The program: the real files, standard input and standard output under the top call.
+//! The program: the real files, standard input and standard output under the top call; and what it says of itself.
 #![tactic(auto)]
 
 use auditor_top::{Status, run, status_code, status_text};
 use file_adapters::{FileBench, FileSource, InputSource, hold_streams};
 use std::io;
 use std::process::ExitCode;
+use usage::{Shown, shown_of};
 
 const JOURNAL: &str = "answers.journal";
 
 fn main(rt: HostRuntime) -> ExitCode {
     hold_streams(&rt);
-    let status = match words_of(&rt) {
-        Ok(words) => run_on_files(&rt, &words),
-        Err(error) if error.kind() == io::ErrorKind::OutOfMemory => Status::NoMemory,
+    match words_of(&rt) {
+        Ok(words) if words.is_empty() => list_commands(&rt),
+        Ok(words) => end(&rt, show_or_run(&rt, &words)),
+        Err(error) if error.kind() == io::ErrorKind::OutOfMemory => end(&rt, Status::NoMemory),
         // An argument that isn't text is in no command.
-        Err(_) => Status::BadWords,
-    };
+        Err(_) => end(&rt, Status::BadWords),
+    }
+}
+
+// Without arguments the commands are told, each with its line, as what is wrong.
+fn list_commands(rt: &HostRuntime) -> ExitCode {
+    let _ = eprintln!(rt; "{}", Shown::Commands);
+    ExitCode::from(status_code(&Status::BadWords))
+}
+
+// The exit status, after the text of what went wrong.
+fn end(rt: &HostRuntime, status: Status) -> ExitCode {
     if status != Status::Done {
-        tell(&rt, &status);
+        tell(rt, &status);
     }
     ExitCode::from(status_code(&status))
+}
+
+// Shows what the arguments ask to be shown, and else runs the command that they are.
+fn show_or_run(rt: &HostRuntime, words: &Vec<String>) -> Status {
+    match shown_of(words.as_slice()) {
+        Some(shown) => show(rt, &shown),
+        None => run_on_files(rt, words),
+    }
+}
+
+// Prints a text to standard output.
+fn show(rt: &HostRuntime, shown: &Shown) -> Status {
+    match println!(rt; "{shown}") {
+        Ok(()) => Status::Done,
+        Err(_) => Status::BenchFault,
+    }
 }
 
 // The arguments after the program's name.
