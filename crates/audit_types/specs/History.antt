@@ -71,9 +71,9 @@ AreProtected shape protected =
     All (IsProtected shape) protected.groups × (length protected.groups ≤ most_groups) × (protected.own ≤ 1)
     × ((row : ℕ) → has_row protected.several row ≡ false → has_row protected.shared row ≡ false) × (0 < protected.width) × (protected.width ≤ most_width)
 
--- plain protection: each row is guarded, no asker is in the table, and a reduced form may have the greatest width
+-- plain protection: each row is guarded, and no asker is in the table
 abbrev pub IsPlain : Protection → Type 0
-IsPlain protected = protected ≡ against_outsiders protected.groups [] most_width
+IsPlain protected = protected ≡ against_outsiders protected.groups [] protected.width
 
 -- plain protection that fits
 abbrev pub IsPlainFor : Shape → Protection → Type 0

@@ -1,5 +1,5 @@
 -- Facts on plain protection: what is guarded if no row is shared and no asker is in the table.
-use Rattle.std.proofs.Common.{◌≡◌, ◌≢◌, ℕ, ◌≤◌, true, List, [], ◌∷◌, ◌++◌, map, length, append-nil, refl, ap, subst, ◌∙◌, arith}
+use Rattle.std.proofs.Common.{◌≡◌, ◌≢◌, ℕ, ◌<◌, ◌≤◌, true, List, [], ◌∷◌, ◌++◌, map, length, append-nil, refl, ap, subst, ◌∙◌, arith}
 use Rattle.std.specs.Prelude.{◌↔◌, All, Contains}
 use Rattle.audit_types.specs.declared.shapes.Shape.{Shape}
 use Rattle.audit_types.specs.declared.records.Protected.{Protected}
@@ -14,13 +14,14 @@ use Rattle.audit_types.specs.History.{Protection, IsProtected, IsPlain, IsPlainF
 use Rattle.audit_types.specs.Widening.{protection_among, groups_among}
 
 -- groups that fit are plain protection that fits
-pub plain_fits : (shape : Shape) (groups : List Protected) → All (IsProtected shape) groups → length groups ≤ most_groups → IsPlainFor shape (against_outsiders groups [] most_width)
-plain_fits shape groups all few = ((all, few, omega arith, λ row alone. alone, omega arith, omega arith), refl)
+pub plain_fits : (shape : Shape) (groups : List Protected) (width : ℕ) → All (IsProtected shape) groups → length groups ≤ most_groups →
+    0 < width → width ≤ most_width → IsPlainFor shape (against_outsiders groups [] width)
+plain_fits shape groups width all few some narrow = ((all, few, omega arith, λ row alone. alone, some, narrow), refl)
 
 -- plain protection is plain among the first rows
 pub plain_among : (n : ℕ) (protected : Protection) → IsPlain protected → IsPlain (protection_among n protected)
 plain_among n protected plain =
-    ap (protection_among n) plain ∙ ap (λ shared. against_outsiders (groups_among n protected.groups) shared most_width) (rows_that_none (has_row []) n (λ r l. refl))
+    ap (protection_among n) plain ∙ ap (λ shared. against_outsiders (groups_among n protected.groups) shared protected.width) (rows_that_none (has_row []) n (λ r l. refl))
 
 -- who may know the number of no row knows none
 pub nobody : (own : List ℕ) → length own ≤ 0 → own ≡ []

@@ -1,35 +1,34 @@
 //! What is guarded of a table.
 ghost use Rattle.std.specs.Prelude.{◌≡◌, [], IfOk};
 ghost use Rattle.audit_types.specs.History.{IsPlain, against_outsiders};
-ghost use Rattle.audit_types.specs.Limits.{most_width};
 
 use crate::NoMemory;
 use crate::records::Protected;
 use std::alloc::Global;
 use std::marker::Model;
 
-/// What is guarded of a table: the number of each row, and the totals of the protected groups.
+/// What is guarded of a table: the number of each row, and the totals of the protected groups; and how wide a reduced form may be.
 #[derive(Drop)]
 pub struct Guard {
     groups: Vec<Protected>,
+    width: u64,
 }
 
 impl Model for Guard {
     ghost use Rattle.std.specs.Prelude.{[]};
     ghost use Rattle.audit_types.specs.History.{Protection, against_outsiders};
-    ghost use Rattle.audit_types.specs.Limits.{most_width};
 
     ghost Value = { Protection };
 
-    ghost view = { λ g. against_outsiders g.groups.items [] most_width };
+    ghost view = { λ g. against_outsiders g.groups.items [] g.width };
 }
 
 impl Guard {
-    /// The guard of each row and of these groups.
-    pub fn new(groups: Vec<Protected>) -> Guard
-        ensures { result ≡ against_outsiders groups.items [] most_width }
+    /// The guard of each row and of these groups, by forms of at most this width.
+    pub fn new(groups: Vec<Protected>, width: u64) -> Guard
+        ensures { result ≡ against_outsiders groups.items [] width }
     {
-        Guard { groups }
+        Guard { groups, width }
     }
 
     /// The groups whose totals are protected, in order.
@@ -40,12 +39,21 @@ impl Guard {
         &self.groups
     }
 
+    /// How large an entry of a reduced form may be, and the least common multiple of its pivot entries.
+    pub fn width(&self) -> u64
+        ensures is { result ≡ self.now.width }
+        ensures plain { IsPlain self.now }
+    {
+        self.width
+    }
+
     /// The same guard once more.
     pub fn copy(&self, alloc: Global) -> Result<Guard, NoMemory>
         ensures { IfOk result (λ guard. guard ≡ self.now) }
     {
         Ok(Guard {
             groups: self.groups.to_vec(alloc)?,
+            width: self.width,
         })
     }
 }
