@@ -30,10 +30,10 @@ MOST = {
     "disclosure": 100,
     "decision": 110,
     "lines and conditions": 385,
-    "formats of files": 195,
+    "formats of files": 210,
     "journal and crash": 95,
     "lives": 268,
-    "the promise": 1140,
+    "the promise": 1155,
 }
 
 IMPORT = re.compile(r"(?:ghost )?use (?:Rattle\.)?([\w.]+?)(?:\.\{(.*)\}| as (\w+));?$")

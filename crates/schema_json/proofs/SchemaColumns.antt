@@ -1,14 +1,19 @@
 -- What bytes mean is a schema.
-use Rattle.std.proofs.Common.{◌≡◌, ℕ, Bool, true, false, List, length, Option, Some, None, refl, sym, ◌∙◌, subst}
-use Rattle.std.specs.Prelude.{if◌then◌else◌, option_and_then, Result, Ok, Err, nat_lt, not, ◌||◌}
-use Rattle.std.proofs.lemmas.Bool.{ltb-false, true≢false}
-use Rattle.audit_types.specs.Limits.{most_groups}
+use Rattle.std.proofs.Common.{◌≡◌, ℕ, ◌<◌, ◌≤◌, ◌&&◌, Bool, true, false, List, [], length, Option, Some, None, refl, sym, ◌∙◌, subst, arith}
+use Rattle.std.specs.Prelude.{if◌then◌else◌, option_and_then, option_map, unwrap_or, codes, nat_le, Result, Ok, Err, nat_lt, not, ◌||◌}
+use Rattle.std.proofs.lemmas.Bool.{leb-true, ltb-false, true≢false}
+use Rattle.audit_types.specs.Limits.{most_groups, most_width}
 use Rattle.serde_json.specs.Data.{Data}
-use Rattle.schema_json.specs.Columns.{Column, Group, SchemaView, IsSchema, has_public, has_good_names, repeats, too_many}
-use Rattle.schema_json.specs.Reading.{value_of, columns_of, column_of, groups_of, each_as, items_at, listed_of, made_of, with_public, schema_of, checked, most_schema}
+use Rattle.serde_json.specs.Find.{get, as_number, as_u64}
+use Rattle.schema_json.specs.Columns.{Column, Group, Guards, SchemaView, IsSchema, has_public, has_good_names, repeats, too_many}
+use Rattle.schema_json.specs.Reading.{value_of, columns_of, column_of, groups_in, guards_of, has_these_keys, key_or, number_within, each_as, items_at, listed_of, made_of, with_public, schema_of, checked, most_schema}
 use Rattle.schema_json.specs.declared.faults.SchemaFault.{SchemaFault}
 use Rattle.schema_json.specs.declared.faults.SchemaFault.TheVariants.{TooLong, NotJson, BadName, Repeated, TooMany}
 use Rattle.schema_json.proofs.FirstFault.{schema_long, schema_no_value, schema_value}
+
+-- a width that may be
+abbrev IsWidth : ℕ → Type 0
+IsWidth width = (0 < width) × (width ≤ most_width)
 
 -- the answer is a fault, and no schema
 no_schema : (f : SchemaFault) (r : Result SchemaView SchemaFault) (schema : SchemaView) → r ≡ Err f → r ≡ Ok schema → IsSchema schema
@@ -19,40 +24,69 @@ or_none : (a b : Bool) → (a || b) ≡ false → (a ≡ false) × (b ≡ false)
 or_none true b e = absurd (true≢false e)
 or_none false b e = (refl, e)
 
--- columns of which some are public, and that pass the tests of their names and numbers
-passed : (s schema : SchemaView) (good again many : Bool) → has_public s.columns ≡ true → has_good_names s.columns ≡ good → repeats s.columns ≡ again
-    → (too_many s.columns || nat_lt most_groups (length s.groups)) ≡ many
+-- columns of which some are public, and that pass the tests of their names and numbers, with a width that may be
+passed : (s schema : SchemaView) (good again many : Bool) → has_public s.columns ≡ true → IsWidth s.guards.width → has_good_names s.columns ≡ good
+    → repeats s.columns ≡ again → (too_many s.columns || nat_lt most_groups (length s.guards.groups)) ≡ many
     → (if not good then Err BadName else (if again then Err Repeated else (if many then Err TooMany else Ok s))) ≡ Ok schema → IsSchema schema
-passed s schema false again many public names once within is = absurd (cc)
-passed s schema true true many public names once within is = absurd (cc)
-passed s schema true false true public names once within is = absurd (cc)
-passed s schema true false false public names once within is =
+passed s schema false again many public width names once within is = absurd (cc)
+passed s schema true true many public width names once within is = absurd (cc)
+passed s schema true false true public width names once within is = absurd (cc)
+passed s schema true false false public width names once within is =
     let same : s ≡ schema = cc in
-    let parts = or_none (too_many s.columns) (nat_lt most_groups (length s.groups)) within in
+    let parts = or_none (too_many s.columns) (nat_lt most_groups (length s.guards.groups)) within in
     subst IsSchema same (record {
       columns = record { public = public; good = names; once = once; within = parts.0 };
-      few = ltb-false most_groups (length s.groups) parts.1;
+      guards = record { few = ltb-false most_groups (length s.guards.groups) parts.1; wide = width.0; narrow = width.1 };
     })
 
 -- what a value lists, if some of the columns are public
-some_public : (cs : List Column) (g : Option (List Group)) (schema : SchemaView) (public : Bool) → has_public cs ≡ public →
-    checked (made_of (λ columns groups. record { columns = columns; groups = groups }) (if public then Some cs else None) g) ≡ Ok schema → IsSchema schema
-some_public cs g schema false public is = absurd (cc)
-some_public cs None schema true public is = absurd (cc)
-some_public cs (Some gs) schema true public is =
-    let s : SchemaView = record { columns = cs; groups = gs } in
-    passed s schema (has_good_names cs) (repeats cs) (too_many cs || nat_lt most_groups (length gs)) public refl refl refl is
+some_public : (cs : List Column) (g : Option Guards) (schema : SchemaView) (public : Bool) → ((guards : Guards) → g ≡ Some guards → IsWidth guards.width) → has_public cs ≡ public →
+    checked (made_of (λ columns guards. record { columns = columns; guards = guards }) (if public then Some cs else None) g) ≡ Ok schema → IsSchema schema
+some_public cs g schema false width public is = absurd (cc)
+some_public cs None schema true width public is = absurd (cc)
+some_public cs (Some gs) schema true width public is =
+    let s : SchemaView = record { columns = cs; guards = gs } in
+    passed s schema (has_good_names cs) (repeats cs) (too_many cs || nat_lt most_groups (length gs.groups)) public (width gs refl) refl refl refl is
 
 -- what a value lists, if it lists columns
-listed : (o : Option (List Column)) (g : Option (List Group)) (schema : SchemaView) →
-    checked (made_of (λ columns groups. record { columns = columns; groups = groups }) (option_and_then with_public o) g) ≡ Ok schema → IsSchema schema
-listed None g schema is = absurd (cc)
-listed (Some cs) g schema is = some_public cs g schema (has_public cs) refl is
+listed : (o : Option (List Column)) (g : Option Guards) (schema : SchemaView) → ((guards : Guards) → g ≡ Some guards → IsWidth guards.width) →
+    checked (made_of (λ columns guards. record { columns = columns; guards = guards }) (option_and_then with_public o) g) ≡ Ok schema → IsSchema schema
+listed None g schema width is = absurd (cc)
+listed (Some cs) g schema width is = some_public cs g schema (has_public cs) width refl is
+
+-- a number is read only within its bounds
+number_read : (low high absent : ℕ) (d : Option Data) (n : ℕ) → low ≤ absent → absent ≤ high → unwrap_or (option_map (number_within low high) d) (Some absent) ≡ Some n →
+    (low ≤ n) × (n ≤ high)
+number_read low high absent None n above below is = let same : absent ≡ n = cc in subst (λ k. (low ≤ k) × (k ≤ high)) same (above, below)
+number_read low high absent (Some d) n above below is = read (option_and_then as_u64 (as_number d)) is
+  where
+    within : (k : ℕ) (b c : Bool) → nat_le low k ≡ b → nat_le k high ≡ c → (if b && c then Some k else None) ≡ Some n → (low ≤ n) × (n ≤ high)
+    within k true true l h e = let same : k ≡ n = cc in subst (λ m. (low ≤ m) × (m ≤ high)) same (leb-true low k l, leb-true k high h)
+    within k true false l h e = absurd (cc)
+    within k false c l h e = absurd (cc)
+
+    read : (o : Option ℕ) → option_and_then (λ k. if nat_le low k && nat_le k high then Some k else None) o ≡ Some n → (low ≤ n) × (n ≤ high)
+    read None e = absurd (cc)
+    read (Some k) e = within k (nat_le low k) (nat_le k high) refl refl e
+
+-- what a value says is guarded has a width that may be
+width_of : (d : Data) (guards : Guards) → guards_of d ≡ Some guards → IsWidth guards.width
+unfolding guards_of
+width_of d guards is = by (has_these_keys d) (key_or [] groups_in (codes "protect") d) (key_or most_width (number_within 1 most_width) (codes "width") d) refl is
+  where
+    by : (keys : Bool) (groups : Option (List Group)) (width : Option ℕ) → key_or most_width (number_within 1 most_width) (codes "width") d ≡ width →
+        (if keys then made_of (λ groups width. record { groups = groups; width = width }) groups width else None) ≡ Some guards → IsWidth guards.width
+    by false groups width w e = absurd (cc)
+    by true None width w e = absurd (cc)
+    by true (Some groups) None w e = absurd (cc)
+    by true (Some groups) (Some width) w e =
+        let same : width ≡ guards.width = cc in
+        subst IsWidth same (number_read 1 most_width most_width (get (codes "width") d) width (omega arith) (omega arith) w)
 
 -- what a value lists is a schema
 of_value : (d : Data) (schema : SchemaView) → checked (listed_of d) ≡ Ok schema → IsSchema schema
 unfolding columns_of
-of_value d schema is = listed (option_and_then (each_as column_of) (items_at _ d)) (groups_of d) schema is
+of_value d schema is = listed (option_and_then (each_as column_of) (items_at _ d)) (guards_of d) schema (width_of d) is
 
 -- what bytes mean is a schema
 pub meant_columns : (bytes : List ℕ) (schema : SchemaView) → schema_of bytes ≡ Ok schema → IsSchema schema

@@ -1,12 +1,12 @@
 -- The schema that bytes mean, and the first fault of bytes that mean none.
-use Rattle.std.specs.Prelude.{◌≡◌, ℕ, suc, not, ◌||◌, if◌then◌else◌, List, [], ◌∷◌, length, Option, Some, None, is_none, option_map, option_and_then, unwrap_or, map, Vec, Result, Ok, Err, nat_lt, codes, ◌==◌}
+use Rattle.std.specs.Prelude.{◌≡◌, ℕ, suc, ◌+◌, Bool, cond, not, ◌||◌, ◌&&◌, if◌then◌else◌, List, [], ◌∷◌, length, Option, Some, None, is_none, is_some, option_map, option_and_then, unwrap_or, map, Vec, Result, Ok, Err, nat_lt, nat_le, codes, ◌==◌}
 use Rattle.std.specs.Str.{bytes_eq, is_utf8}
 use Rattle.serde_json.specs.Data.{Data, Items, no_items, item, Members, no_members, member}
 use Rattle.serde_json.specs.Read.{read}
-use Rattle.serde_json.specs.Find.{get, as_str, as_array, as_object}
+use Rattle.serde_json.specs.Find.{get, as_number, as_str, as_array, as_object, as_u64}
 use Rattle.std.specs.declared.alloc.Global.{Global}
-use Rattle.audit_types.specs.Limits.{most_groups}
-use Rattle.schema_json.specs.Columns.{Column, Group, SchemaView, has_good_names, repeats, too_many, has_public}
+use Rattle.audit_types.specs.Limits.{most_groups, most_width}
+use Rattle.schema_json.specs.Columns.{Column, Group, Guards, SchemaView, has_good_names, repeats, too_many, has_public}
 use Rattle.schema_json.specs.declared.roles.Role.{Role}
 use Rattle.schema_json.specs.declared.roles.Role.TheVariants as role
 use Rattle.schema_json.specs.declared.faults.SchemaFault.{SchemaFault}
@@ -59,13 +59,35 @@ with_public columns = if has_public columns then Some columns else None
 unfoldable pub columns_of : Data → Option (List Column)
 columns_of d = option_and_then with_public (option_and_then (each_as column_of) (items_at (codes "columns") d))
 
--- the groups that an object of the key `columns` lists: none if this is its one key, else those of the key `protect`
-unfoldable pub groups_of : Data → Option (List Group)
-groups_of d = if key_count d == 1 then Some [] else (if key_count d == 2 then option_and_then (each_as group_of) (items_at (codes "protect") d) else None)
+-- what a value says under a key is read as; this, if it hasn't the key
+abbrev pub key_or : {X : Type 0} → X → (Data → Option X) → List ℕ → Data → Option X
+key_or absent read key d = unwrap_or (option_map read (get key d)) (Some absent)
 
--- what a value lists: columns, and groups or none
+-- the groups that an array lists
+unfoldable pub groups_in : Data → Option (List Group)
+groups_in d = option_and_then (each_as group_of) (as_array d)
+
+-- a whole number from one to another, with neither sign, point nor exponent
+abbrev pub number_within : ℕ → ℕ → Data → Option ℕ
+number_within low high d = option_and_then (λ n. if nat_le low n && nat_le n high then Some n else None) (option_and_then as_u64 (as_number d))
+
+-- 1 for a key that an object has, 0 for one that it hasn't
+abbrev pub has_key : List ℕ → Data → ℕ
+has_key key d = cond (is_some (get key d)) 1 0
+
+-- an object has no keys but `columns` and those that say what is guarded
+abbrev pub has_these_keys : Data → Bool
+has_these_keys d = key_count d == 1 + has_key (codes "protect") d + has_key (codes "width") d
+
+-- what an object says is guarded: no groups unless it has the key `protect`, and the greatest width unless it has `width`
+unfoldable pub guards_of : Data → Option Guards
+guards_of d =
+    if has_these_keys d then made_of (λ groups width. record { groups = groups; width = width }) (key_or [] groups_in (codes "protect") d)
+    (key_or most_width (number_within 1 most_width) (codes "width") d) else None
+
+-- what a value lists: columns, and what is guarded
 abbrev pub listed_of : Data → Option SchemaView
-listed_of d = made_of (λ columns groups. record { columns = columns; groups = groups }) (columns_of d) (groups_of d)
+listed_of d = made_of (λ columns guards. record { columns = columns; guards = guards }) (columns_of d) (guards_of d)
 
 -- the most bytes of a schema
 abbrev pub most_schema : ℕ
@@ -74,7 +96,7 @@ most_schema = 65536
 -- the first fault of what is listed, and else this
 abbrev pub checked : Option SchemaView → Result SchemaView SchemaFault
 checked None = Err Shape
-checked (Some schema) = if not (has_good_names schema.columns) then Err BadName else (if repeats schema.columns then Err Repeated else (if too_many schema.columns || nat_lt most_groups (length schema.groups) then Err TooMany else Ok schema))
+checked (Some schema) = if not (has_good_names schema.columns) then Err BadName else (if repeats schema.columns then Err Repeated else (if too_many schema.columns || nat_lt most_groups (length schema.guards.groups) then Err TooMany else Ok schema))
 
 -- the schema that bytes mean, or their first fault
 abbrev pub schema_of : List ℕ → Result SchemaView SchemaFault
@@ -100,13 +122,17 @@ abbrev pub ReadsListed : Result SchemaView SchemaFault → Result SchemaView Sch
 ReadsListed (Ok schema) meant = meant ≡ Ok schema
 ReadsListed (Err fault) meant = IsFaultOf fault meant
 
+-- what the reader makes of a value: what it is read as, or word that it is none
+abbrev pub Takes : {E X : Type 0} → (E → X) → Result E SchemaFault → Option X → Type 0
+Takes kept (Ok entry) meant = meant ≡ Some (kept entry)
+Takes kept (Err NoMemory) meant = Unit {0}
+Takes kept (Err Shape) meant = meant ≡ None
+Takes kept (Err TooLong) meant = ⊥
+Takes kept (Err NotJson) meant = ⊥
+Takes kept (Err BadName) meant = ⊥
+Takes kept (Err Repeated) meant = ⊥
+Takes kept (Err TooMany) meant = ⊥
+
 -- what the reader gathers: what the values are read as, or word that some value is none
 abbrev pub Gathers : {E X : Type 0} → (E → X) → Result (Vec E Global) SchemaFault → Option (List X) → Type 0
-Gathers kept (Ok entries) meant = meant ≡ Some (map kept entries.items)
-Gathers kept (Err NoMemory) meant = Unit {0}
-Gathers kept (Err Shape) meant = meant ≡ None
-Gathers kept (Err TooLong) meant = ⊥
-Gathers kept (Err NotJson) meant = ⊥
-Gathers kept (Err BadName) meant = ⊥
-Gathers kept (Err Repeated) meant = ⊥
-Gathers kept (Err TooMany) meant = ⊥
+Gathers kept = Takes (λ entries. map kept entries.items)

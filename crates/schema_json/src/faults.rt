@@ -9,7 +9,8 @@ pub enum SchemaFault {
     TooLong,
     /// Not JSON, as `serde_json` reads it.
     NotJson,
-    /// Not an object with a list of columns, each with a name and a role, some of them public.
+    /// Not an object with a list of columns, each with a name and a role, some of them public; a key that no schema has, or a
+    /// value that its key can't have.
     Shape,
     /// A name that no column may have.
     BadName,

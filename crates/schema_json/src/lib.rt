@@ -1,4 +1,4 @@
-//! The schema of a table: which columns it has, which of them are secret, and which groups of rows are protected.
+//! The schema of a table: which columns it has, which of them are secret, and what is guarded of it.
 //!
 //! Start with `read_schema`: its clause says that it answers what the bytes mean, or their first fault. docs/FORMATS.md
 //! describes the format.
