@@ -37,10 +37,10 @@ later_group column front rest group there =
     (Contains-append_right (groups_of column front) (groups_of column rest) group there)
 
 -- an entry of a column is one of its groups
-entry_is_group : (owner column m : ℕ) (rows : List ℕ) (rest : List Protected) → rows ≢ [] → (owner == column) ≡ true →
-    Contains (groups_of column (entry_of owner m rows ++ rest)) rows
-entry_is_group owner column m [] rest some own = absurd (some refl)
-entry_is_group owner column m (r ∷ rows) rest some own =
+entry_is_group : (owner column place m : ℕ) (rows : List ℕ) (rest : List Protected) → rows ≢ [] → (owner == column) ≡ true →
+    Contains (groups_of column (entry_of owner place m rows ++ rest)) rows
+entry_is_group owner column place m [] rest some own = absurd (some refl)
+entry_is_group owner column place m (r ∷ rows) rest some own =
     rw own (zero, omega arith, refl)
 
 module _ (shape : Shape) (m column : ℕ) where
@@ -57,8 +57,8 @@ module _ (shape : Shape) (m column : ℕ) where
         | inr new ↦ inr (record { row = new.0; new = new.1; there = new.2; are = are })
         | inl old ↦ inl (
           old,
-          subst (λ rows. Contains (groups_of column (entry_of p.column m rows ++ groups_among m protected)) p.rows.list) (sym (rows-again m p.rows.list old))
-              (entry_is_group p.column column m p.rows.list (groups_among m protected) fits.0.some own),
+          subst (λ rows. Contains (groups_of column (entry_of p.column p.place m rows ++ groups_among m protected)) p.rows.list) (sym (rows-again m p.rows.list old))
+              (entry_is_group p.column column p.place m p.rows.list (groups_among m protected) fits.0.some own),
         )
       ]
 
@@ -70,7 +70,7 @@ module _ (shape : Shape) (m column : ℕ) where
       (groups_of column protected) (all_old_or_new protected (All-tail (IsProtected shape) p protected fit)))
     where
       later : (group : List ℕ) → IsFirstOrNew (groups_among m protected) group → IsFirstOrNew (groups_among m (p ∷ protected)) group
-      later group (inl old) = inl (old.0, later_group column (entry_of p.column m (rows_that (has_row p.rows.list) m)) (groups_among m protected) group old.1)
+      later group (inl old) = inl (old.0, later_group column (entry_of p.column p.place m (rows_that (has_row p.rows.list) m)) (groups_among m protected) group old.1)
       later group (inr new) = inr new
 
       by : (b : Bool) → (p.column == column) ≡ b → All (IsFirstOrNew (groups_among m (p ∷ protected))) (groups_of column protected) →

@@ -17,13 +17,13 @@ use Rattle.audit_types.specs.Widening.{over, groups_among, protection_among}
 groups_among-append : (m : ℕ) (front rest : List Protected) → groups_among m (front ++ rest) ≡ groups_among m front ++ groups_among m rest
 groups_among-append m [] rest = refl
 groups_among-append m (p ∷ front) rest =
-    let first = entry_of p.column m (rows_that (has_row p.rows.list) m) in
+    let first = entry_of p.column p.place m (rows_that (has_row p.rows.list) m) in
     ap (λ l. first ++ l) (groups_among-append m front rest) ∙ sym (append_assoc first (groups_among m front) (groups_among m rest))
 
 -- among the first rows of one entry
-groups_among-entry : (column m k : ℕ) (rows : List ℕ) → groups_among m (entry_of column k rows) ≡ entry_of column m (rows_that (has_row rows) m)
-groups_among-entry column m k [] = ap (entry_of column m) (sym (rows_that_none (has_row []) m (λ r below. refl)))
-groups_among-entry column m k (r ∷ rows) = append-nil (entry_of column m (rows_that (has_row (r ∷ rows)) m))
+groups_among-entry : (column place m k : ℕ) (rows : List ℕ) → groups_among m (entry_of column place k rows) ≡ entry_of column place m (rows_that (has_row rows) m)
+groups_among-entry column place m k [] = ap (entry_of column place m) (sym (rows_that_none (has_row []) m (λ r below. refl)))
+groups_among-entry column place m k (r ∷ rows) = append-nil (entry_of column place m (rows_that (has_row (r ∷ rows)) m))
 
 -- the groups among the first m of the first k rows are those among the first m
 pub groups_among-again : (m k : ℕ) (protected : List Protected) → m ≤ k → groups_among m (groups_among k protected) ≡ groups_among m protected
@@ -32,17 +32,17 @@ groups_among-again m k (p ∷ protected) le =
     let rows = rows_that (has_row p.rows.list) k in
     let same : rows_that (has_row rows) m ≡ rows_that (has_row p.rows.list) m =
     rows_that_agree (has_row rows) (has_row p.rows.list) m (λ r below. has-rows_that (has_row p.rows.list) k r (omega (arith, below, le))) in
-    groups_among-append m (entry_of p.column k rows) (groups_among k protected)
-    ∙ ap (λ l. l ++ groups_among m (groups_among k protected)) (groups_among-entry p.column m k rows ∙ ap (entry_of p.column m) same)
-    ∙ ap (λ l. entry_of p.column m (rows_that (has_row p.rows.list) m) ++ l) (groups_among-again m k protected le)
+    groups_among-append m (entry_of p.column p.place k rows) (groups_among k protected)
+    ∙ ap (λ l. l ++ groups_among m (groups_among k protected)) (groups_among-entry p.column p.place m k rows ∙ ap (entry_of p.column p.place m) same)
+    ∙ ap (λ l. entry_of p.column p.place m (rows_that (has_row p.rows.list) m) ++ l) (groups_among-again m k protected le)
 
 -- ---- they fit
 
 module _ (shape : Shape) (m : ℕ) where
-  entry_fits : (column : ℕ) (rows : List ℕ) → column < columns shape → kind_at shape column ≡ Sum → AreRows m rows →
-      All (IsProtected (over m shape)) (entry_of column m rows)
-  entry_fits column [] below kind are = All-nil (IsProtected (over m shape))
-  entry_fits column (r ∷ rows) below kind are =
+  entry_fits : (column place : ℕ) (rows : List ℕ) → column < columns shape → kind_at shape column ≡ Sum → AreRows m rows →
+      All (IsProtected (over m shape)) (entry_of column place m rows)
+  entry_fits column place [] below kind are = All-nil (IsProtected (over m shape))
+  entry_fits column place (r ∷ rows) below kind are =
       All-cons (IsProtected (over m shape)) _ [] (
         record {
           column_below = below;
@@ -58,20 +58,20 @@ module _ (shape : Shape) (m : ℕ) where
   all_fit (p ∷ protected) fit =
       let first = All-head (IsProtected shape) p protected fit in
       let rows = rows_that (has_row p.rows.list) m in
-      All-append (IsProtected (over m shape)) (entry_of p.column m rows) (groups_among m protected)
-      (entry_fits p.column rows first.0.column_below first.1 (AreRows-rows_that (has_row p.rows.list) m))
+      All-append (IsProtected (over m shape)) (entry_of p.column p.place m rows) (groups_among m protected)
+      (entry_fits p.column p.place rows first.0.column_below first.1 (AreRows-rows_that (has_row p.rows.list) m))
       (all_fit protected (All-tail (IsProtected shape) p protected fit))
 
-at_most_one : (column m : ℕ) (rows : List ℕ) → length (entry_of column m rows) ≤ 1
-at_most_one column m [] = omega arith
-at_most_one column m (r ∷ rows) = omega arith
+at_most_one : (column place m : ℕ) (rows : List ℕ) → length (entry_of column place m rows) ≤ 1
+at_most_one column place m [] = omega arith
+at_most_one column place m (r ∷ rows) = omega arith
 
 -- no more groups than before
 no_more_groups : (m : ℕ) (protected : List Protected) → length (groups_among m protected) ≤ length protected
 no_more_groups m [] = omega arith
 no_more_groups m (p ∷ protected) =
-    let first = entry_of p.column m (rows_that (has_row p.rows.list) m) in
-    omega (arith, length-append first (groups_among m protected), at_most_one p.column m (rows_that (has_row p.rows.list) m), no_more_groups m protected)
+    let first = entry_of p.column p.place m (rows_that (has_row p.rows.list) m) in
+    omega (arith, length-append first (groups_among m protected), at_most_one p.column p.place m (rows_that (has_row p.rows.list) m), no_more_groups m protected)
 
 -- what is protected among the first rows fits these
 pub protection_among-fit : (shape : Shape) (m : ℕ) (protected : Protection) → AreProtected shape protected → AreProtected (over m shape) (protection_among m protected)

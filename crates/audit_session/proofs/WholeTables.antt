@@ -20,10 +20,10 @@ whole_lists : (n : ℕ) (lists : List (List ℤ)) → AllByRecursion (λ w. leng
 whole_lists n lists all =
     map_fixed (take n) lists (λ k d lt. take_all n (get_or lists k d) (omega (arith, all-get_or (λ w. length w ≡ n) lists k d all lt)))
 
-whole_entry : (column n m : ℕ) (list : List ℕ) → m ≡ n → list ≢ [] →
-    entry_of column n list ≡ record { column = column; rows = record { n = m; list = list } } ∷ []
-whole_entry column n m [] same some = absurd (some refl)
-whole_entry column n m (r ∷ rows) same some = ap (λ k. record { column = column; rows = record { n = k; list = r ∷ rows } } ∷ []) (sym same)
+whole_entry : (column place n m : ℕ) (list : List ℕ) → m ≡ n → list ≢ [] →
+    entry_of column place n list ≡ record { column = column; place = place; rows = record { n = m; list = list } } ∷ []
+whole_entry column place n m [] same some = absurd (some refl)
+whole_entry column place n m (r ∷ rows) same some = ap (λ k. record { column = column; place = place; rows = record { n = k; list = r ∷ rows } } ∷ []) (sym same)
 
 whole_groups : (shape : Shape) (protected : List Protected) → All (IsProtected shape) protected → groups_among shape.rows protected ≡ protected
 whole_groups shape [] fit = refl
@@ -31,8 +31,8 @@ whole_groups shape (p ∷ protected) fit =
     let first = (All-head (IsProtected shape) p protected fit).0 in
     let again : rows_that (has_row p.rows.list) shape.rows ≡ p.rows.list = rows-again shape.rows p.rows.list
     (subst (λ n. AreRows n p.rows.list) first.same_n first.are_rows) in
-    ap (λ rows. entry_of p.column shape.rows rows ++ groups_among shape.rows protected) again
-    ∙ ap (λ l. l ++ groups_among shape.rows protected) (whole_entry p.column shape.rows p.rows.n p.rows.list first.same_n first.some)
+    ap (λ rows. entry_of p.column p.place shape.rows rows ++ groups_among shape.rows protected) again
+    ∙ ap (λ l. l ++ groups_among shape.rows protected) (whole_entry p.column p.place shape.rows p.rows.n p.rows.list first.same_n first.some)
     ∙ ap (λ l. p ∷ l) (whole_groups shape protected (All-tail (IsProtected shape) p protected fit))
 
 whole_protection : (shape : Shape) (protected : Protection) → IsPlainFor shape protected → protection_among shape.rows protected ≡ protected

@@ -29,10 +29,10 @@ answer_in r = record { rows = r.rows.list; value = r.answer }
 abbrev pub answers_of : ℕ → List Answered → List Answer
 answers_of column history = map answer_in (filter (λ r. r.column == column) history)
 
--- the entry of a group with these of n rows: one that has none needs no protection
-abbrev pub entry_of : ℕ → ℕ → List ℕ → List Protected
-entry_of column n [] = []
-entry_of column n (row ∷ rows) = record { column = column; rows = record { n = n; list = row ∷ rows } } ∷ []
+-- the entry of a group, which has a place in the schema's list, with these of n rows: one that has none needs no protection
+abbrev pub entry_of : ℕ → ℕ → ℕ → List ℕ → List Protected
+entry_of column place n [] = []
+entry_of column place n (row ∷ rows) = record { column = column; place = place; rows = record { n = n; list = row ∷ rows } } ∷ []
 
 -- the groups of a column, in order
 abbrev pub groups_of : ℕ → List Protected → List (List ℕ)

@@ -21,7 +21,7 @@ widened n history = map (wider n) history
 -- the protected groups among the first n rows
 abbrev pub groups_among : ℕ → List Protected → List Protected
 groups_among n [] = []
-groups_among n (p ∷ protected) = entry_of p.column n (rows_that (has_row p.rows.list) n) ++ groups_among n protected
+groups_among n (p ∷ protected) = entry_of p.column p.place n (rows_that (has_row p.rows.list) n) ++ groups_among n protected
 
 -- what is protected among the first n rows: an asker may be one of these, or a later one
 abbrev pub protection_among : ℕ → Protection → Protection
