@@ -20,51 +20,62 @@ pushed (Ok u) old new value fine items = items
 pushed (Err e) old new value fine items = absurd (true≢false fine)
 
 -- a group more, after the others
-entries_more : (columns : List Column) (public : PublicView) (groups : List Group) (group : Group) (protected : List Protected) (column : ℕ) (t : Tree) →
-    AreEntries columns public groups protected → IsGroup columns group column t →
-    AreEntries columns public (groups ++ group ∷ []) (protected ++ entry_of column public.rows (meaning public t))
-entries_more columns public [] group protected column t none is =
-    let entry = entry_of column public.rows (meaning public t) in
-    (column, t, [], is, ap (λ (xs : List Protected). xs ++ entry) none ∙ sym (append-nil entry), refl)
-entries_more columns public (g ∷ gs) group protected column t (c, u, rest, was, before, more) is =
-    let entry = entry_of column public.rows (meaning public t) in (
+entries_more : (columns : List Column) (public : PublicView) (from : ℕ) (groups : List Group) (group : Group) (protected : List Protected) (column : ℕ) (t : Tree) →
+    AreEntries columns public from groups protected → IsGroup columns group column t →
+    AreEntries columns public from (groups ++ group ∷ []) (protected ++ entry_of column (from + length groups) public.rows (meaning public t))
+entries_more columns public from [] group protected column t none is =
+    let entry = entry_of column (from + 0) public.rows (meaning public t) in
+    let here : from + 0 ≡ from = omega arith in (
+      column,
+      t,
+      [],
+      is,
+      ap (λ (xs : List Protected). xs ++ entry) none ∙ sym (append-nil entry) ∙ ap (λ k. entry_of column k public.rows (meaning public t) ++ []) here,
+      refl,
+    )
+entries_more columns public from (g ∷ gs) group protected column t (c, u, rest, was, before, more) is =
+    let entry = entry_of column (from + length (g ∷ gs)) public.rows (meaning public t) in
+    let later : (from + 1) + length gs ≡ from + length (g ∷ gs) = omega arith in (
       c,
       u,
       rest ++ entry,
       was,
-      ap (λ (xs : List Protected). xs ++ entry) before ∙ append_assoc (entry_of c public.rows (meaning public u)) rest entry,
-      entries_more columns public gs group rest column t more is,
+      ap (λ (xs : List Protected). xs ++ entry) before ∙ append_assoc (entry_of c from public.rows (meaning public u)) rest entry,
+      subst (λ k. AreEntries columns public (from + 1) (gs ++ group ∷ []) (rest ++ entry_of column k public.rows (meaning public t))) later
+          (entries_more columns public (from + 1) gs group rest column t more is),
     )
 
 -- what the group at a place gives
-abbrev pub GivesEntry : List Column → PublicView → Group → List Protected → Type 0
-GivesEntry columns public group found = (column : ℕ) × (t : Tree) × IsGroup columns group column t × (found ≡ entry_of column public.rows (meaning public t))
+abbrev pub GivesEntry : List Column → PublicView → ℕ → Group → List Protected → Type 0
+GivesEntry columns public place group found = (column : ℕ) × (t : Tree) × IsGroup columns group column t × (found ≡ entry_of column place public.rows (meaning public t))
 
 -- the entry of the group at a place, after those of the groups before it
 pub entries_at : (columns : List Column) (public : PublicView) (groups : List Group) (place : ℕ) (protected found new : List Protected) → place < length groups →
-    AreEntries columns public (take place groups) protected → ((group : Group) → slice_get groups place ≡ Some group → GivesEntry columns public group found) →
-    new ≡ protected ++ found → AreEntries columns public (take (place + 1) groups) new
+    AreEntries columns public 0 (take place groups) protected → ((group : Group) → slice_get groups place ≡ Some group → GivesEntry columns public place group found) →
+    new ≡ protected ++ found → AreEntries columns public 0 (take (place + 1) groups) new
 entries_at columns public groups place protected found new low entries gives is =
     let d : Group = record { column = []; condition = [] } in
     by d (gives (get_or groups place d) (slice_get-get_or groups place d low))
   where
-    by : (d : Group) → GivesEntry columns public (get_or groups place d) found → AreEntries columns public (take (place + 1) groups) new
+    by : (d : Group) → GivesEntry columns public place (get_or groups place d) found → AreEntries columns public 0 (take (place + 1) groups) new
     by d (column, t, group, found_is) =
-        subst (λ gs. AreEntries columns public gs new) (sym (take_more groups place d low))
-        (subst (AreEntries columns public (take place groups ++ get_or groups place d ∷ [])) (ap (λ (xs : List Protected). protected ++ xs) (sym found_is) ∙ sym is)
-        (entries_more columns public (take place groups) (get_or groups place d) protected column t entries group))
+        let so_many : 0 + length (take place groups) ≡ place = omega (arith, low, length-take place groups) in
+        subst (λ gs. AreEntries columns public 0 gs new) (sym (take_more groups place d low))
+        (subst (AreEntries columns public 0 (take place groups ++ get_or groups place d ∷ []))
+        (ap (λ k. protected ++ entry_of column k public.rows (meaning public t)) so_many ∙ ap (λ (xs : List Protected). protected ++ xs) (sym found_is) ∙ sym is)
+        (entries_more columns public 0 (take place groups) (get_or groups place d) protected column t entries group))
 
 -- groups that have entries have no fault
-pub entries_sound : (columns : List Column) (public : PublicView) (groups : List Group) (protected : List Protected) → AreEntries columns public groups protected →
+pub entries_sound : (columns : List Column) (public : PublicView) (from : ℕ) (groups : List Group) (protected : List Protected) → AreEntries columns public from groups protected →
     (i : ℕ) (group : Group) → slice_get groups i ≡ Some group → HasNoFault columns group
-entries_sound columns public [] protected none i group is = absurd (cc)
-entries_sound columns public (g ∷ gs) protected (c, u, rest, was, before, more) zero group is =
+entries_sound columns public from [] protected none i group is = absurd (cc)
+entries_sound columns public from (g ∷ gs) protected (c, u, rest, was, before, more) zero group is =
     let same : g ≡ group = cc in subst (HasNoFault columns) same (c, u, was)
-entries_sound columns public (g ∷ gs) protected (c, u, rest, was, before, more) (suc i) group is = entries_sound columns public gs rest more i group is
+entries_sound columns public from (g ∷ gs) protected (c, u, rest, was, before, more) (suc i) group is = entries_sound columns public (from + 1) gs rest more i group is
 
 -- a fault after groups that have entries is the first
 pub first_bad : (columns : List Column) (public : PublicView) (guards : Guards) (place at : ℕ) (protected : List Protected) → place < length guards.groups →
-    AreEntries columns public (take place guards.groups) protected → at ≡ place → ((group : Group) → slice_get guards.groups place ≡ Some group → ¬ (HasNoFault columns group)) →
+    AreEntries columns public 0 (take place guards.groups) protected → at ≡ place → ((group : Group) → slice_get guards.groups place ≡ Some group → ¬ (HasNoFault columns group)) →
     IsFirstBad columns guards at
 first_bad columns public guards place at protected low entries same bad =
     let groups = guards.groups in
@@ -79,5 +90,5 @@ first_bad columns public guards place at protected low entries same bad =
           let there : slice_get (take place groups) i ≡ Some (get_or (take place groups) i group) = slice_get-get_or (take place groups) i group inside in
           let one : get_or (take place groups) i group ≡ get_or groups i group = get_or-take place groups i group below in
           let all : slice_get groups i ≡ Some (get_or groups i group) = slice_get-get_or groups i group (omega (arith, below, low)) in
-          entries_sound columns public (take place groups) protected entries i group (there ∙ ap Some one ∙ sym all ∙ is);
+          entries_sound columns public 0 (take place groups) protected entries i group (there ∙ ap Some one ∙ sym all ∙ is);
     })

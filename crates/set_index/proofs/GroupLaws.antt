@@ -1,10 +1,11 @@
 -- Laws of the entries of groups: they are one list, there is one if no group has a fault, and they fit the table.
-use Rattle.std.proofs.Common.{◌≡◌, ℕ, suc, ◌≤◌, List, [], ◌∷◌, ◌++◌, length, Option, Some, None, unwrap_or, refl, sym, ap, ◌∙◌, subst, arith}
+use Rattle.std.proofs.Common.{◌+◌, ◌≡◌, ℕ, suc, ◌≤◌, List, [], ◌∷◌, ◌++◌, length, Option, Some, None, unwrap_or, refl, sym, ap, ◌∙◌, subst, arith}
 use Rattle.std.specs.Prelude.{option_and_then, slice_get, All}
 use Rattle.std.proofs.lemmas.List.{length-append}
 use Rattle.std.proofs.lemmas.List.Elements.{All-append, All-nil, All-cons}
 use Rattle.audit_types.specs.Rows.{AreRows}
 use Rattle.audit_types.specs.RowLaws.{AreRows-rows_that}
+use Rattle.audit_types.specs.Limits.{most_groups}
 use Rattle.audit_types.specs.PlainLaws.{plain_fits}
 use Rattle.audit_types.specs.History.{Protection, IsProtected, IsPlainFor, FitsShape, against_outsiders, entry_of}
 use Rattle.audit_types.specs.declared.records.Protected.{Protected}
@@ -27,40 +28,41 @@ some_one : (a b : ℕ) (o : Option ℕ) → o ≡ Some a → o ≡ Some b → a 
 some_one a b o first second = ap (λ x. unwrap_or x a) (sym first ∙ second)
 
 -- groups have at most one list of entries
-one_list : OneMeaning → (columns : List Column) (public : PublicView) (groups : List Group) (a b : List Protected) → AreEntries columns public groups a → AreEntries columns public groups b → a ≡ b
-one_list means columns public [] a b x y = x ∙ sym y
-one_list means columns public (g ∷ gs) a b (c, t, rest, is, a_is, more) (d, u, others, was, b_is, again) =
+one_list : OneMeaning → (columns : List Column) (public : PublicView) (from : ℕ) (groups : List Group) (a b : List Protected) → AreEntries columns public from groups a →
+    AreEntries columns public from groups b → a ≡ b
+one_list means columns public from [] a b x y = x ∙ sym y
+one_list means columns public from (g ∷ gs) a b (c, t, rest, is, a_is, more) (d, u, others, was, b_is, again) =
     let place = some_one c d (option_and_then (secret_place columns) (place_of g.column columns)) is.place was.place in
     let tree = means.tree columns g.condition t u is.means was.means in
     a_is
-    ∙ ap (λ k. entry_of k public.rows (meaning public t) ++ rest) place
-    ∙ ap (λ v. entry_of d public.rows (meaning public v) ++ rest) tree
-    ∙ ap (λ xs. entry_of d public.rows (meaning public u) ++ xs) (one_list means columns public gs rest others more again)
+    ∙ ap (λ k. entry_of k from public.rows (meaning public t) ++ rest) place
+    ∙ ap (λ v. entry_of d from public.rows (meaning public v) ++ rest) tree
+    ∙ ap (λ xs. entry_of d from public.rows (meaning public u) ++ xs) (one_list means columns public (from + 1) gs rest others more again)
     ∙ sym b_is
 
 -- groups without fault have one
-some_list : (columns : List Column) (public : PublicView) (groups : List Group) → ((i : ℕ) (group : Group) → slice_get groups i ≡ Some group → HasNoFault columns group) → (protected : List Protected) × AreEntries columns public groups protected
-some_list columns public [] sound = ([], refl)
-some_list columns public (g ∷ gs) sound = by (sound 0 g refl) (some_list columns public gs (λ i group is. sound (suc i) group is))
+some_list : (columns : List Column) (public : PublicView) (from : ℕ) (groups : List Group) → ((i : ℕ) (group : Group) → slice_get groups i ≡ Some group → HasNoFault columns group) → (protected : List Protected) × AreEntries columns public from groups protected
+some_list columns public from [] sound = ([], refl)
+some_list columns public from (g ∷ gs) sound = by (sound 0 g refl) (some_list columns public (from + 1) gs (λ i group is. sound (suc i) group is))
   where
-    by : HasNoFault columns g → ((rest : List Protected) × AreEntries columns public gs rest) → (protected : List Protected) × AreEntries columns public (g ∷ gs) protected
-    by (c, t, is) (rest, more) = (entry_of c public.rows (meaning public t) ++ rest, (c, t, rest, is, refl, more))
+    by : HasNoFault columns g → ((rest : List Protected) × AreEntries columns public (from + 1) gs rest) → (protected : List Protected) × AreEntries columns public from (g ∷ gs) protected
+    by (c, t, is) (rest, more) = (entry_of c from public.rows (meaning public t) ++ rest, (c, t, rest, is, refl, more))
 
 -- so they protect in one way
 one_way : OneMeaning → (columns : List Column) (public : PublicView) (guards : Guards) (a b : Protection) → Protects columns public guards a → Protects columns public guards b → a ≡ b
 one_way means columns public guards a b first second =
-    first.1 ∙ ap (λ entries. against_outsiders entries [] guards.width) (one_list means columns public guards.groups a.groups b.groups first.0 second.0) ∙ sym second.1
+    first.1 ∙ ap (λ entries. against_outsiders entries [] guards.width) (one_list means columns public 0 guards.groups a.groups b.groups first.0 second.0) ∙ sym second.1
 
 some_way : (columns : List Column) (public : PublicView) (guards : Guards) → AreSound columns guards → (protected : Protection) × Protects columns public guards protected
 some_way columns public guards sound =
-    let list = some_list columns public guards.groups sound in
+    let list = some_list columns public 0 guards.groups sound in
     (against_outsiders list.0 [] guards.width, (list.1, refl))
 
 pub one_list_of_entries : OneMeaning → OneListOfEntries
 one_list_of_entries means = record {
   one = one_way means;
   some = some_way;
-  sound = λ columns public guards protected are. entries_sound columns public guards.groups protected.groups are.0;
+  sound = λ columns public guards protected are. entries_sound columns public 0 guards.groups protected.groups are.0;
   bad = λ columns guards place first sound. first.bad (sound place first.at first.stands);
 }
 
@@ -80,31 +82,32 @@ kind_of_sums kind.Sum is = refl
 kind_of_sums kind.Max is = absurd (cc)
 
 -- some rows of a column of sums are a group that fits
-fits_sums : (columns : List Column) (column rows : ℕ) (list : List ℕ) → IsSecretOf columns (Some Sum) column → AreRows rows list →
-    All (IsProtected (shape_of columns rows)) (entry_of column rows list) × (length (entry_of column rows list) ≤ 1)
-fits_sums columns column rows [] secret are = (All-nil (IsProtected (shape_of columns rows)), omega arith)
-fits_sums columns column rows (r ∷ list) secret are =
+fits_sums : (columns : List Column) (column place rows : ℕ) (list : List ℕ) → IsSecretOf columns (Some Sum) column → AreRows rows list →
+    All (IsProtected (shape_of columns rows)) (entry_of column place rows list) × (length (entry_of column place rows list) ≤ 1)
+fits_sums columns column place rows [] secret are = (All-nil (IsProtected (shape_of columns rows)), omega arith)
+fits_sums columns column place rows (r ∷ list) secret are =
     let shape = shape_of columns rows in
-    let p : Protected = record { column = column; rows = record { n = rows; list = r ∷ list } } in
+    let p : Protected = record { column = column; place = place; rows = record { n = rows; list = r ∷ list } } in
     let fits : FitsShape shape column p.rows = record { column_below = secret.has.below rows; same_n = refl; are_rows = are; some = λ none. cc } in
     (All-cons (IsProtected shape) p [] (fits, secret.has.of_kind rows ∙ kind_of_sums secret.kind secret.named) (All-nil (IsProtected shape)), omega arith)
 
 -- the entries of groups fit the table, and are no more than the groups
-entries_fit : PlacesAreColumns → (columns : List Column) (public : PublicView) (groups : List Group) (protected : List Protected) → AreColumns columns → AreEntries columns public groups protected →
+entries_fit : PlacesAreColumns → (columns : List Column) (public : PublicView) (from : ℕ) (groups : List Group) (protected : List Protected) → AreColumns columns →
+    AreEntries columns public from groups protected →
     All (IsProtected (shape_of columns public.rows)) protected × (length protected ≤ length groups)
-entries_fit places columns public [] protected are none =
+entries_fit places columns public from [] protected are none =
     subst (λ xs. All (IsProtected (shape_of columns public.rows)) xs × (length xs ≤ 0)) (sym none) (All-nil (IsProtected (shape_of columns public.rows)), omega arith)
-entries_fit places columns public (g ∷ gs) protected are (c, t, rest, is, protected_is, more) =
+entries_fit places columns public from (g ∷ gs) protected are (c, t, rest, is, protected_is, more) =
     let shape = shape_of columns public.rows in
-    let entry = entry_of c public.rows (meaning public t) in
-    let first = fits_sums columns c public.rows (meaning public t) (sums_at places columns g c t are is) (AreRows-rows_that _ public.rows) in
-    let others = entries_fit places columns public gs rest are more in
+    let entry = entry_of c from public.rows (meaning public t) in
+    let first = fits_sums columns c from public.rows (meaning public t) (sums_at places columns g c t are is) (AreRows-rows_that _ public.rows) in
+    let others = entries_fit places columns public (from + 1) gs rest are more in
     let few : length (entry ++ rest) ≤ length (g ∷ gs) = omega (arith, first.1, others.1, length-append entry rest) in
     subst (λ xs. All (IsProtected shape) xs × (length xs ≤ length (g ∷ gs))) (sym protected_is) (All-append (IsProtected shape) entry rest first.0 others.0, few)
 
 pub entries_are_protected : PlacesAreColumns → EntriesFit
 entries_are_protected places columns public guards protected are is guarded protects =
     let shape = shape_of columns public.rows in
-    let fit = entries_fit places columns public guards.groups protected.groups are protects.0 in
-    let few = omega (arith, fit.1, guarded.few) in
+    let fit = entries_fit places columns public 0 guards.groups protected.groups are protects.0 in
+    let few : length protected.groups ≤ most_groups = omega (arith, fit.1, guarded.few) in
     subst (IsPlainFor shape) (sym protects.1) (plain_fits shape protected.groups guards.width fit.0 few guarded.wide guarded.narrow)

@@ -1,5 +1,5 @@
 -- What a schema guards of a table, by the public part.
-use Rattle.std.specs.Prelude.{◌≡◌, ℕ, ◌<◌, ◌≤◌, List, [], ◌∷◌, ◌++◌, length, slice_get, Some, option_and_then}
+use Rattle.std.specs.Prelude.{◌≡◌, ℕ, ◌<◌, ◌≤◌, ◌+◌, List, [], ◌∷◌, ◌++◌, length, slice_get, Some, option_and_then}
 use Rattle.audit_types.specs.declared.records.Protected.{Protected}
 use Rattle.audit_types.specs.History.{Protection, against_outsiders, entry_of}
 use Rattle.schema_json.specs.Columns.{Column, Group, Guards, place_of, role_at, secret_place}
@@ -17,15 +17,15 @@ pub record IsGroup (columns : List Column) (group : Group) (column : ℕ) (t : T
   pub short : length group.condition ≤ 8192
   pub means : Means columns group.condition t
 
--- the entries of groups without fault, in order
-abbrev pub AreEntries : List Column → PublicView → List Group → List Protected → Type 0
-AreEntries columns public [] protected = protected ≡ []
-AreEntries columns public (group ∷ groups) protected =
-    (column : ℕ) × (t : Tree) × (rest : List Protected) × IsGroup columns group column t × (protected ≡ entry_of column public.rows (meaning public t) ++ rest) × AreEntries columns public groups rest
+-- the entries of groups without fault, in order, the first of which stands at this place
+abbrev pub AreEntries : List Column → PublicView → ℕ → List Group → List Protected → Type 0
+AreEntries columns public place [] protected = protected ≡ []
+AreEntries columns public place (group ∷ groups) protected =
+    (column : ℕ) × (t : Tree) × (rest : List Protected) × IsGroup columns group column t × (protected ≡ entry_of column place public.rows (meaning public t) ++ rest) × AreEntries columns public (place + 1) groups rest
 
 -- what a schema guards of a table: each row, and the entries of its groups, by forms of its width
 abbrev pub Protects : List Column → PublicView → Guards → Protection → Type 0
-Protects columns public guards protected = AreEntries columns public guards.groups protected.groups × (protected ≡ against_outsiders protected.groups [] guards.width)
+Protects columns public guards protected = AreEntries columns public 0 guards.groups protected.groups × (protected ≡ against_outsiders protected.groups [] guards.width)
 
 -- a group has no fault
 abbrev pub HasNoFault : List Column → Group → Type 0

@@ -140,7 +140,7 @@ fn group_entry(
     requires fits { FitsSchema schema.now.columns index.now.public }
     requires place { place < length schema.now.guards.groups }
     ensures ok { IfOk result (λ entry. (group : Group) → slice_get schema.now.guards.groups place ≡ Some group
-        → (column : ℕ) × (t : Tree) × IsGroup schema.now.columns group column t × (option_to_list entry ≡ entry_of column index.now.public.rows (meaning index.now.public t))) }
+        → (column : ℕ) × (t : Tree) × IsGroup schema.now.columns group column t × (option_to_list entry ≡ entry_of column place index.now.public.rows (meaning index.now.public t))) }
     ensures bad { (at : ℕ) → result ≡ Err (IndexFault.BadGroup at) → (at ≡ place) × ((group : Group) → slice_get schema.now.guards.groups place ≡ Some group → ¬ (HasNoFault schema.now.columns group)) }
 {
     reads_what_fits();
@@ -149,13 +149,17 @@ fn group_entry(
     if rows.is_empty() {
         return Ok(None);
     }
-    Ok(Some(Protected { column, rows }))
+    Ok(Some(Protected {
+        column,
+        place,
+        rows,
+    }))
 }
 
 // The entries of the groups, in order.
 fn entries_of(alloc: Global, schema: &Schema, index: &Index) -> Result<Vec<Protected>, IndexFault>
     requires fits { FitsSchema schema.now.columns index.now.public }
-    ensures entries { IfOk result (λ list. AreEntries schema.now.columns index.now.public schema.now.guards.groups list.items) }
+    ensures entries { IfOk result (λ list. AreEntries schema.now.columns index.now.public 0 schema.now.guards.groups list.items) }
     ensures bad { (place : ℕ) → result ≡ Err (IndexFault.BadGroup place) → IsFirstBad schema.now.columns schema.now.guards place }
 {
     let mut list = Vec::new(alloc);

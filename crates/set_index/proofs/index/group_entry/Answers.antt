@@ -13,14 +13,14 @@ returns-then-is_empty-clause-ok c = λ group is.
       column,
       tree_of c.in_ok-column.pred,
       c.in_ok-column.ensures.ok group is,
-      ap (entry_of column n) (sym (c.is_empty.ensures.0 c.if-is_empty.true) ∙ c.rows_of-rows.ensures.rows),
+      ap (entry_of column c.args.place n) (sym (c.is_empty.ensures.0 c.if-is_empty.true) ∙ c.rows_of-rows.ensures.rows),
     )
 
 -- rows that are some have an entry
-some_entry : (column n : ℕ) (list : List ℕ) → list ≢ [] →
-    let entry : Protected = record { column = column; rows = record { n = n; list = list } } in (entry ∷ []) ≡ entry_of column n list
-some_entry column n [] some = absurd (some refl)
-some_entry column n (row ∷ rows) some = refl
+some_entry : (column place n : ℕ) (list : List ℕ) → list ≢ [] →
+    let entry : Protected = record { column = column; place = place; rows = record { n = n; list = list } } in (entry ∷ []) ≡ entry_of column place n list
+some_entry column place n [] some = absurd (some refl)
+some_entry column place n (row ∷ rows) some = refl
 
 pub returns-clause-ok : goal.returns-clause-ok
 returns-clause-ok c = λ group is.
@@ -29,7 +29,7 @@ returns-clause-ok c = λ group is.
       column,
       tree_of c.in_ok-column.pred,
       c.in_ok-column.ensures.ok group is,
-      some_entry column rows.n rows.list (λ none. false≢true (sym c.if-is_empty.false ∙ c.is_empty.ensures.1 none))
-          ∙ ap (λ m. entry_of column m rows.list) c.rows_of-rows.ensures.n
-          ∙ ap (entry_of column c.args.index.now.public.rows) c.rows_of-rows.ensures.rows,
+      some_entry column c.args.place rows.n rows.list (λ none. false≢true (sym c.if-is_empty.false ∙ c.is_empty.ensures.1 none))
+          ∙ ap (λ m. entry_of column c.args.place m rows.list) c.rows_of-rows.ensures.n
+          ∙ ap (entry_of column c.args.place c.args.index.now.public.rows) c.rows_of-rows.ensures.rows,
     )
