@@ -1,6 +1,8 @@
 //! A column of maxima, with the rows of the table that several people share.
-ghost use Rattle.std.specs.Prelude.{◌≡◌, ◌<◌, ◌≤◌, [], IfOk};
-ghost use Rattle.audit_types.specs.Column.{known_max, guarding};
+ghost use Rattle.std.specs.Prelude.{◌≡◌, ◌≢◌, ◌<◌, ◌≤◌, [], IfOk};
+ghost use Rattle.audit_types.specs.Column.{IsPossible, known_max, guarding, with_groups};
+ghost use Rattle.audit_types.specs.declared.shapes.Kind.TheVariants.{Max};
+ghost use Rattle.audit_types.specs.Judgement.{IsDecision};
 ghost use Rattle.audit_types.specs.Limits.{most_rows};
 
 use audit_types::{ColumnAudit, NoMemory, RowSet, Verdict};
@@ -43,6 +45,18 @@ impl GuardedMaxima {
         ensures { guarding result.now self.now.shared [] ≡ self.now }
     {
         &self.maxima
+    }
+
+    /// The verdict on a question, said as that of a column without protected groups, which it is.
+    pub(crate) fn probe_with_none(&self, rows: &RowSet) -> Result<Verdict, NoMemory>
+        requires same_n { rows.now.n ≡ self.now.n }
+        requires some { rows.now.list ≢ [] }
+        ensures decided { IfOk result (λ verdict. IsPossible self.now → IsDecision (with_groups self.now []) rows.now.list verdict) }
+        ensures maxima { self.now.kind ≡ Max }
+    {
+        // A column of maxima says of itself that it is one.
+        let _ = self.maxima.bounds();
+        self.maxima.probe_sharing(rows, &self.shared)
     }
 }
 

@@ -22,6 +22,7 @@ use Rattle.audit_types.specs.Judgement.{IsWithinWidth}
 use Rattle.audit_types.specs.History.{Setting, Protection, Table, FitsShape, IsProtected, IsPlainFor, IsDecisionAfter, list_of, answers_of, answer_in, groups_of}
 use Rattle.audit_types.specs.ListLaws.{all-map, all-filter, all-push, all-weaker}
 use Rattle.audit_core.specs.Laws.{LegalIsNarrow, LegalPinsNothing, sets_before}
+use Rattle.audit_core.specs.GroupEntries.{HasEntry, entry_of_group}
 use Rattle.audit_core.specs.PlainColumns.{plain_sums, plain_maxima, plain_danger}
 use Rattle.max_audit.specs.Laws.{DangerousByCandidates, HasBadCandidate}
 use Rattle.sum_audit.specs.Laws.{PinnedByUnitRow}
@@ -31,29 +32,6 @@ use Rattle.denial_proof.proofs.AskedIsNew.{LegalLaws, asked_new, own_agrees}
 use Rattle.denial_proof.proofs.SumParts.{sets_at_end}
 
 -- ---- groups
-
--- a protected entry of the column with these rows
-record HasEntry (protected : List Protected) (column : ℕ) (rows : List ℕ) : Type 0 where
-  pub place : ℕ
-  pub entry : Protected
-  pub there : slice_get protected place ≡ Some entry
-  pub own : entry.column ≡ column
-  pub rows_are : entry.rows.list ≡ rows
-
--- each group of the column is that of an entry
-entry_of_group : (protected : List Protected) (column : ℕ) (group : List ℕ) → Contains (groups_of column protected) group → HasEntry protected column group
-entry_of_group [] column group (k, within, is) = absurd (omega arith)
-entry_of_group (p ∷ protected) column group among = by (p.column == column) refl (entry_of_group protected column group) among
-  where
-    after : HasEntry protected column group → HasEntry (p ∷ protected) column group
-    after found = record { place = suc found.place; entry = found.entry; there = found.there; own = found.own; rows_are = found.rows_are }
-
-    by : (b : Bool) → (p.column == column) ≡ b → (Contains (groups_of column protected) group → HasEntry protected column group) →
-        Contains (map (λ (q : Protected). q.rows.list) (cond b (p ∷ filter (λ (q : Protected). q.column == column) protected) (filter (λ (q : Protected). q.column == column) protected))) group →
-        HasEntry (p ∷ protected) column group
-    by true own rest (zero, within, is) = record { place = 0; entry = p; there = refl; own = eqb-true p.column column own; rows_are = is }
-    by true own rest (suc k, within, is) = after (rest (k, omega arith, is))
-    by false other rest among = after (rest among)
 
 module _ (setting : Setting) (protected : IsPlainFor setting.shape setting.protected) where
   -- an entry that is there fits

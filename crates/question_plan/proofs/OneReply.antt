@@ -27,6 +27,7 @@ use Rattle.line_wire.specs.declared.reply.Reply.TheVariants as reply
 use Rattle.question_plan.specs.declared.planning.Plan.{Plan}
 use Rattle.question_plan.specs.declared.planning.Plan.TheVariants.{Ready, Ask}
 use Rattle.question_plan.specs.Session.{Replied}
+use Rattle.audit_core.specs.OneDecision.{never_both, one_decision, one_judgement}
 use Rattle.question_plan.specs.Replies.{IsDue, IsPlan, IsReplyOf, TellsOutcome, Tells, only}
 use Rattle.question_plan.specs.Laws.{AreAnswersAlike, OneDecisionIsMade, OneJudgementIsMade, OneAnswerIsTold, OneReplyIsDue, DecidedAlike, EqualAnswersEqualReplies}
 use Rattle.question_plan.proofs.OneMean.{cancel_ℤ, one_mean}
@@ -38,35 +39,6 @@ one_telling : (take : Take) (size : ℕ) (answer : ℤ) (a b : Reply) → 0 < si
 one_telling Sum size answer a b some first second = first ∙ sym second
 one_telling Avg size answer a b some first second = one_mean answer size a b some first second
 one_telling Max size answer a b some first second = first ∙ sym second
-
--- a sum or a maximum isn't both too wide and within width
-never_both : NarrowOrWide → (k : Kind) (known : Known) (rows : List ℕ) → IsWideFor k known rows → IsWithinWidthFor k known rows → ⊥
-never_both forms kind.Sum known rows wide within = (forms known.width known.n (sets_with known rows)).1 within wide
-never_both forms kind.Max known rows wide within = wide
-
--- a decision is one
-one_decision : NarrowOrWide → (known : Known) (rows : List ℕ) (v w : Verdict) → IsDecision known rows v → IsDecision known rows w → v ≡ w
-one_decision forms known rows DeniedWide DeniedWide first second = refl
-one_decision forms known rows DeniedWide DeniedUnsafe first second = absurd (never_both forms known.kind known rows first second.0)
-one_decision forms known rows DeniedWide Released first second = absurd (never_both forms known.kind known rows first second.0)
-one_decision forms known rows DeniedUnsafe DeniedWide first second = absurd (never_both forms known.kind known rows second first.0)
-one_decision forms known rows DeniedUnsafe DeniedUnsafe first second = refl
-one_decision forms known rows DeniedUnsafe Released first second = absurd (second.1 first.1)
-one_decision forms known rows Released DeniedWide first second = absurd (never_both forms known.kind known rows second first.0)
-one_decision forms known rows Released DeniedUnsafe first second = absurd (first.1 second.1)
-one_decision forms known rows Released Released first second = refl
-
--- so is a judgement
-one_judgement : NarrowOrWide → (known : Known) (rows : List ℕ) (v w : Verdict) → IsJudgement known rows v → IsJudgement known rows w → v ≡ w
-one_judgement forms known rows DeniedWide DeniedWide first second = refl
-one_judgement forms known rows DeniedWide DeniedUnsafe first second = absurd (never_both forms known.kind known rows first second.0)
-one_judgement forms known rows DeniedWide Released first second = absurd (never_both forms known.kind known rows first second.0)
-one_judgement forms known rows DeniedUnsafe DeniedWide first second = absurd (never_both forms known.kind known rows second first.0)
-one_judgement forms known rows DeniedUnsafe DeniedUnsafe first second = refl
-one_judgement forms known rows DeniedUnsafe Released first second = absurd (second.1 first.1)
-one_judgement forms known rows Released DeniedWide first second = absurd (never_both forms known.kind known rows second first.0)
-one_judgement forms known rows Released DeniedUnsafe first second = absurd (first.1 second.1)
-one_judgement forms known rows Released Released first second = refl
 
 pub decided_once : NarrowOrWide → OneDecisionIsMade
 decided_once forms setting history column rows v w first second = one_decision forms (known_of setting history column) rows v w first second
