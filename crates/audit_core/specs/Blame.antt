@@ -11,12 +11,14 @@ abbrev pub IsReleasedWith : Setting → List Answered → Asked → List Protect
 IsReleasedWith setting history asked groups =
     IsDecisionAfter (record setting { protected = record setting.protected { groups = groups } }) history asked.column asked.rows.list Released
 
--- the first group that alone keeps a question from being released stands at this place among the groups
+-- the first group that alone keeps a question from being released has this place in the schema
 pub record IsFirstToDeny (setting : Setting) (history : List Answered) (asked : Asked) (place : ℕ) : Type 0 where
+  pub at : ℕ
   pub group : Protected
-  pub stands : slice_get setting.protected.groups place ≡ Some group
+  pub stands : slice_get setting.protected.groups at ≡ Some group
+  pub named : place ≡ group.place
   pub denies : ¬ (IsReleasedWith setting history asked (group ∷ []))
-  pub before : (i : ℕ) (other : Protected) → i < place → slice_get setting.protected.groups i ≡ Some other → IsReleasedWith setting history asked (other ∷ [])
+  pub before : (i : ℕ) (other : Protected) → i < at → slice_get setting.protected.groups i ≡ Some other → IsReleasedWith setting history asked (other ∷ [])
 
 -- what keeps a question from being released: that group if it would be released with no group, and else none
 abbrev pub Blames : Setting → List Answered → Asked → Option ℕ → Type 0

@@ -9,3 +9,4 @@ pub mod FirstGroups
 pub mod Blame
 pub mod OneDecision
 pub mod GroupEntries
+pub mod OneBlame

@@ -1,6 +1,6 @@
 -- Why a store isn't started: one cause at most holds, and none of a legal history.
 use Rattle.std.proofs.Common.{◌≡◌, ℕ, ◌<◌, inl, inr, ◌⊎◌, List, refl, sym, ap, subst, ◌∙◌, arith, Result, Ok, Err}
-use Rattle.std.specs.Prelude.{ℤ, IfErr, OnOk, slice_get}
+use Rattle.std.specs.Prelude.{ℤ, Option, take, IfErr, OnOk, slice_get}
 use Rattle.std.proofs.lemmas.Bool.{cases_lt}
 use Rattle.std.proofs.lemmas.Option.{same_Some}
 use Rattle.audit_types.specs.declared.shapes.Shape.{Shape}
@@ -13,8 +13,10 @@ use Rattle.answer_journal.specs.Faults.{GaveUp, IsDueOrGaveUp}
 use Rattle.answer_journal.specs.Moments.{IsMade}
 use Rattle.audit_store.specs.declared.starting.StartFault.{StartFault}
 use Rattle.audit_store.specs.declared.starting.StartFault.TheVariants.{NotMade, Damaged, OtherShape, Untrue, Illegal, Failed, NoMemory}
+use Rattle.audit_core.specs.Blame.{Blames}
+use Rattle.audit_core.specs.OneBlame.{one_blame}
 use Rattle.audit_core.specs.Outcomes.{true_answer}
-use Rattle.audit_store.specs.Starting.{IsFirstUntrue, IsFirstIllegal, StartCause, HistoryCause, GivesUp, RefusedUnlessFailed, StartsUnlessFailed, start_fault}
+use Rattle.audit_store.specs.Starting.{IsFirstUntrue, IsFirstIllegal, asked_in, StartCause, HistoryCause, GivesUp, RefusedUnlessFailed, StartsUnlessFailed, start_fault}
 
 -- what a reading of the journal gives up with
 pub gave_up : (fault : BackFault) → GaveUp fault → GivesUp (start_fault fault)
@@ -47,7 +49,7 @@ cause_in_file file shape history gate table (OtherShape kept now) stands cause =
     (history, (gate, subst (λ s. StandsAt file s history gate) (sym cause.0) stands), (cause.1, cause.2))
 cause_in_file file shape history gate table (Untrue place kept now) stands cause =
     (history, (gate, subst (λ s. StandsAt file s history gate) cause.0 stands), cause.1)
-cause_in_file file shape history gate table (Illegal place) stands cause = (history, (gate, subst (λ s. StandsAt file s history gate) cause.0 stands), cause.1)
+cause_in_file file shape history gate table (Illegal place group) stands cause = (history, (gate, subst (λ s. StandsAt file s history gate) cause.0 stands), cause.1)
 cause_in_file file shape history gate table Failed stands cause = absurd cause
 cause_in_file file shape history gate table NoMemory stands cause = tt
 
@@ -68,22 +70,25 @@ module _ (table : Table) (history : List Answered) where
       let now_same : due ≡ now = q.now_is ∙ ap (λ (r : Answered). true_answer table r.column r.rows) same ∙ sym p.now_is in
       ap (λ k. Untrue k other due) place ∙ ap (λ k. Untrue a k due) kept_same ∙ ap (λ k. Untrue a kept k) now_same
 
-  illegal_not_before : (a b : ℕ) → IsFirstIllegal table history a → IsFirstIllegal table history b → a < b → ⊥
-  illegal_not_before a b p q lt = p.denied (q.before a p.at lt p.stands)
+  illegal_not_before : (a b : ℕ) (g h : Option ℕ) → IsFirstIllegal table history a g → IsFirstIllegal table history b h → a < b → ⊥
+  illegal_not_before a b g h p q lt = p.denied (q.before a p.at lt p.stands)
 
-  pub illegal_once : (a b : ℕ) → IsFirstIllegal table history a → IsFirstIllegal table history b → Illegal b ≡ Illegal a
-  illegal_once a b p q =
+  pub illegal_once : (a b : ℕ) (g h : Option ℕ) → IsFirstIllegal table history a g → IsFirstIllegal table history b h → Illegal b h ≡ Illegal a g
+  illegal_once a b g h p q =
       elim (cases_lt a b) [
-        | inl lt ↦ absurd (illegal_not_before a b p q lt)
+        | inl lt ↦ absurd (illegal_not_before a b g h p q lt)
         | inr le ↦ elim (cases_lt b a) [
-          | inl lt ↦ absurd (illegal_not_before b a q p lt)
+          | inl lt ↦ absurd (illegal_not_before b a h g q p lt)
           | inr from ↦ let place : b ≡ a = omega arith in
-              ap (λ k. Illegal k) place
+              let same : q.at ≡ p.at = same_Some q.at p.at (sym q.stands ∙ ap (slice_get history) place ∙ p.stands) in
+              let blamed : Blames table.setting (take a history) (asked_in p.at) h =
+              subst (λ r. Blames table.setting (take a history) (asked_in r) h) same (subst (λ k. Blames table.setting (take k history) (asked_in q.at) h) place q.blamed) in
+              ap (λ k. Illegal k h) place ∙ ap (λ k. Illegal a k) (one_blame table.setting (take a history) (asked_in p.at) h g blamed p.blamed)
         ]
       ]
 
-  pub untrue_or_illegal : (a b : ℕ) (kept now : ℤ) → IsFirstUntrue table history a kept now → IsFirstIllegal table history b → ⊥
-  untrue_or_illegal a b kept now p q = p.differ (p.kept_is ∙ q.all_true a p.at p.stands ∙ sym p.now_is)
+  pub untrue_or_illegal : (a b : ℕ) (g : Option ℕ) (kept now : ℤ) → IsFirstUntrue table history a kept now → IsFirstIllegal table history b g → ⊥
+  untrue_or_illegal a b g kept now p q = p.differ (p.kept_is ∙ q.all_true a p.at p.stands ∙ sym p.now_is)
 
 module _ (shape : Shape) (history : List Answered) (table : Table) where
   other_shape : (kept now : Shape) → HistoryCause (OtherShape kept now) shape history table → shape ≡ table.setting.shape → ⊥
@@ -103,13 +108,13 @@ module _ (shape : Shape) (history : List Answered) (table : Table) where
   one_cause (OtherShape kept now) (OtherShape k n) some cause other =
       inl (ap (λ s. OtherShape s n) (other.0 ∙ sym cause.0) ∙ ap (λ s. OtherShape kept s) (other.1 ∙ sym cause.1))
   one_cause (OtherShape kept now) (Untrue b k n) some cause other = absurd (other_shape kept now cause other.0)
-  one_cause (OtherShape kept now) (Illegal b) some cause other = absurd (other_shape kept now cause other.0)
+  one_cause (OtherShape kept now) (Illegal b g) some cause other = absurd (other_shape kept now cause other.0)
   one_cause (Untrue a kept now) (OtherShape k n) some cause other = absurd (other_shape k n other cause.0)
   one_cause (Untrue a kept now) (Untrue b k n) some cause other = inl (untrue_once table history a b kept now k n cause.1 other.1)
-  one_cause (Untrue a kept now) (Illegal b) some cause other = absurd (untrue_or_illegal table history a b kept now cause.1 other.1)
-  one_cause (Illegal a) (OtherShape k n) some cause other = absurd (other_shape k n other cause.0)
-  one_cause (Illegal a) (Untrue b k n) some cause other = absurd (untrue_or_illegal table history b a k n other.1 cause.1)
-  one_cause (Illegal a) (Illegal b) some cause other = inl (illegal_once table history a b cause.1 other.1)
+  one_cause (Untrue a kept now) (Illegal b g) some cause other = absurd (untrue_or_illegal table history a b g kept now cause.1 other.1)
+  one_cause (Illegal a g) (OtherShape k n) some cause other = absurd (other_shape k n other cause.0)
+  one_cause (Illegal a g) (Untrue b k n) some cause other = absurd (untrue_or_illegal table history b a g k n other.1 cause.1)
+  one_cause (Illegal a g) (Illegal b h) some cause other = inl (illegal_once table history a b g h cause.1 other.1)
 
   -- a legal history of the secrets' shape has none
   pub legal_has_no_cause : (fault : StartFault) → shape ≡ table.setting.shape → IsLegal table history → HistoryCause fault shape history table →
@@ -119,7 +124,7 @@ module _ (shape : Shape) (history : List Answered) (table : Table) where
   legal_has_no_cause (OtherShape kept now) same legal cause = other_shape kept now cause same
   legal_has_no_cause (Untrue place kept now) same legal cause =
       let first = cause.1 in first.differ (first.kept_is ∙ (legal.each place first.at first.stands).true_answer ∙ sym first.now_is)
-  legal_has_no_cause (Illegal place) same legal cause = let first = cause.1 in first.denied (legal.each place first.at first.stands).released
+  legal_has_no_cause (Illegal place group) same legal cause = let first = cause.1 in first.denied (legal.each place first.at first.stands).released
   legal_has_no_cause Failed same legal cause = absurd cause
   legal_has_no_cause NoMemory same legal cause = tt
 
@@ -146,7 +151,7 @@ module _ (file : List ℕ) (table : Table) where
   due_of_reading fault (Damaged at) unmade damaged whole some cause = due_fault (back.Damaged at) fault (damaged at cause.0 cause.1)
   due_of_reading fault (OtherShape kept now) unmade damaged whole some cause = inr (gave_up fault (whole kept cause.0 cause.1.0 cause.1.1))
   due_of_reading fault (Untrue place kept now) unmade damaged whole some cause = inr (gave_up fault (whole table.setting.shape cause.0 cause.1.0 cause.1.1))
-  due_of_reading fault (Illegal place) unmade damaged whole some cause = inr (gave_up fault (whole table.setting.shape cause.0 cause.1.0 cause.1.1))
+  due_of_reading fault (Illegal place group) unmade damaged whole some cause = inr (gave_up fault (whole table.setting.shape cause.0 cause.1.0 cause.1.1))
   due_of_reading fault Failed unmade damaged whole some cause = absurd (some tt)
   due_of_reading fault NoMemory unmade damaged whole some cause = absurd (some tt)
 
@@ -161,7 +166,7 @@ module _ (file : List ℕ) (table : Table) where
   due_of_history shape history (Untrue place kept now) made whole once some cause =
       let same = once table.setting.shape cause.0 cause.1.0 cause.1.1 in
       (same.0, subst (λ h. IsFirstUntrue table h place kept now) (sym same.1) cause.2)
-  due_of_history shape history (Illegal place) made whole once some cause =
-      let same = once table.setting.shape cause.0 cause.1.0 cause.1.1 in (same.0, subst (λ h. IsFirstIllegal table h place) (sym same.1) cause.2)
+  due_of_history shape history (Illegal place group) made whole once some cause =
+      let same = once table.setting.shape cause.0 cause.1.0 cause.1.1 in (same.0, subst (λ h. IsFirstIllegal table h place group) (sym same.1) cause.2)
   due_of_history shape history Failed made whole once some cause = absurd (some tt)
   due_of_history shape history NoMemory made whole once some cause = absurd (some tt)

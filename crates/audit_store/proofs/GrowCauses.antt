@@ -58,7 +58,7 @@ grow_cause_in_file file shape history gate table (Untrue place kept now) stands 
   stands = fewer_in_file file shape history gate table stands cause.0;
   has = cause.1;
 }
-grow_cause_in_file file shape history gate table (Illegal place) stands cause = record {
+grow_cause_in_file file shape history gate table (Illegal place group) stands cause = record {
   rows = shape.rows;
   history = history;
   fewer = cause.0.fewer;
@@ -109,23 +109,23 @@ module _ (shape : Shape) (history : List Answered) (table : Table) where
       inl (ap (λ (s : Shape). OtherShape s n) (other.0 ∙ sym cause.0) ∙ ap (λ (s : Shape). OtherShape kept s) (other.1 ∙ sym cause.1))
   one_grow_cause (OtherShape kept now) (NothingNew rows) some cause other = absurd (cant_and_same kept cause.0 (cant kept now cause.1 cause.2) other.0)
   one_grow_cause (OtherShape kept now) (Untrue b k n) some cause other = absurd (cant_and_fewer kept cause.0 (cant kept now cause.1 cause.2) other.0)
-  one_grow_cause (OtherShape kept now) (Illegal b) some cause other = absurd (cant_and_fewer kept cause.0 (cant kept now cause.1 cause.2) other.0)
+  one_grow_cause (OtherShape kept now) (Illegal b g) some cause other = absurd (cant_and_fewer kept cause.0 (cant kept now cause.1 cause.2) other.0)
   one_grow_cause (NothingNew rows) (OtherShape k n) some cause other = absurd (cant_and_same k other.0 (cant k n other.1 other.2) cause.0)
   one_grow_cause (NothingNew rows) (NothingNew more) some cause other = inl (ap (λ (r : ℕ). NothingNew r) (other.1 ∙ sym cause.1))
   one_grow_cause (NothingNew rows) (Untrue b k n) some cause other = absurd (same_and_fewer cause.0 other.0)
-  one_grow_cause (NothingNew rows) (Illegal b) some cause other = absurd (same_and_fewer cause.0 other.0)
+  one_grow_cause (NothingNew rows) (Illegal b g) some cause other = absurd (same_and_fewer cause.0 other.0)
   one_grow_cause (Untrue a kept now) (OtherShape k n) some cause other = absurd (cant_and_fewer k other.0 (cant k n other.1 other.2) cause.0)
   one_grow_cause (Untrue a kept now) (NothingNew rows) some cause other = absurd (same_and_fewer other.0 cause.0)
   one_grow_cause (Untrue a kept now) (Untrue b k n) some cause other =
       inl (ap grow_fault (untrue_once table (widened table.setting.shape.rows history) a b kept now k n cause.1 other.1))
-  one_grow_cause (Untrue a kept now) (Illegal b) some cause other =
-      absurd (untrue_or_illegal table (widened table.setting.shape.rows history) a b kept now cause.1 other.1)
-  one_grow_cause (Illegal a) (OtherShape k n) some cause other = absurd (cant_and_fewer k other.0 (cant k n other.1 other.2) cause.0)
-  one_grow_cause (Illegal a) (NothingNew rows) some cause other = absurd (same_and_fewer other.0 cause.0)
-  one_grow_cause (Illegal a) (Untrue b k n) some cause other =
-      absurd (untrue_or_illegal table (widened table.setting.shape.rows history) b a k n other.1 cause.1)
-  one_grow_cause (Illegal a) (Illegal b) some cause other =
-      inl (ap grow_fault (illegal_once table (widened table.setting.shape.rows history) a b cause.1 other.1))
+  one_grow_cause (Untrue a kept now) (Illegal b g) some cause other =
+      absurd (untrue_or_illegal table (widened table.setting.shape.rows history) a b g kept now cause.1 other.1)
+  one_grow_cause (Illegal a g) (OtherShape k n) some cause other = absurd (cant_and_fewer k other.0 (cant k n other.1 other.2) cause.0)
+  one_grow_cause (Illegal a g) (NothingNew rows) some cause other = absurd (same_and_fewer other.0 cause.0)
+  one_grow_cause (Illegal a g) (Untrue b k n) some cause other =
+      absurd (untrue_or_illegal table (widened table.setting.shape.rows history) b a g k n other.1 cause.1)
+  one_grow_cause (Illegal a g) (Illegal b h) some cause other =
+      inl (ap grow_fault (illegal_once table (widened table.setting.shape.rows history) a b g h cause.1 other.1))
 
   -- if the history goes on there is none
   pub grows_has_no_cause : (fault : GrowFault) → GrowsFrom shape history table → GrowHistoryCause fault shape history table → GivesUpGrowing fault
@@ -135,7 +135,7 @@ module _ (shape : Shape) (history : List Answered) (table : Table) where
   grows_has_no_cause (NothingNew rows) grows cause = absurd (same_and_fewer cause.0 grows.fewer)
   grows_has_no_cause (Untrue place kept now) grows cause =
       let first = cause.1 in absurd (first.differ (first.kept_is ∙ (grows.legal.each place first.at first.stands).true_answer ∙ sym first.now_is))
-  grows_has_no_cause (Illegal place) grows cause = let first = cause.1 in absurd (first.denied (grows.legal.each place first.at first.stands).released)
+  grows_has_no_cause (Illegal place group) grows cause = let first = cause.1 in absurd (first.denied (grows.legal.each place first.at first.stands).released)
   grows_has_no_cause Failed grows cause = absurd cause
   grows_has_no_cause NoMemory grows cause = tt
 
@@ -151,7 +151,7 @@ module _ (file : List ℕ) (table : Table) where
   grow_due_of_reading fault (NothingNew rows) unmade damaged whole some cause = inr (grow_gave_up fault (whole table.setting.shape cause.0 cause.1.0 cause.1.1))
   grow_due_of_reading fault (Untrue place kept now) unmade damaged whole some cause =
       inr (grow_gave_up fault (whole (over cause.rows table.setting.shape) cause.history cause.stands.0 cause.stands.1))
-  grow_due_of_reading fault (Illegal place) unmade damaged whole some cause =
+  grow_due_of_reading fault (Illegal place group) unmade damaged whole some cause =
       inr (grow_gave_up fault (whole (over cause.rows table.setting.shape) cause.history cause.stands.0 cause.stands.1))
   grow_due_of_reading fault Failed unmade damaged whole some cause = absurd (some tt)
   grow_due_of_reading fault NoMemory unmade damaged whole some cause = absurd (some tt)
@@ -185,9 +185,9 @@ module _ (file : List ℕ) (table : Table) where
     grow_due_of_history (Untrue place kept now) made whole some cause =
         let read = fewer_is_read cause.rows cause.history cause.fewer cause.stands in
         (read.0, subst (λ (h : List Answered). IsFirstUntrue table (widened table.setting.shape.rows h) place kept now) (sym read.1) cause.has)
-    grow_due_of_history (Illegal place) made whole some cause =
+    grow_due_of_history (Illegal place group) made whole some cause =
         let read = fewer_is_read cause.rows cause.history cause.fewer cause.stands in
-        (read.0, subst (λ (h : List Answered). IsFirstIllegal table (widened table.setting.shape.rows h) place) (sym read.1) cause.has)
+        (read.0, subst (λ (h : List Answered). IsFirstIllegal table (widened table.setting.shape.rows h) place group) (sym read.1) cause.has)
     grow_due_of_history Failed made whole some cause = absurd (some tt)
     grow_due_of_history NoMemory made whole some cause = absurd (some tt)
 
@@ -199,6 +199,6 @@ history_no_call shape history table (Damaged at) cause is = absurd cause
 history_no_call shape history table (OtherShape kept now) cause is = cc
 history_no_call shape history table (NothingNew rows) cause is = cc
 history_no_call shape history table (Untrue place kept now) cause is = cc
-history_no_call shape history table (Illegal place) cause is = cc
+history_no_call shape history table (Illegal place group) cause is = cc
 history_no_call shape history table Failed cause is = absurd cause
 history_no_call shape history table NoMemory cause is = cc

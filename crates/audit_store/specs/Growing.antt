@@ -36,7 +36,7 @@ GrowCause (Damaged at) file table = IsMade file × BreaksAt file at
 GrowCause (OtherShape kept now) file table = StandsForOne file kept (λ _. (now ≡ table.setting.shape) × CantGrow kept now)
 GrowCause (NothingNew rows) file table = StandsForOne file table.setting.shape (λ _. rows ≡ table.setting.shape.rows)
 GrowCause (Untrue place kept now) file table = StandsForFewer file table (λ history. IsFirstUntrue table history place kept now)
-GrowCause (Illegal place) file table = StandsForFewer file table (λ history. IsFirstIllegal table history place)
+GrowCause (Illegal place group) file table = StandsForFewer file table (λ history. IsFirstIllegal table history place group)
 GrowCause Failed file table = Unit {0}
 GrowCause NoMemory file table = Unit {0}
 
@@ -57,7 +57,7 @@ GrowHistoryCause (Damaged at) shape history table = ⊥
 GrowHistoryCause (OtherShape kept now) shape history table = (kept ≡ shape) × (now ≡ table.setting.shape) × CantGrow kept now
 GrowHistoryCause (NothingNew rows) shape history table = (shape ≡ table.setting.shape) × (rows ≡ table.setting.shape.rows)
 GrowHistoryCause (Untrue place kept now) shape history table = IsFewer shape table × IsFirstUntrue table (widened table.setting.shape.rows history) place kept now
-GrowHistoryCause (Illegal place) shape history table = IsFewer shape table × IsFirstIllegal table (widened table.setting.shape.rows history) place
+GrowHistoryCause (Illegal place group) shape history table = IsFewer shape table × IsFirstIllegal table (widened table.setting.shape.rows history) place group
 GrowHistoryCause Failed shape history table = ⊥
 GrowHistoryCause NoMemory shape history table = Unit {0}
 
@@ -67,7 +67,7 @@ grow_fault start.NotMade = NotMade
 grow_fault (start.Damaged at) = Damaged at
 grow_fault (start.OtherShape kept now) = OtherShape kept now
 grow_fault (start.Untrue place kept now) = Untrue place kept now
-grow_fault (start.Illegal place) = Illegal place
+grow_fault (start.Illegal place group) = Illegal place group
 grow_fault start.Failed = Failed
 grow_fault start.NoMemory = NoMemory
 

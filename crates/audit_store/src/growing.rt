@@ -25,8 +25,9 @@ pub enum GrowFault {
     NothingNew { rows: u16 },
     /// The first record, from 0, whose answer isn't the true one over the table's rows.
     Untrue { place: u32, kept: i64, now: i64 },
-    /// All answers are true. The first record, from 0, whose question was not to be released.
-    Illegal { place: u32 },
+    /// All answers are true. The first record, from 0, whose question was not to be released, and the place in the schema of the first
+    /// protected group that alone keeps it from being, if it would be released with no group protected.
+    Illegal { place: u32, group: Option<u8> },
     /// A call of the bench failed.
     Failed,
     NoMemory,
@@ -41,7 +42,7 @@ impl From<StartFault> for GrowFault {
             StartFault::Damaged { at } => GrowFault::Damaged { at },
             StartFault::OtherShape { kept, now } => GrowFault::OtherShape { kept, now },
             StartFault::Untrue { place, kept, now } => GrowFault::Untrue { place, kept, now },
-            StartFault::Illegal { place } => GrowFault::Illegal { place },
+            StartFault::Illegal { place, group } => GrowFault::Illegal { place, group },
             StartFault::Failed => GrowFault::Failed,
             StartFault::NoMemory => GrowFault::NoMemory,
         }

@@ -7,7 +7,7 @@ ghost use Rattle.audit_types.specs.declared.records.Verdict.TheVariants.{Release
 ghost use Rattle.bench_core.specs.Calls.{OnlyReads, TellsFault};
 ghost use Rattle.journal_form.specs.Journal.{StandsAt, StandsFor};
 ghost use Rattle.audit_store.specs.declared.starting.StartFault.{StartFault};
-ghost use Rattle.audit_store.specs.Starting.{AreTrue, GivesUp, HistoryCause, Recovers, RefusedUnlessFailed, StartCause, StartsUnlessFailed, start_fault};
+ghost use Rattle.audit_store.specs.Starting.{AreTrue, GivesUp, HistoryCause, Recovers, RefusedUnlessFailed, StartCause, StartsUnlessFailed, TellsIllegal, start_fault};
 ghost use Rattle.audit_store.specs.Twice.{IsJournalOf};
 ghost use Rattle.table_load.specs.Cells.{IsSecret};
 ghost use Rattle.table_load.specs.Database.{secret_table};
@@ -34,8 +34,9 @@ pub enum StartFault {
     OtherShape { kept: Shape, now: Shape },
     /// The first record, from 0, whose answer isn't the true one.
     Untrue { place: u32, kept: i64, now: i64 },
-    /// All answers are true. The first record, from 0, whose question was not to be released.
-    Illegal { place: u32 },
+    /// All answers are true. The first record, from 0, whose question was not to be released, and the place in the schema of the first
+    /// protected group that alone keeps it from being, if it would be released with no group protected.
+    Illegal { place: u32, group: Option<u8> },
     /// A call of the bench failed.
     Failed,
     NoMemory,
@@ -94,6 +95,23 @@ fn is_released(core: &mut Core, answered: &Answered) -> Result<bool, NoMemory>
     }
 }
 
+// What is told of a record whose question isn't released after the records of the core.
+fn illegal(core: &Core, place: u32, answered: &Answered) -> StartFault
+    requires fits { FitsShape core.now.setting.shape answered.now.column answered.now.rows }
+    requires possible { IsPossibleHistory core.now.setting core.now.history }
+    requires denied { ¬ (IsDecisionAfter core.now.setting core.now.history answered.now.column answered.now.rows.list Released) }
+    ensures { TellsIllegal core.now place answered.now result }
+{
+    let asked = Asked {
+        column: answered.column,
+        rows: answered.rows,
+    };
+    match core.blame(&asked) {
+        Ok(group) => StartFault::Illegal { place, group },
+        Err(NoMemory) => StartFault::NoMemory,
+    }
+}
+
 // Decides each record's question after the records before it, as it was decided when it was answered.
 fn replay(
     alloc: Global,
@@ -117,11 +135,7 @@ fn replay(
     for (place, answered) in list.iter().enumerate() {
         match is_released(&mut core, answered) {
             Ok(true) => {}
-            Ok(false) => {
-                return Err(StartFault::Illegal {
-                    place: place as u32,
-                });
-            }
+            Ok(false) => return Err(illegal(&core, place as u32, answered)),
             Err(NoMemory) => return Err(StartFault::NoMemory),
         }
         match core.take(answered) {

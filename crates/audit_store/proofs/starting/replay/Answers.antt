@@ -19,23 +19,14 @@ is_released-requires-clause-possible c =
 abbrev said : Bool → Result Bool NoMemory
 said b = Ok b
 
+pub illegal-requires-clause-possible : goal.illegal-requires-clause-possible
+illegal-requires-clause-possible c = ?
+
+pub illegal-requires-clause-denied : goal.illegal-requires-clause-denied
+illegal-requires-clause-denied c = ?
+
 pub returns-in-Ok-false-clause-err : goal.returns-in-Ok-false-clause-err
-returns-in-Ok-false-clause-err c =
-    let i = c.loop-place.invariant in
-    let list = c.args.list.now in
-    let r = c.index-list-place.result in
-    let table = secret_table c.args.secret.now c.args.protected in
-    let denied : IsReleasedAfter table (take c.loop-place.place list) r →
-    ⊥ = rw (i.same_setting, i.so_far) at (c.in-Ok-false.ensures.no (ap said c.in-Ok-false.field-0-test)) in (
-      refl,
-      record {
-        all_true = c.requires.are_true;
-        at = r;
-        stands = slice_get_read list _ c.loop-place.place r refl c.loop-place-test.true c.index-list-place.is;
-        denied = denied;
-        before = released_before table list c.loop-place.place i.legal;
-      },
-    )
+returns-in-Ok-false-clause-err c = ?
 
 pub loop-place-preserved : goal.loop-place-preserved
 loop-place-preserved c =

@@ -8,30 +8,30 @@ use Rattle.audit_core.specs.Blame.{IsReleasedWith}
 use Rattle.audit_core.proofs.Blamed.{released_with_all}
 use Rattle.audit_core.proofs.all_columns.Core.blame.Goals as goal
 
-pub loop-place-init : goal.loop-place-init
-loop-place-init c = λ i p below here. absurd (omega (arith, below))
+pub loop-group-init : goal.loop-group-init
+loop-group-init c = λ i p below here. absurd (omega (arith, below))
 
 pub returns-then-not-branch-2 : goal.returns-then-not-branch-2
 returns-then-not-branch-2 c =
     let group = c.group-item.result in
     let groups = c.groups-group-items.ensures.is ∙ ap (λ (a : Audited). a.setting.protected.groups) c.self.view_is in
-    let at : slice_get c.args.self.now.setting.protected.groups c.loop-place.place ≡ Some group =
-    subst (λ list. slice_get list c.loop-place.place ≡ Some group) groups
-    (slice_get_read c.groups-group-items.result.now _ c.loop-place.place group refl c.loop-place-test.true c.group-item.is) in
+    let at : slice_get c.args.self.now.setting.protected.groups c.loop-group.group-index ≡ Some group =
+    subst (λ list. slice_get list c.loop-group.group-index ≡ Some group) groups
+    (slice_get_read c.groups-group-items.result.now _ c.loop-group.group-index group refl c.loop-group-test.true c.group-item.is) in
     let none : IsReleasedWith c.args.self.now.setting c.args.self.now.history c.args.asked.now [] = search rules in
-    (none, record { group = group; stands = at; denies = λ passes. search rules; before = c.loop-place.invariant })
+    (none, record { at = c.loop-group.group-index; group = group; stands = at; named = refl; denies = λ passes. search rules; before = c.loop-group.invariant })
 
-pub loop-place-preserved : goal.loop-place-preserved
-loop-place-preserved c =
+pub loop-group-preserved : goal.loop-group-preserved
+loop-group-preserved c =
     let group = c.group-item.result in
     let groups = c.groups-group-items.ensures.is ∙ ap (λ (a : Audited). a.setting.protected.groups) c.self.view_is in
-    let at : slice_get c.args.self.now.setting.protected.groups c.loop-place.place ≡ Some group =
-    subst (λ list. slice_get list c.loop-place.place ≡ Some group) groups
-    (slice_get_read c.groups-group-items.result.now _ c.loop-place.place group refl c.loop-place-test.true c.group-item.is) in
+    let at : slice_get c.args.self.now.setting.protected.groups c.loop-group.group-index ≡ Some group =
+    subst (λ list. slice_get list c.loop-group.group-index ≡ Some group) groups
+    (slice_get_read c.groups-group-items.result.now _ c.loop-group.group-index group refl c.loop-group-test.true c.group-item.is) in
     let passes : IsReleasedWith c.args.self.now.setting c.args.self.now.history c.args.asked.now (group ∷ []) = search rules in
-    λ i p below here. elim (cases_lt i c.loop-place.place) [
-      | inl lt ↦ c.loop-place.invariant i p lt here
-      | inr le ↦ let same : i ≡ c.loop-place.place = omega (arith, below, le) in
+    λ i p below here. elim (cases_lt i c.loop-group.group-index) [
+      | inl lt ↦ c.loop-group.invariant i p lt here
+      | inr le ↦ let same : i ≡ c.loop-group.group-index = omega (arith, below, le) in
           let is : p ≡ group = same_Some p group (sym here ∙ ap (slice_get c.args.self.now.setting.protected.groups) same ∙ at) in
           subst (λ q. IsReleasedWith c.args.self.now.setting c.args.self.now.history c.args.asked.now (q ∷ [])) (sym is) passes
     ]
@@ -41,4 +41,4 @@ unreachable-requires c =
     let none : IsReleasedWith c.args.self.now.setting c.args.self.now.history c.args.asked.now [] = search rules in
     let groups = c.groups-group-items.ensures.is ∙ ap (λ (a : Audited). a.setting.protected.groups) c.self.view_is in
     c.requires.denied (released_with_all c.args.self.now.setting c.args.self.now.history c.args.asked.now none
-    (λ i p here. c.loop-place.invariant i p (omega (arith, slice_get_within c.args.self.now.setting.protected.groups i p here, ap length groups, c.loop-place-test.false)) here))
+    (λ i p here. c.loop-group.invariant i p (omega (arith, slice_get_within c.args.self.now.setting.protected.groups i p here, ap length groups, c.loop-group-test.false)) here))

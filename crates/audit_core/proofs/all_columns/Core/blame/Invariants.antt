@@ -5,6 +5,6 @@ use Rattle.audit_core.specs.Blame.{IsReleasedWith}
 use Rattle.audit_core.proofs.all_columns.Core.blame.Given as goal
 
 -- each group before this one alone lets the question pass
-abbrev pub invariant-loop-place : goal.invariant-loop-place
-invariant-loop-place l =
-    (i : ℕ) (p : Protected) → i < l.place → slice_get l.self.setting.protected.groups i ≡ Some p → IsReleasedWith l.self.setting l.self.history l.asked (p ∷ [])
+abbrev pub invariant-loop-group : goal.invariant-loop-group
+invariant-loop-group l =
+    (i : ℕ) (p : Protected) → i < l.group-index → slice_get l.self.setting.protected.groups i ≡ Some p → IsReleasedWith l.self.setting l.self.history l.asked (p ∷ [])
