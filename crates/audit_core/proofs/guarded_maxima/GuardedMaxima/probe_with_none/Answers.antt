@@ -1,8 +1,7 @@
-use Rattle.std.proofs.Common.{[], ap, sym, ◌∙◌}
-use Rattle.audit_core.proofs.SeenColumns.{decided_with}
+use Rattle.audit_core.proofs.SeenColumns.{decided_with_none}
 use Rattle.audit_core.proofs.guarded_maxima.GuardedMaxima.probe_with_none.Goals as goal
 
 pub returns-clause-decided : goal.returns-clause-decided
 returns-clause-decided c =
-    decided_with c.self.inside.maxima c.args.self.now c.self.inside.shared.list [] c.self.view_is [] c.args.rows.now.list c.probe_sharing.result
-    c.probe_sharing.ensures.decided
+    decided_with_none c.self.inside.maxima c.args.self.now c.self.inside.shared.list c.self.inside.width c.bounds.ensures.maxima c.self.view_is c.args.rows.now.list
+    c.probe_sharing.result c.probe_sharing.ensures.decided
