@@ -58,7 +58,7 @@ start_status start.NotMade = NotMade
 start_status (start.Damaged at) = Damaged at
 start_status (start.OtherShape kept now) = OtherShape kept now
 start_status (start.Untrue place kept now) = Untrue place kept now
-start_status (start.Illegal place) = Illegal place
+start_status (start.Illegal place group) = Illegal place group
 start_status start.Failed = BenchFault
 start_status start.NoMemory = NoMemory
 
@@ -69,7 +69,7 @@ grow_status (grow.Damaged at) = Damaged at
 grow_status (grow.OtherShape kept now) = OtherShape kept now
 grow_status (grow.NothingNew rows) = NothingNew rows
 grow_status (grow.Untrue place kept now) = Untrue place kept now
-grow_status (grow.Illegal place) = Illegal place
+grow_status (grow.Illegal place group) = Illegal place group
 grow_status grow.Failed = BenchFault
 grow_status grow.NoMemory = NoMemory
 

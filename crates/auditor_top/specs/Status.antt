@@ -1,5 +1,5 @@
 -- The number and the text of each status.
-use Rattle.std.specs.Prelude.{ℕ, List, ◌++◌, codes, decimal}
+use Rattle.std.specs.Prelude.{ℕ, List, ◌++◌, Option, Some, None, codes, decimal}
 use Rattle.std.specs.Fmt.{signed_decimal}
 use Rattle.schema_json.specs.Faults as schema
 use Rattle.table_load.specs.Faults as table
@@ -24,7 +24,7 @@ status_code AlreadyThere = 8
 status_code (Damaged at) = 9
 status_code (OtherShape kept now) = 10
 status_code (Untrue place kept now) = 11
-status_code (Illegal place) = 12
+status_code (Illegal place group) = 12
 status_code InputLimit = 13
 status_code (Disagrees line due) = 14
 status_code NoMemory = 15
@@ -56,6 +56,11 @@ place_text fault.TooManyRows = codes ""
 place_text fault.NoRows = codes ""
 place_text fault.NoMemory = codes ""
 
+-- the group that keeps a record's question from being released, if it is one
+abbrev pub blamed_text : Option ℕ → List ℕ
+blamed_text (Some group) = codes ": group " ++ decimal group
+blamed_text None = codes ""
+
 -- the words of a status that tells no number, none if it is done or tells one
 abbrev pub words_of : Status → List ℕ
 words_of Done = codes ""
@@ -72,7 +77,7 @@ words_of (Damaged at) = codes ""
 words_of (OtherShape kept now) = codes ""
 words_of (NothingNew rows) = codes ""
 words_of (Untrue place kept now) = codes ""
-words_of (Illegal place) = codes ""
+words_of (Illegal place group) = codes ""
 words_of InputLimit = codes "input is too long"
 words_of (Disagrees line due) = codes ""
 words_of (BadGroup place) = codes ""
@@ -92,7 +97,7 @@ plain_text (OtherShape kept now) = codes "journal is of another table: rows " ++
 plain_text (NothingNew rows) = codes "nothing to grow: rows " ++ decimal rows
 plain_text (Untrue place kept now) = codes "record " ++ (decimal place ++
     (codes " holds " ++ (signed_decimal kept ++ (codes ", table gives " ++ signed_decimal now))))
-plain_text (Illegal place) = codes "record " ++ decimal place ++ codes " should not have been released"
+plain_text (Illegal place group) = codes "record " ++ (decimal place ++ (codes " should not have been released" ++ blamed_text group))
 plain_text (BadGroup place) = codes "schema: group " ++ (decimal place ++ codes " is bad")
 plain_text (Disagrees line due) = codes "line " ++ (decimal line ++ (codes " disagrees, due " ++ word_of due))
 plain_text (TwinsDiffer place) = codes "journals differ at record " ++ decimal place

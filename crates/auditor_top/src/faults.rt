@@ -86,7 +86,7 @@ impl From<StartFault> for Status {
             StartFault::Damaged { at } => Status::Damaged { at },
             StartFault::OtherShape { kept, now } => Status::OtherShape { kept, now },
             StartFault::Untrue { place, kept, now } => Status::Untrue { place, kept, now },
-            StartFault::Illegal { place } => Status::Illegal { place },
+            StartFault::Illegal { place, group } => Status::Illegal { place, group },
             StartFault::Failed => Status::BenchFault,
             StartFault::NoMemory => Status::NoMemory,
         }
@@ -106,7 +106,7 @@ impl From<GrowFault> for Status {
             GrowFault::OtherShape { kept, now } => Status::OtherShape { kept, now },
             GrowFault::NothingNew { rows } => Status::NothingNew { rows },
             GrowFault::Untrue { place, kept, now } => Status::Untrue { place, kept, now },
-            GrowFault::Illegal { place } => Status::Illegal { place },
+            GrowFault::Illegal { place, group } => Status::Illegal { place, group },
             GrowFault::Failed => Status::BenchFault,
             GrowFault::NoMemory => Status::NoMemory,
         }

@@ -46,7 +46,7 @@ pub enum Status {
     /// The first record, from 0, whose answer isn't what the table gives.
     Untrue { place: u32, kept: i64, now: i64 },
     /// The first record, from 0, that should not have been released.
-    Illegal { place: u32 },
+    Illegal { place: u32, group: Option<u8> },
     /// The input has more than 2^30 bytes.
     InputLimit,
     /// The line of the transcript, from 1, that is the first reply which doesn't agree, and the verdict on its question.
@@ -128,6 +128,24 @@ fn words_of(status: &Status) -> &'static str
     }
 }
 
+// The group that keeps a record's question from being released, if it is one.
+#[derive(Clone, Copy, Drop)]
+struct Blamed(Option<u8>);
+
+impl fmt::Display for Blamed {
+    ghost use Rattle.std.specs.Prelude.{Some};
+    ghost use Rattle.auditor_top.specs.Status.{blamed_text};
+
+    ghost output = { λ b. Some (blamed_text b.0) };
+
+    fn fmt<W: fmt::Write>(&self, f: &mut fmt::Formatter<W>) -> fmt::Result {
+        match self.0 {
+            Some(group) => write!(f, ": group {group}"),
+            None => f.write_str(""),
+        }
+    }
+}
+
 // A status as it is told, but of a spare's fault.
 #[derive(Clone, Copy, Drop)]
 struct Plain(Status);
@@ -154,8 +172,8 @@ impl fmt::Display for Plain {
             Status::Untrue { place, kept, now } => {
                 write!(f, "record {place} holds {kept}, table gives {now}")
             }
-            Status::Illegal { place } => {
-                write!(f, "record {place} should not have been released")
+            Status::Illegal { place, group } => {
+                write!(f, "record {place} should not have been released{}", Blamed(*group))
             }
             Status::Disagrees { line, due } => write!(f, "line {line} disagrees, due {due}"),
             Status::BadGroup { place } => write!(f, "schema: group {place} is bad"),

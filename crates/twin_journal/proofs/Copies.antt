@@ -148,7 +148,7 @@ own_of_kept start.NotMade = λ gives. gives
 own_of_kept (start.Damaged at) = λ gives. gives
 own_of_kept (start.OtherShape kept now) = λ gives. gives
 own_of_kept (start.Untrue place kept now) = λ gives. gives
-own_of_kept (start.Illegal place) = λ gives. gives
+own_of_kept (start.Illegal place group) = λ gives. gives
 own_of_kept start.Failed = tt
 own_of_kept start.NoMemory = tt
 

@@ -21,7 +21,7 @@ main_gives_up start.NotMade gives = absurd gives
 main_gives_up (start.Damaged at) gives = absurd gives
 main_gives_up (start.OtherShape kept now) gives = absurd gives
 main_gives_up (start.Untrue place kept now) gives = absurd gives
-main_gives_up (start.Illegal place) gives = absurd gives
+main_gives_up (start.Illegal place group) gives = absurd gives
 main_gives_up start.Failed gives = tt
 main_gives_up start.NoMemory gives = tt
 
@@ -30,7 +30,7 @@ spare_gives_up start.NotMade gives = absurd gives
 spare_gives_up (start.Damaged at) gives = absurd gives
 spare_gives_up (start.OtherShape kept now) gives = absurd gives
 spare_gives_up (start.Untrue place kept now) gives = absurd gives
-spare_gives_up (start.Illegal place) gives = absurd gives
+spare_gives_up (start.Illegal place group) gives = absurd gives
 spare_gives_up start.Failed gives = tt
 spare_gives_up start.NoMemory gives = tt
 
@@ -40,7 +40,7 @@ fault_stays start.NotMade some = refl
 fault_stays (start.Damaged at) some = refl
 fault_stays (start.OtherShape kept now) some = refl
 fault_stays (start.Untrue place kept now) some = refl
-fault_stays (start.Illegal place) some = refl
+fault_stays (start.Illegal place group) some = refl
 fault_stays start.Failed some = absurd (some tt)
 fault_stays start.NoMemory some = absurd (some tt)
 
@@ -49,7 +49,7 @@ spare_fault_stays start.NotMade some = refl
 spare_fault_stays (start.Damaged at) some = refl
 spare_fault_stays (start.OtherShape kept now) some = refl
 spare_fault_stays (start.Untrue place kept now) some = refl
-spare_fault_stays (start.Illegal place) some = refl
+spare_fault_stays (start.Illegal place group) some = refl
 spare_fault_stays start.Failed some = absurd (some tt)
 spare_fault_stays start.NoMemory some = absurd (some tt)
 
@@ -67,7 +67,7 @@ own_of_main start.NotMade = λ gives. gives
 own_of_main (start.Damaged at) = λ gives. gives
 own_of_main (start.OtherShape kept now) = λ gives. gives
 own_of_main (start.Untrue place kept now) = λ gives. gives
-own_of_main (start.Illegal place) = λ gives. gives
+own_of_main (start.Illegal place group) = λ gives. gives
 own_of_main start.Failed = tt
 own_of_main start.NoMemory = tt
 
@@ -76,7 +76,7 @@ own_of_spare start.NotMade = λ gives. gives
 own_of_spare (start.Damaged at) = λ gives. gives
 own_of_spare (start.OtherShape kept now) = λ gives. gives
 own_of_spare (start.Untrue place kept now) = λ gives. gives
-own_of_spare (start.Illegal place) = λ gives. gives
+own_of_spare (start.Illegal place group) = λ gives. gives
 own_of_spare start.Failed = tt
 own_of_spare start.NoMemory = tt
 
@@ -115,7 +115,7 @@ module _ (file spare : List ℕ) (table : Table) where
   main_cause (start.Damaged at) cause = (λ gives. gives, cause)
   main_cause (start.OtherShape kept now) cause = (λ gives. gives, cause)
   main_cause (start.Untrue place kept now) cause = (λ gives. gives, cause)
-  main_cause (start.Illegal place) cause = (λ gives. gives, cause)
+  main_cause (start.Illegal place group) cause = (λ gives. gives, cause)
   main_cause start.Failed cause = tt
   main_cause start.NoMemory cause = tt
 
@@ -141,7 +141,7 @@ module _ (file spare : List ℕ) (table : Table) where
     spare_cause (start.Damaged at) holds cause = (holds, λ gives. gives, cause)
     spare_cause (start.OtherShape kept now) holds cause = (holds, λ gives. gives, cause)
     spare_cause (start.Untrue place kept now) holds cause = (holds, λ gives. gives, cause)
-    spare_cause (start.Illegal place) holds cause = (holds, λ gives. gives, cause)
+    spare_cause (start.Illegal place group) holds cause = (holds, λ gives. gives, cause)
     spare_cause start.Failed holds cause = holds
     spare_cause start.NoMemory holds cause = tt
 

@@ -19,7 +19,7 @@ fault_of_kept start.NotMade = Kept start.NotMade
 fault_of_kept (start.Damaged at) = Kept (start.Damaged at)
 fault_of_kept (start.OtherShape kept now) = Kept (start.OtherShape kept now)
 fault_of_kept (start.Untrue place kept now) = Kept (start.Untrue place kept now)
-fault_of_kept (start.Illegal place) = Kept (start.Illegal place)
+fault_of_kept (start.Illegal place group) = Kept (start.Illegal place group)
 fault_of_kept start.Failed = KeptFailed
 fault_of_kept start.NoMemory = NoMemory
 

@@ -89,7 +89,7 @@ fault_of_main start.NotMade = Main start.NotMade
 fault_of_main (start.Damaged at) = Main (start.Damaged at)
 fault_of_main (start.OtherShape kept now) = Main (start.OtherShape kept now)
 fault_of_main (start.Untrue place kept now) = Main (start.Untrue place kept now)
-fault_of_main (start.Illegal place) = Main (start.Illegal place)
+fault_of_main (start.Illegal place group) = Main (start.Illegal place group)
 fault_of_main start.Failed = MainFailed
 fault_of_main start.NoMemory = NoMemory
 
@@ -98,7 +98,7 @@ fault_of_spare start.NotMade = Spare start.NotMade
 fault_of_spare (start.Damaged at) = Spare (start.Damaged at)
 fault_of_spare (start.OtherShape kept now) = Spare (start.OtherShape kept now)
 fault_of_spare (start.Untrue place kept now) = Spare (start.Untrue place kept now)
-fault_of_spare (start.Illegal place) = Spare (start.Illegal place)
+fault_of_spare (start.Illegal place group) = Spare (start.Illegal place group)
 fault_of_spare start.Failed = SpareFailed
 fault_of_spare start.NoMemory = NoMemory
 

@@ -1,13 +1,13 @@
-use Rattle.std.proofs.Common.{◌≡◌, Bool, [], ◌∷◌, ◌++◌, take, refl, sym, ap, subst, ◌∙◌, get_or, Result, Ok}
+use Rattle.std.proofs.Common.{rules, ◌≡◌, Bool, [], ◌∷◌, ◌++◌, take, refl, sym, ap, subst, ◌∙◌, get_or, Result, Ok}
 use Rattle.std.proofs.lemmas.List.{take_more}
 use Rattle.std.proofs.lemmas.Option.{slice_get_read}
 use Rattle.audit_types.specs.declared.NoMemory.{NoMemory}
 use Rattle.audit_types.specs.declared.records.Answered.{Answered}
 use Rattle.audit_types.specs.History.{FitsShape}
 use Rattle.audit_core.specs.Audited.{Audited}
-use Rattle.audit_store.specs.Starting.{IsTrue, IsReleasedAfter}
+use Rattle.audit_store.specs.Starting.{IsTrue, IsReleasedAfter, TellsIllegal}
 use Rattle.table_load.specs.Database.{secret_table}
-use Rattle.audit_store.proofs.LegalHistories.{legal_is_possible, legal_more, released_before}
+use Rattle.audit_store.proofs.LegalHistories.{cause_of_illegal, legal_is_possible, legal_more, released_before}
 use Rattle.audit_store.proofs.starting.replay.Goals as goal
 
 pub is_released-requires-clause-possible : goal.is_released-requires-clause-possible
@@ -20,13 +20,27 @@ abbrev said : Bool → Result Bool NoMemory
 said b = Ok b
 
 pub illegal-requires-clause-possible : goal.illegal-requires-clause-possible
-illegal-requires-clause-possible c = ?
+illegal-requires-clause-possible c =
+    let i = c.loop-place.invariant in
+    let possible = legal_is_possible c.args.secret.now c.args.protected (take c.loop-place.place c.args.list.now) c.true_answers.ensures.legal c.shape.ensures.is i.legal in
+    rw (c.is_released.ensures.same, i.same_setting, i.so_far) possible
 
 pub illegal-requires-clause-denied : goal.illegal-requires-clause-denied
-illegal-requires-clause-denied c = ?
+illegal-requires-clause-denied c = rw c.is_released.ensures.same (c.in-Ok-false.ensures.no (ap said c.in-Ok-false.field-0-test))
 
+-- what is told of the record at this place is the cause of the history
 pub returns-in-Ok-false-clause-err : goal.returns-in-Ok-false-clause-err
-returns-in-Ok-false-clause-err c = ?
+returns-in-Ok-false-clause-err c =
+    let i = c.loop-place.invariant in
+    let list = c.args.list.now in
+    let r = c.index-list-place.result in
+    let table = secret_table c.args.secret.now c.args.protected in
+    let denied : IsReleasedAfter table (take c.loop-place.place list) r →
+    ⊥ = rw (i.same_setting, i.so_far) at (c.in-Ok-false.ensures.no (ap said c.in-Ok-false.field-0-test)) in
+    let core : c.is_released.new.core ≡ record { setting = table.setting; history = take c.loop-place.place list } = search rules in
+    cause_of_illegal table list c.loop-place.place r c.requires.are_true
+    (slice_get_read list _ c.loop-place.place r refl c.loop-place-test.true c.index-list-place.is) denied (released_before table list c.loop-place.place i.legal)
+    c.illegal.result (subst (λ core. TellsIllegal core c.loop-place.place r c.illegal.result) core c.illegal.ensures)
 
 pub loop-place-preserved : goal.loop-place-preserved
 loop-place-preserved c =
