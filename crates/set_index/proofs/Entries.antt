@@ -7,7 +7,7 @@ use Rattle.std.proofs.lemmas.List.{take_more, get_or-take, length-take}
 use Rattle.std.proofs.lemmas.Option.{slice_get-get_or}
 use Rattle.audit_types.specs.declared.records.Protected.{Protected}
 use Rattle.audit_types.specs.History.{entry_of}
-use Rattle.schema_json.specs.Columns.{Column, Group}
+use Rattle.schema_json.specs.Columns.{Column, Group, Guards}
 use Rattle.table_load.specs.Cells.{PublicView}
 use Rattle.predicate_lang.specs.Trees.{Tree}
 use Rattle.set_index.specs.Asked.{meaning}
@@ -63,13 +63,14 @@ entries_sound columns public (g ∷ gs) protected (c, u, rest, was, before, more
 entries_sound columns public (g ∷ gs) protected (c, u, rest, was, before, more) (suc i) group is = entries_sound columns public gs rest more i group is
 
 -- a fault after groups that have entries is the first
-pub first_bad : (columns : List Column) (public : PublicView) (groups : List Group) (place at : ℕ) (protected : List Protected) → place < length groups →
-    AreEntries columns public (take place groups) protected → at ≡ place → ((group : Group) → slice_get groups place ≡ Some group → ¬ (HasNoFault columns group)) →
-    IsFirstBad columns groups at
-first_bad columns public groups place at protected low entries same bad =
+pub first_bad : (columns : List Column) (public : PublicView) (guards : Guards) (place at : ℕ) (protected : List Protected) → place < length guards.groups →
+    AreEntries columns public (take place guards.groups) protected → at ≡ place → ((group : Group) → slice_get guards.groups place ≡ Some group → ¬ (HasNoFault columns group)) →
+    IsFirstBad columns guards at
+first_bad columns public guards place at protected low entries same bad =
+    let groups = guards.groups in
     let d : Group = record { column = []; condition = [] } in
     let stands = slice_get-get_or groups place d low in
-    subst (IsFirstBad columns groups) (sym same) (record {
+    subst (IsFirstBad columns guards) (sym same) (record {
       at = get_or groups place d;
       stands = stands;
       bad = bad (get_or groups place d) stands;

@@ -1,17 +1,17 @@
 -- Laws of the entries of groups: they are one list, there is one if no group has a fault, and they fit the table.
 use Rattle.std.proofs.Common.{◌≡◌, ℕ, suc, ◌≤◌, List, [], ◌∷◌, ◌++◌, length, Option, Some, None, unwrap_or, refl, sym, ap, ◌∙◌, subst, arith}
-use Rattle.std.specs.Prelude.{option_and_then, All}
+use Rattle.std.specs.Prelude.{option_and_then, slice_get, All}
 use Rattle.std.proofs.lemmas.List.{length-append}
 use Rattle.std.proofs.lemmas.List.Elements.{All-append, All-nil, All-cons}
 use Rattle.audit_types.specs.Rows.{AreRows}
 use Rattle.audit_types.specs.RowLaws.{AreRows-rows_that}
-use Rattle.audit_types.specs.Limits.{most_width}
+use Rattle.audit_types.specs.Limits.{most_groups}
 use Rattle.audit_types.specs.PlainLaws.{plain_fits}
 use Rattle.audit_types.specs.History.{Protection, IsProtected, IsPlainFor, FitsShape, against_outsiders, entry_of}
 use Rattle.audit_types.specs.declared.records.Protected.{Protected}
 use Rattle.audit_types.specs.declared.shapes.Kind.{Kind}
 use Rattle.audit_types.specs.declared.shapes.Kind.TheVariants as kind
-use Rattle.schema_json.specs.Columns.{Column, Group, AreColumns, place_of, role_at, secret_place}
+use Rattle.schema_json.specs.Columns.{Column, Group, Guards, AreColumns, place_of, role_at, secret_place}
 use Rattle.schema_json.specs.SecretShape.{IsSecretOf, PlacesAreColumns, role_of_kind, shape_of}
 use Rattle.schema_json.specs.declared.roles.Role.TheVariants.{Sum}
 use Rattle.table_load.specs.Cells.{PublicView}
@@ -40,7 +40,8 @@ one_list means columns public (g ∷ gs) a b (c, t, rest, is, a_is, more) (d, u,
     ∙ sym b_is
 
 -- groups without fault have one
-some_list : (columns : List Column) (public : PublicView) (groups : List Group) → AreSound columns groups → (protected : List Protected) × AreEntries columns public groups protected
+some_list : (columns : List Column) (public : PublicView) (groups : List Group) → ((i : ℕ) (group : Group) → slice_get groups i ≡ Some group → HasNoFault columns group) →
+    (protected : List Protected) × AreEntries columns public groups protected
 some_list columns public [] sound = ([], refl)
 some_list columns public (g ∷ gs) sound = by (sound 0 g refl) (some_list columns public gs (λ i group is. sound (suc i) group is))
   where
@@ -48,21 +49,21 @@ some_list columns public (g ∷ gs) sound = by (sound 0 g refl) (some_list colum
     by (c, t, is) (rest, more) = (entry_of c public.rows (meaning public t) ++ rest, (c, t, rest, is, refl, more))
 
 -- so they protect in one way
-one_way : OneMeaning → (columns : List Column) (public : PublicView) (groups : List Group) (a b : Protection) → Protects columns public groups a → Protects columns public groups b → a ≡ b
-one_way means columns public groups a b first second =
-    first.1 ∙ ap (λ entries. against_outsiders entries [] most_width) (one_list means columns public groups a.groups b.groups first.0 second.0) ∙ sym second.1
+one_way : OneMeaning → (columns : List Column) (public : PublicView) (guards : Guards) (a b : Protection) → Protects columns public guards a → Protects columns public guards b → a ≡ b
+one_way means columns public guards a b first second =
+    first.1 ∙ ap (λ entries. against_outsiders entries [] guards.width) (one_list means columns public guards.groups a.groups b.groups first.0 second.0) ∙ sym second.1
 
-some_way : (columns : List Column) (public : PublicView) (groups : List Group) → AreSound columns groups → (protected : Protection) × Protects columns public groups protected
-some_way columns public groups sound =
-    let list = some_list columns public groups sound in
-    (against_outsiders list.0 [] most_width, (list.1, refl))
+some_way : (columns : List Column) (public : PublicView) (guards : Guards) → AreSound columns guards → (protected : Protection) × Protects columns public guards protected
+some_way columns public guards sound =
+    let list = some_list columns public guards.groups sound in
+    (against_outsiders list.0 [] guards.width, (list.1, refl))
 
 pub one_list_of_entries : OneMeaning → OneListOfEntries
 one_list_of_entries means = record {
   one = one_way means;
   some = some_way;
-  sound = λ columns public groups protected are. entries_sound columns public groups protected.groups are.0;
-  bad = λ columns groups place first sound. first.bad (sound place first.at first.stands);
+  sound = λ columns public guards protected are. entries_sound columns public guards.groups protected.groups are.0;
+  bad = λ columns guards place first sound. first.bad (sound place first.at first.stands);
 }
 
 -- ---- they fit
@@ -104,7 +105,8 @@ entries_fit places columns public (g ∷ gs) protected are (c, t, rest, is, prot
     subst (λ xs. All (IsProtected shape) xs × (length xs ≤ length (g ∷ gs))) (sym protected_is) (All-append (IsProtected shape) entry rest first.0 others.0, few)
 
 pub entries_are_protected : PlacesAreColumns → EntriesFit
-entries_are_protected places columns public groups protected are is few protects =
+entries_are_protected places columns public guards protected are is guarded protects =
     let shape = shape_of columns public.rows in
-    let fit = entries_fit places columns public groups protected.groups are protects.0 in
-    subst (IsPlainFor shape) (sym protects.1) (plain_fits shape protected.groups fit.0 (omega (arith, fit.1, few)))
+    let fit = entries_fit places columns public guards.groups protected.groups are protects.0 in
+    let few : length protected.groups ≤ most_groups = omega (arith, fit.1, guarded.few) in
+    subst (IsPlainFor shape) (sym protects.1) (plain_fits shape protected.groups guards.width fit.0 few guarded.wide guarded.narrow)

@@ -1,8 +1,8 @@
--- The protected groups of a schema over the public part of a table.
+-- What a schema guards of a table, by the public part.
 use Rattle.std.specs.Prelude.{◌≡◌, ℕ, ◌<◌, ◌≤◌, List, [], ◌∷◌, ◌++◌, length, slice_get, Some, option_and_then}
 use Rattle.audit_types.specs.declared.records.Protected.{Protected}
-use Rattle.audit_types.specs.History.{Protection, IsPlain, entry_of}
-use Rattle.schema_json.specs.Columns.{Column, Group, place_of, role_at, secret_place}
+use Rattle.audit_types.specs.History.{Protection, against_outsiders, entry_of}
+use Rattle.schema_json.specs.Columns.{Column, Group, Guards, place_of, role_at, secret_place}
 use Rattle.schema_json.specs.declared.roles.Role.TheVariants.{Sum}
 use Rattle.table_load.specs.Cells.{PublicView}
 use Rattle.predicate_lang.specs.Trees.{Tree}
@@ -23,21 +23,21 @@ AreEntries columns public [] protected = protected ≡ []
 AreEntries columns public (group ∷ groups) protected =
     (column : ℕ) × (t : Tree) × (rest : List Protected) × IsGroup columns group column t × (protected ≡ entry_of column public.rows (meaning public t) ++ rest) × AreEntries columns public groups rest
 
--- what a schema guards of a table: each row, and the entries of its groups
-abbrev pub Protects : List Column → PublicView → List Group → Protection → Type 0
-Protects columns public groups protected = AreEntries columns public groups protected.groups × IsPlain protected
+-- what a schema guards of a table: each row, and the entries of its groups, by forms of its width
+abbrev pub Protects : List Column → PublicView → Guards → Protection → Type 0
+Protects columns public guards protected = AreEntries columns public guards.groups protected.groups × (protected ≡ against_outsiders protected.groups [] guards.width)
 
 -- a group has no fault
 abbrev pub HasNoFault : List Column → Group → Type 0
 HasNoFault columns group = (column : ℕ) × (t : Tree) × IsGroup columns group column t
 
 -- no group has a fault
-abbrev pub AreSound : List Column → List Group → Type 0
-AreSound columns groups = (i : ℕ) (group : Group) → slice_get groups i ≡ Some group → HasNoFault columns group
+abbrev pub AreSound : List Column → Guards → Type 0
+AreSound columns guards = (i : ℕ) (group : Group) → slice_get guards.groups i ≡ Some group → HasNoFault columns group
 
 -- the first group that has a fault stands at this place
-pub record IsFirstBad (columns : List Column) (groups : List Group) (place : ℕ) : Type 0 where
+pub record IsFirstBad (columns : List Column) (guards : Guards) (place : ℕ) : Type 0 where
   pub at : Group
-  pub stands : slice_get groups place ≡ Some at
+  pub stands : slice_get guards.groups place ≡ Some at
   pub bad : ¬ (HasNoFault columns at)
-  pub before : (i : ℕ) (group : Group) → i < place → slice_get groups i ≡ Some group → HasNoFault columns group
+  pub before : (i : ℕ) (group : Group) → i < place → slice_get guards.groups i ≡ Some group → HasNoFault columns group

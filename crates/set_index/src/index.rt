@@ -107,9 +107,9 @@ fn sorted_columns(alloc: Global, public: &Public) -> Result<Vec<Option<Sorted>>,
 
 // The place among the secret columns of a group's column, and its condition.
 fn group_at(alloc: Global, schema: &Schema, place: u8) -> Result<(u8, Pred), IndexFault>
-    requires { place < length schema.now.groups }
-    ensures ok { IfOk result (λ found. (group : Group) → slice_get schema.now.groups place ≡ Some group → IsGroup schema.now.columns group found.0 (tree_of found.1)) }
-    ensures bad { (at : ℕ) → result ≡ Err (IndexFault.BadGroup at) → (at ≡ place) × ((group : Group) → slice_get schema.now.groups place ≡ Some group → ¬ (HasNoFault schema.now.columns group)) }
+    requires { place < length schema.now.guards.groups }
+    ensures ok { IfOk result (λ found. (group : Group) → slice_get schema.now.guards.groups place ≡ Some group → IsGroup schema.now.columns group found.0 (tree_of found.1)) }
+    ensures bad { (at : ℕ) → result ≡ Err (IndexFault.BadGroup at) → (at ≡ place) × ((group : Group) → slice_get schema.now.guards.groups place ≡ Some group → ¬ (HasNoFault schema.now.columns group)) }
     ensures fits { IfOk result (λ found. fits schema.now.columns (tree_of found.1) ≡ true) }
 {
     let bad = IndexFault::BadGroup { place };
@@ -138,10 +138,10 @@ fn group_entry(
     place: u8,
 ) -> Result<Option<Protected>, IndexFault>
     requires fits { FitsSchema schema.now.columns index.now.public }
-    requires place { place < length schema.now.groups }
-    ensures ok { IfOk result (λ entry. (group : Group) → slice_get schema.now.groups place ≡ Some group
+    requires place { place < length schema.now.guards.groups }
+    ensures ok { IfOk result (λ entry. (group : Group) → slice_get schema.now.guards.groups place ≡ Some group
         → (column : ℕ) × (t : Tree) × IsGroup schema.now.columns group column t × (option_to_list entry ≡ entry_of column index.now.public.rows (meaning index.now.public t))) }
-    ensures bad { (at : ℕ) → result ≡ Err (IndexFault.BadGroup at) → (at ≡ place) × ((group : Group) → slice_get schema.now.groups place ≡ Some group → ¬ (HasNoFault schema.now.columns group)) }
+    ensures bad { (at : ℕ) → result ≡ Err (IndexFault.BadGroup at) → (at ≡ place) × ((group : Group) → slice_get schema.now.guards.groups place ≡ Some group → ¬ (HasNoFault schema.now.columns group)) }
 {
     reads_what_fits();
     let (column, pred) = group_at(alloc, schema, place)?;
@@ -155,8 +155,8 @@ fn group_entry(
 // The entries of the groups, in order.
 fn entries_of(alloc: Global, schema: &Schema, index: &Index) -> Result<Vec<Protected>, IndexFault>
     requires fits { FitsSchema schema.now.columns index.now.public }
-    ensures entries { IfOk result (λ list. AreEntries schema.now.columns index.now.public schema.now.groups list.items) }
-    ensures bad { (place : ℕ) → result ≡ Err (IndexFault.BadGroup place) → IsFirstBad schema.now.columns schema.now.groups place }
+    ensures entries { IfOk result (λ list. AreEntries schema.now.columns index.now.public schema.now.guards.groups list.items) }
+    ensures bad { (place : ℕ) → result ≡ Err (IndexFault.BadGroup place) → IsFirstBad schema.now.columns schema.now.guards place }
 {
     let mut list = Vec::new(alloc);
     for place in 0..schema.groups() {
@@ -174,22 +174,22 @@ impl Index {
     pub fn new(alloc: Global, schema: &Schema, public: Public) -> Result<Index, IndexFault>
         requires { FitsSchema schema.now.columns public }
         ensures public { IfOk result (λ index. index.public ≡ public) }
-        ensures entries { IfOk result (λ index. Protects schema.now.columns public schema.now.groups index.protected) }
-        ensures bad { (place : ℕ) → result ≡ Err (IndexFault.BadGroup place) → IsFirstBad schema.now.columns schema.now.groups place }
+        ensures entries { IfOk result (λ index. Protects schema.now.columns public schema.now.guards index.protected) }
+        ensures bad { (place : ℕ) → result ≡ Err (IndexFault.BadGroup place) → IsFirstBad schema.now.columns schema.now.guards place }
         ensures fit { IfOk result (λ index. IsPlainFor (shape_of schema.now.columns public.rows) index.protected) }
     {
         groups_of_a_schema();
-        // The counts say that these are a schema's columns, and at most 64 groups.
-        let (_count, _groups) = (schema.count(), schema.groups());
+        // The count says that these are a schema's columns, and the width that at most 64 groups are guarded, within bounds.
+        let (_count, width) = (schema.count(), schema.width());
         let Ok(columns) = sorted_columns(alloc, &public) else {
             return Err(IndexFault::NoMemory);
         };
         let mut index = Index {
             public,
-            protected: Guard::new(Vec::new(alloc)),
+            protected: Guard::new(Vec::new(alloc), width),
             columns,
         };
-        index.protected = Guard::new(entries_of(alloc, schema, &index)?);
+        index.protected = Guard::new(entries_of(alloc, schema, &index)?, width);
         Ok(index)
     }
 
@@ -200,7 +200,7 @@ impl Index {
         &self.public
     }
 
-    /// What the schema guards: each row, and the groups that some row satisfies, in the order of the schema.
+    /// What the schema guards: each row, and the groups that some row satisfies, in the order of the schema; and by which width.
     pub fn protected(&self) -> &Guard
         ensures { result.now ≡ self.now.protected }
     {
