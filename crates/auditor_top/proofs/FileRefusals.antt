@@ -2,7 +2,7 @@
 use Rattle.std.proofs.Common.{◌≡◌, ◌≢◌, ℕ, true, List, Some, Result, Ok, refl, subst, rules, Err, IsErr, IsErrAnd, IfErr, sym}
 use Rattle.bench_core.specs.declared.bench.Bench.{Ghosts}
 use Rattle.bench_core.specs.declared.source.Source as source
-use Rattle.schema_json.specs.Columns.{Column, Group, SchemaView}
+use Rattle.schema_json.specs.Columns.{Column, Guards, SchemaView}
 use Rattle.schema_json.specs.Reading.{schema_of}
 use Rattle.schema_json.specs.declared.faults.SchemaFault.{SchemaFault}
 use Rattle.schema_json.specs.declared.faults.SchemaFault.TheVariants as schema_fault
@@ -43,7 +43,7 @@ record FileRefusal (fault : OpenFault) : Type 1 where
   pub words : (asked : Command) → reads_files asked ≡ true → WordCause (open_status fault) (Some asked)
   pub journal : (asked : Command) (bytes : List ℕ) (table : Guarded) → FileCause (open_status fault) asked bytes table
   pub early : EndsEarly (open_status fault)
-  pub groups : (columns : List Column) (groups : List Group) → GroupCause (open_status fault) columns groups
+  pub groups : (columns : List Column) (guards : Guards) → GroupCause (open_status fault) columns guards
   pub own_schema : open_status fault ≡ BadSchema schema_fault.NoMemory → fault ≡ opening.Schema (file.Bad schema_fault.NoMemory)
   pub own_table : open_status fault ≡ BadTable table_fault.NoMemory → fault ≡ opening.Table (file.Bad table_fault.NoMemory)
   pub schema : open_status fault ≡ SourceFault Schema → fault ≡ opening.Schema file.Failed
@@ -75,7 +75,7 @@ module _ {P B X : Type 0} (files : source.Ghosts P) (bench : Ghosts B) (asked : 
         schema = λ ptold reads. unopened.schema ptold;
         table = table_cause;
         public = public_cause;
-        groups = λ ptold reads meant is. says.groups meant.columns meant.groups;
+        groups = λ ptold reads meant is. says.groups meant.columns meant.guards;
         file = λ ptold told base given sound. says.journal asked (bench.file at) (table_in base);
         own_schema_fault = λ is. unopened.own_schema_fault (says.own_schema is);
         own_table_fault = λ is. unopened.own_table_fault (says.own_table is);
@@ -96,14 +96,14 @@ pub gives_up_over : (fault : OpenFault) (schema table : List ℕ) (base : Databa
     SchemaCause (open_status fault) (schema_of schema) →
     ((meant : SchemaView) → schema_of schema ≡ Ok meant → TableCause (open_status fault) (table_of meant.columns table)) → GivesUp (open_status fault)
 gives_up_over fault schema table base given schema_cause table_cause =
-    (file_refusal fault).gives_up TableView (record { columns = base.columns; groups = given.groups }) (record { public = base.public; secret = base.secret })
+    (file_refusal fault).gives_up TableView (record { columns = base.columns; guards = given.guards }) (record { public = base.public; secret = base.secret })
     (subst (λ (r : Result SchemaView SchemaFault). SchemaCause (open_status fault) r) given.schema_is schema_cause)
-    (subst (λ (r : Result TableView TableFault). TableCause (open_status fault) r) (means_read given.table_means) (table_cause (record { columns = base.columns; groups = given.groups }) given.schema_is))
+    (subst (λ (r : Result TableView TableFault). TableCause (open_status fault) r) (means_read given.table_means) (table_cause (record { columns = base.columns; guards = given.guards }) given.schema_is))
 
 pub gives_up_public : (fault : OpenFault) (schema table : List ℕ) (columns : List Column) (index : IndexView) → ArePublicFilesOf schema table columns index →
     SchemaCause (open_status fault) (schema_of schema) →
     ((meant : SchemaView) → schema_of schema ≡ Ok meant → TableCause (open_status fault) (public_of meant.columns table)) → GivesUp (open_status fault)
 gives_up_public fault schema table columns index given schema_cause table_cause =
-    (file_refusal fault).gives_up PublicView (record { columns = columns; groups = given.groups }) index.public
+    (file_refusal fault).gives_up PublicView (record { columns = columns; guards = given.guards }) index.public
     (subst (λ (r : Result SchemaView SchemaFault). SchemaCause (open_status fault) r) given.schema_is schema_cause)
-    (subst (λ (r : Result PublicView TableFault). TableCause (open_status fault) r) given.public_is (table_cause (record { columns = columns; groups = given.groups }) given.schema_is))
+    (subst (λ (r : Result PublicView TableFault). TableCause (open_status fault) r) given.public_is (table_cause (record { columns = columns; guards = given.guards }) given.schema_is))

@@ -4,7 +4,7 @@ use Rattle.std.proofs.lemmas.Bool.{true≢false}
 use Rattle.audit_types.specs.History.{Protection, Table as Guarded}
 use Rattle.bench_core.specs.declared.bench.Bench.{Ghosts}
 use Rattle.bench_core.specs.declared.source.Source as source
-use Rattle.schema_json.specs.Columns.{Column, Group, SchemaView}
+use Rattle.schema_json.specs.Columns.{Column, Guards, SchemaView}
 use Rattle.schema_json.specs.Reading.{schema_of}
 use Rattle.schema_json.specs.declared.faults.SchemaFault.{SchemaFault}
 use Rattle.table_load.specs.Cells.{PublicView}
@@ -57,22 +57,22 @@ group_refusal (index.BadGroup place) = search rules
 group_refusal index.NoMemory = search rules
 
 -- the first bad group is reported, and none is if none has a fault
-group_cause : (fault : IndexFault) (columns : List Column) (groups : List Group) →
-    ((place : ℕ) → fault ≡ index.BadGroup place → IsFirstBad columns groups place) → GroupCause (index_status fault) columns groups
-group_cause (index.BadGroup place) columns groups bad = bad place refl
-group_cause index.NoMemory columns groups bad = tt
+group_cause : (fault : IndexFault) (columns : List Column) (guards : Guards) →
+    ((place : ℕ) → fault ≡ index.BadGroup place → IsFirstBad columns guards place) → GroupCause (index_status fault) columns guards
+group_cause (index.BadGroup place) columns guards bad = bad place refl
+group_cause index.NoMemory columns guards bad = tt
 
-pub group_gives_up : OneListOfEntries → (fault : IndexFault) (columns : List Column) (public : PublicView) (groups : List Group) (protected : Protection) →
-    Protects columns public groups protected → ((place : ℕ) → fault ≡ index.BadGroup place → IsFirstBad columns groups place) →
+pub group_gives_up : OneListOfEntries → (fault : IndexFault) (columns : List Column) (public : PublicView) (guards : Guards) (protected : Protection) →
+    Protects columns public guards protected → ((place : ℕ) → fault ≡ index.BadGroup place → IsFirstBad columns guards place) →
     GivesUp (index_status fault)
-group_gives_up law (index.BadGroup place) columns public groups protected entries bad =
-    absurd (law.bad columns groups place (bad place refl) (law.sound columns public groups protected entries))
-group_gives_up law index.NoMemory columns public groups protected entries bad = tt
+group_gives_up law (index.BadGroup place) columns public guards protected entries bad =
+    absurd (law.bad columns guards place (bad place refl) (law.sound columns public guards protected entries))
+group_gives_up law index.NoMemory columns public guards protected entries bad = tt
 
 module _ {P B : Type 0} (files : source.Ghosts P) (bench : Ghosts B) (asked : Command) (schema later_schema table later_table : P) (at : B)
     (grouped : reads_groups asked ≡ true) (read : SchemaView) (schema_is : files.told → schema_of (files.left schema) ≡ Ok read)
     (same_schema : files.faults later_schema ≡ files.faults schema) (same_table : files.faults later_table ≡ files.faults table)
-    (fault : IndexFault) (bad : (place : ℕ) → fault ≡ index.BadGroup place → IsFirstBad read.columns read.groups place) where
+    (fault : IndexFault) (bad : (place : ℕ) → fault ≡ index.BadGroup place → IsFirstBad read.columns read.guards place) where
   pub groups_refused : (files.told → reads_secrets asked ≡ true → (other : SchemaView) → schema_of (files.left schema) ≡ Ok other →
       IsOk (table_of other.columns (files.left table))) →
       (files.told → asked ≡ Simulate → (other : SchemaView) → schema_of (files.left schema) ≡ Ok other → IsOk (public_of other.columns (files.left table))) →
@@ -86,8 +86,8 @@ module _ {P B : Type 0} (files : source.Ghosts P) (bench : Ghosts B) (asked : Co
         table = λ ptold reads other is. says.table _ _ (table_ok ptold reads other is);
         public = λ ptold simulates other is. says.table _ _ (public_ok ptold simulates other is);
         groups = λ ptold reads other is.
-            subst (λ (v : SchemaView). GroupCause (index_status fault) v.columns v.groups) (same_ok (schema_of (files.left schema)) read other (schema_is ptold) is)
-            (group_cause fault read.columns read.groups bad);
+            subst (λ (v : SchemaView). GroupCause (index_status fault) v.columns v.guards) (same_ok (schema_of (files.left schema)) read other (schema_is ptold) is)
+            (group_cause fault read.columns read.guards bad);
         file = λ ptold told base given sound. says.journal asked (bench.file at) (table_in base);
         own_schema_fault = λ is. subst EndsGroups is says.ends;
         own_table_fault = λ is. subst EndsGroups is says.ends;
@@ -106,19 +106,19 @@ module _ {P B : Type 0} (files : source.Ghosts P) (bench : Ghosts B) (asked : Co
       }
 
 pub public_gives_up : OneListOfEntries → (fault : IndexFault) (schema table : List ℕ) (read : SchemaView) (public : PublicView) → schema_of schema ≡ Ok read →
-    public_of read.columns table ≡ Ok public → ((place : ℕ) → fault ≡ index.BadGroup place → IsFirstBad read.columns read.groups place) →
+    public_of read.columns table ≡ Ok public → ((place : ℕ) → fault ≡ index.BadGroup place → IsFirstBad read.columns read.guards place) →
     (columns : List Column) × (given : IndexView) × ArePublicFilesOf schema table columns given → GivesUp (index_status fault)
 public_gives_up law fault schema table read public schema_is public_is bad given =
-    let view : SchemaView = record { columns = given.0; groups = given.2.groups } in
+    let view : SchemaView = record { columns = given.0; guards = given.2.guards } in
     let same : read ≡ view = same_ok (schema_of schema) read view schema_is given.2.schema_is in
-    group_gives_up law fault given.0 given.1.public given.2.groups given.1.protected given.2.entries
-    (subst (λ (v : SchemaView). (place : ℕ) → fault ≡ index.BadGroup place → IsFirstBad v.columns v.groups place) same bad)
+    group_gives_up law fault given.0 given.1.public given.2.guards given.1.protected given.2.entries
+    (subst (λ (v : SchemaView). (place : ℕ) → fault ≡ index.BadGroup place → IsFirstBad v.columns v.guards place) same bad)
 
 pub growth_gives_up : OneListOfEntries → (fault : IndexFault) (schema table : List ℕ) (read : SchemaView) → schema_of schema ≡ Ok read →
-    ((place : ℕ) → fault ≡ index.BadGroup place → IsFirstBad read.columns read.groups place) →
+    ((place : ℕ) → fault ≡ index.BadGroup place → IsFirstBad read.columns read.guards place) →
     (base : Database) × AreSoundFilesOf schema table base → GivesUp (index_status fault)
 growth_gives_up law fault schema table read schema_is bad given =
-    let view : SchemaView = record { columns = given.0.columns; groups = given.1.files.groups } in
-    group_gives_up law fault view.columns given.0.public view.groups given.0.protected given.1.entries
-    (subst (λ (v : SchemaView). (place : ℕ) → fault ≡ index.BadGroup place → IsFirstBad v.columns v.groups place)
+    let view : SchemaView = record { columns = given.0.columns; guards = given.1.files.guards } in
+    group_gives_up law fault view.columns given.0.public view.guards given.0.protected given.1.entries
+    (subst (λ (v : SchemaView). (place : ℕ) → fault ≡ index.BadGroup place → IsFirstBad v.columns v.guards place)
     (same_ok (schema_of schema) read view schema_is given.1.files.schema_is) bad)

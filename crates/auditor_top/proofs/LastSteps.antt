@@ -32,7 +32,7 @@ table_so status schema table base last are meant is =
     table_read status _ last (table_is_ok (λ (cs : List Column). table_of cs table) _ _ meant _ are.schema_is (means_read are.table_means) is)
 
 pub groups_so : OneListOfEntries → (status : Status) (schema table : List ℕ) (base : Database) → EndsLastStep status → AreSoundFilesOf schema table base →
-    (meant : SchemaView) → schema_of schema ≡ Ok meant → GroupCause status meant.columns meant.groups
+    (meant : SchemaView) → schema_of schema ≡ Ok meant → GroupCause status meant.columns meant.guards
 groups_so law status schema table base last are meant is =
     groups_read status _ _ last (groups_are_sound law _ _ base.public _ base.protected meant are.files.schema_is are.entries is)
 
@@ -51,12 +51,12 @@ module _ (words : Option Command) (one : Command) (status other : Status) (is_na
   pub file_so : reads_groups one ≡ true → (schema table file : List ℕ) →
       ((base : Database) → AreSoundFilesOf schema table base → FileCause other one file (table_in base)) →
       (asked : Command) → words ≡ Some asked → (base : Database) (files : AreFilesOf schema table base) →
-      OnTrue (reads_groups asked) (Protects base.columns base.public files.groups base.protected) → FileCause status asked file (table_in base)
+      OnTrue (reads_groups asked) (Protects base.columns base.public files.guards base.protected) → FileCause status asked file (table_in base)
   file_so grouped schema table file cause asked is_asked base files sound =
       let reads : reads_groups asked ≡ true = ap reads_groups (one_command words asked one is_asked is_named) ∙ grouped in
       named_so (λ (s : Status) (k : Command). FileCause s k file (table_in base)) (cause base (record {
         files = files;
-        entries = subst (λ (b : Bool). OnTrue b (Protects base.columns base.public files.groups base.protected)) reads sound;
+        entries = subst (λ (b : Bool). OnTrue b (Protects base.columns base.public files.guards base.protected)) reads sound;
       })) asked is_asked
 
 -- ---- the counts of faults: none changed before the last step

@@ -9,7 +9,7 @@ use Rattle.audit_types.specs.declared.records.Answered.{Answered}
 use Rattle.audit_types.specs.declared.shapes.Shape.{Shape}
 use Rattle.set_index.specs.Groups.{Protects, AreSound}
 use Rattle.set_index.specs.Indexed.{OneListOfEntries}
-use Rattle.schema_json.specs.Columns.{Column, Group, SchemaView}
+use Rattle.schema_json.specs.Columns.{Column, Guards, SchemaView}
 use Rattle.schema_json.specs.Reading.{schema_of}
 use Rattle.schema_json.specs.declared.faults.SchemaFault.{SchemaFault}
 use Rattle.table_load.specs.Cells.{PublicView, TableView}
@@ -38,10 +38,10 @@ same_ok r x y is other = ap (λ s. unwrap_or (result_ok s) x) (sym is ∙ other)
 
 -- the files mean one schema and one table
 same_files : (schema table : List ℕ) (a b : Database) (first : AreFilesOf schema table a) (second : AreFilesOf schema table b) →
-    (◌≡◌ {A = SchemaView} (record { columns = a.columns; groups = first.groups }) (record { columns = b.columns; groups = second.groups })) ×
+    (◌≡◌ {A = SchemaView} (record { columns = a.columns; guards = first.guards }) (record { columns = b.columns; guards = second.guards })) ×
     (◌≡◌ {A = TableView} (record { public = a.public; secret = a.secret }) (record { public = b.public; secret = b.secret }))
 same_files schema table a b first second =
-    let one : ◌≡◌ {A = SchemaView} (record { columns = a.columns; groups = first.groups }) (record { columns = b.columns; groups = second.groups }) =
+    let one : ◌≡◌ {A = SchemaView} (record { columns = a.columns; guards = first.guards }) (record { columns = b.columns; guards = second.guards }) =
     same_ok (schema_of schema) _ _ first.schema_is second.schema_is in (
       one,
       same_ok (table_of b.columns table) _ _
@@ -56,9 +56,9 @@ one_secret schema table a b first second = ap (λ (v : TableView). v.secret) (sa
 pub one_base : OneListOfEntries → (schema table : List ℕ) (a b : Database) → AreSoundFilesOf schema table a → AreSoundFilesOf schema table b → a ≡ b
 one_base law schema table a b first second =
     let same = same_files schema table a b first.files second.files in
-    let kept : a.protected ≡ b.protected = law.one b.columns b.public second.files.groups a.protected b.protected
-    (subst (λ (v : TableView). Protects b.columns v.public second.files.groups a.protected) same.1
-    (subst (λ (v : SchemaView). Protects v.columns a.public v.groups a.protected) same.0 first.entries)) second.entries in
+    let kept : a.protected ≡ b.protected = law.one b.columns b.public second.files.guards a.protected b.protected
+    (subst (λ (v : TableView). Protects b.columns v.public second.files.guards a.protected) same.1
+    (subst (λ (v : SchemaView). Protects v.columns a.public v.guards a.protected) same.0 first.entries)) second.entries in
     ap (λ (v : SchemaView). base_of v.columns a.public a.protected a.secret) same.0
     ∙ ap (λ (v : TableView). base_of b.columns v.public a.protected v.secret) same.1 ∙ ap (λ (p : Protection). base_of b.columns b.public p b.secret) kept
 
@@ -87,11 +87,11 @@ table_is_ok {X} {E} meaning schema read asked meant is means also =
     subst (λ (v : SchemaView). IsOk (meaning v.columns)) (same_ok (schema_of schema) read asked is also) (subst (λ (r : Result X E). IsOk r) (sym means) refl)
 
 -- and no group has a fault
-pub groups_are_sound : OneListOfEntries → (schema : List ℕ) (columns : List Column) (public : PublicView) (groups : List Group) (protected : Protection)
-    (asked : SchemaView) → schema_of schema ≡ Ok (record { columns = columns; groups = groups }) → Protects columns public groups protected →
-    schema_of schema ≡ Ok asked → AreSound asked.columns asked.groups
-groups_are_sound law schema columns public groups protected asked is entries also =
-    subst (λ (v : SchemaView). AreSound v.columns v.groups) (same_ok (schema_of schema) _ asked is also) (law.sound columns public groups protected entries)
+pub groups_are_sound : OneListOfEntries → (schema : List ℕ) (columns : List Column) (public : PublicView) (guards : Guards) (protected : Protection)
+    (asked : SchemaView) → schema_of schema ≡ Ok (record { columns = columns; guards = guards }) → Protects columns public guards protected →
+    schema_of schema ≡ Ok asked → AreSound asked.columns asked.guards
+groups_are_sound law schema columns public guards protected asked is entries also =
+    subst (λ (v : SchemaView). AreSound v.columns v.guards) (same_ok (schema_of schema) _ asked is also) (law.sound columns public guards protected entries)
 
 -- no group of lines has no replies
 none_due : (base : Database) (batch : ℕ) (history : List Answered) (lines : List CountedLine) → AreReplies (IsDue base) history (groups batch 0 lines) []

@@ -36,13 +36,13 @@ index_of public protected = record { public = public; protected = protected }
 pub same_index : OneListOfEntries → (schema table : List ℕ) (opened columns : List Column) (shown index : IndexView) →
     ArePublicFilesOf schema table opened shown → ArePublicFilesOf schema table columns index → (opened ≡ columns) × (shown ≡ index)
 same_index law schema table opened columns shown index read files =
-    let same : ◌≡◌ {A = SchemaView} (record { columns = opened; groups = read.groups }) (record { columns = columns; groups = files.groups }) =
+    let same : ◌≡◌ {A = SchemaView} (record { columns = opened; guards = read.guards }) (record { columns = columns; guards = files.guards }) =
     same_ok (schema_of schema) _ _ read.schema_is files.schema_is in
     let part : shown.public ≡ index.public = same_ok (public_of columns table) shown.public index.public
     (subst (λ (v : SchemaView). public_of v.columns table ≡ Ok shown.public) same read.public_is) files.public_is in
-    let kept : shown.protected ≡ index.protected = law.one columns index.public files.groups shown.protected index.protected
-    (subst (λ (p : PublicView). Protects columns p files.groups shown.protected) part
-    (subst (λ (v : SchemaView). Protects v.columns shown.public v.groups shown.protected) same read.entries)) files.entries in (
+    let kept : shown.protected ≡ index.protected = law.one columns index.public files.guards shown.protected index.protected
+    (subst (λ (p : PublicView). Protects columns p files.guards shown.protected) part
+    (subst (λ (v : SchemaView). Protects v.columns shown.public v.guards shown.protected) same read.entries)) files.entries in (
       ap (λ (v : SchemaView). v.columns) same,
       ap (λ (p : PublicView). index_of p shown.protected) part ∙ ap (λ (l : Protection). index_of index.public l) kept,
     )

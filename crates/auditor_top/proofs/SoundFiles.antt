@@ -24,8 +24,8 @@ module _ (fit : MeaningsFit) (schema table : List ℕ) (base : Database) (sound 
   abbrev meant : TableView
   meant = record { public = base.public; secret = base.secret }
 
-  is_schema : IsSchema (record { columns = base.columns; groups = sound.files.groups })
-  is_schema = fit.schema schema (record { columns = base.columns; groups = sound.files.groups }) sound.files.schema_is
+  is_schema : IsSchema (record { columns = base.columns; guards = sound.files.guards })
+  is_schema = fit.schema schema (record { columns = base.columns; guards = sound.files.guards }) sound.files.schema_is
 
   pub is_secret : IsSecret base.secret
   is_secret = fit.secret base.columns table meant is_schema.columns (means_read sound.files.table_means)
@@ -37,6 +37,6 @@ module _ (fit : MeaningsFit) (schema table : List ℕ) (base : Database) (sound 
         schema = is_schema.columns;
         shape = shape;
         protected = subst (λ (s : Shape). IsPlainFor s base.protected) (sym shape)
-            (fit.entries base.columns base.public sound.files.groups base.protected is_schema.columns
-            (fit.public base.columns table meant (means_read sound.files.table_means)) is_schema.few sound.entries);
+            (fit.entries base.columns base.public sound.files.guards base.protected is_schema.columns
+            (fit.public base.columns table meant (means_read sound.files.table_means)) is_schema.guards sound.entries);
       }

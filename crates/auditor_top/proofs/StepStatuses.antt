@@ -1,7 +1,7 @@
 -- What follows from the status of each step of a run by itself.
 use Rattle.std.proofs.Common.{◌≡◌, ◌≢◌, ◌≤◌, List, ℕ, true, false, Bool, Result, IsOk, arith, refl, subst, sym, rules}
 use Rattle.std.specs.Bool.{OnTrue}
-use Rattle.schema_json.specs.Columns.{Column, Group, SchemaView}
+use Rattle.schema_json.specs.Columns.{Column, Guards, SchemaView}
 use Rattle.schema_json.specs.declared.faults.SchemaFault.{SchemaFault}
 use Rattle.schema_json.specs.declared.faults.SchemaFault.TheVariants as schema_fault
 use Rattle.table_load.specs.declared.faults.TableFault.{TableFault}
@@ -104,9 +104,9 @@ EndsLastStep (BadGroup place) = ⊥
 EndsLastStep status = Unit {0}
 
 -- the files were read before, the groups were made ready, and the journal was opened
-pub groups_read : (status : Status) (columns : List Column) (groups : List Group) → EndsLastStep status → AreSound columns groups → GroupCause status columns groups
-groups_read (BadGroup place) columns groups last are = absurd last
-groups_read status columns groups last are = always_passed reading_groups status are
+pub groups_read : (status : Status) (columns : List Column) (guards : Guards) → EndsLastStep status → AreSound columns guards → GroupCause status columns guards
+groups_read (BadGroup place) columns guards last are = absurd last
+groups_read status columns guards last are = always_passed reading_groups status are
 
 pub schema_read : (status : Status) (meant : Result SchemaView SchemaFault) → EndsLastStep status → IsOk meant → SchemaCause status meant
 schema_read (BadSchema fault) meant last is = absurd last

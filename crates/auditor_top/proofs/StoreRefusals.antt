@@ -104,12 +104,12 @@ module _ {P B : Type 0} (files : source.Ghosts P) (bench : Ghosts B) (law : OneL
   abbrev seen : Protection → Database
   seen protected = base_of read.columns meant.public protected meant.secret
 
-  sound_files : files.told → (protected : Protection) → Protects read.columns meant.public read.groups protected →
+  sound_files : files.told → (protected : Protection) → Protects read.columns meant.public read.guards protected →
       AreSoundFilesOf (files.left schema) (files.left table) (seen protected)
   sound_files ptold protected entries =
-      record { files = record { groups = read.groups; schema_is = schema_is ptold; table_means = read_means _ _ meant (table_is ptold) }; entries = entries }
+      record { files = record { guards = read.guards; schema_is = schema_is ptold; table_means = read_means _ _ meant (table_is ptold) }; entries = entries }
 
-  pub store_refused : {X : Type 0} (fault : StartFault) (protected : Protection) → Protects read.columns meant.public read.groups protected →
+  pub store_refused : {X : Type 0} (fault : StartFault) (protected : Protection) → Protects read.columns meant.public read.guards protected →
       (bench.told → StartCause fault (bench.file at) (secret_table meant.secret protected) × ((history : List Answered) →
       StandsFor (bench.file at) meant.secret.shape history → IsLegal (secret_table meant.secret protected) history → starting.GivesUp fault)) →
       TellsFault bench at later (IsErrOf {T = X} (Err fault) start.Failed) →
@@ -128,7 +128,7 @@ module _ {P B : Type 0} (files : source.Ghosts P) (bench : Ghosts B) (law : OneL
         file = λ ptold told base given sound.
             let one = one_base law _ _ (seen protected) base (are ptold) (record {
               files = given;
-              entries = subst (λ (b : Bool). OnTrue b (Protects base.columns base.public given.groups base.protected)) grouped sound;
+              entries = subst (λ (b : Bool). OnTrue b (Protects base.columns base.public given.guards base.protected)) grouped sound;
             }) in
             subst (λ (b : Database). FileCause status asked (bench.file at) (table_in b)) one
             (says.file asked (bench.file at) (table_in (seen protected)) (refused_so fault asked _ _ opens (cause told).0));
@@ -164,9 +164,9 @@ pub not_started : {P B X : Type 0} (files : source.Ghosts P) (bench : Ghosts B) 
     (schema later_schema table later_table : P) (at later : B) (opens : opens_store asked ≡ true) (read : SchemaView) (meant : TableView)
     (schema_is : files.told → schema_of (files.left schema) ≡ Ok read) (table_is : files.told → table_of read.columns (files.left table) ≡ Ok meant)
     (same_schema : files.faults later_schema ≡ files.faults schema) (same_table : files.faults later_table ≡ files.faults table) (fault : NotStarted) →
-    ((place : ℕ) → ◌≡◌ {A = Result X NotStarted} (Err fault) (Err (began.Groups (index.BadGroup place))) → IsFirstBad read.columns read.groups place) →
+    ((place : ℕ) → ◌≡◌ {A = Result X NotStarted} (Err fault) (Err (began.Groups (index.BadGroup place))) → IsFirstBad read.columns read.guards place) →
     ((f : StartFault) → ◌≡◌ {A = Result X NotStarted} (Err fault) (Err (began.Journal f)) → (protected : Protection) ×
-    Protects read.columns meant.public read.groups protected × (bench.told → StartCause f (bench.file at) (secret_table meant.secret protected) ×
+    Protects read.columns meant.public read.guards protected × (bench.told → StartCause f (bench.file at) (secret_table meant.secret protected) ×
     ((history : List Answered) → StandsFor (bench.file at) meant.secret.shape history → IsLegal (secret_table meant.secret protected) history →
     starting.GivesUp f))) → TellsFault bench at later (IsErrOf {T = X} (Err fault) (began.Journal start.Failed)) →
     ((f : IndexFault) → ◌≡◌ {A = Result X NotStarted} (Err fault) (Err (began.Groups f)) → later ≡ at) →
@@ -181,9 +181,9 @@ not_started {P} {B} {X} files bench law asked schema later_schema table later_ta
     (λ ptold simulates. not_public asked (opens_too asked opens) simulates)
     (λ ptold told given.
     let all = given_history asked _ _ _ opens given in
-    let view : SchemaView = record { columns = all.0.columns; groups = all.2.files.files.groups } in
-    group_gives_up law f all.0.columns all.0.public view.groups all.0.protected all.2.files.entries
-    (subst (λ (v : SchemaView). (place : ℕ) → f ≡ index.BadGroup place → IsFirstBad v.columns v.groups place)
+    let view : SchemaView = record { columns = all.0.columns; guards = all.2.files.files.guards } in
+    group_gives_up law f all.0.columns all.0.public view.guards all.0.protected all.2.files.entries
+    (subst (λ (v : SchemaView). (place : ℕ) → f ≡ index.BadGroup place → IsFirstBad v.columns v.guards place)
     (same_ok (schema_of (files.left schema)) read view (schema_is ptold) all.2.files.files.schema_is) first)))
 not_started {P} {B} {X} files bench law asked schema later_schema table later_table at later opens read meant schema_is table_is same_schema same_table
     (began.Journal f) bad cause tells uncalled =

@@ -138,9 +138,9 @@ pub record Refuses {P B : Type 0} (files : source.Ghosts P) (bench : Ghosts B) (
   pub public : files.told → asked ≡ command.Simulate → (meant : SchemaView) → schema_of (files.left old_schema) ≡ Ok meant →
       TableCause status (public_of meant.columns (files.left old_table))
   pub groups : files.told → reads_groups asked ≡ true → (meant : SchemaView) → schema_of (files.left old_schema) ≡ Ok meant →
-      GroupCause status meant.columns meant.groups
+      GroupCause status meant.columns meant.guards
   pub file : files.told → bench.told → (base : Database) → (given : AreFilesOf (files.left old_schema) (files.left old_table) base) →
-      OnTrue (reads_groups asked) (Protects base.columns base.public given.groups base.protected) → FileCause status asked (bench.file old) (table_in base)
+      OnTrue (reads_groups asked) (Protects base.columns base.public given.guards base.protected) → FileCause status asked (bench.file old) (table_in base)
   pub own_schema_fault : status ≢ BadSchema schema_fault.NoMemory
   pub own_table_fault : status ≢ BadTable table_fault.NoMemory
   pub schema_within : files.told → status ≡ SourceFault Schema → length (files.left old_schema) ≤ most_schema + length (files.left new_schema)

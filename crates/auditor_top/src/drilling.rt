@@ -4,6 +4,7 @@ ghost use Rattle.audit_types.specs.Shapes.{IsShape};
 ghost use Rattle.audit_types.specs.declared.records.Answered.{Answered};
 ghost use Rattle.audit_types.specs.Limits.{most_width};
 ghost use Rattle.audit_types.specs.History.{Table as Guarded, against_outsiders};
+ghost use Rattle.schema_json.specs.Columns.{no_guards};
 ghost use Rattle.schema_json.specs.SecretShape.{shape_of};
 ghost use Rattle.table_load.specs.Cells.{FitsSchema};
 ghost use Rattle.table_load.specs.Database.{base_of};
@@ -25,7 +26,7 @@ use crate::status::Status;
 use answer_journal::{Journal, MakeFault};
 use audit_session::EndFault;
 use audit_store::{StartFault, Store};
-use audit_types::{Guard, NoMemory, Shape};
+use audit_types::{Guard, MOST_WIDTH, NoMemory, Shape};
 use bench_core::{Bench, Failed, MemoryBench, Room, SteadySource};
 use drill_case::laws::lines_of_replies;
 use drill_case::{drill_lines, drill_schema, drill_table, summary, tally};
@@ -102,7 +103,7 @@ fn answer(
     ensures { OnOk result ((last : List Answered) × Serves (base_of schema.now.columns index.now.public index.now.protected secret) [] (counted_lines lines.items) last (sent_of bench.old) (sent_of bench.new)) }
 {
     journal_form::laws::one_reading();
-    match Store::start(alloc, secret, Guard::new(Vec::new(alloc)), bench) {
+    match Store::start(alloc, secret, Guard::new(Vec::new(alloc), MOST_WIDTH), bench) {
         Ok(mut store) => answer_over(alloc, schema, index, &mut store, lines, bench),
         Err(fault) => match fault {
             StartFault::Failed | StartFault::NoMemory => Err(NoMemory),
@@ -144,7 +145,7 @@ fn answer_table(
     bench: &mut MemoryBench,
 ) -> Result<u16, NoMemory>
     requires columns { schema.now.columns ≡ drill_columns }
-    requires groups { schema.now.groups ≡ [] }
+    requires guards { schema.now.guards ≡ no_guards }
     requires public { table.public ≡ drill_public number }
     requires secret { table.secret ≡ drill_secret number }
     requires fits { FitsSchema schema.now.columns table.public }

@@ -60,12 +60,12 @@ pub fn run<P: Source, I: Source, B: Bench>(
     ensures public { P.told → NamesCommand words.now.items Simulate
         → (meant : SchemaView) → schema_of (P.left schema.old) ≡ Ok meant → TableCause result (public_of meant.columns (P.left table.old)) }
     ensures groups { P.told → (command : Command) → NamesCommand words.now.items command → reads_groups command ≡ true
-        → (meant : SchemaView) → schema_of (P.left schema.old) ≡ Ok meant → GroupCause result meant.columns meant.groups }
+        → (meant : SchemaView) → schema_of (P.left schema.old) ≡ Ok meant → GroupCause result meant.columns meant.guards }
     ensures own_schema_fault { result ≢ Status.BadSchema SchemaFault.NoMemory }
     ensures own_table_fault { result ≢ Status.BadTable TableFault.NoMemory }
     ensures file { P.told → B.told → (command : Command) → NamesCommand words.now.items command
         → (base : Database) → (files : AreFilesOf (P.left schema.old) (P.left table.old) base)
-        → OnTrue (reads_groups command) (Protects base.columns base.public files.groups base.protected) → FileCause result command (B.file bench.old) (table_in base) }
+        → OnTrue (reads_groups command) (Protects base.columns base.public files.guards base.protected) → FileCause result command (B.file bench.old) (table_in base) }
     ensures spare_file { B.told → (command : Command) → NamesCommand words.now.items command → calls_spare command ≡ true → SpareCause result command (B.file spare.old) }
     ensures input { I.told → (command : Command) → NamesCommand words.now.items command → reads_lines command ≡ true → InputCause result (I.left input.old) (I.left input.new) }
 

@@ -54,8 +54,8 @@ pub fn make_ready(alloc: Global, opened: Opened) -> Result<ReadyTable, IndexFaul
     ensures same { IfOk result (λ made. (made.schema ≡ opened.schema) × (made.index.public ≡ opened.table.public) × (made.secret ≡ opened.table.secret)
         × (made.index.protected ≡ made.protected)) }
     ensures fit { IfOk result (λ made. IsPlainFor (shape_of opened.schema.columns opened.table.public.rows) made.protected) }
-    ensures entries { IfOk result (λ made. Protects opened.schema.columns opened.table.public opened.schema.groups made.protected) }
-    ensures bad { (place : ℕ) → result ≡ Err (IndexFault.BadGroup place) → IsFirstBad opened.schema.columns opened.schema.groups place }
+    ensures entries { IfOk result (λ made. Protects opened.schema.columns opened.table.public opened.schema.guards made.protected) }
+    ensures bad { (place : ℕ) → result ≡ Err (IndexFault.BadGroup place) → IsFirstBad opened.schema.columns opened.schema.guards place }
 {
     let Opened { schema, table } = opened;
     let Table { public, secret } = table;
@@ -81,14 +81,14 @@ pub fn start<B: Bench>(alloc: Global, opened: Opened, bench: &mut B) -> Result<S
 
     ensures same { IfOk result (λ started. (started.schema ≡ opened.schema) × (started.index.public ≡ opened.table.public) × (started.store.secret ≡ opened.table.secret)
         × (started.index.protected ≡ started.store.protected)) }
-    ensures entries { IfOk result (λ started. Protects opened.schema.columns opened.table.public opened.schema.groups started.store.protected) }
+    ensures entries { IfOk result (λ started. Protects opened.schema.columns opened.table.public opened.schema.guards started.store.protected) }
     ensures store { IfOk result (λ started. (started.store.usable ≡ true) × IsStore started.store) }
     ensures stands { B.told → IfOk result (λ started. IsAsLeft (B.file bench.old) started.store) }
 
     // A refusal has its cause in the groups, or over groups without fault in the file; a legal history isn't refused.
-    ensures bad { (place : ℕ) → result ≡ Err (NotStarted.Groups (IndexFault.BadGroup place)) → IsFirstBad opened.schema.columns opened.schema.groups place }
+    ensures bad { (place : ℕ) → result ≡ Err (NotStarted.Groups (IndexFault.BadGroup place)) → IsFirstBad opened.schema.columns opened.schema.guards place }
     ensures cause { (fault : StartFault) → result ≡ Err (NotStarted.Journal fault) → (protected : Protection)
-        × Protects opened.schema.columns opened.table.public opened.schema.groups protected
+        × Protects opened.schema.columns opened.table.public opened.schema.guards protected
         × (B.told → StartCause fault (B.file bench.old) (secret_table opened.table.secret protected)
         × ((history : List Answered) → StandsFor (B.file bench.old) opened.table.secret.shape history → IsLegal (secret_table opened.table.secret protected) history → GivesUp fault)) }
 

@@ -1,12 +1,12 @@
--- The bytes of a drill's schema mean its columns, and no protected group.
+-- The bytes of a drill's schema mean its columns, and say nothing of what is guarded.
 use Rattle.std.proofs.Common.{◌≡◌, ◌≢◌, ℕ, List, [], Result, Ok, refl, sym, ◌∙◌, subst, codes}
 use Rattle.std.specs.Str.{is_utf8, chars}
 use lib.Utf8.{encode}
 use Rattle.json.specs.Json.{value}
 use Rattle.json.specs.Lex.{punctuate, lex}
 use Rattle.json.specs.Text.{content}
-use Rattle.schema_json.specs.Columns.{SchemaView}
-use Rattle.schema_json.specs.Reading.{schema_of, value_of, column_of, columns_of, groups_of, items_at, IsFaultOf}
+use Rattle.schema_json.specs.Columns.{SchemaView, no_guards}
+use Rattle.schema_json.specs.Reading.{schema_of, value_of, column_of, columns_of, guards_of, groups_in, items_at, IsFaultOf}
 use Rattle.schema_json.specs.declared.faults.SchemaFault.{SchemaFault}
 use Rattle.schema_json.specs.declared.faults.SchemaFault.TheVariants.{TooLong, NotJson, Shape, BadName, Repeated, TooMany, NoMemory}
 use Rattle.drill_case.specs.Tables.{drill_columns}
@@ -17,10 +17,10 @@ schema_text =
 
 -- the schema of every drill
 abbrev pub drill_meant : SchemaView
-drill_meant = record { columns = drill_columns; groups = [] }
+drill_meant = record { columns = drill_columns; guards = no_guards }
 
 pub means : schema_of schema_text ≡ Ok drill_meant
-unfolding value_of column_of columns_of groups_of items_at is_utf8 chars encode value punctuate lex content
+unfolding value_of column_of columns_of guards_of groups_in items_at is_utf8 chars encode value punctuate lex content
 means = refl
 
 -- a good schema has no fault but running out of memory

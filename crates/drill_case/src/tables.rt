@@ -1,6 +1,7 @@
 //! The table of a drill.
 ghost use Rattle.std.specs.Prelude.{◌≡◌, ◌<◌, ◌≤◌, [], ◌∷◌, map, IfOk};
 ghost use Rattle.audit_types.specs.Limits.{most_rows};
+ghost use Rattle.schema_json.specs.Columns.{no_guards};
 ghost use Rattle.table_load.specs.Cells.{FitsSchema};
 ghost use Rattle.drill_case.specs.Drawings.{IsDrawing, numbers_of};
 ghost use Rattle.drill_case.specs.Tables.{drill_rows, drill_columns, drill_public, drill_secret};
@@ -24,9 +25,9 @@ pub(crate) fn row_count() -> u16
     200
 }
 
-/// The schema of every drill. It protects no group.
+/// The schema of every drill. It says nothing of what is guarded.
 pub fn drill_schema(alloc: Global) -> Result<Schema, NoMemory>
-    ensures { IfOk result (λ schema. (schema.columns ≡ drill_columns) × (schema.groups ≡ [])) }
+    ensures { IfOk result (λ schema. (schema.columns ≡ drill_columns) × (schema.guards ≡ no_guards)) }
 {
     match read_schema(alloc, SCHEMA) {
         Ok(schema) => Ok(schema),

@@ -5,7 +5,7 @@ ghost use Rattle.schema_json.specs.SecretShape.{shape_of};
 use crate::people::people;
 use crate::staff::{TABLE, staff};
 use audit_store::Store;
-use audit_types::{Answered, Guard};
+use audit_types::{Answered, Guard, MOST_WIDTH};
 use bench_core::{MemoryBench, Room};
 use journal_audit::audit;
 use schema_json::Schema;
@@ -43,7 +43,7 @@ fn send_report(
 ) -> Option<()>
     requires { secret.shape ≡ shape_of schema.now.columns secret.shape.rows }
 {
-    match Store::start(alloc, secret, Guard::new(Vec::new(alloc)), bench) {
+    match Store::start(alloc, secret, Guard::new(Vec::new(alloc), MOST_WIDTH), bench) {
         Ok(store) => audit(alloc, schema, &store, bench).ok(),
         Err(_) => None,
     }

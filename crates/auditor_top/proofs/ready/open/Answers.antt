@@ -41,7 +41,7 @@ returns-in_ok-opened-in-Init-clause-over g c =
     let opened = c.in_ok-opened-in-Init.opened in
     λ ptold. (
       base_of opened.schema.columns opened.table.public (against_outsiders [] [] most_width) opened.table.secret,
-      record { groups = opened.schema.groups; schema_is = e.schema_is ptold; table_means = read_means _ _ _ (e.table_is ptold) },
+      record { guards = opened.schema.guards; schema_is = e.schema_is ptold; table_means = read_means _ _ _ (e.table_is ptold) },
       c.shape.ensures.shape,
     )
 

@@ -57,7 +57,7 @@ returns g c =
           (subst (λ (v : SecretView). AreSoundFilesOf (g.P.Source.left c.args.schema.now) (g.P.Source.left c.args.table.now)
           (base_of opened.schema.columns opened.table.public s.store.protected v)) (sym a.same.2)
           (record {
-            files = record { groups = opened.schema.groups; schema_is = e.schema_is ptold; table_means = read_means _ _ _ (e.table_is ptold) };
+            files = record { guards = opened.schema.guards; schema_is = e.schema_is ptold; table_means = read_means _ _ _ (e.table_is ptold) };
             entries = a.entries;
           })));
       opened = record { is = a.store.1; usable = a.store.0; left = λ told. subst (λ (f : List ℕ). IsAsLeft f s.store) (sym c.start.ensures.reads.file) (a.stands told) };

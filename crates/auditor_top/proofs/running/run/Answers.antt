@@ -171,7 +171,7 @@ returns-in-Err g c =
       file = λ ptold told command asked base files sound.
           let same = one_command words _ command is_named asked in
           subst (λ (k : Command). FileCause status k (g.B.Bench.file old.bench) (table_in base)) same (says.file ptold told base files
-          (subst (λ (k : Command). OnTrue (reads_groups k) (Protects base.columns base.public files.groups base.protected)) (sym same) sound));
+          (subst (λ (k : Command). OnTrue (reads_groups k) (Protects base.columns base.public files.guards base.protected)) (sym same) sound));
       input = λ itold command asked reads. reads_nothing status (g.I.Source.left old.input) says.early;
       faults = faults;
       schema_last = λ is. says.schema_last is;

@@ -23,7 +23,7 @@ returns-in-Err-start-clause-cause g c = λ fault is.
     let made = c.in-Ok.ensures in
     let entries : Protection = c.in-Ok.grouped.protected in
     let found = c.in-Err-start.fault in
-    subst (λ (f : StartFault). (protected : Protection) × Protects opened.schema.columns opened.table.public opened.schema.groups protected ×
+    subst (λ (f : StartFault). (protected : Protection) × Protects opened.schema.columns opened.table.public opened.schema.guards protected ×
     (g.B.Bench.told → StartCause f (g.B.Bench.file c.args.bench.now) (secret_table opened.table.secret protected) ×
     ((history : List Answered) → StandsFor (g.B.Bench.file c.args.bench.now) opened.table.secret.shape history →
     IsLegal (secret_table opened.table.secret protected) history → GivesUp f))) (one_fault found fault is) (

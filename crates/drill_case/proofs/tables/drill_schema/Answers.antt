@@ -7,4 +7,4 @@ pub unreachable-requires : goal.unreachable-requires
 unreachable-requires c = no_fault c.in-Err.fault c.in-Err.ensures c.in_default.not-NoMemory
 
 pub returns-in-Ok : goal.returns-in-Ok
-returns-in-Ok c = let is = same_schema _ c.in-Ok.ensures in (ap (λ (s : SchemaView). s.columns) is, ap (λ (s : SchemaView). s.groups) is)
+returns-in-Ok c = let is = same_schema _ c.in-Ok.ensures in (ap (λ (s : SchemaView). s.columns) is, ap (λ (s : SchemaView). s.guards) is)
