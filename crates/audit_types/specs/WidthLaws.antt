@@ -1,10 +1,15 @@
 -- Facts on the width: what is dangerous is so at any width, and no verdict on a maximum goes by it.
-use Rattle.std.proofs.Common.{◌≡◌, ℕ, ℤ, List, sym, subst}
-use Rattle.audit_types.specs.declared.shapes.Kind.TheVariants.{Max}
+use Rattle.std.proofs.Common.{◌≡◌, ℕ, ◌≤◌, ℤ, List, sym, subst, arith}
+use Rattle.std.specs.Prelude.{unsigned_abs}
+use Rattle.std.specs.List.{AllByRecursion}
+use Rattle.audit_types.specs.declared.shapes.Kind.{Kind}
+use Rattle.audit_types.specs.ListLaws.{all-weaker}
+use Rattle.audit_types.specs.Form.{IsNarrow, HasNarrowForm}
+use Rattle.audit_types.specs.declared.shapes.Kind.TheVariants.{Sum, Max}
 use Rattle.audit_types.specs.declared.records.Verdict.{Verdict}
 use Rattle.audit_types.specs.declared.records.Verdict.TheVariants.{Released, DeniedUnsafe, DeniedWide}
 use Rattle.audit_types.specs.Column.{Known, IsGuarded, number, total, IsDangerous, with_width}
-use Rattle.audit_types.specs.Judgement.{IsWideFor, IsWithinWidth, IsWithinWidthFor, IsUnsafeFor, IsJudgement, IsDecision}
+use Rattle.audit_types.specs.Judgement.{IsWideFor, IsWithinWidth, IsWithinWidthFor, IsUnsafeFor, sets_with, IsJudgement, IsDecision}
 
 -- what is guarded is so at any width, and back
 guarded_at : (known : Known) (width : ℕ) (own : List ℕ) {value : List ℤ → ℤ} → IsGuarded known own value → IsGuarded (with_width known width) own value
@@ -67,3 +72,28 @@ module _ (known : Known) (maxima : known.kind ≡ Max) (width : ℕ) (rows : Lis
   decided_at DeniedWide is = absurd (never_wide is)
   decided_at DeniedUnsafe is = (within_any_width, dangerous_at known width rows is.1)
   decided_at Released is = (within_any_width, λ danger. is.1 (dangerous_from known width rows danger))
+
+-- ---- greater widths
+
+-- a form that is narrow by a width is so by a greater one
+pub narrow_by_more : (width more : ℕ) → width ≤ more → (form : List (List ℤ)) → IsNarrow width form → IsNarrow more form
+narrow_by_more width more le form narrow = record {
+  entries = all-weaker (AllByRecursion (λ x. unsigned_abs x ≤ width)) (AllByRecursion (λ x. unsigned_abs x ≤ more))
+      (λ row. all-weaker (λ x. unsigned_abs x ≤ width) (λ x. unsigned_abs x ≤ more) (λ x small. omega (arith, small, le)) row) form narrow.entries;
+  common = narrow.common;
+  common_is = narrow.common_is;
+  common_small = omega (arith, narrow.common_small, le);
+}
+
+pub has_narrow_by_more : (width more n : ℕ) (sets : List (List ℕ)) → width ≤ more → HasNarrowForm width n sets → HasNarrowForm more n sets
+has_narrow_by_more width more n sets le has =
+    record { form = has.form; reduced = has.reduced; narrow = narrow_by_more width more le has.form has.narrow }
+
+within_by_more : (kind : Kind) (known : Known) (more : ℕ) (rows : List ℕ) → known.width ≤ more → IsWithinWidthFor kind known rows →
+    IsWithinWidthFor kind (with_width known more) rows
+within_by_more Sum known more rows le within = has_narrow_by_more known.width more known.n (sets_with known rows) le within
+within_by_more Max known more rows le within = tt
+
+-- what is released by a width is released by a greater one
+pub released_by_more : (known : Known) (more : ℕ) (rows : List ℕ) → known.width ≤ more → IsDecision known rows Released → IsDecision (with_width known more) rows Released
+released_by_more known more rows le is = (within_by_more known.kind known more rows le is.0, λ danger. is.1 (dangerous_from known more rows danger))

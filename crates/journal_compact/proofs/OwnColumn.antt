@@ -18,6 +18,7 @@ use Rattle.audit_core.specs.Columns.{HasItsPart}
 use Rattle.journal_compact.specs.Kept.{IsImplied, IsImpliedBy, IsForced}
 use Rattle.journal_compact.specs.Laws.{ImpliedBySpan, ImpliedByExtremes}
 use Rattle.audit_core.specs.PlainColumns.{plain_as}
+use Rattle.audit_types.specs.Limits.{most_width}
 use Rattle.journal_compact.proofs.Pushes.{own_answers}
 
 module _ (audited : Audited) (r : Answered) (fits : FitsShape audited.setting.shape r.column r.rows) (possible : IsPossibleHistory audited.setting (audited.history ++ r ∷ [])) where
@@ -31,7 +32,7 @@ module _ (audited : Audited) (r : Answered) (fits : FitsShape audited.setting.sh
 
   -- what is known of a column, apart from protected groups
   abbrev knows : Kind → List Answer → Known
-  knows kind answers = plain_as kind size answers []
+  knows kind answers = plain_as kind size answers [] most_width
 
   rows_are : AreRows size r.rows.list
   rows_are = subst (λ m. AreRows m r.rows.list) fits.same_n fits.are_rows

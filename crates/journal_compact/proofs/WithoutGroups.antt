@@ -1,4 +1,4 @@
--- A history that is legal if groups are protected is legal if none is: fewer questions are dangerous.
+-- A history that is legal if groups are protected is legal if none is, at the greatest width: fewer questions are dangerous, and none is wider.
 use Rattle.std.proofs.Common.{ℕ, ℤ, List, [], take, subst, arith}
 use Rattle.audit_types.specs.declared.shapes.Kind.{Kind}
 use Rattle.audit_types.specs.declared.shapes.Kind.TheVariants.{Sum, Max}
@@ -7,7 +7,8 @@ use Rattle.audit_types.specs.declared.records.Verdict.TheVariants.{Released}
 use Rattle.audit_types.specs.Column.{Known, IsGuarded, number, total, IsDangerous, with_groups}
 use Rattle.audit_types.specs.Judgement.{IsWithinWidthFor, IsDecision}
 use Rattle.audit_types.specs.Limits.{most_width}
-use Rattle.audit_types.specs.History.{Protection, Table, IsPlain, IsLegal, against_outsiders, known_of, setting_of}
+use Rattle.audit_types.specs.WidthLaws.{released_by_more}
+use Rattle.audit_types.specs.History.{Protection, Table, IsPlainFor, IsLegal, against_outsiders, known_of, setting_of}
 use Rattle.journal_compact.specs.Kept.{no_groups}
 
 -- the same table if no group is protected
@@ -37,16 +38,18 @@ within_still Max known rows within = within
 released_still : (known : Known) (rows : List ℕ) → IsDecision known rows Released → IsDecision (with_groups known []) rows Released
 released_still known rows is = (within_still known.kind known rows is.0, λ danger. is.1 (danger_still known rows danger))
 
-pub legal_without_groups : (table : Table) (history : List Answered) → IsPlain table.setting.protected → IsLegal table history → IsLegal (without_groups table) history
-legal_without_groups table history plain legal = record {
+pub legal_without_groups : (table : Table) (history : List Answered) → IsPlainFor table.setting.shape table.setting.protected → IsLegal table history →
+    IsLegal (without_groups table) history
+legal_without_groups table history fit legal = record {
   few = legal.few;
   each = λ i r here.
       let may_follow = legal.each i r here in
       let known : Protection → Known = λ protected. known_of (setting_of table.setting.shape protected) (take i history) r.column in
+      let plain = against_outsiders table.setting.protected.groups [] table.setting.protected.width in
       record {
         fits = may_follow.fits;
         true_answer = may_follow.true_answer;
-        released = released_still (known (against_outsiders table.setting.protected.groups [] most_width)) r.rows.list
-            (subst (λ protected. IsDecision (known protected) r.rows.list Released) plain may_follow.released);
+        released = released_by_more (with_groups (known plain) []) most_width r.rows.list fit.0.5
+            (released_still (known plain) r.rows.list (subst (λ protected. IsDecision (known protected) r.rows.list Released) fit.1 may_follow.released));
       };
 }
