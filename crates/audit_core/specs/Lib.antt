@@ -6,3 +6,4 @@ pub mod FrontLaws
 pub mod Outcomes
 pub mod WideningLaws
 pub mod FirstGroups
+pub mod Ranges
