@@ -22,7 +22,7 @@ use Rattle.audit_types.specs.FormRows.{lengths_of_form, pivot_below, at_pivot, l
 use Rattle.audit_types.specs.ListLaws.{all-weaker}
 use Rattle.audit_types.specs.Numbers.{size_negated, size_positive}
 use Rattle.audit_types.specs.Products.{times_assoc, neg-times}
-use Rattle.audit_types.specs.RowNumbers.{length-set_row, all_by_number}
+use Rattle.audit_types.specs.RowNumbers.{length-set_row}
 use Rattle.audit_types.specs.Totals.{total, total-agree, total-add, total-single, product, product-set_row, products_in_span, sums_from_products}
 use Rattle.sum_basis.specs.Spans.{combined_zero, span_trans}
 use Rattle.sum_audit.specs.Laws.{IsSmallFor, SpannedOrMovedBySmall, PinnedOrMovedBySmall}
@@ -243,11 +243,12 @@ module _ (width n : ℕ) (sets : List (List ℕ)) (are : AllByRecursion (AreRows
   number_along j r l = get_or-map-range_with_len (entry_of m (quotient m) form j) 0 n r r (pos 0) l (omega arith)
 
   small : (j : ℕ) → IsSmallFor width (along j)
-  small j = all_by_number (λ x. unsigned_abs x ≤ width * width) (along j) (λ r. elim (cases_lt r n) [
+  small j r = elim (cases_lt r n) [
     | inl l ↦ subst (λ z. unsigned_abs z ≤ width * width) (sym (number_along j r l))
         (size_of_entry m (quotient m) width narrow.narrow.common_small positive form j narrow.narrow.entries (small_quotients m width form narrow.narrow.common_small) r)
-    | inr past ↦ subst (λ z. unsigned_abs z ≤ width * width) (sym (get_or_past (along j) r (pos 0) (let all = length-map-range_with_len (entry_of m (quotient m) form j) 0 n in omega arith))) (omega arith)
-  ])
+    | inr past ↦ subst (λ z. unsigned_abs z ≤ width * width)
+        (sym (get_or_past (along j) r (pos 0) (let all = length-map-range_with_len (entry_of m (quotient m) form j) 0 n in omega arith))) (omega arith)
+  ]
 
   module _ (j : ℕ) (below : j < n) (free : is_pivot form j ≡ false) where
     -- the product of a row with it
