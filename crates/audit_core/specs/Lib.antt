@@ -7,3 +7,4 @@ pub mod Outcomes
 pub mod WideningLaws
 pub mod FirstGroups
 pub mod Ranges
+pub mod RangeLaws
