@@ -25,6 +25,7 @@ use Rattle.audit_types.specs.Products.{times_assoc, neg-times}
 use Rattle.audit_types.specs.RowNumbers.{length-set_row}
 use Rattle.audit_types.specs.Totals.{total, total-agree, total-add, total-single, product, product-set_row, products_in_span, sums_from_products}
 use Rattle.sum_basis.specs.Spans.{combined_zero, span_trans}
+use Rattle.sum_audit.specs.Pivots.{no_pivot, pivots_below}
 use Rattle.sum_audit.specs.Laws.{IsSmallFor, SpannedOrMovedBySmall, PinnedOrMovedBySmall}
 use Rattle.sum_audit.proofs.PinnedRows.{pinned_by_unit_row}
 use Rattle.sum_audit.proofs.SpannedOrMoved.{columns}
@@ -209,18 +210,6 @@ common_positive : (n m : ℕ) (rows : List (List ℤ)) → AllByRecursion (IsPri
 common_positive n m rows primitive is = pos_of_dvd_of_pos (is.least (product_of (pivot_entries rows)) (divide_product (pivot_entries rows))) (product_positive n rows primitive)
 
 -- ---- the form of some sets
-
--- a column that is no pivot isn't that of any row
-no_pivot : (rows : List (List ℤ)) (j : ℕ) → is_pivot rows j ≡ false → AllByRecursion (λ row. j ≢ pivot row) rows
-no_pivot [] j e = tt
-no_pivot (row ∷ rows) j e = (
-  (λ same. let there = eq-eqb (pivot row) j (sym same) in let not_there = (or_parts (pivot row == j) (is_pivot rows j) e).0 in absurd cc),
-  no_pivot rows j (or_parts (pivot row == j) (is_pivot rows j) e).1,
-)
-
-pivots_below : (n : ℕ) (rows : List (List ℤ)) → AllByRecursion (IsPrimitive n) rows → AllByRecursion (λ row. pivot row < n) rows
-pivots_below n [] primitive = tt
-pivots_below n (row ∷ rows) primitive = (pivot_below n row primitive.0, pivots_below n rows primitive.1)
 
 module _ (width n : ℕ) (sets : List (List ℕ)) (are : AllByRecursion (AreRows n) sets) (narrow : HasNarrowForm width n sets) where
   abbrev form : List (List ℤ)
