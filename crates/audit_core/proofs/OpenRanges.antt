@@ -145,16 +145,18 @@ module _ (laws : ColumnLaws) (small : SpannedOrMovedBySmall) (fixed : FixedTotal
         (λ r l. let top = (each_row (λ q. InRange (number_at own q) q) known.n r inside l).1 in omega (arith, ints)) x_under x_below) [
           | inl lone ↦ absurd ((no_lone_row laws table history column secrets protected legal below maxima).1 row row_below alone lone)
           | inr (v, gives, here, others) ↦ may_have _ v
-              (record { one_each = gives.one_each; same = by_kind Max known.kind (sym maxima) v known.answers gives.same })
-              (all_rows (λ r. InRange (number_at v r) r) known.n (λ r l. elim (cases_eq r row) [
-                | inl same ↦ subst (λ q. InRange (number_at v q) q) (sym same) (subst (λ z. InRange z row) (sym here) (omega (arith, ints), omega (arith, ints)))
-                | inr other ↦
-                    let first = (each_row (λ q. InRange (number_at own q) q) known.n r inside l).0 in
-                    let ends = others r l other in
-                    let least = ends.0 in
-                    let most = ends.1 in
-                    (omega (arith, ints), omega (arith, ints))
-              ]), here)
+              (record { one_each = gives.one_each; same = by_kind Max known.kind (sym maxima) v known.answers gives.same }) (
+                all_rows (λ r. InRange (number_at v r) r) known.n (λ r l. elim (cases_eq r row) [
+                  | inl same ↦ subst (λ q. InRange (number_at v q) q) (sym same) (subst (λ z. InRange z row) (sym here) (omega (arith, ints), omega (arith, ints)))
+                  | inr other ↦
+                      let first = (each_row (λ q. InRange (number_at own q) q) known.n r inside l).0 in
+                      let ends = others r l other in
+                      let least = ends.0 in
+                      let most = ends.1 in
+                      (omega (arith, ints), omega (arith, ints))
+                ]),
+                here,
+              )
         ]
 
   open_here : StaysOpen (HasNumbers table history column) known own
