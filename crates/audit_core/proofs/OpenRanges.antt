@@ -3,7 +3,7 @@
 -- Sums: the answered sets don't span the row or the group, or it would be disclosed, so a small direction of them changes it. Some times this
 -- direction, one way and the other, keep all answers, and each number in its range that lies far enough inside.
 -- Maxima: a guarded row isn't lone, so it may have any number that no answer over a set with it is below.
-use Rattle.std.proofs.Common.{◌≡◌, ◌≢◌, ℕ, ◌*◌, ◌<◌, true, false, ℤ, pos, List, [], ◌∷◌, ◌++◌, map, length, take, refl, sym, ap, ◌∙◌, subst, arith, inl, inr}
+use Rattle.std.proofs.Common.{◌≡◌, ◌≢◌, ℕ, ◌*◌, ◌<◌, true, false, ℤ, pos, List, [], ◌∷◌, map, length, refl, sym, ◌∙◌, subst, arith, inl, inr}
 use Rattle.std.specs.Prelude.{◌+ℤ◌, ◌*ℤ◌, neg_ℤ, ◌≤ℤ◌, unsigned_abs, All}
 use Rattle.std.specs.List.{AllByRecursion, range_with_len}
 use Rattle.std.proofs.lemmas.Bool.{cases_eq}
@@ -15,12 +15,12 @@ use Rattle.audit_types.specs.declared.records.Answered.{Answered}
 use Rattle.audit_types.specs.declared.shapes.Kind.{Kind}
 use Rattle.audit_types.specs.declared.shapes.Kind.TheVariants.{Sum, Max}
 use Rattle.audit_types.specs.Rows.{AreRows, has_row}
-use Rattle.audit_types.specs.Shapes.{columns, kind_at}
+use Rattle.audit_types.specs.Shapes.{columns}
 use Rattle.audit_types.specs.Truth.{truth, number_at, sum_over}
-use Rattle.audit_types.specs.Column.{Known, Answer, Agrees, IsGuarded, number, total, IsWellFormed, known_sum, known_max}
+use Rattle.audit_types.specs.Column.{Known, Answer, Agrees, IsGuarded, number, total, IsWellFormed, known_sum}
 use Rattle.audit_types.specs.Direction.{IsDirection}
 use Rattle.audit_types.specs.Form.{HasNarrowForm}
-use Rattle.audit_types.specs.History.{Table, AreSecrets, AreProtected, IsLegal, answers_of, groups_of, known_of, list_of}
+use Rattle.audit_types.specs.History.{Table, AreSecrets, AreProtected, IsLegal, answers_of, known_of, list_of}
 use Rattle.audit_types.specs.ListLaws.{all-map}
 use Rattle.audit_types.specs.Numbers.{size_negated}
 use Rattle.audit_types.specs.PrimitiveLines.{times}
@@ -28,11 +28,11 @@ use Rattle.sum_audit.specs.Laws.{IsSmallFor, SpannedOrMovedBySmall, FixedTotalsB
 use Rattle.sum_audit.specs.Shifts.{moved_by, length-moved_by, moved_gives, zero_sums_times}
 use Rattle.max_audit.specs.Laws.{LoneOrAny}
 use Rattle.audit_core.specs.Ranges.{AreInside, AreNear, StaysOpen}
-use Rattle.audit_core.specs.Laws.{HasNumbers, LegalStaysOpen, sets_before}
+use Rattle.audit_core.specs.Laws.{HasNumbers, LegalStaysOpen}
 use Rattle.audit_core.proofs.Twins.{ColumnLaws, group_rows, agree, agree_with, well_formed, other_here}
 use Rattle.audit_core.proofs.FreeNumbers.{no_lone_row}
 use Rattle.audit_core.proofs.NarrowFronts.{legal_is_narrow}
-use Rattle.audit_core.proofs.MovedWithin.{all_rows, each_row, raises, lowers, changed, moved, near, sum_moved}
+use Rattle.audit_core.proofs.MovedWithin.{all_rows, each_row, raises, lowers, changed, near, sum_moved}
 
 -- the answers of a column, by its kind
 by_kind : (kind other : Kind) → kind ≡ other → (w : List ℤ) (answers : List Answer) → AllByRecursion (λ a. truth kind w a.rows ≡ a.value) answers →

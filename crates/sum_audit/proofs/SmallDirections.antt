@@ -8,7 +8,7 @@ use Rattle.std.proofs.Common.{◌≡◌, ◌≢◌, ℕ, zero, suc, ◌*◌, ◌
 use Rattle.std.specs.Prelude.{◌+ℤ◌, ◌*ℤ◌, neg_ℤ, ◌<ℤ◌, unsigned_abs}
 use Rattle.std.specs.Int.{◌∣◌}
 use Rattle.std.specs.List.{AllByRecursion, range_with_len}
-use Rattle.std.proofs.lemmas.Bool.{cases_lt, eq-eqb, eqb-true, or_parts}
+use Rattle.std.proofs.lemmas.Bool.{cases_lt, eq-eqb, eqb-true}
 use Rattle.std.proofs.lemmas.Int.{ints, unsigned_abs-mul}
 use Rattle.std.proofs.lemmas.List.{get_or_past}
 use Rattle.std.proofs.lemmas.List.FromFn.{length-map-range_with_len, get_or-map-range_with_len}
@@ -18,7 +18,7 @@ use Rattle.audit_types.specs.Rows.{AreRows}
 use Rattle.audit_types.specs.Truth.{number_at, sum_over}
 use Rattle.audit_types.specs.Form.{set_row, combined, InSpan, pivot, pivot_entry, pivot_entries, IsPrimitive, IsEchelon, StandsBefore, IsLeastCommonMultiple, HasNarrowForm}
 use Rattle.audit_types.specs.Direction.{IsDirection, is_pivot}
-use Rattle.audit_types.specs.FormRows.{lengths_of_form, pivot_below, at_pivot, later_zero, zero_later}
+use Rattle.audit_types.specs.FormRows.{lengths_of_form, at_pivot, later_zero, zero_later}
 use Rattle.audit_types.specs.ListLaws.{all-weaker}
 use Rattle.audit_types.specs.Numbers.{size_negated, size_positive}
 use Rattle.audit_types.specs.Products.{times_assoc, neg-times}

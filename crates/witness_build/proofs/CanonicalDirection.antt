@@ -1,16 +1,15 @@
 -- What was solved and divided is the canonical direction of the row.
-use Rattle.std.proofs.Common.{◌≡◌, ◌≢◌, ℕ, ◌<◌, Bool, true, false, ◌==◌, ℤ, pos, List, [], ◌∷◌, length, map, refl, sym, ap, ◌∙◌, subst, arith, inl, inr}
+use Rattle.std.proofs.Common.{◌≡◌, ◌≢◌, ℕ, ◌<◌, Bool, true, false, ℤ, pos, List, [], ◌∷◌, length, map, refl, sym, ap, ◌∙◌, subst, arith, inl, inr}
 use Rattle.std.specs.Prelude.{◌+ℤ◌, ◌*ℤ◌, neg_ℤ, ◌<ℤ◌}
 use Rattle.std.specs.List.{AllByRecursion}
 use Rattle.std.proofs.Math.IntN.{*ℤ_comm, zero-*ℤ, *ℤ-zero, +ℤ_invr}
-use Rattle.std.proofs.lemmas.Bool.{eq-eqb, or_parts}
 use Rattle.std.proofs.lemmas.Int.{ints}
 use Rattle.std.proofs.lemmas.List.{length-map}
 use Rattle.audit_types.specs.Rows.{AreRows}
 use Rattle.audit_types.specs.Truth.{number_at, sum_over}
 use Rattle.audit_types.specs.Form.{pivot, pivot_entry, IsPrimitive, Reduced}
 use Rattle.audit_types.specs.Direction.{IsDirection, IsPinned, IsCanonicalDirection, is_pivot, free_column_of, IsSmall}
-use Rattle.audit_types.specs.Products.{times-add, zero_product}
+use Rattle.audit_types.specs.Products.{zero_product}
 use Rattle.sum_basis.specs.Laws.{FormsAreUnique}
 use Rattle.sum_audit.specs.Dot.{dot}
 use Rattle.sum_audit.specs.DotLaws.{dot_two}
