@@ -10,3 +10,5 @@ pub mod Blame
 pub mod OneDecision
 pub mod GroupEntries
 pub mod OneBlame
+pub mod Ranges
+pub mod RangeLaws

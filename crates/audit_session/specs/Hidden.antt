@@ -1,10 +1,11 @@
 -- The promise as one sentence: other secrets lead the same life, byte for byte, and differ in what is guarded.
-use Rattle.std.specs.Prelude.{◌≡◌, ◌≢◌, ℕ, ◌<◌, ℤ, List, [], ◌∷◌, ◌++◌, map, take}
+use Rattle.std.specs.Prelude.{◌≡◌, ◌≢◌, ℕ, ◌<◌, ℤ, List, [], ◌∷◌, ◌++◌, length, map, take, slice_set}
 use Rattle.audit_types.specs.Shapes.{columns}
 use Rattle.audit_types.specs.Column.{AreOwn, IsGuarded}
 use Rattle.audit_types.specs.Truth.{number_at}
 use Rattle.audit_types.specs.History.{Secrets, AreSecrets, AreSameFor, known_of, list_of}
 use Rattle.table_load.specs.Database.{Database, table_in}
+use Rattle.audit_core.specs.Ranges.{StaysOpen}
 use Rattle.audit_session.specs.Lives.{Standing, Run, IsLife, history_over}
 
 -- the table with these secrets, as many as it has rows
@@ -45,3 +46,15 @@ abbrev pub HidesWhatStood : Database → List Run → Standing → Type 0
 HidesWhatStood base runs last =
     (before after : List Run) (run : Run) (column row : ℕ) → runs ≡ before ++ run ∷ after → column < columns last.base.secret.shape →
     row < run.left.base.secret.shape.rows → HasTwinLife base runs last [] column (λ w. number_at w row) (list_of run.left.base.secret.lists column)
+
+-- for all that a life sent a column of the last table may have numbers of which this is true: with them and the other columns, all along, the
+-- same life is led
+abbrev pub MayHave : Database → List Run → Standing → ℕ → (List ℤ → Type 0) → Type 0
+MayHave base runs last column Is =
+    (numbers : List ℤ) × (length numbers ≡ last.base.secret.shape.rows) × LeadsLife (slice_set last.base.secret.lists column numbers) base runs last × Is numbers
+
+-- a life leaves the numbers and the protected totals of the last table open within each range
+abbrev pub IsOpenWithin : Database → List Run → Standing → Type 0
+IsOpenWithin base runs last =
+    (column : ℕ) → column < columns last.base.secret.shape →
+    StaysOpen (MayHave base runs last column) (known_of (table_in last.base).setting (history_over last.base last) column) (list_of last.base.secret.lists column)

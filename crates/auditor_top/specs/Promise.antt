@@ -7,7 +7,7 @@
 -- last table and discloses nothing of it that is guarded (audit_types), and of each run the bytes that it sent are a front of the replies
 -- due to its lines over its own table (IsDue of question_plan), whose records are all in the last history. What it hides is IsHidden, and
 -- HidesWhatStood of each number that stood in the table at a run: other secrets, with another number or protected total, lead to the very
--- same bytes. The clause `lives` of `run` is GoesOn: whatever moment a run over a life is stopped at, the life with that run keeps the
+-- same bytes. By how much within the ranges that people know is IsOpenWithin. The clause `lives` of `run` is GoesOn: whatever moment a run over a life is stopped at, the life with that run keeps the
 -- promise.
 use Rattle.std.specs.Prelude.{◌≡◌, ◌⊎◌, ◌<◌, List, ℕ, [], ◌∷◌, ◌++◌}
 use Rattle.audit_types.specs.Widening.{over, widened}
@@ -21,7 +21,7 @@ use Rattle.question_plan.specs.Replies.{IsDue}
 use Rattle.question_plan.specs.Session.{Replied}
 use Rattle.audit_session.specs.Stops.{StopsOver, stands_over}
 use Rattle.audit_session.specs.Lives.{Standing, Run, Follows, GoesFrom, IsLife, KeepsPromise, AreAlike, shape_in}
-use Rattle.audit_session.specs.Hidden.{IsHidden, HidesWhatStood}
+use Rattle.audit_session.specs.Hidden.{IsHidden, HidesWhatStood, IsOpenWithin}
 use Rattle.audit_session.specs.Laws.{KeepsNumbers, KeepsGroups}
 use Rattle.twin_journal.specs.Twins.{CatchesUpOrStops, SpareCatchesUpOrStops}
 use Rattle.auditor_top.specs.Commands.{AreSoundFilesOf, GrowsOver, ServesOver, TwinsOver}
@@ -33,12 +33,13 @@ DecidesAlike runs last =
     (twin : Database) (others : List Run) (final : Standing) (line : CountedLine) (a b : Replied Answered) → AreTwins last.base final.base → IsLife twin others final → AreAlike runs others →
     IsDue last.base last.history line a → IsDue final.base final.history line b → (a ≡ b) ⊎ AreAnswersAlike (table_in last.base) (table_in final.base) a b
 
--- a life with one run more is a life, keeps the promise, hides what is guarded, and decides as every life like it
+-- a life with one run more is a life, keeps the promise, hides what is guarded, leaves it open within ranges, and decides as every life like it
 pub record GoesOn (base : Database) (runs : List Run) (run : Run) : Type 0 where
   pub life : IsLife base (runs ++ run ∷ []) run.left
   pub keeps : KeepsPromise base (runs ++ run ∷ []) run.left
   pub hides : IsHidden base (runs ++ run ∷ []) run.left
   pub stood : HidesWhatStood base (runs ++ run ∷ []) run.left
+  pub ranges : IsOpenWithin base (runs ++ run ∷ []) run.left
   pub alike : DecidesAlike (runs ++ run ∷ []) run.left
 
 -- what `init` made over the files of a table is taken by `serve` and by `audit`, if no group has a fault

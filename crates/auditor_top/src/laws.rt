@@ -51,8 +51,8 @@ pub fn compactions()
 }
 
 /// In every life over a table that lives the last history is legal for the last table, discloses nothing of it that is guarded, and
-/// keeps all that was sent. A run makes the life one run longer, which hides what is guarded, and is decided as over all tables that
-/// differ in their secrets alone. The next run of `serve` is given what it has to be given, if all rows of its table are in force, each
+/// keeps all that was sent. A run makes the life one run longer, which hides what is guarded, leaves it open within ranges, and is decided as over
+/// all tables that differ in their secrets alone. The next run of `serve` is given what it has to be given, if all rows of its table are in force, each
 /// number is still in its row, and no group of the rows that were there is protected that wasn't.
 pub fn lives()
     ensures keep { LivesKeepPromise }
@@ -63,6 +63,7 @@ pub fn lives()
     table_load::lists_of_secrets();
     audit_session::laws::lives();
     audit_session::laws::hidden();
+    audit_session::laws::open_ranges();
     audit_session::laws::followers();
     audit_session::laws::two_worlds();
 }

@@ -2,6 +2,7 @@ pub mod Greatest
 pub mod UpperBounds
 pub mod LoneRowsAreFixed
 pub mod OtherRowsAreFree
+pub mod AnyNumberBelow
 pub mod AnswersInOneGap
 pub mod CandidateOfAGap
 pub mod DangerousByCandidates

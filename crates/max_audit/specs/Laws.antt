@@ -1,5 +1,6 @@
 -- The laws of answered maxima: when they are possible, which rows they fix, and when a question is dangerous.
-use Rattle.std.specs.Prelude.{◌≡◌, ◌≢◌, ◌↔◌, ◌⊎◌, ℕ, ◌<◌, ℤ, false, List, [], Option}
+use Rattle.std.specs.Prelude.{◌≡◌, ◌≢◌, ◌↔◌, ◌⊎◌, ℕ, ◌<◌, ℤ, ◌≤ℤ◌, true, false, List, [], Option}
+use Rattle.std.specs.List.{AllByRecursion}
 use Rattle.audit_types.specs.Rows.{AreRows, IsLeast, has_row}
 use Rattle.audit_types.specs.Truth.{number_at}
 use Rattle.audit_types.specs.Column.{Known, Answer, Agrees, IsWellFormed, IsPossible, IsDangerous, known_max, guarding, with_answer}
@@ -39,6 +40,14 @@ LoneOrLowered = (n : ℕ) (answers : List Answer) (i : ℕ) → IsWellFormed (kn
 abbrev pub LoneOrFree : Type 0
 LoneOrFree = (n : ℕ) (answers : List Answer) (i : ℕ) → IsWellFormed (known_max n answers) → IsConsistent answers → i < n →
     IsLone answers i ⊎ ((w : List ℤ) × (v : List ℤ) × Agrees (known_max n answers) w × Agrees (known_max n answers) v × (number_at v i ≢ number_at w i))
+
+-- a row is lone, or it may have any number up to a high end, which no number is above, and to each answer over a set with it: in some list that
+-- agrees, and at the other rows has no less than this one and nothing above the high end
+abbrev pub LoneOrAny : Type 0
+LoneOrAny = (n : ℕ) (answers : List Answer) (w : List ℤ) (i : ℕ) (high x : ℤ) → IsWellFormed (known_max n answers) → Agrees (known_max n answers) w → i < n →
+    ((r : ℕ) → r < n → number_at w r ≤ℤ high) → x ≤ℤ high → AllByRecursion (λ a. has_row a.rows i ≡ true → x ≤ℤ a.value) answers →
+    IsLone answers i ⊎ ((v : List ℤ) × Agrees (known_max n answers) v × (number_at v i ≡ x)
+    × ((r : ℕ) → r < n → r ≢ i → (number_at w r ≤ℤ number_at v r) × (number_at v r ≤ℤ high)))
 
 -- to the question on these rows this answer is possible, and it would leave a lone row that isn't shared
 pub record LeavesLoneRow (known : Known) (rows : List ℕ) (answer : ℤ) : Type 0 where

@@ -1,5 +1,5 @@
 //! Laws of answered maxima. Each function computes nothing: its contract is the law.
-ghost use Rattle.max_audit.specs.Laws.{PossibleByExtremes, FixedByLoneRows, HighestAgrees, LoneOrLowered, LoneOrFree, DangerousByCandidates, DangerousByExtremes};
+ghost use Rattle.max_audit.specs.Laws.{PossibleByExtremes, FixedByLoneRows, HighestAgrees, LoneOrLowered, LoneOrFree, LoneOrAny, DangerousByCandidates, DangerousByExtremes};
 ghost use Rattle.max_audit.specs.Knowing.{ScarceOrOpen, ScarceTells, ScarceIsFew, ThreeExtremesOpen, DangerousByFew, FewByExtremes, DangerousByOwn, DangerousInside};
 ghost use Rattle.max_audit.specs.Knowing.{ScarceIsFewPeople, DangerousByFewPeople};
 
@@ -18,6 +18,12 @@ pub fn others_are_free()
     ensures highest { HighestAgrees }
     ensures lowered { LoneOrLowered }
     ensures free { LoneOrFree }
+{}
+
+/// A row that isn't lone may have any number of a range that no answer over a set with it is below: the others stand at their bounds then, and
+/// within the range.
+pub fn any_number_below()
+    ensures { LoneOrAny }
 {}
 
 /// A maximum is dangerous exactly if a candidate, an earlier answer, the number above one or the number below all,

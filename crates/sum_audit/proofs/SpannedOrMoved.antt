@@ -38,7 +38,7 @@ square_positive (pos (suc n)) some = let product = pos-*ℤ-pos (suc n) (suc n) 
 square_positive (negsuc n) some = let product = negsuc-*ℤ-negsuc n n in omega (arith, ints)
 
 -- all columns below n are 0, or one is not
-columns : (n : ℕ) (u : ℕ → ℤ) → ((j : ℕ) → j < n → u j ≡ pos 0) ⊎ ((j : ℕ) × (j < n) × (u j ≢ pos 0))
+pub columns : (n : ℕ) (u : ℕ → ℤ) → ((j : ℕ) → j < n → u j ≡ pos 0) ⊎ ((j : ℕ) × (j < n) × (u j ≢ pos 0))
 columns zero u = inl (λ j l. absurd (omega arith))
 columns (suc n) u = elim (columns n u) [
   | inr hit ↦ inr (hit.0, omega arith, hit.2)

@@ -1,6 +1,7 @@
 pub mod Dot
 pub mod DotLaws
 pub mod Shifts
+pub mod Pivots
 pub mod Laws
 pub mod Sets
 pub mod Columns

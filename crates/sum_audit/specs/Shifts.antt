@@ -1,11 +1,14 @@
 -- Facts on lists of numbers moved along others, and on what is between two lists.
-use Rattle.std.proofs.Common.{◌≡◌, ℕ, ℤ, pos, List, [], ◌∷◌, length, map, refl, ap, ◌∙◌, arith}
-use Rattle.std.specs.Prelude.{◌+ℤ◌, neg_ℤ}
+use Rattle.std.proofs.Common.{◌≡◌, ℕ, ℤ, pos, List, [], ◌∷◌, length, map, refl, sym, ap, ◌∙◌, arith}
+use Rattle.std.specs.Prelude.{◌+ℤ◌, ◌*ℤ◌, neg_ℤ}
 use Rattle.std.specs.List.{AllByRecursion}
+use Rattle.std.proofs.Math.IntN.{*ℤ-zero}
 use Rattle.std.proofs.lemmas.Int.{ints}
 use Rattle.std.proofs.lemmas.List.{length-map}
 use Rattle.audit_types.specs.Truth.{number_at, sum_over}
 use Rattle.audit_types.specs.Column.{Answer}
+use Rattle.audit_types.specs.PrimitiveLines.{times, number_at-times}
+use Rattle.audit_types.specs.Products.{times-add}
 use Rattle.audit_types.specs.RowNumbers.{number_at-negated}
 use Rattle.sum_basis.specs.Combination.{both}
 use Rattle.sum_basis.specs.CombinedRows.{number_at-both, length-both}
@@ -54,6 +57,21 @@ moved_gives d w (a ∷ answers) given zeros =
     let old = given.0 in
     let zero_sum = zeros.0 in
     (omega (arith, ints), moved_gives d w answers given.1 zeros.1)
+
+-- the sum of a list times a number
+pub sum_over-times : (k : ℤ) (d : List ℤ) (rows : List ℕ) → sum_over (times k d) rows ≡ k *ℤ sum_over d rows
+sum_over-times k d [] = sym (*ℤ-zero k)
+sum_over-times k d (r ∷ rows) =
+    let first = number_at-times k d r in
+    let rest = sum_over-times k d rows in
+    let whole = times-add k (number_at d r) (sum_over d rows) in
+    omega (arith, ints)
+
+-- a list that sums to 0 does so times a number
+pub zero_sums_times : (k : ℤ) (d : List ℤ) (answers : List Answer) → ZeroSums d answers → ZeroSums (times k d) answers
+zero_sums_times k d [] zeros = tt
+zero_sums_times k d (a ∷ answers) zeros =
+    (sum_over-times k d a.rows ∙ ap (λ z. k *ℤ z) zeros.0 ∙ *ℤ-zero k, zero_sums_times k d answers zeros.1)
 
 -- what is between two lists with the same answers sums to 0
 pub zero_between : (v w : List ℤ) (answers : List Answer) → Gives v answers → Gives w answers → ZeroSums (difference v w) answers

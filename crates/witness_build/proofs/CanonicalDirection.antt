@@ -1,19 +1,20 @@
 -- What was solved and divided is the canonical direction of the row.
-use Rattle.std.proofs.Common.{◌≡◌, ◌≢◌, ℕ, ◌<◌, Bool, true, false, ◌==◌, ℤ, pos, List, [], ◌∷◌, length, map, refl, sym, ap, ◌∙◌, subst, arith, inl, inr}
+use Rattle.std.proofs.Common.{◌≡◌, ◌≢◌, ℕ, ◌<◌, Bool, true, false, ℤ, pos, List, [], ◌∷◌, length, map, refl, sym, ap, ◌∙◌, subst, arith, inl, inr}
 use Rattle.std.specs.Prelude.{◌+ℤ◌, ◌*ℤ◌, neg_ℤ, ◌<ℤ◌}
 use Rattle.std.specs.List.{AllByRecursion}
 use Rattle.std.proofs.Math.IntN.{*ℤ_comm, zero-*ℤ, *ℤ-zero, +ℤ_invr}
-use Rattle.std.proofs.lemmas.Bool.{eq-eqb, or_parts}
 use Rattle.std.proofs.lemmas.Int.{ints}
 use Rattle.std.proofs.lemmas.List.{length-map}
 use Rattle.audit_types.specs.Rows.{AreRows}
 use Rattle.audit_types.specs.Truth.{number_at, sum_over}
 use Rattle.audit_types.specs.Form.{pivot, pivot_entry, IsPrimitive, Reduced}
 use Rattle.audit_types.specs.Direction.{IsDirection, IsPinned, IsCanonicalDirection, is_pivot, free_column_of, IsSmall}
-use Rattle.audit_types.specs.Products.{times-add, zero_product}
+use Rattle.audit_types.specs.Products.{zero_product}
 use Rattle.sum_basis.specs.Laws.{FormsAreUnique}
 use Rattle.sum_audit.specs.Dot.{dot}
 use Rattle.sum_audit.specs.DotLaws.{dot_two}
+use Rattle.sum_audit.specs.Pivots.{no_pivot}
+use Rattle.sum_audit.specs.Shifts.{sum_over-times}
 use Rattle.sum_audit.specs.Laws.{DirectionsByForm}
 use Rattle.witness_build.specs.Directions.{IsForm, IsSolved, IsSolvedWith, Solves, IsDivided}
 use Rattle.witness_build.proofs.FreeColumns.{Reaches, IsFreeColumn, free_column_found}
@@ -21,13 +22,6 @@ use Rattle.witness_build.proofs.Dividing.{small_divided}
 use Rattle.audit_types.specs.PrimitiveLines.{number_at-times}
 use Rattle.audit_types.specs.FormRows.{IsZeroAtOthers, zero_at_others, pivot_below}
 use Rattle.audit_types.specs.Numbers.{positive_not_zero}
-
-no_pivot : (rows : List (List ℤ)) (j : ℕ) → is_pivot rows j ≡ false → AllByRecursion (λ r. j ≢ pivot r) rows
-no_pivot [] j e = tt
-no_pivot (r ∷ rows) j e = (
-  (λ same. let there = eq-eqb (pivot r) j (sym same) in let not_there = (or_parts (pivot r == j) (is_pivot rows j) e).0 in absurd cc),
-  no_pivot rows j (or_parts (pivot r == j) (is_pivot rows j) e).1,
-)
 
 module _ (n : ℕ) (form : List (List ℤ)) (free : ℕ) (d : List ℤ) (common : ℤ) (below : free < n) (solved : IsSolvedWith n common form free d) where
   by_pivot : (row : List ℤ) → IsZeroAtOthers form row → (j : ℕ) → j ≢ free → j ≢ pivot row → (b : Bool) → is_pivot form j ≡ b →
@@ -69,18 +63,10 @@ module _ (n : ℕ) (form : List (List ℤ)) (free : ℕ) (d : List ℤ) (common 
       | inr r ↦ reached form i solved.solves r e
     ]
 
-sum_over-multiple : (k : ℤ) (d : List ℤ) (rows : List ℕ) → sum_over (map (λ x. k *ℤ x) d) rows ≡ k *ℤ sum_over d rows
-sum_over-multiple k d [] = sym (*ℤ-zero k)
-sum_over-multiple k d (r ∷ rows) =
-    let first = number_at-times k d r in
-    let rest = sum_over-multiple k d rows in
-    let whole = times-add k (number_at d r) (sum_over d rows) in
-    omega (arith, ints)
-
 zero_sums_divided : (k : ℤ) (d : List ℤ) (sets : List (List ℕ)) → k ≢ pos 0 → AllByRecursion (λ s. sum_over (map (λ x. k *ℤ x) d) s ≡ pos 0) sets →
     AllByRecursion (λ s. sum_over d s ≡ pos 0) sets
 zero_sums_divided k d [] h z = tt
-zero_sums_divided k d (s ∷ sets) h z = (zero_product k (sum_over d s) (sym (sum_over-multiple k d s) ∙ z.0) h, zero_sums_divided k d sets h z.1)
+zero_sums_divided k d (s ∷ sets) h z = (zero_product k (sum_over d s) (sym (sum_over-times k d s) ∙ z.0) h, zero_sums_divided k d sets h z.1)
 
 module _ (directions : DirectionsByForm) (unique : FormsAreUnique) (n : ℕ) (sets : List (List ℕ)) (form : List (List ℤ)) (i free : ℕ)
     (are : AllByRecursion (AreRows n) sets) (reduced : Reduced n sets form) (below : i < n) (open_row : ¬ (IsPinned n sets i))

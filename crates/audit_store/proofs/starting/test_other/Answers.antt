@@ -3,9 +3,9 @@ use Rattle.std.proofs.Math.Seq.{take-length}
 use Rattle.audit_types.specs.declared.records.Answered.{Answered}
 use Rattle.audit_types.specs.declared.shapes.Shape.{Shape}
 use Rattle.audit_types.specs.History.{Protection, IsLegal}
-use Rattle.audit_store.specs.Starting.{HistoryCause, StartsUnlessFailed}
+use Rattle.audit_store.specs.Starting.{HistoryCause, RefusedUnlessFailed, StartsUnlessFailed}
 use Rattle.table_load.specs.Database.{secret_table}
-use Rattle.audit_store.proofs.Causes.{legal_has_no_cause}
+use Rattle.audit_store.proofs.Causes.{legal_has_no_cause, one_cause}
 use Rattle.audit_store.specs.LegalFronts.{legal_front}
 use Rattle.audit_store.proofs.StoreFaults.{of_refusal}
 use Rattle.audit_store.proofs.starting.test_other.Goals as goal
@@ -38,6 +38,17 @@ returns-in_err-audited-clause-opens c = λ same legal.
     (subst (λ (p : Protection). HistoryCause fault c.args.secret.now.shape list (secret_table c.args.secret.now p)) groups c.in_err-audited.ensures.err) in
     of_refusal c.from_residual.result fault c.from_residual.ensures StartsUnlessFailed
     (legal_has_no_cause c.args.kept.now list (secret_table c.args.secret.now c.args.core.now.setting.protected) fault same legal cause)
+
+pub returns-in_err-audited-clause-due : goal.returns-in_err-audited-clause-due
+returns-in_err-audited-clause-due c = λ due some cause.
+    let fault = c.in_err-audited.field-0.0 in
+    let list = c.args.list.now in
+    let table = secret_table c.args.secret.now c.args.core.now.setting.protected in
+    let same : c.args.kept.now ≡ c.args.secret.now.shape = search rules in
+    let groups : c.in-Ok.protected ≡ c.args.core.now.setting.protected = search rules in
+    let found : HistoryCause fault c.args.kept.now list table = subst (λ (s : Shape). HistoryCause fault s list table) (sym same)
+    (subst (λ (p : Protection). HistoryCause fault c.args.secret.now.shape list (secret_table c.args.secret.now p)) groups c.in_err-audited.ensures.err) in
+    of_refusal c.from_residual.result fault c.from_residual.ensures (RefusedUnlessFailed due) (one_cause c.args.kept.now list table due fault some cause found)
 
 pub returns-clause-due : goal.returns-clause-due
 returns-clause-due c = λ due some cause.
