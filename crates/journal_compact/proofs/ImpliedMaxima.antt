@@ -138,7 +138,7 @@ module _ (greatest : GreatestIsBoundAndReached) (bounds : UpperBoundIsLeast) whe
 
     module _ (a : Answer) (are : AreRows n a.rows) (some : a.rows ≢ []) where
       -- what bounds and extreme rows force is implied
-      forced : IsForced answers a → IsImplied (known_max n answers) a
+      pub forced : IsForced answers a → IsImplied (known_max n answers) a
       forced t w agrees =
           let e = t.reached.answer in
           let given = all_at (λ b. greatest_over w b.rows ≡ b.value) answers e agrees.same t.reached.one in

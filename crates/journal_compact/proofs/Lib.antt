@@ -1,5 +1,7 @@
 pub mod ImpliedSums
 pub mod ImpliedMaxima
+pub mod ToldAnswers
+pub mod HighestBounds
 pub mod Pushes
 pub mod KeptRecords
 pub mod KeptOfLegal

@@ -1,4 +1,4 @@
--- What a core's column shows of a record: whether the records of the core imply it.
+-- What a core's column shows of a record, and of a question: whether the records of the core imply it, and whether its answer follows.
 use Rattle.std.proofs.Common.{◌≡◌, ℕ, ℤ, List, [], ◌∷◌, ◌++◌, map, refl, sym, ◌∙◌, subst}
 use Rattle.std.specs.Prelude.{◌↔◌}
 use Rattle.std.specs.List.{AllByRecursion}
@@ -10,16 +10,51 @@ use Rattle.audit_types.specs.Shapes.{kind_at}
 use Rattle.audit_types.specs.Truth.{truth}
 use Rattle.audit_types.specs.Form.{set_row, InSpan, Reduced}
 use Rattle.audit_types.specs.Column.{Known, Answer, Agrees, IsPossible, IsWellFormed, known_max}
-use Rattle.audit_types.specs.History.{FitsShape, IsPossibleHistory, answers_of, answer_in, list_of}
+use Rattle.audit_types.specs.History.{FitsShape, IsPossibleHistory, answers_of, answer_in, known_of, list_of}
 use Rattle.audit_types.specs.ListLaws.{all-unmap}
 use Rattle.sum_basis.specs.Spans.{span_trans}
 use Rattle.audit_core.specs.Audited.{Audited}
 use Rattle.audit_core.specs.Columns.{HasItsPart}
 use Rattle.journal_compact.specs.Kept.{IsImplied, IsImpliedBy, IsForced}
+use Rattle.journal_compact.specs.Follows.{Follows, FollowsFrom, IsForcedToOne}
 use Rattle.journal_compact.specs.Laws.{ImpliedBySpan, ImpliedByExtremes}
 use Rattle.audit_core.specs.PlainColumns.{plain_as}
 use Rattle.audit_types.specs.Limits.{most_width}
 use Rattle.journal_compact.proofs.Pushes.{own_answers}
+
+-- the form of a column has the span of the column's answered sets
+pub spans_show : (audited : Audited) (column : ℕ) (rows : List ℕ) (known : Known) → HasItsPart audited column Sum known → (form : List (List ℤ)) (n : ℕ) →
+    n ≡ known.n → Reduced known.n (map (λ a. a.rows) known.answers) form →
+    InSpan form (set_row n rows)
+    ↔ InSpan (map (set_row audited.setting.shape.rows) (map (λ a. a.rows) (answers_of column audited.history))) (set_row audited.setting.shape.rows rows)
+spans_show audited column rows known part form n same reduced =
+    let size = audited.setting.shape.rows in
+    let sets = map (set_row size) (map (λ (a : Answer). a.rows) (answers_of column audited.history)) in
+    let form_of = subst (λ l. Reduced size (map (λ (a : Answer). a.rows) l) form) part.answers
+    (subst (λ m. Reduced m (map (λ (a : Answer). a.rows) known.answers) form) part.n reduced) in
+    let columns_same : n ≡ size = same ∙ part.n in (
+      λ span. span_trans sets form (set_row size rows) form_of.within (subst (λ m. InSpan form (set_row m rows)) columns_same span),
+      λ span. subst (λ m. InSpan form (set_row m rows)) (sym columns_same) (span_trans form sets (set_row size rows) form_of.spans span),
+    )
+
+-- so the answer to a question follows, if the form has its row
+pub sum_follows : (audited : Audited) (column : ℕ) (rows : List ℕ) (known : Known) → HasItsPart audited column Sum known → (form : List (List ℤ)) (n : ℕ) →
+    n ≡ known.n → Reduced known.n (map (λ a. a.rows) known.answers) form →
+    InSpan form (set_row n rows) ↔ Follows (known_of audited.setting audited.history column) rows
+sum_follows audited column rows known part form n same reduced =
+    let Told : Kind → Type 0 = λ kind. FollowsFrom kind audited.setting.shape.rows (answers_of column audited.history) rows in
+    let spans = spans_show audited column rows known part form n same reduced in
+    (λ span. subst Told (sym part.own_kind) (spans.0 span), λ follows. spans.1 (subst Told part.own_kind follows))
+
+-- and of a maximum, if it is forced
+pub maximum_follows : (audited : Audited) (column : ℕ) (rows : List ℕ) (known : Known) → HasItsPart audited column Max known → (answers : List Answer) →
+    answers ≡ known.answers → IsForcedToOne answers rows ↔ Follows (known_of audited.setting audited.history column) rows
+maximum_follows audited column rows known part answers same =
+    let Told : Kind → Type 0 = λ kind. FollowsFrom kind audited.setting.shape.rows (answers_of column audited.history) rows in
+    let is : answers ≡ answers_of column audited.history = same ∙ part.answers in (
+      λ forced. subst Told (sym part.own_kind) (subst (λ l. IsForcedToOne l rows) is forced),
+      λ follows. subst (λ l. IsForcedToOne l rows) (sym is) (subst Told part.own_kind follows),
+    )
 
 module _ (audited : Audited) (r : Answered) (fits : FitsShape audited.setting.shape r.column r.rows) (possible : IsPossibleHistory audited.setting (audited.history ++ r ∷ [])) where
   -- what the column knows
@@ -58,15 +93,12 @@ module _ (audited : Audited) (r : Answered) (fits : FitsShape audited.setting.sh
       (form : List (List ℤ)) (n : ℕ) → n ≡ known.n → Reduced known.n (map (λ a. a.rows) known.answers) form →
       InSpan form (set_row n r.rows.list) ↔ IsImpliedBy audited.setting.shape audited.history r
   sums_show law known part are form n same reduced =
-      let form_of = subst (λ l. Reduced size (map (λ (a : Answer). a.rows) l) form) part.answers (subst (λ m. Reduced m (map (λ (a : Answer). a.rows) known.answers) form) part.n reduced) in
       let sets = subst (λ l. AllByRecursion (λ (a : Answer). AreRows size a.rows) l) part.answers
       (all-unmap (λ (a : Answer). a.rows) (AreRows size) known.answers (subst (λ m. AllByRecursion (AreRows m) (map (λ (a : Answer). a.rows) known.answers)) part.n are)) in
       let both = law size own (answer_in r) sets rows_are (own_possible Sum part.own_kind) in
-      let columns_same : n ≡ size = same ∙ part.n in (
-        λ span. subst ImpliedAs (sym part.own_kind)
-            (both.1 (span_trans (map (set_row size) (map (λ (a : Answer). a.rows) own)) form (set_row size r.rows.list) form_of.within (subst (λ m. InSpan form (set_row m r.rows.list)) columns_same span))),
-        λ implied. subst (λ m. InSpan form (set_row m r.rows.list)) (sym columns_same)
-            (span_trans form (map (set_row size) (map (λ (a : Answer). a.rows) own)) (set_row size r.rows.list) form_of.spans (both.0 (subst ImpliedAs part.own_kind implied))),
+      let spans = spans_show audited r.column r.rows.list known part form n same reduced in (
+        λ span. subst ImpliedAs (sym part.own_kind) (both.1 (spans.0 span)),
+        λ implied. spans.1 (both.0 (subst ImpliedAs part.own_kind implied)),
       )
 
   pub maxima_show : ImpliedByExtremes → (known : Known) → HasItsPart audited r.column Max known → IsWellFormed known → (answers : List Answer) → answers ≡ known.answers →

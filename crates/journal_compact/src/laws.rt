@@ -1,4 +1,5 @@
 //! The laws of kept records. Each function computes nothing: its contract is the law.
+ghost use Rattle.journal_compact.specs.Follows.{FollowsIfTold};
 ghost use Rattle.journal_compact.specs.Laws.{ImpliedBySpan, ImpliedByExtremes, OneIsKept, SameListsAgree, SameForms, SameDecisions, KeptIsLegal};
 
 /// A sum is implied by those before it exactly when the row of its set lies in their span.
@@ -15,6 +16,18 @@ pub fn implied_maxima()
     audit_types::laws::greatest();
     max_bounds::laws::upper_bounds();
     max_audit::laws::possible_by_extreme_rows();
+}
+
+/// If some numbers give the answers, an answer follows from them exactly if all numbers that give them give it: what `follows` tells is what
+/// `kept` leaves out.
+pub fn following()
+    ensures { FollowsIfTold }
+{
+    audit_types::laws::greatest();
+    max_bounds::laws::upper_bounds();
+    max_audit::laws::possible_by_extreme_rows();
+    implied_sums();
+    implied_maxima();
 }
 
 /// Of a history one list of records is kept, and the same lists agree with it.
