@@ -5,12 +5,14 @@ another status. No GET asks anything.
 """
 import asyncio
 import contextlib
+import json
 import os
 
 from aiohttp import web
 from aiohttp.http_exceptions import HttpProcessingError
 
 from .askers import NOBODY
+from .hinting import Hints
 from .lines import LONGEST, Turned, line_of
 from .near import Nears
 from .totals import total
@@ -93,7 +95,7 @@ class TableHandlers:
 
     def __init__(self, table, least):
         self.table, self.least = table, least
-        self.nears = Nears(table, least)
+        self.nears, self.hints = Nears(table, least), Hints(table.places)
 
     def routes(self, prefix):
         public = self.table.places.public
@@ -102,6 +104,7 @@ class TableHandlers:
             ("POST", prefix + "/would"): self.would_request,
             ("POST", prefix + "/why"): self.why_request,
             ("POST", prefix + "/near"): self.near_request,
+            ("POST", prefix + "/hint"): self.hint_request,
             ("GET", prefix + "/health"): self.health,
             ("GET", prefix + "/schema.json"): sender(public / "schema.json", JSON),
             ("GET", prefix + "/notes.json"): sender(public / "notes.json", JSON),
@@ -141,6 +144,9 @@ class TableHandlers:
         asker.spend("verdicts")
         return said(await self.nears.ask(line, asker))
 
+    async def hint_request(self, request):
+        return said(await self.hints.on(await question_of(request)))
+
     async def health(self, _):
         health = self.table.health()
         return said(health, 200 if health["state"] == "serving" else 503)
@@ -167,7 +173,7 @@ class RootHandlers:
         self.names = [name for name in tables if name]
 
     def routes(self):
-        words = sender(self.words, JSON)
+        words = lister(askers_words(self.words))
         routes = {("GET", "/"): self.start_page, ("GET", "/words.json"): words, ("GET", "/tables.json"): lister(self.names)}
         if self.names:
             routes |= {("GET", "/health"): self.health, ("POST", "/total"): self.total}
@@ -220,10 +226,15 @@ def sender_of_whole(path, kind):
     return send
 
 
-def lister(names):
+def lister(value):
     async def send(_):
-        return said(names)
+        return said(value)
     return send
+
+
+def askers_words(path):
+    """The sentences without those that tell an operator what to do."""
+    return {group: words for group, words in json.loads(path.read_text(encoding="utf-8")).items() if group != "ended"}
 
 
 def redirect(to):

@@ -146,7 +146,7 @@ class Table:
         records = self.transcript.records - self.left_out
         return {"state": self.state, "records": records, "room": max(HISTORY - records, 0), "asked": self.asked,
                 "groups": self.sent, "repeats": self.repeats, "restarts": self.restarts, "waiting": self.waiting,
-                "transcript": self.transcript.size, "unwritten": self.transcript.unwritten}
+                "transcript": self.transcript.size, "unwritten": self.transcript.unwritten, "compacted": self.left_out}
 
     def is_stopped(self):
         """Whether no question is taken just now."""
