@@ -8,7 +8,8 @@ import json
 from asking.hints import hint, mended
 from preparing.conditions import Reader, Wrong
 
-from .lines import Turned, read_question
+from .faults import Turned
+from .lines import read_question
 
 
 class Hints:
@@ -21,7 +22,7 @@ class Hints:
         """The byte from which on a question's condition isn't understood, why, and what to write; each null if there is none."""
         where = (read_question(line) or {}).get("where")
         if not isinstance(where, str):
-            raise Turned(422, "this isn't a question: it wants ask, column and where")
+            raise Turned("question")
         return await asyncio.to_thread(self._on, where)
 
     def _on(self, where):

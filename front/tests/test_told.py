@@ -36,7 +36,7 @@ class Raised(DoorCase):
             before = json.loads(body)["sum"]
             self.give_a_raise()
             told = [await ask(session, line_of("sum", 0, 0), "/why")]
-            self.assertEqual(told, [(503, json.dumps({"error": AWAY["11"]}).encode())])
+            self.assertEqual(told, [(503, json.dumps({"error": AWAY["11"], "code": "away"}).encode())])
             self.door.kill_programs()
             told.append(await ask(session, line_of("sum", 2, 160)))
             self.assertEqual((await health(session))["state"], f"stopped: {AWAY['11']}")
@@ -75,7 +75,7 @@ class Told(unittest.IsolatedAsyncioTestCase):
                     status, body = await ask(session, line_of("sum", 0, 9), path)
                     if path == "/why" and code == "signal":
                         continue        # the shell around it makes a code of it
-                    self.assertEqual((status, json.loads(body)), (503, {"error": due(code)}), (path, code))
+                    self.assertEqual((status, json.loads(body)), (503, {"error": due(code), "code": "away"}), (path, code))
             self.assertEqual((await ask(session, line_of("count", 0, 9)))[0], 200)
         self.assertEqual(self.door.stop(), 0)
         self.assertGreaterEqual(self.folder.said().count(loud.SAID), 2 * len(CODES) - 2)
