@@ -14,7 +14,10 @@ MOST_ROWS = 1024
 FEWEST_ROWS_A_PART = 20
 SMALL_PART = 3
 MOST_TRIED = 30
-NO_SPLIT = "Leave out rows in the file itself, or add a column to it that numbers the rows from 1 to 20, or as many parts as it takes, again and again, and split by that"
+NO_SPLIT = (
+    "Leave out rows in the file itself, or add a column to it that numbers the rows from 1 to 20, or as many parts as it takes, again and again, and"
+    " split by that"
+)
 
 
 @dataclasses.dataclass(frozen=True)

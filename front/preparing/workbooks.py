@@ -66,7 +66,8 @@ def sheet_of(data, wanted=None):
         return wanted
     filled = [sheet.title for sheet in book.worksheets if any(value is not None for row in sheet.iter_rows(values_only=True) for value in row)]
     if len(filled) != 1:
-        raise Fault("the workbook has " + ("several sheets. Look again with one of: " + "; ".join(f"sheet={name}" for name in filled) if filled else "nothing in it"))
+        ways = "; ".join(f"sheet={name}" for name in filled)
+        raise Fault(f"the workbook has several sheets. Look again with one of: {ways}" if filled else "the workbook has nothing in it")
     return filled[0]
 
 

@@ -64,7 +64,8 @@ class Described(DoorCase):
                 if "get" in operations and path not in ("/notes.json", "/report.jsonl"):
                     await self.described(session, "GET", path, 200)
             codes = {
-                await self.described(session, "POST", "/ask", 400, b"a\nb"), await self.described(session, "POST", "/ask", 403, b"{}", **{"Sec-Fetch-Site": "cross-site"}),
+                await self.described(session, "POST", "/ask", 400, b"a\nb"),
+                await self.described(session, "POST", "/ask", 403, b"{}", **{"Sec-Fetch-Site": "cross-site"}),
                 await self.described(session, "GET", "/notes.json", 404), await self.described(session, "POST", "/ask", 413, b"x" * 8193),
                 await self.described(session, "POST", "/ask", 415, b"{}", **{"Content-Type": "text/plain"}),
                 await self.described(session, "POST", "/ask", 422, line_of("sum", 0, 1)), await self.described(session, "POST", "/ask", 422, b"x"),

@@ -150,7 +150,8 @@ class Scripted(OneTable):
                 (one, "sum", "age > 30", "Total of pay, all rows, answered, less this total would be the pay of one person: A, 30."),
                 (one, "avg", "age > 30", "Total of pay, all rows, answered, less the total of this average would be the pay of one person: A, 30."),
                 ({"row": 1, "times": 2, "by": [[0, -1], [1, 2]], "asked": 1}, "sum", "age = 40",
-                 '2 times Average of pay where age > 30, answered, as a total and this total, less Total of pay, all rows, answered would be 2 times the pay of one person: B, "x", 40.'),
+                 "2 times Average of pay where age > 30, answered, as a total and this total, less Total of pay, all rows, answered would be "
+                 '2 times the pay of one person: B, "x", 40.'),
                 ({"group": 0, "times": 1, "by": [[0, 1]], "asked": -1}, "sum", "age > 30", "less this total would be the protected total where age < 40."),
                 ({"answer": 8, "row": 1, "pair": 2, "high": [8, 9, 8]}, "max", "all",
                  'Were this answer 8, one person alone of Greatest of best, all rows, answered could have the 9: B, "x", 40.'),
@@ -160,7 +161,8 @@ class Scripted(OneTable):
             with self.subTest(words=words):
                 self.open("", {**more, "health": json.dumps(health)})
                 self.door.reply = lambda path, question, line=line: (200, json.dumps(
-                    {"count": rows[question["where"]]} if question["ask"] == "count" else {"verdict": "unsafe", **line} if path == "/why" else {"denied": "unsafe"}))
+                    {"count": rows[question["where"]]} if question["ask"] == "count" else {"verdict": "unsafe", **line} if path == "/why"
+                    else {"denied": "unsafe"}))
                 self.browser.run("document.querySelector(`#kinds input[value=${arguments[0]}]`).click()", kind)
                 self.browser.write(where)
                 self.browser.ask()

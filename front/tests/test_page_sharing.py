@@ -25,7 +25,8 @@ function behind(node) {
   }
   return "rgb(255, 255, 255)";
 }
-return [...document.querySelectorAll("button:not(.plain), select, input:not([type]), textarea, .kinds label, .choices")].filter(one => one.offsetParent).map(one => {
+const controls = [...document.querySelectorAll("button:not(.plain), select, input:not([type]), textarea, .kinds label, .choices")];
+return controls.filter(one => one.offsetParent).map(one => {
   const edge = light(getComputedStyle(one).borderTopColor), other = light(behind(one));
   return [(Math.max(edge, other) + 0.05) / (Math.min(edge, other) + 0.05), one.outerHTML.slice(0, 60)];
 }).filter(([ratio]) => ratio < 3);

@@ -82,7 +82,8 @@ class Stuck(TableTest):
     @needs_program
     def test_a_rounded_number_loses_the_factor_in_its_name(self):
         self.look(self.AGES)
-        self.assertIn("age is named age_x10: its numbers are kept times 10", self.choose("protect=none", "range=none", "age=number", "team=text", "pay=sum", "split by=age_x10")[1])
+        said = self.choose("protect=none", "range=none", "age=number", "team=text", "pay=sum", "split by=age_x10")[1]
+        self.assertIn("age is named age_x10: its numbers are kept times 10", said)
         said = self.choose("age.decimals=0", "age.rounded=down")[1]
         self.assertIn("age_x10 is named age: its numbers are kept as they are, and conditions compare them so", said)
         self.assertEqual((self.column("age")["decimals"], self.chosen()["split by"]), (0, ["age"]))

@@ -114,8 +114,10 @@ class Workbooks(TableTest):
             self.assertIn("more than 500 characters", self.told(workbook(Staff=[["team", "pay"]] * 300)))
 
     def test_each_kind_of_cell_is_written_as_a_spreadsheet_shows_it(self):
-        for value, due in ((None, ""), (True, "TRUE"), (36, "36"), (36.0, "36"), (0.1 + 0.2, "0.3"), (1e-7, "1e-07"), ("#N/A", "#N/A"), (123456789012345.6, "123456789012346"),
-                           (datetime.datetime(2017, 1, 31, 8, 5), "2017-01-31 08:05:00"), (datetime.time(8, 5), "08:05:00"), (datetime.date(2017, 1, 31), "2017-01-31")):
+        for value, due in (
+                (None, ""), (True, "TRUE"), (36, "36"), (36.0, "36"), (0.1 + 0.2, "0.3"), (1e-7, "1e-07"), ("#N/A", "#N/A"),
+                (123456789012345.6, "123456789012346"), (datetime.datetime(2017, 1, 31, 8, 5), "2017-01-31 08:05:00"),
+                (datetime.time(8, 5), "08:05:00"), (datetime.date(2017, 1, 31), "2017-01-31")):
             self.assertEqual(workbooks.cell_text(value), due)
         read = list(csv.reader(io.StringIO(workbooks.text_of(workbook(Staff=STAFF), "Staff"), newline="")))
         self.assertEqual(read[2], ["Bob's, \"x\"", "41", "3900", "2018-02-01", "FALSE"])
