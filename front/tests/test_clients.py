@@ -313,6 +313,7 @@ class SeveralTables(unittest.TestCase):
         said, _, status = typed(self.office.url, f"sum salary where age = {single} or site != 'York'")
         self.assertTrue(said[0].startswith("not answered by york: Some answer"))
         self.assertEqual(status, 1)
+        self.assertEqual([table.transcript() for table in self.all.tables], before)
         said, _, _ = typed(self.office.url, f"would sum salary where age = {single} or site != 'York'")
         self.assertEqual(said, ["north: It would be answered now.", "york: It would not be answered."])
         why = self.all.why("sum", "salary", f"age = {single} or site != 'York'")
