@@ -5,6 +5,7 @@
     ask.py http://HOST:PORT [QUESTION ..]   over a front door; unix:PATH for its socket
 
     ask.py --login NAME ADDRESS ..          asks for NAME's password at the proxy, or token at the door, in the terminal
+    ask.py --table NAME ADDRESS ..          one of several tables behind a door; without it all are asked as parts of one
     AUDITOR_TOKEN=.. ask.py ADDRESS ..      sends a token
 
     count where age >= 41                   how many rows
@@ -30,12 +31,14 @@ import sys
 
 from clients.auditor import login_of
 
-from asking.places import SECRET, Away, place
+from asking.places import place
 from asking.questions import Question, Unclear, parse
+from asking.replies import SECRET, Away
 from asking.tables import HATCHED, ask_cells, cells_to_ask, csv_text, table_lines, value_words
 from asking.words import WORDS, answer_of, denial_words, is_protected, near_words, reply_words, step, verdict_words, why_words
 from preparing.conditions import Wrong
 
+OPTIONS = ("--login", "--table")
 MOST_GROUPS = 100
 MOST_CELLS = 1000
 
@@ -43,7 +46,7 @@ MOST_CELLS = 1000
 def answer(there, text):
     """Prints the reply to a line, and says whether it was answered."""
     if text in ("help", "?"):
-        print(__doc__.split("\n\n", 2)[2].rsplit("\n\n", 1)[0])
+        print(__doc__.split("\n\n", 3)[3].rsplit("\n\n", 1)[0])
         return True
     if text == "columns":
         say_columns(there)
@@ -52,38 +55,46 @@ def answer(there, text):
         question = parse(text, there.columns)
         return answer_groups(there, question) if question.by else answer_one(there, question)
     except (Unclear, Away) as why:
-        print(why)
+        say(why)
         return False
 
 
 def answer_one(there, question):
-    """Asks one question, or what would be said of it, why it is denied, or what is near."""
-    if question.near:
-        print(near_words(there.near(question)))
-        return True
+    """Asks one question, or what would be said of it, why it is denied, or what is near. What isn't asked is said of each part."""
     if question.why:
         say_why(there, question)
         return True
-    if question.would:
-        print(verdict_words(there.would(question)))
+    if question.near or question.would:
+        for name, part in there.parts():
+            say(named(name, near_words(part.near(question)) if question.near else verdict_words(part.would(question))))
         return True
     reply = there.ask(question)
-    print(reply_words(question, reply, there.columns, there.notes, there.protected))
+    say(reply_words(question, reply, there.columns, there.notes, there.protected))
     return answer_of(reply) is not None
 
 
+def named(name, words):
+    """What is said of a part, after its name."""
+    return f"{name}: {words}" if name else words
+
+
 def say_why(there, question):
-    """Prints why a question is denied: a sentence, and the line of `explain` itself."""
-    line = there.why(question)
+    """Prints why each part that denies a question does so, or what the first one says: a sentence, and the line of `explain` itself."""
+    found = [(name, part, part.why(question)) for name, part in there.parts()]
+    for name, part, line in [one for one in found if one[2].get("verdict") in ("unsafe", "wide")] or found[:1]:
+        say_why_of(name, part, question, line)
+
+
+def say_why_of(name, there, question, line):
     try:
         if line["verdict"] == "refused":
-            print(refusal_words(there, question))
+            say(refusal_words(there, question))
             return
         words = why_words(line, target_words(there, line), there.notes.get(question.column, {}))
     except (LookupError, TypeError, ValueError):
         raise Away("what comes back isn't a line of auditor explain") from None
-    print(words)
-    print("  " + shown(json.dumps(line, ensure_ascii=False, separators=(",", ":"))))
+    say(named(name, words))
+    say("  " + json.dumps(line, ensure_ascii=False, separators=(",", ":")))
 
 
 def refusal_words(there, question):
@@ -99,7 +110,7 @@ def target_words(there, line):
     if "group" not in line:
         return f"the number of row {line.get('row')}"
     totals = [where for _, where in there.protected if answer_of(there.ask(Question("count", where=where)))]
-    return f"the protected total where {shown(totals[line['group']])}"
+    return f"the protected total where {totals[line['group']]}"
 
 
 def answer_groups(there, question):
@@ -111,7 +122,7 @@ def answer_groups(there, question):
     try:
         cells = cells_to_ask(question, rows, publics)
     except Wrong:
-        print(reply_words(question, there.ask(Question("count", where=question.where)), there.columns, there.notes))
+        say(reply_words(question, there.ask(Question("count", where=question.where)), there.columns, there.notes))
         return False
     need_few(" and ".join(question.by), len(cells), MOST_CELLS)
     cells = ask_cells(cells, there.would if question.would else there.ask)
@@ -130,11 +141,11 @@ def print_cells(there, question, cells):
         print(csv_text(question.by, cells, question.ask, there.notes.get(question.column, {})), end="")
     elif len(question.by) == 1:
         for cell in cells:
-            print(f"{value_words(cell.values[0], there.notes.get(question.by[0], {}))}: {group_words(there, cell)}")
+            say(f"{value_words(cell.values[0], there.notes.get(question.by[0], {}))}: {group_words(there, cell)}")
         say_denials(there, cells, "")
     else:
         for line in table_lines(question.by, cells, there.notes, lambda cell: short_words(there, cell)):
-            print(line)
+            say(line)
         say_denials(there, cells, f"{HATCHED}: ")
 
 
@@ -145,7 +156,7 @@ def say_denials(there, cells, mark):
         if "denied" in cell.reply and not is_protected(cell.question, there.protected):
             first.setdefault(cell.reply["denied"], cell.question)
     for reason, question in first.items():
-        print(mark + shown(denial_words(reason, question)))
+        say(mark + "not answered: " + denial_words(reason, question))
 
 
 def cell_words(there, cell):
@@ -182,14 +193,15 @@ def say_columns(there):
             )
         ]
         words += [f"called {title!r}"] * (title != name) + [f"in steps of {step(note)}"] * bool(note.get("decimals"))
-        print(f"  {name:32} " + ", ".join(words + ([f"unit {note['unit']}"] if note.get("unit") else [])))
+        say(f"  {name:32} " + ", ".join(words + ([f"unit {note['unit']}"] if note.get("unit") else [])))
     for column, where in there.protected:
-        print(f"  protected, so never answered: the total of {column} where {shown(where)}")
+        say(f"  protected, so never answered: the total of {column} where {where}")
 
 
-def shown(text):
-    """What other people wrote, without what would steer a terminal."""
-    return "".join(letter if letter.isprintable() else ascii(letter)[1:-1] for letter in text)
+def say(text, file=None):
+    """Prints lines without what would steer a terminal: other people wrote some of it."""
+    for line in str(text).split("\n"):
+        print("".join(letter if letter.isprintable() else ascii(letter)[1:-1] for letter in line), file=file)
 
 
 def answer_lines(there):
@@ -217,23 +229,31 @@ def who_asks(name):
     return login_of(None, (name, getpass.getpass(f"password of {name}: ")))
 
 
+def options_of(words):
+    """The options before the place, by name, and the words after them."""
+    found = {}
+    while len(words) > 1 and words[0] in OPTIONS:
+        found[words[0]], words = words[1], words[2:]
+    return found, words
+
+
 def main(words):
     """Asks what the arguments or the terminal say."""
     if words in (["-h"], ["--help"]):
         print(__doc__.strip())
         return 0
-    name, words = (words[1], words[2:]) if words[:1] == ["--login"] and len(words) > 1 else (None, words)
+    options, words = options_of(words)
     if not words or words[0].startswith("-"):
         print(__doc__.strip(), file=sys.stderr)
         return 2
     found = shutil.which(os.environ.get("AUDITOR", "auditor"))
     there = None
     try:
-        there = place(words[0], os.path.abspath(found) if found else None, who_asks(name))
+        there = place(words[0], os.path.abspath(found) if found else None, who_asks(options.get("--login")), options.get("--table", ""))
         answered = all([answer(there, text) for text in words[1:]]) if words[1:] else answer_lines(there)
         return 0 if answered else 1
     except (Away, OSError, ValueError) as why:
-        print(f"ask: {why}", file=sys.stderr)
+        say(f"ask: {why}", sys.stderr)
     except KeyboardInterrupt:
         print(file=sys.stderr)
     finally:

@@ -35,7 +35,7 @@ install() {
     RUNLEVEL=1 DEBIAN_FRONTEND=noninteractive apt-get install -y -qq --no-install-recommends "$@" >/dev/null 2>&1
 }
 
-needed="python3-aiohttp python3-pandas python3-scipy socat nginx binutils"
+needed="python3-aiohttp python3-pandas python3-scipy python3-openpyxl python3-jsonschema socat nginx binutils"
 wanted="chromium chromium-driver python3-selenium fonts-dejavu-core r-base-core r-cran-jsonlite r-cran-curl systemd-container lintian"
 if [ "$(id -u)" = 0 ] && command -v apt-get >/dev/null; then
     install $(missing $needed)

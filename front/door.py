@@ -107,7 +107,7 @@ async def run(settings):
     tokens = Tokens(settings.tokens) if settings.tokens else None
     gates = Gates(most_connections(settings.connections), settings.head_patience)
     askers = Askers(tokens, settings.proxy, settings.listen.startswith("unix:"))
-    app = application(page, HERE / "words.json", handlers, Guard(hosts_of(settings, port), askers, AccessLog(settings.log), gates))
+    app = application(page, HERE, handlers, Guard(hosts_of(settings, port), askers, AccessLog(settings.log), gates))
     say_little(asyncio.get_running_loop())
     # Bodies come as they are sent: a small compressed one could be a large one.
     runner = GatedRunner(gates, app, access_log=None, auto_decompress=False)

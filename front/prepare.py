@@ -1,7 +1,7 @@
 #!/usr/bin/python3
-"""Makes the files that auditor reads of a CSV file as people have it.
+"""Makes the files that auditor reads of a CSV file as people have it, or of an Excel workbook.
 
-    prepare.py look FILE [encoding=NAME] [separator=NAME] [untitled=first]
+    prepare.py look FILE [encoding=NAME] [separator=NAME] [untitled=first] [sheet=NAME]
         says what the file has in it, and writes FILE.choices.json with a ? for each choice that is yours
     prepare.py choose CHOICES [NAME=KIND | NAME.KEY=VALUE | KEY=VALUE | others=KIND | missing=WHAT | range=RANGE ..]
         fills in choices, as salary=sum salary.range="0 to none"; without any it asks for each that is open
@@ -25,7 +25,7 @@ from preparing.faults import Fault, os_words, shown
 from preparing.looking import look
 from preparing.making import make
 
-OPTIONS = ("encoding", "separator", "untitled")
+OPTIONS = ("encoding", "separator", "untitled", "sheet")
 
 
 def options_of(words):

@@ -54,8 +54,8 @@ def reply_words(question, reply, kinds, notes, protected=()):
         return number_words(number, notes.get(question.column, {}) if question.ask != "count" else {})
     if "denied" in reply:
         if is_protected(question, protected):
-            return "not answered: " + WORDS["note"]["protected"]
-        return denial_words(reply["denied"], question)
+            return not_answered(reply) + WORDS["note"]["protected"]
+        return not_answered(reply) + denial_words(reply["denied"], question)
     if reply.get("refused") == "where":
         return condition_words(question.where, reply["at"], kinds, notes)
     return "refused: " + WORDS["refused"].get(reply.get("refused"), f"The program says {json.dumps(reply)}.")
@@ -69,7 +69,12 @@ def is_protected(question, protected):
 def denial_words(reason, question):
     """What a denial means, and how to ask why the question is denied, if there is a certificate of that."""
     how = f" To see why, ask: {dataclasses.replace(question, by=(), csv=False, why=True).typed()}" if reason == "unsafe" else ""
-    return "not answered: " + WORDS["denied"].get(reason, reason) + how
+    return WORDS["denied"].get(reason, reason) + how
+
+
+def not_answered(reply):
+    """That a question isn't answered, and by which of several tables."""
+    return f"not answered by {reply['table']}: " if reply.get("table") else "not answered: "
 
 
 def condition_words(condition, at, kinds, notes):

@@ -1,5 +1,4 @@
-#!/usr/bin/python3
-"""Asks a front door, from Python or in a terminal. This one file needs nothing but the standard library.
+"""Asks a front door from Python. This one file needs nothing but the standard library; ask.py asks in a terminal.
 
     >>> import auditor
     >>> table = auditor.connect("http://127.0.0.1:8087")        # or unix:PATH of the door's socket
@@ -11,10 +10,8 @@
 
 Numbers are decimals in the unit of the column, by notes.json: totals exactly, averages to six places more than the column has. With
 `steps=True` they are as the table has them, whole numbers of the smallest steps, and averages exact fractions.
-What comes back is what the door said. The door isn't proved: `auditor simulate` checks its transcript. One object is for
-one thread. In a terminal: auditor.py http://127.0.0.1:8087, and then lines as `sum salary where age >= 41`.
+What comes back is what the door said. The door isn't proved: `auditor simulate` checks its transcript. One object is for one thread.
 """
-import argparse
 import base64
 import collections
 import csv
@@ -26,7 +23,6 @@ import itertools
 import json
 import re
 import socket
-import sys
 import time
 import urllib.parse
 
@@ -512,158 +508,3 @@ def connect(url, headers=None, timeout=90, patience=10, token=None, login=None):
     if not names:
         return Table(url, "", headers, timeout, patience, token, login)
     return Parts(Table(url, name, headers, timeout, patience, token, login) for name in names)
-
-
-# -- the terminal ------------------------------------------------------------------------------------------------------
-
-HELP = """count [where CONDITION]                        how many rows
-sum COLUMN [where CONDITION]                   a total; avg for an average, max for the greatest number
-totals COLUMN by COLUMN [where CONDITION]      a total for each value of a public column; so avg .. by, count by
-totals COLUMN by COLUMN, COLUMN [where ..]     a total for each cell of a table, and all totals over them
-would sum COLUMN [where CONDITION]             whether it would be answered; nothing is asked
-why sum COLUMN [where CONDITION]               why it is denied: a certificate, in words; nothing is asked
-near sum COLUMN [where CONDITION]              what is near it and would be answered; nothing is asked
-columns                                        what there is
-quit                                           so does the end of the input"""
-
-KINDS = {"count": "count", "sum": "sum", "total": "sum", "totals": "sum", "avg": "avg", "average": "avg", "mean": "avg",
-         "max": "max", "maximum": "max", "greatest": "max"}
-LINE = re.compile(rf"(?:(?P<first>would|why|near)\s+)?(?P<kind>{'|'.join(KINDS)})(?:\s+(?!by\s)(?P<column>\w+))?(?:\s+by\s+(?P<by>\w+(?:\s*,\s*\w+)?))?"
-                  r"(?:\s+where\s+(?P<where>.*))?", re.DOTALL)
-
-
-def printable(text):
-    """The text without what would steer a terminal: other people wrote it."""
-    return "".join(letter if letter.isprintable() else ascii(letter)[1:-1] for letter in text)
-
-
-def shown(asker, column, answer):
-    """An answer as a line says it, in the unit of its column."""
-    if isinstance(answer, Denied):
-        return (f"not answered by {answer.table}: " if answer.table else "not answered: ") + answer.sentence
-    if column is None:
-        return str(answer)
-    unit = asker.note(column).get("unit")
-    unit = f" {unit}" if isinstance(unit, str) and unit else ""
-    if not isinstance(answer, fractions.Fraction):
-        return f"{asker.in_units(column, answer):f}{unit}"
-    return shown_average(answer, asker.places(column), unit)
-
-
-def shown_average(average, places, unit):
-    """An average to two places more than its column has, the half away from zero, and exactly if that isn't all of it."""
-    size = (200 * abs(average.numerator) + average.denominator) // (2 * average.denominator)
-    steps = size if average >= 0 else -size
-    text = f"{decimal.Decimal(steps).scaleb(-places - 2, EXACT):f}"
-    if steps == average * 100:
-        return re.sub("0{1,2}$", "", text).removesuffix(".") + unit
-    total = decimal.Decimal(average.numerator).scaleb(-places, EXACT)
-    return f"about {text}{unit} (exactly {total:f} / {average.denominator})"
-
-
-def near_words(asker, found):
-    """What is near a question, in words."""
-    return asker.sentence("near", "none") if found is None else f"{found.where}: {rows_words(found.rows, found.more, found.fewer)}"
-
-
-def value_words(value):
-    """The value of a group, or the values of a cell."""
-    return ", ".join("all" if one is None else str(one) for one in value) if isinstance(value, tuple) else str(value)
-
-
-def answer_line(asker, line):
-    """The lines that answer one typed line; Refused and DoorFault are raised."""
-    if line == "columns":
-        return [f"{column['name']:32} {column['is']}" for column in asker.columns] + [
-            f"protected, so never answered: the total of {total['column']} where {total['where']}" for total in asker.protected]
-    match = LINE.fullmatch(line)
-    if not match or (match["kind"] == "count") != (match["column"] is None) or match["first"] and match["by"]:
-        return HELP.splitlines()
-    kind, column, where = KINDS[match["kind"]], match["column"], match["where"] or "all"
-    if match["first"] == "why":
-        why = asker.why(kind, column, where)
-        return [(f"{why.table}: " if why.table else "") + str(why), json.dumps(why.line, separators=(",", ":"))]
-    if match["first"] == "near":
-        found = asker.near(kind, column, where)
-        named = found.items() if isinstance(found, dict) else [("", found)]
-        return [(f"{name}: " if name else "") + near_words(asker, one) for name, one in named]
-    if match["first"]:
-        verdicts = asker.would(kind, column, where)
-        named = verdicts.items() if isinstance(verdicts, dict) else [("", verdicts)]
-        return [(f"{name}: " if name else "") + asker.sentence("verdict", verdict) for name, verdict in named]
-    if match["by"]:
-        by = re.split(r"\s*,\s*", match["by"])
-        return [f"{value_words(group.value)}: {shown(asker, column, group.answer)}" + ("" if kind == "count" else f" ({group.rows} rows)")
-                for group in asker.groups(column, by if len(by) > 1 else by[0], kind, where, steps=True)]
-    return [shown(asker, column, asker.ask(kind, column, where))]
-
-
-def caret(line, refusal):
-    """The condition with a mark below the byte from which on it isn't understood."""
-    where = re.search(r"\swhere\s+(.*)", line, re.DOTALL)[1] if refusal.at is not None and " where " in line else ""
-    if not where:
-        return []
-    before = where.encode("utf-8", "surrogatepass")[:refusal.at].decode("utf-8", "replace")
-    return ["  " + printable(where), "  " + " " * len(printable(before)) + "^"]
-
-
-def terminal(asker, lines):
-    """Answers line by line, and returns whether each was answered or denied."""
-    well = True
-    for line in lines:
-        line = line.strip()
-        if line in ("quit", "exit"):
-            break
-        try:
-            said, out = (answer_line(asker, line) if line else []), sys.stdout
-        except Refused as refusal:
-            said, out, well = [*caret(line, refusal), f"refused: {refusal}"], sys.stderr, False
-        except ConnectionError as fault:
-            said, out, well = [str(fault)], sys.stderr, False
-        for one in said:
-            print(printable(one), file=out, flush=True)
-    return well
-
-
-def typed():
-    """Lines as somebody types them, with the arrow keys if there are any."""
-    try:
-        import readline                     # noqa: F401, its import is what does it
-    except ImportError:
-        pass
-    while True:
-        try:
-            yield input("> ")
-        except (EOFError, KeyboardInterrupt):
-            print()
-            return
-
-
-def main(arguments=None):
-    """0 if each line was answered or denied, 1 if not, 2 if there is no such door."""
-    parser = argparse.ArgumentParser(description="Asks a front door: a line, an answer.", epilog=HELP,
-                                     formatter_class=argparse.RawDescriptionHelpFormatter)
-    parser.add_argument("url", nargs="?", default="http://127.0.0.1:8087", help="http://HOST:PORT, https://.. or unix:PATH")
-    parser.add_argument("--table", default="", help="one table of several; without, all are asked as parts of one")
-    parser.add_argument("--header", action="append", default=[], metavar="NAME:VALUE", help="sent with each request")
-    parser.add_argument("--patience", type=float, default=10, metavar="SECONDS", help="for a door that is busy or away; 10 by default")
-    settings = parser.parse_args(arguments)
-    if not all(":" in header for header in settings.header):
-        parser.error("--header is NAME:VALUE")
-    headers = dict(re.split(r":\s*", header, maxsplit=1) for header in settings.header)
-    for stream in (sys.stdout, sys.stderr):
-        stream.reconfigure(errors="backslashreplace")
-    try:
-        ask = {"headers": headers, "patience": settings.patience}
-        asker = Table(settings.url, settings.table, **ask) if settings.table else connect(settings.url, **ask)
-    except (ValueError, ConnectionError) as fault:
-        print(printable(str(fault)), file=sys.stderr)
-        return 2
-    if not sys.stdin.isatty():
-        return 0 if terminal(asker, sys.stdin) else 1
-    print(HELP)
-    return 0 if terminal(asker, typed()) else 1
-
-
-if __name__ == "__main__":
-    sys.exit(main())

@@ -14,8 +14,9 @@ import sys
 import time
 from dataclasses import dataclass, field
 
+from .faults import Turned
 from .files import write_whole
-from .lines import RELEASED, Turned
+from .lines import RELEASED
 
 NAME = re.compile(r"[A-Za-z0-9_][A-Za-z0-9_.@-]{0,63}")
 # What is counted: new answers in all, and within a day new answers, verdicts with reasons, and bytes of questions.
@@ -51,7 +52,7 @@ class Asker:
         """Counts something, or turns her away if she has used it up."""
         most = self.limits.get(what)
         if most is not None and self.used.get(what, 0) + count > most:
-            raise Turned(429, f"your {LIMITS[what]} are used up: you have {most}", again=until_tomorrow() if what in DAILY else False)
+            raise Turned("used", again=until_tomorrow() if what in DAILY else 0, what=LIMITS[what], most=most)
         self.used[what] = self.used.get(what, 0) + count
 
     def begin_answer(self):
@@ -89,7 +90,7 @@ class Tokens:
         name, token = token_in(authorization)
         asker = self.askers.get(sum_of(token)) if token else None
         if asker is None or name not in ("", asker.name):
-            raise Turned(401, "who asks? Send your token, as a bearer's or with your name as a login", headers=LOGIN)
+            raise Turned("token", headers=LOGIN)
         return asker
 
     def _look(self):

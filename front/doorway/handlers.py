@@ -4,14 +4,21 @@
 another status. No GET asks anything.
 """
 import asyncio
+import collections
 import contextlib
+import json
 import os
+import time
 
 from aiohttp import web
 from aiohttp.http_exceptions import HttpProcessingError
 
 from .askers import NOBODY
-from .lines import LONGEST, Turned, line_of
+from .faults import Turned
+from .hinting import Hints
+from .interface import interface
+from .lines import LONGEST, line_of
+from .metrics import TYPE, Meter, text
 from .near import Nears
 from .totals import total
 
@@ -22,8 +29,8 @@ SAFE = {"X-Content-Type-Options": "nosniff", "Cache-Control": "no-store"}
 REPLY = {"Content-Type": JSON, **SAFE}
 
 
-def error(status, text, headers=None):
-    return web.json_response({"error": text}, status=status, headers={**SAFE, **(headers or {})})
+def error(turned):
+    return web.json_response(turned.said, status=turned.status, headers={**SAFE, **turned.headers})
 
 
 def said(value, status=200):
@@ -35,6 +42,7 @@ class Guard:
 
     def __init__(self, hosts, askers, log, gates):
         self.hosts, self.askers, self.log, self.gates = hosts, askers, log, gates
+        self.errors = collections.Counter()         # what the door itself said, by code
 
     def around(self, handler, is_open=False):
         """The handler with the guard before it. Where it is open no token is wanted."""
@@ -44,7 +52,8 @@ class Guard:
                 try:
                     response = await handler(self.admit(request, is_open))
                 except Turned as turned:
-                    response = error(turned.status, turned.text, turned.headers)
+                    response = error(turned)
+                    self.errors[turned.code] += 1
             if request.method == "POST":
                 self.log.write(request["asker"].name, request.path, request["line"], response.status, response.body)
             return response
@@ -52,9 +61,9 @@ class Guard:
 
     def admit(self, request, is_open):
         if self.hosts and request.host not in self.hosts:
-            raise Turned(421, "unknown host")
+            raise Turned("host")
         if request.method == "POST" and request.headers.get("Sec-Fetch-Site", "none") not in ("same-origin", "none"):
-            raise Turned(403, "a question from another site's page")
+            raise Turned("site")
         if not is_open:
             request["asker"] = self.askers.of(request)
         return request
@@ -70,18 +79,18 @@ async def question_of(request):
 async def _line_in(request):
     kind = request.headers.get("Content-Type", "").partition(";")[0].strip().lower()
     if kind != JSON or request.headers.get("Content-Encoding", "identity") != "identity":
-        raise Turned(415, "send the question as application/json, not compressed")
+        raise Turned("type")
     try:
         if request.content.is_eof():
             return line_of(await request.read())
         async with asyncio.timeout(BODY_PATIENCE):
             return line_of(await request.read())
     except web.HTTPRequestEntityTooLarge:
-        raise Turned(413, f"a question has at most {LONGEST} bytes")
+        raise Turned("long")
     except TimeoutError:
-        raise Turned(408, "the question didn't come")
+        raise Turned("slow")
     except (ConnectionError, HttpProcessingError, web.RequestPayloadError):
-        raise Turned(400, "the question broke off")
+        raise Turned("broken")
 
 
 def reply(line):
@@ -93,7 +102,7 @@ class TableHandlers:
 
     def __init__(self, table, least):
         self.table, self.least = table, least
-        self.nears = Nears(table, least)
+        self.nears, self.hints, self.meter = Nears(table, least), Hints(table.places), Meter()
 
     def routes(self, prefix):
         public = self.table.places.public
@@ -102,6 +111,7 @@ class TableHandlers:
             ("POST", prefix + "/would"): self.would_request,
             ("POST", prefix + "/why"): self.why_request,
             ("POST", prefix + "/near"): self.near_request,
+            ("POST", prefix + "/hint"): self.hint_request,
             ("GET", prefix + "/health"): self.health,
             ("GET", prefix + "/schema.json"): sender(public / "schema.json", JSON),
             ("GET", prefix + "/notes.json"): sender(public / "notes.json", JSON),
@@ -114,8 +124,11 @@ class TableHandlers:
             await self.least.check(line)
 
     async def ask(self, line, asker):
+        began = time.monotonic()
         await self._check_size(line)
-        return await self.table.ask(line, asker)
+        said = await self.table.ask(line, asker)
+        self.meter.count(said, began)
+        return said
 
     async def verdict(self, line, asker):
         asker.spend("verdicts")
@@ -141,6 +154,9 @@ class TableHandlers:
         asker.spend("verdicts")
         return said(await self.nears.ask(line, asker))
 
+    async def hint_request(self, request):
+        return said(await self.hints.on(await question_of(request)))
+
     async def health(self, _):
         health = self.table.health()
         return said(health, 200 if health["state"] == "serving" else 503)
@@ -162,13 +178,14 @@ class TableHandlers:
 class RootHandlers:
     """The requests that are of no one table: the page, the list of tables, the health of all, a total."""
 
-    def __init__(self, page, words, tables):
-        self.page, self.words, self.tables = page, words, tables
+    def __init__(self, page, here, tables, errors):
+        self.page, self.here, self.tables, self.errors = page, here, tables, errors
         self.names = [name for name in tables if name]
 
     def routes(self):
-        words = sender(self.words, JSON)
-        routes = {("GET", "/"): self.start_page, ("GET", "/words.json"): words, ("GET", "/tables.json"): lister(self.names)}
+        words = lister(askers_words(self.here / "words.json"))
+        routes = {("GET", "/"): self.start_page, ("GET", "/words.json"): words, ("GET", "/tables.json"): lister(self.names),
+                  ("GET", "/metrics"): self.metrics, ("GET", "/openapi.json"): lister(interface(self.here / "openapi.json", self.names))}
         if self.names:
             routes |= {("GET", "/health"): self.health, ("POST", "/total"): self.total}
         for name in self.names:
@@ -178,7 +195,7 @@ class RootHandlers:
 
     async def start_page(self, _):
         if self.page is None:
-            return error(404, "page.html isn't beside the door")
+            raise Turned("missing")
         return web.Response(body=self.page.text, content_type="text/html", charset="utf-8",
                             headers={"Content-Security-Policy": self.page.policy, **SAFE})
 
@@ -186,6 +203,10 @@ class RootHandlers:
         health = {name: handlers.table.health() for name, handlers in self.tables.items()}
         well = all(one["state"] == "serving" for one in health.values())
         return said({"state": "serving" if well else "not all tables are served", "tables": health}, 200 if well else 503)
+
+    async def metrics(self, _):
+        tables = {name: (handlers.table.health(), handlers.meter) for name, handlers in self.tables.items()}
+        return web.Response(text=text(tables, self.errors), headers={"Content-Type": TYPE, **SAFE})
 
     async def total(self, request):
         return said(await total(self.tables, await question_of(request), request["asker"]))
@@ -195,7 +216,7 @@ def sender(path, kind):
     """Sends a file, if it is there."""
     async def send(_):
         if not os.path.isfile(path):
-            return error(404, "not made yet")
+            raise Turned("missing")
         return web.FileResponse(path, headers={"Content-Type": kind, **SAFE})
     return send
 
@@ -213,17 +234,22 @@ def sender_of_whole(path, kind):
         try:
             body, changed = await asyncio.to_thread(whole, path)
         except FileNotFoundError:
-            return error(404, "not made yet")
+            raise Turned("missing")
         response = web.Response(body=body, headers={"Content-Type": kind, **SAFE})
         response.last_modified = changed
         return response
     return send
 
 
-def lister(names):
+def lister(value):
     async def send(_):
-        return said(names)
+        return said(value)
     return send
+
+
+def askers_words(path):
+    """The sentences without those that tell an operator what to do."""
+    return {group: words for group, words in json.loads(path.read_text(encoding="utf-8")).items() if group != "ended"}
 
 
 def redirect(to):
@@ -236,21 +262,21 @@ def unknown(paths):
     """Whatever has no handler."""
     async def send(request):
         if request.path in paths:
-            return error(405, "this address takes another method")
-        return error(404, "there is no such address")
+            raise Turned("method")
+        raise Turned("address")
     return send
 
 
-def application(page, words, tables, guard):
-    """`words` is the path of the page's sentences. `tables` are the handlers by the name of the table, the only one without
-    a name at the root. What watches the door needs no token for its health."""
+def application(page, here, tables, guard):
+    """`here` is the folder of the page's sentences and of the interface's description. `tables` are the handlers by the name of the table, the
+    only one without a name at the root. What watches the door needs no token for its health and its counts."""
     routes = {}
     for name, handlers in tables.items():
         routes |= handlers.routes(f"/{name}" if name else "")
-    routes |= RootHandlers(page, words, tables).routes()
+    routes |= RootHandlers(page, here, tables, guard.errors).routes()
     app = web.Application(client_max_size=LONGEST + 3)      # a body as long as that is refused
     for (method, path), handler in routes.items():
         for one in ("GET", "HEAD") if method == "GET" else (method,):
-            app.router.add_route(one, path, guard.around(handler, is_open=path.endswith("/health")))
+            app.router.add_route(one, path, guard.around(handler, is_open=path.endswith(("/health", "/metrics"))))
     app.router.add_route("*", "/{rest:.*}", guard.around(unknown({path for _, path in routes})))
     return app

@@ -5,7 +5,8 @@ makes no record. The door reads the condition out of the question's JSON. A ques
 """
 import json
 
-from .lines import Turned, read_question
+from .faults import Turned
+from .lines import read_question
 
 SECRET = ("sum", "avg", "max")
 KEPT = 4096                         # conditions whose number of rows is remembered
@@ -22,13 +23,13 @@ class LeastSize:
         where = question.get("where") if question else None
         kind = question.get("ask") if question else None
         if not isinstance(where, str) or kind not in (*SECRET, "count"):
-            raise Turned(422, "this isn't a question: it wants ask, column and where")
+            raise Turned("question")
         if kind == "count":
             return
         inside, whole = await self._count(where), await self._count("all")
         # The program says itself what is wrong with a condition.
         if inside is not None and (inside < self.fewest or 0 < whole - inside < self.fewest):
-            raise Turned(422, f"fewer than {self.fewest} rows")
+            raise Turned("few", fewest=self.fewest)
 
     async def _count(self, where):
         """The number of rows, or None if the condition is refused."""
@@ -36,7 +37,7 @@ class LeastSize:
             try:
                 line = json.dumps({"ask": "count", "where": where}, ensure_ascii=False).encode()
             except UnicodeEncodeError:
-                raise Turned(422, "the condition isn't Unicode")
+                raise Turned("unicode")
             count = json.loads(await self.ask(line)).get("count")
             if len(self.counts) >= KEPT:
                 self.counts.clear()

@@ -6,6 +6,8 @@ reply for it. Not promised: that the line is a question. That is the program's t
 import json
 import re
 
+from .faults import Turned
+
 LONGEST = 8192                      # bytes of a line, as the program has it
 HISTORY = 65_536                    # records that a journal holds
 
@@ -24,15 +26,6 @@ ASKED_OF = {
 }
 
 
-class Turned(Exception):
-    """A request that the door itself answers, with a status, a text, and after how many seconds it is worth trying again, if it is."""
-
-    def __init__(self, status, text, again=0, headers=None):
-        super().__init__(text)
-        self.status, self.text = status, text
-        self.headers = {**(headers or {}), **({"Retry-After": str(int(again))} if again else {})}
-
-
 def line_of(body):
     """The one line that a body is, without the line end after it.
 
@@ -44,9 +37,9 @@ def line_of(body):
             body = body[:-len(end)]
             break
     if not body or b"\n" in body or b"\r" in body:
-        raise Turned(400, "the body is one line, without a line end in it")
+        raise Turned("lines")
     if len(body) > LONGEST:
-        raise Turned(413, f"a question has at most {LONGEST} bytes")
+        raise Turned("long")
     return body
 
 

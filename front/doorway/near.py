@@ -11,8 +11,9 @@ from planning.columns import line_of, read_columns
 from planning.nearness import near
 from preparing.conditions import Wrong
 
-from .lines import Turned, read_question
-from .runs import Ended, cause_of, sentence_of
+from .faults import Turned, away
+from .lines import read_question
+from .runs import Ended, cause_of
 from .simulation import DENIALS
 
 MOST = 200                          # questions that are looked at
@@ -31,7 +32,7 @@ class Nears:
         """What is near a question, as a dict: the verdict on itself, the nearest question, and how its rows differ."""
         question = read_question(line)
         if not question or question.get("ask") not in ASKS or not all(isinstance(question.get(key), str) for key in ("column", "where")):
-            raise Turned(422, "this isn't a question that may be denied: it wants ask, column and where")
+            raise Turned("question")
         with self.table.verdicts.one(asker):
             few, others = await asyncio.to_thread(self._others, question["where"])
             first = WITHHELD if few else await self._verdict(line_of(question["ask"], question["column"], question["where"]))
@@ -64,7 +65,7 @@ class Nears:
             return await self.table.simulated.on(line)
         except (Ended, OSError) as fault:
             self.table.say(f"auditor simulate: {fault}")
-            raise Turned(503, sentence_of(cause_of(fault)), again=True)
+            raise away(cause_of(fault))
 
 
 def said_of(question, other, tried):

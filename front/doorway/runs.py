@@ -4,14 +4,14 @@ Through a socket the door needs no right to the table and the journal, and that 
 for trying it.
 """
 import asyncio
-import json
 import os
 import pathlib
 import select
 import signal
 
+from .faults import WORDS
+
 FRONT = pathlib.Path(__file__).resolve().parent.parent
-WORDS = json.loads((FRONT / "words.json").read_text(encoding="utf-8"))
 CLOSED = -1
 FAREWELL = 30                       # seconds that a run has to end by itself once its input has ended
 
@@ -23,11 +23,6 @@ class Ended(Exception):
     def __init__(self, text, cause="other"):
         super().__init__(text)
         self.cause = cause
-
-
-def sentence_of(cause):
-    """What askers are told: one of the door's own sentences, whatever the program said."""
-    return WORDS["away"].get(cause, WORDS["away"]["other"])
 
 
 def cause_of(fault):

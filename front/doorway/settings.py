@@ -8,7 +8,7 @@ from dataclasses import dataclass
 RUN = 2**30 - 2**20                 # bytes of input after which a run is ended, before the program ends it
 NAME = re.compile(r"[A-Za-z0-9_][A-Za-z0-9_.-]{0,63}")
 LISTEN = re.compile(r"unix:.+|[^:]+:\d{1,5}|\[[0-9A-Fa-f:.]+\]:\d{1,5}")
-TAKEN = {"ask", "would", "why", "near", "health", "total", "schema.json", "notes.json", "table.csv", "report.jsonl",
+TAKEN = {"ask", "would", "why", "near", "hint", "health", "metrics", "total", "openapi.json", "schema.json", "notes.json", "table.csv", "report.jsonl",
          "transcript.jsonl", "tables.json", "words.json"}
 PLACE = "{table}"
 

@@ -12,12 +12,13 @@ import sys
 from .asked import Asked, Questions
 from .askers import NOBODY
 from .compacted import left_out
+from .faults import Turned, away, sentence_of
 from .growth import carry_over, public_rows
-from .lines import HISTORY, Turned
+from .lines import HISTORY
 from .places import Places
 from .recovery import ask_again
 from .report import Reports
-from .runs import Ended, cause_of, sentence_of
+from .runs import Ended, cause_of
 from .simulation import Verdicts, fault_over
 from .transcript import Damaged, Transcript, check_table, read_public
 from .why import Whys
@@ -81,7 +82,7 @@ class Table:
         self.most_waiting, self.patience = WAITING, PATIENCE
         self.state = "starting"
         self.asked = self.sent = self.repeats = self.restarts = self.waiting = 0
-        self.verdicts = Places(VERDICTS, EACH, "too many verdicts are wanted")
+        self.verdicts = Places(VERDICTS, EACH, "verdicts")
         self.simulated = Verdicts(auditor, places.public, self.transcript)
         self.whys = Whys(groups.opener, self.say)
 
@@ -107,9 +108,9 @@ class Table:
             self.repeats += 1
             return known
         if self.is_stopped():
-            raise Turned(503, self.state, again=True)
+            raise Turned("away", again=1, sentence=self.state)
         if self.waiting >= self.most_waiting:
-            raise Turned(503, "too many questions wait", again=True)
+            raise Turned("questions", again=1)
         question = self.pending.get(asked.key)
         if question is None:
             if asked.is_secret:
@@ -133,20 +134,20 @@ class Table:
                 return await self.simulated.on(asked.line)
             except (Ended, OSError) as fault:
                 self.say(f"auditor simulate: {fault}")
-                raise Turned(503, sentence_of(cause_of(fault)), again=True)
+                raise away(cause_of(fault))
 
     async def why(self, line, asker):
         """Why a question is denied, after the history as it is now."""
         self.whys.need_program()
         if self.is_stopped():
-            raise Turned(503, self.state, again=True)
+            raise Turned("away", again=1, sentence=self.state)
         return await self.whys.ask(line, asker)
 
     def health(self):
         records = self.transcript.records - self.left_out
         return {"state": self.state, "records": records, "room": max(HISTORY - records, 0), "asked": self.asked,
                 "groups": self.sent, "repeats": self.repeats, "restarts": self.restarts, "waiting": self.waiting,
-                "transcript": self.transcript.size, "unwritten": self.transcript.unwritten}
+                "transcript": self.transcript.size, "unwritten": self.transcript.unwritten, "compacted": self.left_out}
 
     def is_stopped(self):
         """Whether no question is taken just now."""
@@ -269,7 +270,7 @@ class Table:
     def _give_up(self, cause):
         """Tells those who wait. What was with the program is asked again all the same."""
         self.state = f"stopped: {sentence_of(cause)}"
-        turned = Turned(503, f"{sentence_of(cause)} The question may be answered: ask again later.", again=True)
+        turned = Turned("away", again=1, sentence=f"{sentence_of(cause)} The question may be answered: ask again later.")
         for question in self.pending.values():
             question.fail(turned)
         for question in self.queue:
@@ -279,7 +280,7 @@ class Table:
 
     async def turn_away_the_late(self):
         """Tells those who have waited too long, again and again. Their questions are asked all the same."""
-        turned = Turned(504, "no reply yet, and the question may be answered: ask again later")
+        turned = Turned("late")
         while True:
             await asyncio.sleep(min(self.patience / 4, 1))
             since = asyncio.get_running_loop().time() - self.patience

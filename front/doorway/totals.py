@@ -6,7 +6,8 @@ part's history is used for a total that can't be given. A part in which no row s
 import asyncio
 import json
 
-from .lines import Turned, read_question
+from .faults import Turned
+from .lines import read_question
 
 EMPTY = {"refused": "empty"}
 VERDICTS_DENIED = {"unsafe": {"denied": "unsafe"}, "wide": {"denied": "wide"}}
@@ -17,7 +18,7 @@ async def total(parts, line, asker):
     question = read_question(line)
     kind = question.get("ask") if question else None
     if kind not in ("sum", "count"):
-        raise Turned(422, "a total is of sums or counts: ask each table for averages and maxima")
+        raise Turned("total")
     if kind == "sum":
         refused = await _each(parts, _denial, line, asker)
         refused = {name: reply for name, reply in refused.items() if reply}
@@ -34,18 +35,18 @@ async def _each(parts, call, line, asker):
 async def _denial(part, line, asker):
     """The denial or the door's own text that is due, or None if the question would be answered or refused."""
     if part.table.is_stopped():
-        return {"error": part.table.state}
+        return {"error": part.table.state, "code": "away"}
     try:
         return VERDICTS_DENIED.get(json.loads(await part.verdict(line, asker))["verdict"])
     except Turned as turned:
-        return {"error": turned.text}
+        return turned.said
 
 
 async def _reply(part, line, asker):
     try:
         return json.loads(await part.ask(line, asker))
     except Turned as turned:
-        return {"error": turned.text}
+        return turned.said
 
 
 def _add_up(kind, replies):

@@ -5,9 +5,9 @@ It runs over a copy of the journal beside `serve`, so no question waits for it. 
 import asyncio
 import json
 
-from .lines import Turned
+from .faults import Turned, away
 from .places import Places
-from .runs import Ended, cause_of, sentence_of
+from .runs import Ended, cause_of
 
 MOST, EACH = 64, 16                 # lines of one run and askers who may wait, and how many of them may be of one
 PATIENCE = 30                       # seconds that a run may take
@@ -22,11 +22,11 @@ class Whys:
     def __init__(self, opener, say):
         self.opener, self.say, self.patience = opener, say, PATIENCE
         self.waiting, self.taken = {}, {}   # the future of each line: not taken by a run yet, and with the run
-        self.places, self.work = Places(MOST, EACH, "too many certificates are wanted"), None
+        self.places, self.work = Places(MOST, EACH, "certificates"), None
 
     def need_program(self):
         if not self.opener.explains:
-            raise Turned(501, "this door doesn't run auditor explain, so it can't say why")
+            raise Turned("unexplained")
 
     async def ask(self, line, asker):
         """What `explain` says of a question."""
@@ -46,7 +46,7 @@ class Whys:
                 await self._say()
         finally:
             self.work = None
-            self._turn_away(sentence_of("other"))         # whatever went wrong: nobody waits without end
+            self._turn_away("other")         # whatever went wrong: nobody waits without end
 
     async def _say(self):
         """Tells those whose lines are taken what a run says of them."""
@@ -54,11 +54,11 @@ class Whys:
             lines = await asyncio.wait_for(self._explained(list(self.taken)), self.patience)
         except asyncio.TimeoutError:
             self.say("auditor explain: it took too long")
-            fail(self.taken, sentence_of("late"))
+            fail(self.taken, "late")
             return
         except (OSError, Ended) as fault:
             self.say(f"auditor explain: {fault}")
-            fail(self.taken, sentence_of(cause_of(fault)))
+            fail(self.taken, cause_of(fault))
             return
         for said, line in zip(self.taken.values(), lines):
             said.set_result(line)
@@ -90,20 +90,20 @@ class Whys:
     def stop(self):
         if self.work:
             self.work.cancel()
-        self._turn_away(sentence_of("closing"))
+        self._turn_away("closing")
 
-    def _turn_away(self, text):
+    def _turn_away(self, cause):
         """Tells all who wait that nothing comes."""
-        fail(self.taken, text)
-        fail(self.waiting, text)
+        fail(self.taken, cause)
+        fail(self.waiting, cause)
         self.waiting = {}
 
 
-def fail(those, text):
+def fail(those, cause):
     """Turns away who still waits."""
     for said in those.values():
         if not said.done():
-            said.set_exception(Turned(503, text, again=True))
+            said.set_exception(away(cause))
             said.exception()                # an asker who is gone doesn't fetch it
 
 

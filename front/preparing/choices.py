@@ -10,12 +10,14 @@ import tempfile
 
 from .cells import FORMS
 from .faults import Fault, listed, shown
-from .names import LONGEST, is_name
+from .names import LONGEST, is_name, plain
 from .ranges import range_fault
 from .reading import SEPARATORS
 
 OPEN = "?"
+FACTOR = re.compile("_x10+$")
 MOST_DECIMALS = 12
+TOO_FINE = "A secret number is never rounded: round it in the file itself, and say so to those who ask, or leave the column out"
 SECRET, PUBLIC = ("sum", "max"), ("text", "number")
 KINDS = PUBLIC + SECRET + ("leave out",)
 MISSING = {"drop the row": KINDS, "keep": ("text",), "mark": ("number",)}
@@ -147,11 +149,14 @@ def table_faults(choices):
 
 
 def name_in_steps(column):
-    """The column's name with the factor that its public numbers are multiplied by at its end, if there is one."""
-    if not column["decimals"] or column["decimals"] == OPEN:
+    """The column's name with the factor that its public numbers are multiplied by at its end, if there is one, and without one if there is none."""
+    if column["decimals"] == OPEN:
         return column["name"]
+    bare = FACTOR.sub("", column["name"])
+    if not column["decimals"]:
+        return column["name"] if FACTOR.search(plain(column["from"], "c")) else bare
     end = f"_x{10 ** column['decimals']}"
-    return re.sub("_x10+$", "", column["name"])[: LONGEST - len(end)] + end
+    return bare[: LONGEST - len(end)] + end
 
 
 def column_faults(column):
@@ -183,6 +188,11 @@ def column_faults(column):
 def number_faults(column, title):
     """A sentence for each choice on how numbers are written that can't be followed."""
     form = FORMS.get(column["written as"])
+    if column["written as"] is None and column["is"] in SECRET:
+        return [
+            f"{title} can't be {column['is']}: its cells aren't numbers in one form, and a text is public or left out. A yes or no that is to be asked"
+            " for its number has to be 1 or 0 in the file; see what make warns of then"
+        ]
     if column["written as"] is None:
         return [
             f"{title} can't be {column['is']}: its cells aren't numbers or dates in one of the forms {', '.join(FORMS)}"
@@ -192,9 +202,11 @@ def number_faults(column, title):
     faults = []
     if form.kind == "date" and column["is"] in SECRET:
         faults.append(f"{title} can't be {column['is']}: a date can be public, as number or text, or left out")
-    if not 0 <= (column["decimals"] or 0) <= MOST_DECIMALS:
+    if column["is"] in SECRET and (column["decimals"] or 0) > MOST_DECIMALS:
+        faults.append(f"{title} has numbers of {column['decimals']} decimals, and at most {MOST_DECIMALS} are kept. {TOO_FINE}")
+    elif not 0 <= (column["decimals"] or 0) <= MOST_DECIMALS:
         faults.append(f"{title}: \"decimals\" can't be {column['decimals']}: it is 0 to {MOST_DECIMALS}")
-    elif column["is"] == "number" and column["name"] != name_in_steps(column):
+    elif column["is"] == "number" and column["decimals"] and column["name"] != name_in_steps(column):
         faults.append(
             f"{title}: public numbers times {10 ** column['decimals']:,} are to say so in their name, since a condition"
             f' compares them as they are kept: name it {name_in_steps(column)}; or lower "decimals" and say how it is'

@@ -32,15 +32,14 @@ def choose(path, words):
 
 
 def name_by_steps(choices):
-    """Names a public number for the factor that it is multiplied by, so that whoever writes a condition sees it."""
+    """Names a public number for the factor that it is multiplied by, so that whoever writes a condition sees it, and for none if it isn't any more."""
     for column in choices["columns"]:
-        name = choosing.name_in_steps(column)
-        if column["is"] == "number" and column["name"] != name:
-            print(
-                f"{column['name']} is named {name}: its numbers are kept times {10 ** column['decimals']:,}, and"
-                " conditions compare them so"
-            )
+        name, before = choosing.name_in_steps(column), column["name"]
+        if column["is"] == "number" and before != name:
+            how = f"kept times {10 ** column['decimals']:,}" if column["decimals"] else "kept as they are"
+            print(f"{before} is named {name}: its numbers are {how}, and conditions compare them so")
             column["name"] = name
+            choices["split by"] = [name if one == before else one for one in choices["split by"] or []] or None
 
 
 def set_choice(choices, key, value):

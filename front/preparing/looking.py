@@ -1,4 +1,4 @@
-"""`look`: says what a CSV file has in it, and writes down what a person has to decide."""
+"""`look`: says what a CSV file or a sheet of a workbook has in it, and writes down what a person has to decide."""
 
 import collections
 import pathlib
@@ -9,22 +9,24 @@ from .faults import Fault, counted, shown
 from .names import names_of
 from .reading import choose_layout, decode, encoding_of, load, read_rows, without_separator_line
 from .splitting import MOST_ROWS, say_splits
+from .workbooks import is_workbook
 
 TOTALS = {"total", "totals", "grand total", "sum", "all", "summe", "gesamt", "insgesamt", "somme", "totale"}
 
 
-def look(path, encoding=None, separator=None, untitled=None):
+def look(path, encoding=None, separator=None, untitled=None, sheet=None):
     """Prints what the file is and each of its columns, and writes FILE.choices.json beside it."""
     data = load(path)
     out = pathlib.Path(path).with_suffix(".choices.json")
     if out.exists():
         raise Fault(f"{out} is already there: go on with it, or remove it to look anew")
-    found, said = encoding_of(data) if encoding is None else (encoding, f"{encoding}, as you say")
+    found, said = encoding_of(data, sheet) if encoding is None else (encoding, f"{encoding}, as you say")
     text, named = without_separator_line(decode(data, found))
-    layout = choose_layout(text, separator or named, untitled)
+    layout = choose_layout(text, separator or named or ("comma" if is_workbook(data) else None), untitled)
     table = read_rows(text, layout)
     print(f"encoding: {said}")
-    print(f"separator: {layout.separator}" + (", by the file's first line" if named else ""))
+    if not is_workbook(data):
+        print(f"separator: {layout.separator}" + (", by the file's first line" if named else ""))
     if layout.untitled != "none":
         print(
             "the header has a title fewer than a row has cells, as R's write.table does it: the"

@@ -22,6 +22,10 @@ MOST_COLUMNS, MOST_SECRET, MOST_SIZE = 32, 8, 10**12
 DROPPED = object()
 
 
+class TooFine(Fault):
+    """A cell with more decimals than are kept."""
+
+
 @dataclasses.dataclass
 class Column:
     """A column as it is written: its name and kind, and from which place and choices of the file its numbers come."""
@@ -47,6 +51,7 @@ class Changes:
 
     made: collections.Counter = dataclasses.field(default_factory=collections.Counter)
     dropped: dict = dataclasses.field(default_factory=dict)
+    fine: dict = dataclasses.field(default_factory=dict)  # what is wrong with the first cell that is too fine, and how many are, by column
 
 
 def make(path, choices_path, folder, program):
@@ -70,6 +75,7 @@ def make(path, choices_path, folder, program):
     tables = parts(by_public_cells(rows, public), choices["split by"], public)
     write_folders(folder, columns, totals, tables, program)
     say_changes(choices, columns, table, changes)
+    say_names(choices)
     say_order()
     say_parts(tables)
     say_totals(totals, columns, tables)
@@ -144,6 +150,7 @@ def convert_all(table, columns, changes):
         row = convert_row(number, cells, columns, changes, faults)
         if row is not None:
             rows.append(row)
+    faults = [fine_words(column, *changes.fine[column.name]) for column in columns if column.name in changes.fine] + faults
     if faults:
         raise Fault(listed(faults) + "\nRows are counted as in a spreadsheet: the header is row 1")
     if not rows:
@@ -151,15 +158,29 @@ def convert_all(table, columns, changes):
     return rows
 
 
+def fine_words(column, first, number):
+    """One sentence for all cells of a column that are too fine."""
+    more = f"; so have {counted(number - 1, 'more cell')} of that column" if number > 1 else ""
+    if column.kind not in SECRET:
+        return first + more
+    if (column.chosen["decimals"] or 0) < choosing.MOST_DECIMALS:
+        return f'{first}{more}. Raise "decimals", of which {choosing.MOST_DECIMALS} can be kept'
+    return f"{first}{more}. {choosing.TOO_FINE}"
+
+
 def convert_row(number, cells, columns, changes, faults):
     """The row's values by name, or None if it is dropped or has a fault, which is then noted."""
-    row, made, lacking, known = {}, [], [], len(faults)
+    row, made, lacking = {}, [], []
     for column in columns:
         if column.place is None:
             row[column.name] = 1
             continue
         try:
             value = convert(cells[column.place], column, made)
+        except TooFine as fault:
+            first, count = changes.fine.get(column.name, (f"row {number:,}, column {shown(column.chosen['from'])}: {fault}", 0))
+            changes.fine[column.name] = first, count + 1
+            continue
         except Fault as fault:
             faults.append(f"row {number:,}, column {shown(column.chosen['from'])}: {fault}")
             continue
@@ -168,7 +189,7 @@ def convert_row(number, cells, columns, changes, faults):
         row[column.name] = value
     if lacking:
         changes.dropped[number] = lacking
-    if lacking or len(faults) > known:
+    if lacking or len(row) < len(columns):
         return None
     changes.made.update(made)
     return row
@@ -218,7 +239,7 @@ def rounded(cell, steps, chosen):
         return steps.numerator // steps.denominator
     if chosen["rounded"] == "nearest":
         return (2 * steps.numerator + steps.denominator) // (2 * steps.denominator)
-    raise Fault(f"{shown(cell)} has more than {counted(chosen['decimals'] or 0, 'decimal')}, and nothing is rounded")
+    raise TooFine(f"{shown(cell)} has more than {counted(chosen['decimals'] or 0, 'decimal')}, and nothing is rounded")
 
 
 def texts_of(table, column, changes):
@@ -241,6 +262,17 @@ def say_changes(choices, columns, table, changes):
             + ", ".join(f"{shown(title)} {number:,}" for title, number in lacks.items())
             + f". In the file, with the header as row 1: {first_numbers(list(changes.dropped))}"
         )
+
+
+def say_names(choices):
+    """Points out a name that says a factor which its numbers haven't, as a file of choices may have it after a rounding."""
+    for chosen in choices["columns"]:
+        better = choosing.name_in_steps(chosen)
+        if chosen["is"] == "number" and not chosen["decimals"] and better != chosen["name"]:
+            print(
+                f"CAREFUL: {chosen['name']} says in its name that its numbers are kept times {chosen['name'].rpartition('_x')[2]}, and they are kept"
+                f" as they are: whoever goes by it writes conditions that hold for no row. Name it {better}"
+            )
 
 
 def column_words(chosen, columns, changes):

@@ -10,6 +10,7 @@ import io
 import re
 
 from .faults import Fault, counted, listed, shown
+from .workbooks import WORKBOOK, is_workbook, need_text, sheet_of, text_of
 
 MOST_BYTES = 64 * 1024 * 1024
 MOST_COLUMNS = 1024
@@ -46,8 +47,14 @@ def load(path):
     return data
 
 
-def encoding_of(data):
-    """The encoding that the bytes show, and a sentence about it."""
+def encoding_of(data, sheet=None):
+    """The encoding that the bytes show, and a sentence about it. A sheet of a workbook is one too."""
+    if is_workbook(data):
+        name = sheet_of(data, sheet)
+        return f"{WORKBOOK}:{name}", f"an Excel workbook, its sheet {shown(name)}"
+    if sheet is not None:
+        raise Fault("a sheet is of a workbook, and this file is none")
+    need_text(data)
     if data.startswith(b"\xef\xbb\xbf"):
         return "utf-8-sig", "UTF-8, with a mark at its front"
     if data[:2] in (b"\xff\xfe", b"\xfe\xff"):
@@ -72,7 +79,11 @@ def need_no_utf_8(data, place):
 
 
 def decode(data, encoding):
-    """The text of the bytes, by an encoding that Python knows by name."""
+    """The text of the bytes, by an encoding that Python knows by name, or of a sheet of a workbook."""
+    kind, _, sheet = encoding.partition(":")
+    if kind == WORKBOOK and is_workbook(data):
+        return text_of(data, sheet_of(data, sheet))
+    need_text(data)
     try:
         text = data.decode(encoding)
     except UnicodeDecodeError as error:

@@ -14,6 +14,10 @@ MOST_ROWS = 1024
 FEWEST_ROWS_A_PART = 20
 SMALL_PART = 3
 MOST_TRIED = 30
+NO_SPLIT = (
+    "Leave out rows in the file itself, or add a column to it that numbers the rows from 1 to 20, or as many parts as it takes, again and again, and"
+    " split by that"
+)
 
 
 @dataclasses.dataclass(frozen=True)
@@ -57,15 +61,14 @@ def say_splits(names, columns):
             f" {max(sizes.values()):,} rows"
         )
     if not found:
-        print("  none, nor two together: leave out rows in the file itself")
+        print(f"  none, nor two together. {NO_SPLIT}")
 
 
 def parts(rows, by, public):
     """The table cut by the columns `by`; in one part without a name if there are none."""
     if not by:
         if len(rows) > MOST_ROWS:
-            say_splits(public, [[row[name] for row in rows] for name in public])
-            raise Fault(f'{len(rows):,} rows are left, and a table has at most {MOST_ROWS:,}: choose "split by"')
+            need_split(rows, public)
         return [Part(rows)]
     tables = collections.defaultdict(list)
     for row in rows:
@@ -81,6 +84,18 @@ def parts(rows, by, public):
         taken.add(name)
         found.append(Part(table, name, values_words(by, values)))
     return found
+
+
+def need_split(rows, public):
+    """A Fault for too many rows: by what they can be cut, or that they can't be."""
+    columns = [[row[name] for row in rows] for name in public]
+    if not splits(public, columns):
+        raise Fault(
+            f"{len(rows):,} rows are left, a table has at most {MOST_ROWS:,}, and no public column, nor two together, cuts them into parts of"
+            f" {FEWEST_ROWS_A_PART} to {MOST_ROWS:,}. {NO_SPLIT}"
+        )
+    say_splits(public, columns)
+    raise Fault(f'{len(rows):,} rows are left, and a table has at most {MOST_ROWS:,}: choose "split by"')
 
 
 def values_words(by, values):

@@ -18,6 +18,12 @@ FRONT = pathlib.Path(__file__).resolve().parent.parent
 SERVING = '{"state":"serving","records":3,"room":65533}'
 
 
+def whole_page():
+    """The page with the script's files in it, as the door sends it."""
+    lines = (FRONT / "page.html").read_text("utf-8").splitlines(keepends=True)
+    return "".join((FRONT / line[3:-4]).read_text("utf-8") if line.startswith("/* page/") else line for line in lines).encode()
+
+
 def policy(page):
     """The policy that allows the page's own style and script, by the hashes of what is between their tags."""
     def hashes(tag):
@@ -47,7 +53,7 @@ class Handler(http.server.BaseHTTPRequestHandler):
     def do_GET(self):
         door = self.server.door
         if self.path == "/":
-            page = (FRONT / "page.html").read_bytes()
+            page = whole_page()
             self.send(200, page, "text/html; charset=utf-8", Content_Security_Policy=policy(page))
         elif self.path[1:] in door.files:
             self.send(200, door.files[self.path[1:]], "text/plain; charset=utf-8")

@@ -422,6 +422,7 @@ class OverADoor(unittest.TestCase):
         self.addCleanup(self.server.shutdown)
 
     def ask(self, replies, *questions):
+        self.enterContext(mock.patch("asking.doors.PATIENCE", 0))
         ListedDoor.replies[:] = [reply if isinstance(reply, tuple) else (200, reply) for reply in replies]
         return said_by(ask.main, [self.address, *questions])
 

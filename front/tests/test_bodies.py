@@ -57,7 +57,7 @@ class Bodies(DoorCase):
                 if reply:
                     self.assertEqual(got[1], reply, body[:60])
                 else:
-                    self.assertEqual(list(json.loads(got[1])), ["error"], body[:60])
+                    self.assertEqual(list(json.loads(got[1])), ["error", "code"], body[:60])
                 self.assertEqual(await ask(session, GOOD), (200, b'{"count":10}\n'), body[:60])
             self.assertEqual((await health(session))["restarts"], 0)
 

@@ -133,7 +133,7 @@ class Faults(DoorCase):
             # The report goes on until it is ended.
             self.assertEqual((await self.ask(session, *question("sum", 0, 199)))[0], 200)
             async with session.get("/report.jsonl") as response:
-                self.assertEqual((response.status, await response.json()), (404, {"error": "not made yet"}))
+                self.assertEqual((response.status, await response.json()), (404, {"error": "not made yet", "code": "missing"}))
         self.door.stop(signal.SIGKILL)
         self.door = Door(self.folder, "--report-every", 0.1)
         async with self.door.session() as session:

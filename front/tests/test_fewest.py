@@ -11,7 +11,7 @@ class Fewest(DoorCase):
     words = ("--fewest", 10)
 
     async def test_questions_over_too_few_rows_are_not_handed_on(self):
-        few = (422, {"error": "fewer than 10 rows"})
+        few = (422, {"error": "fewer than 10 rows", "code": "few"})
         self.door.start()
         async with self.door.session() as session:
             await self.door.ready(session)

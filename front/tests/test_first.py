@@ -67,7 +67,7 @@ class First(FirstCase):
         self.write([b"x", line_of("sum", 0, 3), line_of("sum", 0, 59), b"", line_of("sum", 70, 80), b"y" * 9000])
         self.assertEqual((await self.served())["records"], 1)
         for text in ("1 of 5 questions are answered", "line 1: this isn't a question", "line 2: fewer than 5 rows", "line 5: fewer than 5 rows",
-                     "line 6: a question has at most 8192 bytes"):
+                     "line 6: a question has at most 8,192 bytes"):
             self.assertIn(text, self.folder.said())
         self.end_and_check()
 

@@ -173,7 +173,8 @@ class OverTheProgram(PageCase):
         self.browser.keys("Enter")
         self.browser.wait(lambda: self.browser.all("#answer details"))
         said = self.browser.text("answer")
-        self.assertIn(f"The number of row {row} is the answer asked for. Row {row}: team {self.single().team}, site {self.single().site}", said)
+        one = self.single()
+        self.assertIn(f"This total would be the monthly <b>salary</b> of one person: {one.team}, {one.site}, {one.age}, {one.height / 100:.2f} m.", said)
         self.assertIn("it tells nothing more", said)
         self.assertEqual([button.text for button in self.browser.all("#answer button")], ["What is near?"])
         self.browser.click("#answer summary")
@@ -493,7 +494,8 @@ class SeveralTables(PageCase):
         self.browser.click("#answer button")
         self.browser.wait(lambda: self.browser.all("#answer details"))
         row = [row.age for row in self.parts["york"]].index(single)
-        self.assertIn(f"york: The number of row {row} is the answer asked for. Row {row}: team {self.parts['york'][row].team}", self.browser.text("answer"))
+        one = self.parts["york"][row]
+        self.assertIn(f"york: This total would be the monthly <b>salary</b> of one person: {one.team}, York, {single}, ", self.browser.text("answer"))
         self.assertEqual([self.office.get(name + "/transcript.jsonl") for name in self.parts], before)
 
     def test_the_address_of_one_table_has_its_page(self):

@@ -137,6 +137,42 @@ class Scripted(OneTable):
                 self.assertIn(words, self.why(json.dumps({"verdict": "unsafe", **line}), kind))
                 self.assertEqual(self.browser.all("#answer p b"), [])
 
+    def test_records_have_the_transcripts_questions_only_if_those_fit(self):
+        asked = [("sum", "pay", "all"), ("avg", "pay", "age > 30"), ("max", "best", "all")]
+        lines = [json.dumps({"ask": ask, "column": column, "where": where}) + "\n" + reply
+                 for (ask, column, where), reply in zip(asked, ('{"sum":900}', '{"num":5,"den":1}', '{"max":9}'))]
+        lines.insert(1, '{"ask":"sum","column":"pay","where":"age = 30"}\n{"denied":"unsafe"}')
+        totals, health = [{"column": "pay", "where": "age < 40"}], {"state": "serving", "records": 3, "room": 65533, "transcript": 400, "compacted": 0}
+        more = {"schema.json": json.dumps({"protect": totals, "columns": COLUMNS}), "transcript.jsonl": "\n".join(lines) + "\n"}
+        rows = {"all": 3, "age > 30": 2, "age < 40": 1, "age = 40": 1}
+        one = {"row": 0, "times": 1, "by": [[0, 1]], "asked": -1}
+        for line, kind, where, words in (
+                (one, "sum", "age > 30", "Total of pay, all rows, answered, less this total would be the pay of one person: A, 30."),
+                (one, "avg", "age > 30", "Total of pay, all rows, answered, less the total of this average would be the pay of one person: A, 30."),
+                ({"row": 1, "times": 2, "by": [[0, -1], [1, 2]], "asked": 1}, "sum", "age = 40",
+                 "2 times Average of pay where age > 30, answered, as a total and this total, less Total of pay, all rows, answered would be "
+                 '2 times the pay of one person: B, "x", 40.'),
+                ({"group": 0, "times": 1, "by": [[0, 1]], "asked": -1}, "sum", "age > 30", "less this total would be the protected total where age < 40."),
+                ({"answer": 8, "row": 1, "pair": 2, "high": [8, 9, 8]}, "max", "all",
+                 'Were this answer 8, one person alone of Greatest of best, all rows, answered could have the 9: B, "x", 40.'),
+                ({**one, "by": [[1, 1]]}, "sum", "age > 30", "The number of row 0 is record 1, less the answer asked for."),         # the rows don't add up
+                ({**one, "by": [[2, 1]]}, "sum", "age > 30", "The number of row 0 is record 2, less the answer asked for."),         # another column
+                ({**one, "by": [[9, 1]]}, "sum", "age > 30", "The number of row 0 is record 9, less the answer asked for.")):
+            with self.subTest(words=words):
+                self.open("", {**more, "health": json.dumps(health)})
+                self.door.reply = lambda path, question, line=line: (200, json.dumps(
+                    {"count": rows[question["where"]]} if question["ask"] == "count" else {"verdict": "unsafe", **line} if path == "/why"
+                    else {"denied": "unsafe"}))
+                self.browser.run("document.querySelector(`#kinds input[value=${arguments[0]}]`).click()", kind)
+                self.browser.write(where)
+                self.browser.ask()
+                self.browser.click("#answer button")
+                self.browser.wait(lambda: self.browser.all("#answer details"))
+                self.assertIn(words, self.browser.text("answer"))
+                self.assertEqual(len(self.browser.all("#answer p a")), len(line.get("by", [0])) if "answered" in words or "group" in line else 0)
+        self.open("", {**more, "health": json.dumps({**health, "compacted": 1})})
+        self.assertIn("record 0, less the answer asked for", self.why(json.dumps({"verdict": "unsafe", **one})))
+
     def test_what_is_near_is_said_whatever_comes(self):
         found = {"ask": "sum", "column": "pay", "where": "constructor in ('A', '<b>')"}
         near = lambda **more: json.dumps({"verdict": "unsafe", "near": found, "rows": 1200, "more": 1000, "fewer": 3, **more})

@@ -565,10 +565,11 @@ class Choices(TableTest):
 
     def test_choices_that_cant_be_followed_are_refused(self):
         for words, due in (
-            (("team=sum",), "'team' can't be sum: its cells aren't numbers or dates"),
+            (("team=sum",), "'team' can't be sum: its cells aren't numbers in one form, and a text is public or left out"),
             (("age=sum", "salary=number", "team=sum"), "'team' can't be sum"),
             (("team=leave out", "age=leave out"), "at least one public"),
-            (("salary.decimals=13",), "it is 0 to 12"),
+            (("salary.decimals=13",), "'salary' has numbers of 13 decimals, and at most 12 are kept. A secret number is never rounded"),
+            (("age.decimals=13",), "it is 0 to 12"),
             (("wave=2",), "it is 1, or null"),
             (("salary.range=100.5 to none",), "'100.5 to none' has more decimals than the column"),
             (("salary.range=101 to 100",), "'101 to 100' isn't a range"),

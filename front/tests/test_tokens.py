@@ -58,7 +58,7 @@ class Tokens(TokenCase):
                             {"Authorization": f"Digest {ann}"}, {"Authorization": ann}):
                 for path in ("/ask", "/would", "/why"):
                     status, body = await ask(session, line, path, **headers)
-                    self.assertEqual((status, list(json.loads(body))), (401, ["error"]), headers)
+                    self.assertEqual((status, list(json.loads(body))), (401, ["error", "code"]), headers)
                 for path in ("/", "/schema.json", "/table.csv", "/transcript.jsonl", "/report.jsonl", "/words.json", "/tables.json"):
                     async with session.get(path, headers=headers) as response:
                         self.assertEqual(response.status, 401, (path, headers))

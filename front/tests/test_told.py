@@ -3,9 +3,11 @@ import asyncio
 import csv
 import json
 import os
+import signal
 import unittest
 
 import loud
+import test_door
 from case import DoorCase
 from kit import AUDITOR, AWAY, HERE, Door, Folder, ask, health, line_of
 
@@ -36,7 +38,7 @@ class Raised(DoorCase):
             before = json.loads(body)["sum"]
             self.give_a_raise()
             told = [await ask(session, line_of("sum", 0, 0), "/why")]
-            self.assertEqual(told, [(503, json.dumps({"error": AWAY["11"]}).encode())])
+            self.assertEqual(told, [(503, json.dumps({"error": AWAY["11"], "code": "away"}).encode())])
             self.door.kill_programs()
             told.append(await ask(session, line_of("sum", 2, 160)))
             self.assertEqual((await health(session))["state"], f"stopped: {AWAY['11']}")
@@ -45,10 +47,44 @@ class Raised(DoorCase):
                 async with session.get(path) as response:
                     told.append((path, await response.read()))
         self.assertEqual(self.door.stop(), 0)
+        self.check_silence(told, before)
+        self.assertIn(f"record 0 holds {before}, table gives {before + RAISE}", self.folder.said())
+
+
+    def check_silence(self, told, before):
+        """Nothing that was told has the raise, or the total after it."""
         for where, body in told:
             for number in (str(before + RAISE).encode(), str(RAISE).encode(), b"table gives"):
                 self.assertNotIn(number, body, where)
-        self.assertIn(f"record 0 holds {before}, table gives {before + RAISE}", self.folder.said())
+
+
+class RaisedBehindSockets(Raised):
+    """The same behind sockets, where the program's text reaches nobody but its own user."""
+
+    def make_door(self):
+        return test_door.OfAnotherUser.make_door(self)
+
+    def listen(self, command, path):
+        return test_door.OfAnotherUser.listen(self, command, path)
+
+    def tearDown(self):
+        super().tearDown()
+        for process in self.sockets:
+            os.killpg(process.pid, signal.SIGTERM)
+            process.wait()
+
+    async def test_no_asker_learns_the_raise(self):
+        async with self.door.start().session() as session:
+            await self.door.ready(session)
+            before = json.loads((await ask(session, line_of("sum", 0, 99)))[1])["sum"]
+            self.give_a_raise()
+            self.door.kill_programs()
+            told = [await ask(session, line_of("sum", number, 160), path) for number, path in enumerate(("/ask", "/why", "/would", "/ask"))]
+            self.assertEqual({status for status, _ in told[:2]}, {503})
+            async with session.get("/health") as response:
+                told.append(("/health", await response.read()))
+        self.assertEqual(self.door.stop(), 0)
+        self.check_silence([*told, ("the log", self.folder.said().encode())], before)
 
 
 class Told(unittest.IsolatedAsyncioTestCase):
@@ -75,7 +111,7 @@ class Told(unittest.IsolatedAsyncioTestCase):
                     status, body = await ask(session, line_of("sum", 0, 9), path)
                     if path == "/why" and code == "signal":
                         continue        # the shell around it makes a code of it
-                    self.assertEqual((status, json.loads(body)), (503, {"error": due(code)}), (path, code))
+                    self.assertEqual((status, json.loads(body)), (503, {"error": due(code), "code": "away"}), (path, code))
             self.assertEqual((await ask(session, line_of("count", 0, 9)))[0], 200)
         self.assertEqual(self.door.stop(), 0)
         self.assertGreaterEqual(self.folder.said().count(loud.SAID), 2 * len(CODES) - 2)

@@ -186,7 +186,7 @@ class OneDoor(unittest.IsolatedAsyncioTestCase):
         auth = aiohttp.BasicAuth(who, word) if who else None
         async with session.post("/ask", data=line_of("count", 0, 9), headers={"Content-Type": "application/json"}, auth=auth) as response:
             if response.status == 429:
-                self.assertEqual((response.headers["Retry-After"], list(await response.json())), ("1", ["error"]))
+                self.assertEqual((response.headers["Retry-After"], list(await response.json())), ("1", ["error", "code"]))
             return response.status
 
     async def test_login_and_the_limit_of_one_person_are_the_proxys(self):

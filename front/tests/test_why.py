@@ -161,7 +161,7 @@ class Odd(WhyCase):
     async def test_a_certificate_that_takes_too_long_is_given_up(self):
         async with self.door.session() as session:
             await self.start(session, "--explain-patience", 0.3)
-            self.assertEqual(json.loads(await self.why(session, line_of("sum", 0, 0), 503)), {"error": AWAY["late"]})
+            self.assertEqual(json.loads(await self.why(session, line_of("sum", 0, 0), 503)), {"error": AWAY["late"], "code": "away"})
             self.assertIn("auditor explain: it took too long", self.folder.said())
             await self.client(session, 0, 5)
             await self.nothing_is_left()
@@ -173,7 +173,7 @@ class Odd(WhyCase):
             async with self.door.session() as session:
                 self.door.start()
                 await self.door.ready(session)
-                self.assertEqual(json.loads(await self.why(session, line_of("sum", 0, 0), 503)), {"error": AWAY[cause]})
+                self.assertEqual(json.loads(await self.why(session, line_of("sum", 0, 0), 503)), {"error": AWAY[cause], "code": "away"})
                 self.assertIn(words, self.folder.said())
                 self.assertEqual((await self.ask(session, ("count", 0, 9), line_of("count", 0, 9)))[0], 200)
             self.assertEqual(self.door.stop(), 0)
@@ -199,7 +199,7 @@ class Odd(WhyCase):
             await self.explaining()
             others = [asyncio.ensure_future(ask(session, line_of("sum", 0, number), "/why")) for number in (1, 2)]
             ended, told, *found = await asyncio.gather(asyncio.to_thread(self.door.stop), first, *others, return_exceptions=True)
-        self.assertEqual((ended, told), (0, (503, json.dumps({"error": AWAY["closing"]}).encode())))
+        self.assertEqual((ended, told), (0, (503, json.dumps({"error": AWAY["closing"], "code": "away"}).encode())))
         for one in found:
             self.assertTrue(isinstance(one, (aiohttp.ClientError, OSError)) or one[0] == 503, one)
         await self.nothing_is_left()
@@ -214,7 +214,7 @@ class Without(unittest.IsolatedAsyncioTestCase):
         async with door.session() as session:
             await door.ready(session, "st")
             status, body = await ask(session, line_of("sum", 0, 5), "/why")
-            self.assertEqual((status, json.loads(body)), (501, {"error": "this door doesn't run auditor explain, so it can't say why"}))
+            self.assertEqual((status, json.loads(body)), (501, {"error": "this door doesn't run auditor explain, so it can't say why", "code": "unexplained"}))
         door.end()
         folder.remove()
 

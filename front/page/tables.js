@@ -1,0 +1,91 @@
+// The tables: schema, public columns and notes, as the door has them.
+
+class Table {
+  constructor(name) {
+    this.name = name;
+    this.base = name ? encodeURIComponent(name) + "/" : "";
+  }
+
+  async load() {
+    const [schema, text, notes] = await Promise.all([this.file("schema.json"), this.file("table.csv"), this.file("notes.json", true)]);
+    const {columns, protect} = parsed("schema.json", schema);
+    this.columns = columns;
+    this.protect = Array.isArray(protect) ? protect : [];
+    this.rows = records(text.replace(/^\uFEFF/, "")).slice(1);
+    this.notes = notes ? parsed("notes.json", notes) : {};
+    this.publics = this.columns.filter(column => column.is === "text" || column.is === "number");
+    this.secrets = this.columns.filter(column => column.is === "sum" || column.is === "max");
+  }
+
+  async file(name, mayBeMissing = false) {
+    const response = await fetchFrom(this.base + name);
+    if (response.ok) return response.text();
+    if (mayBeMissing && response.status === 404) return "";
+    throw Error(`${name}: ${await errorOf(response)}`);
+  }
+}
+
+// Without its notes a table would be shown with wrong decimals: so one that can't be read is a fault, and a missing one isn't.
+function parsed(name, text) {
+  try {
+    return Object(JSON.parse(text));
+  } catch {
+    throw Error(`${name} isn't JSON.`);
+  }
+}
+
+// The records of a CSV text, as the program reads them: blank lines are passed over, a quote in a quoted field is doubled.
+function records(text) {
+  const found = [];
+  let record = [], field = "", quoted = false, begun = false;
+  const endField = () => { record.push(field); field = ""; begun = false; };
+  const endRecord = () => { if (begun || record.length) { endField(); found.push(record); } record = []; };
+  for (let at = 0; at < text.length; at++) {
+    const letter = text[at];
+    if (quoted && letter === '"' && text[at + 1] === '"') { field += '"'; at++; }
+    else if (letter === '"' && (quoted || !begun)) { quoted = !quoted; begun = true; }
+    else if (quoted) field += letter;
+    else if (letter === ",") endField();
+    else if (letter === "\n" || letter === "\r") endRecord();
+    else { field += letter; begun = true; }
+  }
+  endRecord();
+  return found;
+}
+
+const publics = () => chosen[0].publics;
+const secrets = () => chosen[0].secrets;
+const columnOf = name => chosen[0].columns.find(column => column.name === name);
+const rowsInAll = () => chosen.reduce((sum, table) => sum + table.rows.length, 0);
+
+function noteOf(name) {
+  const columns = chosen[0].notes.columns;
+  return columns && Object.hasOwn(columns, name) && columns[name] || {};
+}
+const titleOf = name => typeof noteOf(name).title === "string" ? noteOf(name).title : name;
+const unitOf = name => typeof noteOf(name).unit === "string" && noteOf(name).unit ? " " + noteOf(name).unit : "";
+function placesOf(name) {
+  const places = noteOf(name).decimals;
+  return Number.isInteger(places) && places > 0 && places <= 12 ? places : 0;
+}
+
+// The values of a public column, each with the number of its rows.
+function valuesOf(name) {
+  const seen = new Map();
+  for (const table of chosen) {
+    const place = table.publics.findIndex(column => column.name === name);
+    for (const row of table.rows) {
+      const value = columnOf(name).is === "number" ? String(BigInt(row[place].trim().replace(/^\+/, ""))) : row[place];
+      seen.set(value, (seen.get(value) || 0) + 1);
+    }
+  }
+  return seen;
+}
+
+function textsOf(name) {
+  return [...valuesOf(name)].sort(([one], [other]) => one.localeCompare(other, "en", {numeric: true}));
+}
+
+function numbersOf(name) {
+  return [...valuesOf(name).keys()].map(Number).sort((one, other) => one - other);
+}
