@@ -3,7 +3,7 @@
 
     limits.py PROGRAM KEYS ROUNDS SEED
 
-Works in the folder that it is called in. A round draws a table of 2 to 10 rows, groups of it that are protected, and of the KEYS, separated
+Works in the folder that it is called in. A round draws a table of 2 to 14 rows, groups of it that are protected, and of the KEYS, separated
 by commas, a number for each or none; then it has the program serve 30 random sums, and open its journal again. Each reply has to be the
 one that follows from the sums that were answered before, worked out by fractions:
 
@@ -22,7 +22,7 @@ import subprocess
 import sys
 from fractions import Fraction
 
-WIDTHS = (1, 2, 3, 4, 5, 6, 7, 8, 12, 2**56)
+WIDTHS = (1, 1, 2, 2, 3, 4, 5, 6, 2**56)
 ASKED = 30
 
 
@@ -89,7 +89,7 @@ class Table:
 
     def __init__(self, keys, seed):
         draw = self.draw = random.Random(seed)
-        self.count = draw.randrange(2, 11)
+        self.count = draw.randrange(2, 15)
         self.groups = [self.rows() for _ in range(draw.choice([0, 0, 1, 2]))]
         drawn = {"width": draw.choice(WIDTHS), "reach": draw.randrange(2, self.count + 2)}
         self.keys = {key: drawn[key] for key in keys if draw.random() < 0.8}
@@ -101,7 +101,8 @@ class Table:
             table.write("id,v\n" + "".join(f"{row},{draw.randrange(1000)}\n" for row in range(self.count)))
 
     def rows(self):
-        return sorted(self.draw.sample(range(self.count), self.draw.randrange(1, self.count + 1)))
+        most = self.draw.choice([self.count, min(self.count, 3)])
+        return sorted(self.draw.sample(range(self.count), self.draw.randint(min(most, 2), most)))
 
 
 def run(program, command, given=""):
