@@ -1,12 +1,17 @@
 #!/usr/bin/env python3
 """What somebody works out who knows more of the numbers than that they are whole, by answers that are all due. bench/range.sh calls this.
 
-    range.py PROGRAM [KEY=VALUE ..]
+    range.py PROGRAM [--held] [KEY=VALUE ..]
 
 Works in the folder that it is called in, over tables that it draws, whose public column is a number for each row. KEY=VALUE are further keys
 of the schema. Each attack reads the replies alone, and what it works out is compared with the table afterwards: a number that it takes for
 known and that is another one is a fault. It is also said, as front/near.py does, of how many numbers the report shows another one within the range
-that is known. The exit status is 1 if an attack ends otherwise than is expected: without further keys all of them succeed."""
+that is known.
+
+An attack has to succeed if no key holds it off, and to fail if its key is given, as small as it has to be: then it gets nothing, so many
+of its questions are denied, and the report shows another number within the range for every row, or for all but as many rows as a
+change may need for each number that stands at the range's end. --held runs those attacks alone that the keys hold off. The exit status is 1 if an
+attack ends otherwise, or with --held if the keys hold off none."""
 import json
 import math
 import os
@@ -23,6 +28,7 @@ from nearing.columns import Sums  # noqa: E402
 from nearing.ranges import Range, shown_by  # noqa: E402
 
 HIGHEST = 10**12  # what the format of the table's file allows, either way
+SOLVED, WITHOUT_END = 0, 3  # how linprog says that it is done
 
 
 class Table:
@@ -50,7 +56,7 @@ class Table:
     def sums(self, sets, column="v"):
         """The sum over each of these sets of rows, None if it is denied."""
         lines = [{"ask": "sum", "column": column, "where": f"id in ({', '.join(map(str, rows))})"} for rows in sets]
-        replies = self.run("serve --batch 64", "".join(json.dumps(line) + "\n" for line in lines))
+        replies = self.run("serve --batch 64", "".join(json.dumps(line, separators=(",", ":")) + "\n" for line in lines))
         found = [reply.get("sum") for reply in replies]
         self.asked += len(found)
         self.denied += found.count(None)
@@ -69,21 +75,28 @@ def lognormal(draw, count, middle=36_000, spread=0.5):
 
 
 def unfold(sets, sums):
-    """Each number as a base and a slope times the number of the first row, or None if a sum is missing: each set has one new row."""
-    form = {sets[0][0]: (0, 1)}
+    """The pieces that the sums leave, in each of which one number is free: each number as a base and a slope times that of the piece's first
+    row. Of each set at most one row that is in no piece has a piece before it; a set that is denied adds nothing, and the next ones begin a piece."""
+    pieces, place_of = [], {}
     for rows, total in zip(sets, sums):
-        (new,) = (row for row in rows if row not in form)
-        if total is None:
-            return None
-        known = [form[row] for row in rows if row in form]
-        form[new] = (total - sum(base for base, _ in known), -sum(slope for _, slope in known))
-    return form
+        new = [row for row in rows if row not in place_of]
+        if total is None or not new:
+            continue
+        if len(new) == len(rows):
+            place_of[new[0]] = len(pieces)
+            pieces.append({new.pop(0): (0, 1)})
+        (place,) = {place_of[row] for row in rows if row not in new}
+        (last,) = new
+        known = [pieces[place][row] for row in rows if row != last]
+        pieces[place][last] = (total - sum(base for base, _ in known), -sum(slope for _, slope in known))
+        place_of[last] = place
+    return pieces
 
 
-def within(form, low, high):
-    """The least and the greatest number of the first row with which all numbers are in the range. `high` may be None."""
+def within(piece, low, high):
+    """The least and the greatest number of the first row with which all numbers of a piece are in the range. `high` may be None."""
     first, last = low, high if high is not None else HIGHEST
-    for base, slope in form.values():
+    for base, slope in piece.values():
         ends = [low - base, (high if high is not None else HIGHEST) - base]
         least, most = ends if slope > 0 else [-end for end in reversed(ends)]
         first = max(first, -(-least // abs(slope)))
@@ -92,16 +105,15 @@ def within(form, low, high):
 
 
 def known_exactly(numbers, sets, sums, low, high):
-    """How many numbers follow from the sums and the range alone. The sets leave one number free."""
-    form = unfold(sets, sums)
-    if form is None:
-        return 0
-    first, last = within(form, low, high)
-    if first != last:
-        return 0
-    if any(numbers[row] != base + slope * first for row, (base, slope) in form.items()):
-        sys.exit("range: a number that was worked out isn't that of the table")
-    return len(form)
+    """How many numbers follow from the sums and the range alone, piece by piece."""
+    known = 0
+    for piece in unfold(sets, sums):
+        first, last = within(piece, low, high)
+        if first == last:
+            known += len(piece)
+            if any(numbers[row] != base + slope * first for row, (base, slope) in piece.items()):
+                sys.exit("range: a number that was worked out isn't that of the table")
+    return known
 
 
 def doubling(width):
@@ -182,11 +194,16 @@ def ends(told, start):
     totals = [total for _, total in told]
     for place in range(20):
         one = [int(place == other) for other in range(20)]
-        found = [linprog([sign * cost for cost in one], A_eq=sets, b_eq=totals, method="highs") for sign in (1, -1)]
-        if any(end.status != 0 for end in found):
-            sys.exit(f"range: no solution: {found[0].message}")
-        least, most = found[0].fun, -found[1].fun
-        yield least - 1e-6 * (1 + abs(least)), most + 1e-6 * (1 + abs(most))
+        least, most = (least_of([sign * cost for cost in one], sets, totals) for sign in (1, -1))
+        yield least - 1e-6 * (1 + abs(least)), -most + 1e-6 * (1 + abs(most))
+
+
+def least_of(cost, sets, totals):
+    """The least cost of twenty numbers that give these sums, none below 0; without end if there is none."""
+    found = linprog(cost, A_eq=sets, b_eq=totals, method="highs")
+    if found.status not in (SOLVED, WITHOUT_END):
+        sys.exit(f"range: no solution: {found.message}")
+    return found.fun if found.status == SOLVED else -math.inf
 
 
 def by_scale(program, keys):
@@ -248,43 +265,76 @@ def by_two_columns(program, keys):
 
 
 class Attack(NamedTuple):
-    """What is known beside the replies, the range that it has, what is asked, how many of ten numbers it gets, and whether a width and a
-    reach hold it off: then it gets none, and the report shows another one of each within the range."""
+    """What is known beside the replies, the range that it has, what is asked, and how many of ten numbers it gets. Then which key of a schema
+    holds it off, as long as it states no more than the number that is given, how many sums are denied at least, and how many numbers stand at
+    the end of the range."""
 
     knows: str
     range: Range
     run: Callable
     of_ten: int
-    is_held_off: bool
+    key: str | None = None
+    most: int = 0
+    denied: int = 0
+    at_the_end: int = 0
+
+    def is_held_off(self, keys):
+        """Whether these keys of a schema hold it off; None if that isn't known: its key states more than is needed, or a reach alone cuts
+        short what takes a width."""
+        if self.key in keys:
+            return True if keys[self.key] <= self.most else None
+        return None if self.key == "width" and "reach" in keys else False
 
 
 PAYS, FORMAT, NOT_BELOW = Range(0, 250_000), Range(-HIGHEST, HIGHEST), Range(0, None)
 ATTACKS = [
-    Attack("none below 0 or above 250,000", PAYS, lambda *run: by_doubling(*run, *PAYS), 10, True),
-    Attack("the same, in sums over ten and more", PAYS, lambda *run: beside_ten(*run, *PAYS), 10, True),
-    Attack("none beyond 10^12, as the format has it", FORMAT, lambda *run: by_doubling(*run, *FORMAT), 10, True),
+    Attack("none below 0 or above 250,000", PAYS, lambda *run: by_doubling(*run, *PAYS), 10, "width", 4, 4),
+    Attack("the same, in sums over ten and more", PAYS, lambda *run: beside_ten(*run, *PAYS), 10, "width", 4, 4),
+    Attack("none beyond 10^12, as the format has it", FORMAT, lambda *run: by_doubling(*run, *FORMAT), 10, "width", 4, 10),
     # In every other order by chance both zeros are an even number of places apart, and then one number is left free.
-    Attack("none below 0, where two of 400 are 0", NOT_BELOW, lambda *run: by_chain(*run, two_zeros(), 4), 10, True),
-    Attack("none below 0, where 465 of 1,000 are 0", NOT_BELOW, lambda *run: by_chain(*run, many_zeros(), 1), 10, False),
-    Attack("none below 0, sums over halves of twenty", NOT_BELOW, by_halves, 1, True),
-    Attack("a pay scale, and each one's grade", NOT_BELOW, by_scale, 10, False),
-    Attack("the rows are sorted by the numbers", NOT_BELOW, by_order, 8, False),
-    Attack("a bonus is a tenth of the pay", NOT_BELOW, by_two_columns, 10, False),
+    Attack("none below 0, where two of 400 are 0", NOT_BELOW, lambda *run: by_chain(*run, two_zeros(), 4), 10, "reach", 50, 7, 2),
+    Attack("none below 0, where 465 of 1,000 are 0", NOT_BELOW, lambda *run: by_chain(*run, many_zeros(), 1), 9),
+    Attack("none below 0, sums over halves of twenty", NOT_BELOW, by_halves, 1, "width", 4),
+    Attack("a pay scale, and each one's grade", NOT_BELOW, by_scale, 10),
+    Attack("the rows are sorted by the numbers", NOT_BELOW, by_order, 8),
+    Attack("a bonus is a tenth of the pay", NOT_BELOW, by_two_columns, 10),
 ]
+
+
+class Outcome:
+    """How an attack ended over a program."""
+
+    def __init__(self, attack, program, keys):
+        self.attack, self.keys = attack, keys
+        self.table, self.known, self.people, self.how = attack.run(program, keys)
+        self.free, self.inside = self.table.free(attack.range)
+
+    def is_as_due(self):
+        """Whether it succeeded or failed, as the keys have it."""
+        is_held_off = self.attack.is_held_off(self.keys)
+        if not is_held_off:
+            return is_held_off is None or self.known * 10 >= self.people * self.attack.of_ten
+        held_still = self.attack.at_the_end * self.keys.get("reach", 0)
+        is_shown = len(self.table.numbers) - self.inside <= held_still
+        return is_shown and self.known == 0 and self.table.denied >= self.attack.denied
+
+    def __str__(self):
+        table = self.table
+        return (
+            f"{self.attack.knows}: {table.asked} sums asked, {table.denied} denied; {self.known} of {self.people} numbers known {self.how};"
+            f" audit calls {self.free} free, {self.inside} of them within the range"
+        )
 
 
 def main():
     program, *words = sys.argv[1:]
-    keys = {key: json.loads(value) for key, value in (word.split("=", 1) for word in words)}
-    is_wrong = False
-    for attack in ATTACKS:
-        table, known, people, how = attack.run(program, keys)
-        free, inside = table.free(attack.range)
-        is_held_off = known == 0 and inside == len(table.numbers)
-        expected = is_held_off if keys and attack.is_held_off else known * 10 >= people * attack.of_ten
-        is_wrong |= not expected
-        print(f"{attack.knows}: {table.asked} sums asked, {table.denied} denied; {known} of {people} numbers known {how}; audit calls"
-              f" {free} free, {inside} of them within the range" + ("" if expected else "  <- not as expected"), flush=True)
+    keys = {key: json.loads(value) for key, value in (word.split("=", 1) for word in words if word != "--held")}
+    attacks = [attack for attack in ATTACKS if attack.is_held_off(keys) or "--held" not in words]
+    is_wrong = not attacks
+    for attack in attacks:
+        outcome = Outcome(attack, program, keys)
+        is_wrong |= not outcome.is_as_due()
+        print(outcome, "" if outcome.is_as_due() else "  <- not as expected", sep="", flush=True)
     return is_wrong
 
 

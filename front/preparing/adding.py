@@ -47,7 +47,7 @@ def add(path, choices_path, old, new, program):
     say_order()
     say_totals(schema.get("protect", []), columns, [Part(rows)])
     say_what_is_known(rows, public, [column.name for column in secret])
-    say_ranges(rows, secret, places)
+    say_ranges(rows, secret, places, schema)
     say_next(old, new, columns, before, added, wave_words)
 
 

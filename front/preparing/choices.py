@@ -8,6 +8,7 @@ import os
 import re
 import tempfile
 
+from . import limits
 from .cells import FORMS
 from .faults import Fault, listed, shown
 from .names import LONGEST, is_name, plain
@@ -49,6 +50,11 @@ NUMBER_KEYS = TEXT_KEYS + ("written as", "unit", "decimals", "rounded")
 SECRET_KEYS = NUMBER_KEYS + ("range",)
 
 
+def table_keys():
+    """The keys of a file of choices, each with the type of its values: one for each limit among them."""
+    return TABLE_KEYS | dict.fromkeys(limits.STATED, int)
+
+
 def read(path):
     """The choices of a file, with keys and types as they have to be; what they say may still be open or wrong."""
     try:
@@ -58,7 +64,9 @@ def read(path):
         json.dumps(choices, ensure_ascii=False).encode()
     except (ValueError, RecursionError) as error:
         raise Fault(f"{path} isn't JSON: {error}") from None
-    faults = key_faults(choices, TABLE_KEYS, "the file of choices")
+    if isinstance(choices, dict):
+        limits.fill_in(choices)
+    faults = key_faults(choices, table_keys(), "the file of choices")
     if not faults:
         ask_for_ranges(choices["columns"])
         for place, column in enumerate(choices["columns"], 1):
@@ -109,7 +117,7 @@ def open_choices(choices):
 
     A column that is left out asks no more.
     """
-    found = [key for key in TABLE_KEYS if key != "protect" and choices[key] == OPEN]
+    found = [key for key in table_keys() if key != "protect" and choices[key] == OPEN]
     for column in choices["columns"]:
         keys = {OPEN: ("is",), "leave out": (), "text": TEXT_KEYS, "number": NUMBER_KEYS}.get(column["is"], SECRET_KEYS)
         found += [column["name"] + ("" if key == "is" else f".{key}") for key in keys if column[key] == OPEN]
@@ -121,7 +129,7 @@ def need_decided(choices):
     still_open = open_choices(choices)
     if still_open:
         raise Fault("still to be chosen:\n" + listed(still_open))
-    faults = table_faults(choices)
+    faults = table_faults(choices) + limits.limit_faults(choices)
     for column in choices["columns"]:
         faults += column_faults(column)
     if faults:

@@ -3,7 +3,7 @@
 import re
 
 from . import choices as choosing
-from .choices import COLUMN_KEYS, KINDS, MISSING, OPEN, ROUNDINGS, TABLE_KEYS
+from .choices import COLUMN_KEYS, KINDS, MISSING, OPEN, ROUNDINGS, table_keys
 from .cells import FORMS
 from .faults import Fault, shown
 from .making import columns_to_write
@@ -11,6 +11,7 @@ from .protecting import need_totals
 from .ranges import WORDS, read_range
 
 LISTS = ("split by", "missing is")
+LONGEST_NUMBER = 17  # digits of a choice: the greatest width has so many
 
 
 def choose(path, words):
@@ -63,8 +64,8 @@ def set_choice(choices, key, value):
                 set_column(column, "range", value)
     elif key == "protect":
         add_protected(choices, value)
-    elif key in TABLE_KEYS and key != "columns":
-        choices[key] = from_words(key, value, TABLE_KEYS[key])
+    elif key in table_keys() and key != "columns":
+        choices[key] = from_words(key, value, table_keys()[key])
     else:
         name, _, part = key.partition(".")
         set_column(column_named(choices, name), part or "is", value)
@@ -112,7 +113,7 @@ def from_words(key, value, kind):
     if key not in ("name", "missing is") and value in ("none", "null") and key != "untitled":
         return None
     if kind is int:
-        if not value.isascii() or not value.isdigit() or len(value) > 9:
+        if not value.isascii() or not value.isdigit() or len(value) > LONGEST_NUMBER:
             raise Fault(f"{key} can't be {shown(value)}: it is a number or none")
         return int(value)
     if key in LISTS:

@@ -4,6 +4,7 @@ import collections
 import pathlib
 
 from . import choices as choosing
+from . import limits
 from .cells import FORMS, forms_of, is_missing, unit_of, without_unit
 from .faults import Fault, counted, shown
 from .names import names_of
@@ -49,6 +50,7 @@ def look(path, encoding=None, separator=None, untitled=None, sheet=None):
         "protect": choosing.OPEN,
         "columns": columns,
     }
+    limits.fill_in(choices)
     choosing.write(out, choices, fresh=True)
     say_next(out, choices)
 
@@ -205,4 +207,5 @@ def say_next(out, choices):
         " each, or protect=none."
     )
     print('"wave" is for a table to which rows may be added later: choose wave=1, and prepare.py add can tell them apart.')
+    limits.say_choice()
     print(f'Go on with an editor, or with: prepare.py choose {out} NAME=KIND .. others="leave out"')

@@ -9,6 +9,7 @@ from .cells import FORMS, without_unit
 from .choices import PUBLIC, SECRET
 from .faults import Fault, counted, first_numbers, listed, shown
 from .guards import say_of_two, say_readers, say_what_is_known, secrets_apart
+from .limits import say_limits, stated
 from .looking import step
 from .names import free
 from .ordering import by_public_cells, say_order
@@ -16,7 +17,7 @@ from .protecting import need_totals, say_totals
 from .ranges import need_ranges, say_ranges
 from .reading import Layout, decode, load, read_rows, without_separator_line
 from .splitting import parts, say_parts
-from .writing import write_folders
+from .writing import Schema, write_folders
 
 MOST_COLUMNS, MOST_SECRET, MOST_SIZE = 32, 8, 10**12
 DROPPED = object()
@@ -73,14 +74,16 @@ def make(path, choices_path, folder, program):
     places = [number for number, _ in table.rows if number not in changes.dropped]
     need_ranges(rows, secret, places)
     tables = parts(by_public_cells(rows, public), choices["split by"], public)
-    write_folders(folder, columns, totals, tables, program)
+    limits = stated(choices)
+    write_folders(folder, Schema(columns, limits, totals), tables, program)
     say_changes(choices, columns, table, changes)
     say_names(choices)
     say_order()
+    say_limits(limits)
     say_parts(tables)
     say_totals(totals, columns, tables)
     say_what_is_known(rows, public, [column.name for column in secret])
-    say_ranges(rows, secret, places)
+    say_ranges(rows, secret, places, limits)
     if any(column.kind == "sum" for column in secret):
         say_of_two()
     say_readers(path)

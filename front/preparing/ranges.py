@@ -66,14 +66,18 @@ def need_ranges(rows, secret, places):
         raise Fault(listed(faults) + "\nNobody can know such a range. Rows are counted with the header as row 1")
 
 
-def say_ranges(rows, secret, places):
-    """Points out that a range protects nothing, whoever stands near an end of one, and the far largest of a column."""
-    say_known([column.name for column, _, known in with_ranges(rows, secret) if known != Range(None, None)])
-    for column, numbers, known in with_ranges(rows, secret):
-        if column.kind == "sum":
-            say_near_ends(column.name, numbers, known, places)
-        else:
+def say_ranges(rows, secret, places, limits):
+    """Points out what a range gives away by the limits of the schema, whoever stands near an end of one, and the far largest of a column."""
+    known_ones = [found for found in with_ranges(rows, secret) if found[2] != Range(None, None)]
+    say_known([column.name for column, _, _ in known_ones if column.kind == "max" or "width" not in limits])
+    for column, numbers, known in known_ones:
+        if column.kind == "max":
             say_lowest(column.name, numbers, known, places)
+        elif "width" in limits:
+            say_kept_open(column.name, numbers, known, limits["width"])
+            say_held_down(column.name, numbers, known, places, limits)
+        else:
+            say_near_ends(column.name, numbers, known, places)
     for column in secret:
         if column.kind == "sum":
             say_largest(column.name, [row[column.name] for row in rows], places)
@@ -101,9 +105,38 @@ def say_near_ends(name, numbers, known, places):
         )
 
 
+def say_kept_open(name, numbers, known, width):
+    """Points out what a width keeps open within a range that people know, and against whom it doesn't."""
+    print(
+        f"CAREFUL: people know a range of {name}. Width {width:,} keeps each number open within it by at least the least distance of any"
+        f" number from its ends, over {width**2:,}. It does nothing against whoever knows a list that the numbers come from, or what goes"
+        ' together with them (THREATS.md, "What a range gives away")'
+    )
+
+
+def say_held_down(name, numbers, known, places, limits):
+    """Points out by how little a width keeps numbers open, if that is less than a tenth of the median, and who holds it down."""
+    parts, middle = limits["width"] ** 2, statistics.median(map(abs, numbers))
+    rooms = sorted((least_room(number, known), place) for number, place in zip(numbers, places))
+    near = [place for room, place in rooms if room * NEAR < parts * middle]
+    if near:
+        whose = f"those that stand in one change with theirs, at most {limits['reach']:,}" if "reach" in limits else "all others"
+        print(
+            f"CAREFUL: the least distance of any number of {name} from the range's ends, over {parts:,}, is"
+            f" {share_words(rooms[0][0], parts * middle)} % of the median, and below a tenth of it. {counted(len(near), 'row')}"
+            f" {'holds' if len(near) == 1 else 'hold'} it down, for {whose} too. Leave out those that are nearest to an end, make one row"
+            f" of each and of others, with their total, or choose a smaller width. {rows_words(near)}, the nearest first"
+        )
+
+
+def share_words(room, whole):
+    """A share in per cent, rounded down to a tenth."""
+    return f"{int(1000 * room / whole) / 10:g}"
+
+
 def least_room(number, known):
-    """How far a number is from the nearer end of a range."""
-    return min((room for room in (known.room(number, 1), known.room(number, -1)) if room is not None), default=abs(number))
+    """How far a number is from the nearer end of a range that has one."""
+    return min(room for room in (known.room(number, 1), known.room(number, -1)) if room is not None)
 
 
 def say_lowest(name, numbers, known, places):

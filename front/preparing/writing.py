@@ -2,6 +2,7 @@
 
 import contextlib
 import csv
+import dataclasses
 import io
 import json
 import os
@@ -13,17 +14,34 @@ import tempfile
 
 from .choices import PUBLIC
 from .faults import Fault
+from .limits import LIMITS
 from .protecting import total_words
 
 MOST_BYTES = 16_777_216
 MOST_SCHEMA_BYTES = 65_536
 
 
-def write_folders(folder, columns, protect, tables, program):
+@dataclasses.dataclass(frozen=True)
+class Schema:
+    """What a schema states: columns, limits by key, and the totals that are protected."""
+
+    columns: list
+    limits: dict
+    protect: list
+
+    def text(self):
+        """The schema's file."""
+        schema = {"columns": [{"name": column.name, "is": column.kind} for column in self.columns], **self.limits}
+        if self.protect:
+            schema["protect"] = self.protect
+        return json.dumps(schema, indent=1, ensure_ascii=False) + "\n"
+
+
+def write_folders(folder, schema, tables, program):
     """Writes a folder, or one for each part in it, has the program read them, and puts them into place."""
     with put_into_place(folder) as beside:
         for part in tables:
-            write_folder(beside / part.name, columns, protect, part.rows)
+            write_folder(beside / part.name, schema, part.rows)
             try_program(beside / part.name, program)
     said_of_program(program)
 
@@ -65,14 +83,11 @@ def current_umask():
     return mask
 
 
-def write_folder(folder, columns, protect, rows):
+def write_folder(folder, schema, rows):
     """schema.json, and table.csv for its owner alone; in public/ the schema, the public columns and notes."""
     public = folder / "public"
     public.mkdir(parents=True)
-    schema = {"columns": [{"name": column.name, "is": column.kind} for column in columns]}
-    if protect:
-        schema["protect"] = protect
-    text = json.dumps(schema, indent=1, ensure_ascii=False) + "\n"
+    text, columns = schema.text(), schema.columns
     if len(text.encode()) > MOST_SCHEMA_BYTES:
         raise Fault(
             f"the schema has {len(text.encode()):,} bytes, and at most {MOST_SCHEMA_BYTES:,} are read: protect fewer"
@@ -136,16 +151,19 @@ def try_program(folder, program):
             said = run.stderr.strip() or f"status {run.returncode}"
             raise Fault(
                 f"auditor {command} doesn't take the files, so nothing is written: {said}"
-                + protect_words(folder, run.returncode, said)
+                + schema_words(folder, run.returncode, said)
             )
 
 
-def protect_words(folder, status, said):
-    """What the program's complaint may mean if totals are to be protected."""
-    groups = json.loads((folder / "schema.json").read_text(encoding="utf-8")).get("protect")
+def schema_words(folder, status, said):
+    """What the program's complaint may mean if totals are to be protected, or limits are stated."""
+    schema = json.loads((folder / "schema.json").read_text(encoding="utf-8"))
+    groups = schema.get("protect")
     bad = re.fullmatch(r"schema: group (\d+) is bad", said)
-    if groups and status == 3:
-        return ". This auditor may be older than protected totals: choose protect=none, or take a newer one"
+    newer = [("protected totals", "protect=none")] * bool(groups) + [(f"a {key}", f"{key}=none") for key in LIMITS if key in schema]
+    if newer and status == 3:
+        what, instead = (" or ".join(words) for words in zip(*newer))
+        return f". This auditor may be older than {what}: choose {instead}, or take a newer one"
     if groups and status == 16 and bad and int(bad[1]) < len(groups):
         return f". That is {total_words(groups[int(bad[1])])}"
     return ""

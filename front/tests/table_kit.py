@@ -16,7 +16,11 @@ FRONT = HERE.parent
 sys.path.insert(0, str(FRONT))
 
 import prepare  # noqa: E402
+from preparing import limits  # noqa: E402
 
+# Choices for a table without limits, and for one without ranges and totals besides.
+WITHOUT_LIMITS = tuple(f"{key}=none" for key in limits.STATED)
+PLAIN = ("protect=none", "range=none", *WITHOUT_LIMITS)
 AUDITOR = os.environ.get("AUDITOR") or shutil.which("auditor")
 needs_program = unittest.skipUnless(AUDITOR, "AUDITOR names no program")
 
@@ -59,7 +63,7 @@ class TableTest(unittest.TestCase):
 
     def made(self, text, *words):
         """What is said of a table made from the text with these choices; it has to succeed."""
-        for status, said in (self.look(text), self.choose("protect=none", "range=none", *words), self.make()):
+        for status, said in (self.look(text), self.choose(*PLAIN, *words), self.make()):
             self.assertEqual(status, 0, said)
         return said
 
@@ -67,7 +71,7 @@ class TableTest(unittest.TestCase):
         """What is said if the text with these choices can't be made into a table; nothing may be left of it."""
         status, said = self.look(text)
         self.assertEqual(status, 0, said)
-        status, said = self.choose("protect=none", "range=none", *words)
+        status, said = self.choose(*PLAIN, *words)
         before = self.names()
         if status == 0:
             status, said = self.make()

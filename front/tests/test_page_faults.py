@@ -64,7 +64,7 @@ class Scripted(OneTable):
         self.assertNotIn("exactly", self.say('{"num":1001,"den":4}', "avg"))
 
     def test_each_refusal_and_denial_has_its_sentence(self):
-        cases = [('{"denied":"wide"}', "Not answered", "larger numbers than it has"), ('{"denied":"unsafe"}', "Not answered", "a person's value or a protected total"),
+        cases = [('{"denied":"wide"}', "Not answered", "larger numbers than this table allows"), ('{"denied":"unsafe"}', "Not answered", "a person's value or a protected total"),
                  ('{"refused":"empty"}', "Not asked", "No row satisfies"), ('{"refused":"full"}', "Not asked", "The history is full"),
                  ('{"refused":"long"}', "Not asked", "8,192 bytes"), ('{"refused":"another"}', "Not asked", "another"),
                  ('{"denied":"constructor"}', "Not answered", "constructor")]
@@ -102,6 +102,16 @@ class Scripted(OneTable):
         self.assertEqual((holds["tax"], holds["pay"]), (
             "totals and averages", "totals and averages. Protected: the total where constructor = '<b>A</b>'; where age > 0; where age > 1; "
             "where age > 2; where age > 3; and 2 more in schema.json"))
+
+    def test_a_width_and_a_reach_are_told_in_words(self):
+        for limits, due in (({}, []), ({"width": 4}, ["a width of 4:"]), ({"reach": 1024}, ["a reach of 1,024:"]),
+                            ({"width": 2**56, "reach": 2}, ["a width of more than 9,007,199,254,740,991:", "a reach of 2:"]), ({"width": "4"}, [])):
+            with self.subTest(limits=limits):
+                self.open("", {"schema.json": json.dumps({"columns": COLUMNS, **limits})})
+                said = self.browser.text("limits")
+                self.assertEqual([words for words in ("a width of", "a reach of") if words in said], [words[:10] for words in due])
+                for words in due:
+                    self.assertIn(words, said)
 
     def test_a_denial_of_a_protected_total_says_so(self):
         totals = [{"column": "pay", "where": "age > 30 "}]

@@ -11,14 +11,14 @@ import subprocess
 import unittest
 from unittest import mock
 
-from table_kit import AUDITOR, TableTest, needs_program, said_by
+from table_kit import AUDITOR, WITHOUT_LIMITS, TableTest, needs_program, said_by
 from test_ask import KINDS, WRONG
 
 import ask
 from preparing.conditions import Wrong, read_condition
 
 STAFF = "team,age,salary,bonus\nQA,30,100,7\nQA,41,205,3\nDEV,41,310,5\n"
-STAFF_KINDS = ("team=text", "age=number", "salary=sum", "bonus=max", "range=none")
+STAFF_KINDS = ("team=text", "age=number", "salary=sum", "bonus=max", "range=none", *WITHOUT_LIMITS)
 SITES = "".join(f"{('Leeds', 'York')[number % 2]},{('QA', 'OPS', 'DEV')[number // 40]},{number % 97}\n" for number in range(120))
 PUBLIC = {"team": "text", "age": "number"}
 TEAMS = ("QA", "Bob's", "", "it's 'so'", "Zoë")

@@ -1,6 +1,6 @@
 //! The rows of a form, and how one is cleared at a new row's pivot.
 
-use crate::divide::{gcd128, gcd64, Content, Divisor, Quotient, LIMIT};
+use crate::divide::{gcd128, gcd64, Content, Divisor, Quotient};
 
 /// The columns of a form of sets of rows.
 pub const ROWS: usize = 1024;
@@ -91,13 +91,16 @@ impl<const MOST: usize> NewRow<MOST> {
 pub struct Room<const MOST: usize> {
     pub numbers: [i64; MOST],
     pub seen: [bool; MOST],
+    /// What no number of a cleared row is above.
+    pub width: i64,
 }
 
 impl<const MOST: usize> Room<MOST> {
-    pub fn new() -> Room<MOST> {
+    pub fn new(width: i64) -> Room<MOST> {
         Room {
             numbers: [0; MOST],
             seen: [false; MOST],
+            width,
         }
     }
 }
@@ -118,12 +121,12 @@ impl Pass {
         self.bits |= (number ^ (number >> 63)) as u64;
     }
 
-    /// A power of two that no size is above, at most the limit.
-    fn bound(&self) -> i64 {
+    /// A power of two that no size is above, or the width.
+    fn bound(&self, width: i64) -> i64 {
         if self.bits == 0 {
             return 1;
         }
-        (1i64 << (64 - self.bits.leading_zeros())).min(LIMIT)
+        (1i64 << (64 - self.bits.leading_zeros())).min(width)
     }
 }
 
@@ -168,8 +171,13 @@ impl Factors {
         wide(self.a) * wide(row.head)
     }
 
-    fn is_surely_narrow<const MOST: usize>(self, row: &Row, new: &NewRow<MOST>) -> bool {
-        wide(self.a) * wide(row.most) + wide(self.b.abs()) * wide(new.most) <= wide(LIMIT)
+    fn is_surely_narrow<const MOST: usize>(
+        self,
+        row: &Row,
+        new: &NewRow<MOST>,
+        width: i64,
+    ) -> bool {
+        wide(self.a) * wide(row.most) + wide(self.b.abs()) * wide(new.most) <= wide(width)
     }
 }
 
@@ -200,7 +208,13 @@ impl Row {
         })
     }
 
-    pub fn is_wide_in_front(&self, front: &[u16], new: &[i128; FRONT], lead: usize) -> bool {
+    pub fn is_wide_in_front(
+        &self,
+        front: &[u16],
+        new: &[i128; FRONT],
+        lead: usize,
+        width: i64,
+    ) -> bool {
         let mut numbers = [0i64; FRONT];
         let last = front[front.len() - 1];
         let mut k = 0;
@@ -226,29 +240,29 @@ impl Row {
                 };
             }
         }
-        most / content > LIMIT as u128
+        most / content > width as u128
     }
 
-    pub fn is_narrow_with<const MOST: usize>(&self, new: &NewRow<MOST>) -> bool {
+    pub fn is_narrow_with<const MOST: usize>(&self, new: &NewRow<MOST>, width: i64) -> bool {
         let Some(k) = self.find(new.pivot) else {
             return true;
         };
         let factors = Factors::of(new, self.entries[k].value as i64);
-        if factors.is_surely_narrow(self, new) {
+        if factors.is_surely_narrow(self, new, width) {
             return true;
         }
         let (content, most) = self.survey(new, factors);
-        most.max(factors.head(self) as u128) / content <= LIMIT as u128
+        most.max(factors.head(self) as u128) / content <= width as u128
     }
 
     /// The pivot's entry once the row is cleared at the new row's pivot; None if it is wide then.
-    pub fn cleared_head<const MOST: usize>(&self, new: &NewRow<MOST>) -> Option<i64> {
+    pub fn cleared_head<const MOST: usize>(&self, new: &NewRow<MOST>, width: i64) -> Option<i64> {
         let Some(k) = self.find(new.pivot) else {
             return Some(self.head);
         };
         let factors = Factors::of(new, self.entries[k].value as i64);
         let head = factors.head(self);
-        if factors.is_surely_narrow(self, new) {
+        if factors.is_surely_narrow(self, new, width) {
             let content = if head == 1 {
                 1
             } else {
@@ -257,7 +271,7 @@ impl Row {
             return Some((head / content as i128) as i64);
         }
         let (content, most) = self.survey(new, factors);
-        if most.max(head as u128) / content > LIMIT as u128 {
+        if most.max(head as u128) / content > width as u128 {
             return None;
         }
         Some(if content == 1 {
@@ -424,7 +438,7 @@ impl Row {
                 _ => combine(&mut self.entries, k, new, factors, &quotient),
             };
             self.entries.truncate(count - 1);
-            self.most = pass.bound();
+            self.most = pass.bound(room.width);
             let missing = new.places.len() - 1 - pass.hits;
             if missing > 0 {
                 self.add_missing(new, factors, &quotient, &mut room.seen, missing);

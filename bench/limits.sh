@@ -1,0 +1,17 @@
+#!/bin/sh
+# Asks random sums over small tables whose schemas state a width and a reach, drawn at random, and compares each verdict with what a plain
+# script works out from the definition, by fractions. Prints how many of each kind there were, and ends with 1 if anything differs. It
+# isn't in the gate. Build the program first: demo/run.sh does; AUDITOR names another one, such as the plain program's.
+#
+#   bench/limits.sh [--keys width] [ROUNDS [SEED]]     200 rounds if none is given, from seed 1 on; keys: width, reach, or width,reach
+# A sync is free in a folder that is kept in memory.
+[ -d /dev/shm ] && export TMPDIR=/dev/shm
+keys=width
+if [ "${1:-}" = --keys ]; then
+    keys=$2
+    shift 2
+fi
+rounds=${1:-200}
+seed=${2:-1}
+. "$(dirname "$0")/setup.sh"
+python3 "$here/limits.py" "$program" "$keys" "$rounds" "$seed"
