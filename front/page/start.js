@@ -98,6 +98,20 @@ function listColumns() {
   }));
 }
 
+// The limits on sums that schema.json states, in words: a width, a reach, or neither.
+function showLimits() {
+  const said = ["width", "reach"].map(key => {
+    const numbers = [...new Set(chosen.map(table => table.limits[key]).filter(Number.isInteger))];
+    return numbers.length ? sentence("limits", key).replace("NUMBER", numbers.map(showLimit).join(" or ")) : "";
+  });
+  byId("limits").textContent = said.filter(words => words).join(" ");
+}
+
+// Beyond the numbers that JavaScript keeps exactly it isn't told exactly.
+function showLimit(number) {
+  return Number.isSafeInteger(number) ? showCount(number) : `more than ${showCount(Number.MAX_SAFE_INTEGER)}`;
+}
+
 function file(table, name) {
   return element("a", table.base + name, {href: table.base + name, download: ""});
 }
@@ -122,7 +136,7 @@ function choose() {
   byId("title").textContent = document.title = typeof title === "string" && title ? title : "Ask the table";
   byId("size").textContent = `${showCount(rowsInAll())} rows, ${publics().length} public and ${secrets().length} secret columns`;
   byId("free").replaceChildren();
-  for (const fill of [fillKinds, fillChart, listColumns, listFiles, showState]) fill();
+  for (const fill of [fillKinds, fillChart, listColumns, showLimits, listFiles, showState]) fill();
   writeCondition("all");
 }
 

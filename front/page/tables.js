@@ -8,8 +8,9 @@ class Table {
 
   async load() {
     const [schema, text, notes] = await Promise.all([this.file("schema.json"), this.file("table.csv"), this.file("notes.json", true)]);
-    const {columns, protect} = parsed("schema.json", schema);
+    const {columns, protect, ...limits} = parsed("schema.json", schema);
     this.columns = columns;
+    this.limits = limits;
     this.protect = Array.isArray(protect) ? protect : [];
     this.rows = records(text.replace(/^\uFEFF/, "")).slice(1);
     this.notes = notes ? parsed("notes.json", notes) : {};
