@@ -1,14 +1,18 @@
 -- A transcript has one list of verdicts: a question calls for one reply, and a line that agrees makes one record.
-use Rattle.std.proofs.Common.{◌≡◌, ℕ, ℤ, zero, suc, List, [], ◌∷◌, ◌++◌, length, take, Option, Some, None, refl, sym, ◌∙◌, ap, subst, arith, inl, inr}
+use Rattle.std.proofs.Common.{◌≡◌, ◌↔◌, ℕ, ℤ, zero, suc, Bool, true, false, IsTrue, List, [], ◌∷◌, ◌++◌, length, take, Option, Some, None, refl, sym, ◌∙◌, ap, subst, arith, inl, inr}
 use Rattle.std.specs.Option.{option_to_list}
+use Rattle.std.proofs.lemmas.Bool.{true≢false}
 use Rattle.audit_types.specs.declared.records.Answered.{Answered}
+use Rattle.audit_types.specs.declared.records.Asked.{Asked}
 use Rattle.audit_types.specs.declared.records.Verdict.{Verdict}
+use Rattle.audit_types.specs.declared.records.Verdict.TheVariants.{Released, DeniedUnsafe, DeniedWide}
 use Rattle.audit_types.specs.History.{Setting, setting_of}
 use Rattle.schema_json.specs.Columns.{Column}
 use Rattle.schema_json.specs.SecretShape.{shape_of}
 use Rattle.set_index.specs.Indexed.{IndexView}
 use Rattle.line_wire.specs.Lines.{CountedLine, text, long}
 use Rattle.line_wire.specs.Reply.{IsReply}
+use Rattle.line_wire.specs.declared.question.Take.{Take}
 use Rattle.line_wire.specs.declared.reply.Reply.{Reply}
 use Rattle.question_plan.specs.declared.planning.Plan.{Plan}
 use Rattle.question_plan.specs.declared.planning.Plan.TheVariants.{Ready, Ask}
@@ -18,14 +22,28 @@ use Rattle.question_plan.specs.Laws.{OnePlanIsMade, OneJudgementIsMade, OneAnswe
 use Rattle.question_plan.specs.InTurn.{MakesOneDue, same_replies}
 use Rattle.transcript_sim.specs.declared.expecting.Expected.{Expected}
 use Rattle.transcript_sim.specs.declared.expecting.Expected.TheVariants.{Only, Answer}
-use Rattle.question_plan.specs.Dues.{verdict_bytes}
-use Rattle.transcript_sim.specs.Verdicts.{called_by, CallsFor, Expects, AgreesWith, due_of, exchanges, IsTaken, IsVerdict, AreVerdicts}
+use Rattle.transcript_sim.specs.Verdicts.{CalledBy, CallsFor, Expects, AgreesWith, exchanges, IsTaken, IsVerdict, AreVerdicts, line_of}
 
 -- a line is at most one reply
 abbrev pub LineIsOneReply : Type 0
 LineIsOneReply = (line : List ℕ) (a b : Reply) → IsReply line a → IsReply line b → a ≡ b
 
 module _ (replies : LineIsOneReply) (plans : OnePlanIsMade) (judgements : OneJudgementIsMade) (answers : OneAnswerIsTold) where
+  -- what one thing decides is one
+  same_truth : {P : Type 0} (a b : Bool) → IsTrue a ↔ P → IsTrue b ↔ P → a ≡ b
+  same_truth true true first second = refl
+  same_truth false false first second = refl
+  same_truth true false first second = absurd (true≢false (sym (second.1 (first.0 refl))))
+  same_truth false true first second = absurd (true≢false (sym (first.1 (second.0 refl))))
+
+  -- a verdict calls for one reply
+  one_called : (setting : Setting) (history : List Answered) (take : Take) (asked : Asked) (verdict : Verdict) (a b : Expected) →
+      CalledBy setting history take asked verdict a → CalledBy setting history take asked verdict b → a ≡ b
+  one_called setting history take asked Released a b first second =
+      first.expected_is ∙ ap (λ (f : Bool). Answer take asked f) (same_truth first.follows second.follows first.told second.told) ∙ sym second.expected_is
+  one_called setting history take asked DeniedUnsafe a b first second = first ∙ sym second
+  one_called setting history take asked DeniedWide a b first second = first ∙ sym second
+
   -- a plan calls for one reply
   one_call : (setting : Setting) (history : List Answered) (plan : Plan) (a b : Expected) → CallsFor setting history plan a → CallsFor setting history plan b →
       a ≡ b
@@ -34,10 +52,9 @@ module _ (replies : LineIsOneReply) (plans : OnePlanIsMade) (judgements : OneJud
   one_call setting history (Ask take asked) a b (inl first) (inr second) = absurd (omega (arith, first.0, second.room))
   one_call setting history (Ask take asked) a b (inr first) (inl second) = absurd (omega (arith, second.0, first.room))
   one_call setting history (Ask take asked) a b (inr first) (inr second) =
-      first.expected_is
-      ∙ ap (λ (v : Verdict). called_by take asked v) (judgements setting history asked.column asked.rows.list first.verdict second.verdict first.judged
-      second.judged)
-      ∙ sym second.expected_is
+      let same = judgements setting history asked.column asked.rows.list second.verdict first.verdict second.judged first.judged in
+      one_called setting history take asked first.verdict a b first.called
+      (subst (λ (v : Verdict). CalledBy setting history take asked v b) same second.called)
 
   -- so does a question
   pub one_expected : (columns : List Column) (index : IndexView) (history : List Answered) (line : CountedLine) (a b : Expected) →
@@ -51,7 +68,7 @@ module _ (replies : LineIsOneReply) (plans : OnePlanIsMade) (judgements : OneJud
   one_record : (line : CountedLine) (expected : Expected) (a b : Option Answered) → AgreesWith line expected a → AgreesWith line expected b → a ≡ b
   one_record long expected a b first second = absurd first
   one_record (text line) (Only answer) a b first second = first.1 ∙ sym second.1
-  one_record (text line) (Answer take asked) a b first second =
+  one_record (text line) (Answer take asked follows) a b first second =
       let told = replies line second.told first.told second.is_reply first.is_reply in
       let same = answers take (length asked.rows.list) first.answer second.answer first.told first.tells
       (subst (λ (r : Reply). Tells take (length asked.rows.list) second.answer r) told second.tells) in
@@ -67,7 +84,7 @@ module _ (replies : LineIsOneReply) (plans : OnePlanIsMade) (judgements : OneJud
     pub one_verdict : MakesOneDue (IsVerdict columns index)
     one_verdict history exchange a b first second =
         let same = one_expected columns index history exchange.question first.expected second.expected first.expects second.expects in
-        let bytes : a.bytes ≡ b.bytes = first.bytes_are ∙ ap (λ (x : Expected). verdict_bytes (due_of x)) same ∙ sym second.bytes_are in
+        let bytes : a.bytes ≡ b.bytes = first.bytes_are ∙ ap (λ (x : Expected). line_of x) same ∙ sym second.bytes_are in
         let added : a.added ≡ b.added = one_taken first.expected exchange.shown a.added b.added first.taken
         (subst (λ (x : Expected). IsTaken x exchange.shown b.added) (sym same) second.taken) in
         let made : List ℕ → Option Answered → Replied Answered = λ bytes added. record { bytes = bytes; added = added } in

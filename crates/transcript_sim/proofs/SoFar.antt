@@ -19,8 +19,7 @@ use Rattle.question_plan.specs.InTurn.{length-replies, replies-append}
 use Rattle.transcript_sim.specs.declared.expecting.Expected.{Expected}
 use Rattle.transcript_sim.specs.declared.simulating.SimulationFault.{SimulationFault}
 use Rattle.transcript_sim.specs.declared.simulating.SimulationFault.TheVariants as fault
-use Rattle.question_plan.specs.Dues.{verdict_bytes}
-use Rattle.transcript_sim.specs.Verdicts.{Expects, due_of, Exchange, exchanges, IsVerdict, AreVerdicts}
+use Rattle.transcript_sim.specs.Verdicts.{Expects, line_of, Exchange, exchanges, IsVerdict, AreVerdicts}
 use Rattle.line_wire.specs.Calls.{Cuts, GivesLine, GivesNone}
 use Rattle.transcript_sim.specs.Steps.{IsCutShort}
 use Rattle.transcript_sim.specs.Ends.{BeginVerdicts, EndVerdicts, EndSends, EndReads, SimulatesMeanwhile, Simulates}
@@ -28,11 +27,11 @@ use Rattle.transcript_sim.proofs.Exchanges.{exchanges-append}
 
 -- what is sent for a question, before its reply is read
 abbrev pub sent_for : Expected → Replied Answered
-sent_for expected = record { bytes = verdict_bytes (due_of expected); added = None }
+sent_for expected = record { bytes = line_of expected; added = None }
 
 -- and what it is with the record of its reply
 abbrev pub with_record : Expected → Option Answered → Replied Answered
-with_record expected added = record { bytes = verdict_bytes (due_of expected); added = added }
+with_record expected added = record { bytes = line_of expected; added = added }
 
 -- the bytes of one more verdict
 pub bytes-push : (verdicts : List (Replied Answered)) (out : Replied Answered) → bytes_of (verdicts ++ out ∷ []) ≡ bytes_of verdicts ++ out.bytes
@@ -108,9 +107,9 @@ module _ {P B : Type 0} (source : SourceGhosts P) (bench : Ghosts B) (columns : 
 
         module _ (sending : B) (file : bench.file sending ≡ bench.file at) (crash : (image : List ℕ) → bench.leaves sending image → bench.leaves at image)
             (time : Elapses (bench.moment at) (bench.moment sending) (bench.since at) (bench.since sending)
-            (Sending (bench.leaves sending) (bench.sent at) (verdict_bytes (due_of expected)))) where
+            (Sending (bench.leaves sending) (bench.sent at) (line_of expected))) where
           -- it was sent
-          pub question_sent : (bench.told → bench.sent sending ≡ bench.sent at ++ verdict_bytes (due_of expected))
+          pub question_sent : (bench.told → bench.sent sending ≡ bench.sent at ++ line_of expected)
               → (bench.told → bench.moment sending ≡ bench.moment at + 1) → bench.faults sending ≡ bench.faults at
               → SoFar new after sending (lines ++ line ∷ []) (verdicts ++ sent_for expected ∷ [])
           question_sent all ticks still = record {
@@ -119,12 +118,12 @@ module _ {P B : Type 0} (source : SourceGhosts P) (bench : Ghosts B) (columns : 
             sends =
                 subst (λ (n : ℕ). SentSoFar bench first sending Meanwhile (bytes_of (verdicts ++ sent_for expected ∷ [])) n)
                 (sym (length-append verdicts (sent_for expected ∷ [])))
-                (one_sent bench first Meanwhile at (bytes_of verdicts) (length verdicts) so_far.sends (verdict_bytes (due_of expected))
+                (one_sent bench first Meanwhile at (bytes_of verdicts) (length verdicts) so_far.sends (line_of expected)
                 (bytes_of (verdicts ++ sent_for expected ∷ [])) (bytes-push verdicts (sent_for expected)) part_now sending file crash time all ticks still);
           }
 
           -- it couldn't be
-          pub question_unsent : (bench.told → AppendsFront (bench.sent at) (verdict_bytes (due_of expected)) (bench.sent sending))
+          pub question_unsent : (bench.told → AppendsFront (bench.sent at) (line_of expected) (bench.sent sending))
               → Rose (bench.faults at) (bench.faults sending) → bench.last_failed sending ≡ true → bench.faults at ≤ bench.faults sending
               → Simulates source bench columns index first_source after first sending (Err fault.Bench)
           question_unsent part rose last later = record {
@@ -132,14 +131,14 @@ module _ {P B : Type 0} (source : SourceGhosts P) (bench : Ghosts B) (columns : 
                 λ t. (
                   verdicts ++ sent_for expected ∷ [],
                   begun_with t,
-                  λ told. front_sent bench first Meanwhile at (bytes_of verdicts) (length verdicts) so_far.sends (verdict_bytes (due_of expected))
+                  λ told. front_sent bench first Meanwhile at (bytes_of verdicts) (length verdicts) so_far.sends (line_of expected)
                       (bytes_of (verdicts ++ sent_for expected ∷ [])) (bytes-push verdicts (sent_for expected)) part_now sending file crash time told
                       (bench.sent sending) (part told),
                 );
             calls = λ t told. tt;
             reads = λ t. tt;
             moments =
-                moments_then bench first Meanwhile at (bytes_of verdicts) (length verdicts) so_far.sends (verdict_bytes (due_of expected))
+                moments_then bench first Meanwhile at (bytes_of verdicts) (length verdicts) so_far.sends (line_of expected)
                 (bytes_of (verdicts ++ sent_for expected ∷ [])) (bytes-push verdicts (sent_for expected)) part_now sending file crash time;
             file = file ∙ so_far.sends.file;
             crash = λ image left. so_far.sends.crash image (crash image left);

@@ -149,6 +149,8 @@ module _ {P B : Type 0} (source : SourceGhosts P) (bench : Ghosts B) (columns : 
         is_reply = omega (arith, half.line_is, half.even, length-append half.verdicts (sent_for expected ∷ []));
         are = subst (λ (ls : List CountedLine). AreVerdicts columns index ls (half.verdicts ++ sent_for expected ∷ [])) (sym asked_are) half.so_far.are;
         earlier = half.verdicts;
+        expected = expected;
+        due_is = refl;
         last_is = refl;
         none_with = λ more are. none_with more (subst (λ (ls : List CountedLine). AreVerdicts columns index ls more) first_are are);
       }
@@ -194,7 +196,7 @@ module _ {P B : Type 0} (source : SourceGhosts P) (bench : Ghosts B) (columns : 
     expects = subst (λ (h : List Answered). Expects columns index h question.line expected) turn.history question.expects
 
     -- it was sent
-    pub asked_half : SendsVerdict bench at sending (due_of expected) →
+    pub asked_half : SendsVerdict bench at sending expected →
         Half source bench columns index first_source first new after sending core (line + 2) expected
     asked_half sends = record {
       lines = turn.lines;
@@ -213,7 +215,7 @@ module _ {P B : Type 0} (source : SourceGhosts P) (bench : Ghosts B) (columns : 
     }
 
     -- it couldn't be
-    asked_unsent : FailsSending bench at sending (due_of expected) → Simulates source bench columns index first_source after first sending (Err fault.Bench)
+    asked_unsent : FailsSending bench at sending expected → Simulates source bench columns index first_source after first sending (Err fault.Bench)
     asked_unsent fails =
         question_unsent source bench columns index first_source first cutter from at turn.lines turn.verdicts turn.so_far new after question.line
         question.gives cuts

@@ -19,21 +19,20 @@ use Rattle.line_wire.specs.declared.lines.LineStop.TheVariants as stop
 use Rattle.question_plan.specs.declared.planner.PlanStop.{PlanStop}
 use Rattle.question_plan.specs.declared.planner.PlanStop.TheVariants as plan
 use Rattle.question_plan.specs.declared.due.Due.{Due}
-use Rattle.question_plan.specs.Dues.{verdict_bytes}
 use Rattle.transcript_sim.specs.declared.expecting.Expected.{Expected}
 use Rattle.transcript_sim.specs.declared.expecting.Expected.TheVariants.{Only, Answer}
 use Rattle.transcript_sim.specs.declared.shown.Shown.{Shown}
 use Rattle.transcript_sim.specs.declared.shown.Shown.TheVariants.{Agrees, Disagrees}
 use Rattle.transcript_sim.specs.declared.simulating.SimulationFault.{SimulationFault}
 use Rattle.transcript_sim.specs.declared.simulating.SimulationFault.TheVariants as fault
-use Rattle.transcript_sim.specs.Verdicts.{Expects, AgreesWith, due_of}
+use Rattle.transcript_sim.specs.Verdicts.{Expects, AgreesWith, line_of}
 
 -- ---- what was called for
 
 -- the record of an answer to the question may follow the history
 abbrev pub CanBeTaken : Setting → List Answered → Expected → Type 0
 CanBeTaken setting history (Only answer) = Unit {0}
-CanBeTaken setting history (Answer take asked) = FitsShape setting.shape asked.column asked.rows ×
+CanBeTaken setting history (Answer take asked follows) = FitsShape setting.shape asked.column asked.rows ×
     IsWithinWidth (known_of setting history asked.column) asked.rows.list
 
 -- what a line that was shown comes to: it agrees, and makes this record, or it agrees with none
@@ -100,20 +99,20 @@ goes_on None line due = Ok false
 -- ---- the sending of a verdict
 
 -- its line was sent, by one call
-pub record SendsVerdict {B : Type 0} (bench : BenchGhosts B) (old new : B) (due : Due) : Type 0 where
-  pub all : bench.told → bench.sent new ≡ bench.sent old ++ verdict_bytes due
+pub record SendsVerdict {B : Type 0} (bench : BenchGhosts B) (old new : B) (expected : Expected) : Type 0 where
+  pub all : bench.told → bench.sent new ≡ bench.sent old ++ line_of expected
   pub file : bench.file new ≡ bench.file old
   pub crash : (image : List ℕ) → bench.leaves new image → bench.leaves old image
-  pub time : Elapses (bench.moment old) (bench.moment new) (bench.since old) (bench.since new) (Sending (bench.leaves new) (bench.sent old) (verdict_bytes due))
+  pub time : Elapses (bench.moment old) (bench.moment new) (bench.since old) (bench.since new) (Sending (bench.leaves new) (bench.sent old) (line_of expected))
   pub ticks : bench.told → bench.moment new ≡ bench.moment old + 1
   pub steady : bench.faults new ≡ bench.faults old
 
 -- the call failed, and a front of the line was sent
-pub record FailsSending {B : Type 0} (bench : BenchGhosts B) (old new : B) (due : Due) : Type 0 where
-  pub part : bench.told → AppendsFront (bench.sent old) (verdict_bytes due) (bench.sent new)
+pub record FailsSending {B : Type 0} (bench : BenchGhosts B) (old new : B) (expected : Expected) : Type 0 where
+  pub part : bench.told → AppendsFront (bench.sent old) (line_of expected) (bench.sent new)
   pub file : bench.file new ≡ bench.file old
   pub crash : (image : List ℕ) → bench.leaves new image → bench.leaves old image
-  pub time : Elapses (bench.moment old) (bench.moment new) (bench.since old) (bench.since new) (Sending (bench.leaves new) (bench.sent old) (verdict_bytes due))
+  pub time : Elapses (bench.moment old) (bench.moment new) (bench.since old) (bench.since new) (Sending (bench.leaves new) (bench.sent old) (line_of expected))
   pub later : bench.faults old ≤ bench.faults new
   pub rose : Rose (bench.faults old) (bench.faults new)
   pub last : bench.last_failed new ≡ true
@@ -121,14 +120,14 @@ pub record FailsSending {B : Type 0} (bench : BenchGhosts B) (old new : B) (due 
 -- the verdict on a question was sent, and if there was none, nothing
 abbrev pub SendsFor : {B : Type 0} → BenchGhosts B → B → B → Option Expected → Type 0
 SendsFor bench old new None = new ≡ old
-SendsFor bench old new (Some expected) = SendsVerdict bench old new (due_of expected)
+SendsFor bench old new (Some expected) = SendsVerdict bench old new expected
 
 -- a question whose verdict couldn't be sent
 pub record GivesUnsent {P B : Type 0} (source : Ghosts P) (bench : BenchGhosts B) (old new : Cutter) (before after : P) (at now : B) (columns : List Column)
     (index : IndexView) (history : List Answered) : Type 0 where
   pub expected : Expected
   pub question : GivesQuestion source old new before after columns index history expected
-  pub fails : FailsSending bench at now (due_of expected)
+  pub fails : FailsSending bench at now expected
 
 -- why no verdict was sent: no question was given and no call was made, or the call failed
 abbrev pub IsUnjudged : {P B : Type 0} → Ghosts P → BenchGhosts B → Cutter → Cutter → P → P → B → B → List Column → IndexView → List Answered →

@@ -14,17 +14,17 @@ use crate::simulating::SimulationFault;
 use audit_core::Core;
 use audit_types::{Guard, NoMemory, Shape};
 use bench_core::{Bench, Failed, Source};
-use question_plan::{Due, Planner, verdict_line};
+use question_plan::{Due, Planner};
 use schema_json::Schema;
 use set_index::Index;
 use std::alloc::Global;
 
 // Sends the line of a verdict, in one call.
-fn send_verdict<B: Bench>(bench: &mut B, due: Due) -> Result<(), Failed>
-    ensures sends { OnOk result (SendsVerdict B.Bench bench.old bench.new due) }
-    ensures fails { OnErr result (FailsSending B.Bench bench.old bench.new due) }
+fn send_verdict<B: Bench>(bench: &mut B, expected: &Expected) -> Result<(), Failed>
+    ensures sends { OnOk result (SendsVerdict B.Bench bench.old bench.new expected.now) }
+    ensures fails { OnErr result (FailsSending B.Bench bench.old bench.new expected.now) }
 {
-    bench.send(verdict_line(due))
+    bench.send(expected.line())
 }
 
 // Takes the answer of a line that agrees, if it tells one.
@@ -86,8 +86,7 @@ impl Simulation {
         let Some(expected) = self.next_question(alloc, schema, index, source)? else {
             return Ok(None);
         };
-        let due = expected.due();
-        send_verdict(bench, due)?;
+        send_verdict(bench, &expected)?;
         Ok(Some(expected))
     }
 

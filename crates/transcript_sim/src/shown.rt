@@ -80,7 +80,7 @@ impl Expected {
         match self {
             Expected::Only(reply) if told == *reply => Shown::Agrees(None),
             Expected::Only(_) => Shown::Disagrees,
-            Expected::Answer { take, asked } => {
+            Expected::Answer { take, asked, .. } => {
                 // A set says of itself that its rows are rows of a table.
                 let _ = asked.rows.n();
                 match answer_told(*take, asked.rows.len(), told) {

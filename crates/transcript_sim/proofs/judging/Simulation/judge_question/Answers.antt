@@ -1,11 +1,10 @@
 use Rattle.std.proofs.Common.{rules, ◌≡◌, Option, Result, Ok, Err, IfErr, OnOk, refl, sym, subst, inl, inr}
 use Rattle.std.proofs.lemmas.Result.{IfOk-from_err}
 use Rattle.bench_core.specs.declared.source.Failed.{Failed}
-use Rattle.question_plan.specs.declared.due.Due.{Due}
 use Rattle.transcript_sim.specs.declared.expecting.Expected.{Expected}
 use Rattle.transcript_sim.specs.declared.simulating.SimulationFault.{SimulationFault}
 use Rattle.transcript_sim.specs.declared.simulating.SimulationFault.TheVariants as fault
-use Rattle.transcript_sim.specs.Steps.{AsksNext, FailsSending, IsUnjudged, SendsVerdict}
+use Rattle.transcript_sim.specs.Steps.{AsksNext, IsUnjudged, SendsVerdict}
 use Rattle.transcript_sim.proofs.judging.Simulation.judge_question.Goals as goal
 
 abbrev ended_by : SimulationFault → Result (Option Expected) SimulationFault
@@ -35,9 +34,8 @@ returns g c = record {
       c.in-Some.is c.in_ok-expected.ensures.asks;
   sends =
       let sent : c.send_verdict.result ≡ Ok tt = search rules in
-      subst (λ (due : Due). SendsVerdict g.B.Bench c.args.bench.now c.send_verdict.new.bench due) c.due-due.ensures
-      (subst (λ (r : Result (Unit {0}) Failed). OnOk r (SendsVerdict g.B.Bench c.args.bench.now c.send_verdict.new.bench c.due-due.result)) sent
-      c.send_verdict.ensures.sends);
+      subst (λ (r : Result (Unit {0}) Failed). OnOk r (SendsVerdict g.B.Bench c.args.bench.now c.send_verdict.new.bench c.in-Some.expected)) sent
+      c.send_verdict.ensures.sends;
   unjudged = tt;
   same = c.next_question.ensures.same;
   cuts = c.next_question.ensures.cuts;
@@ -54,13 +52,11 @@ returns-in_err-send_verdict g c = record {
       (λ (o : Option Expected). AsksNext g.P.Source c.args.self.now.lines c.next_question.new.self.lines c.args.source.now c.next_question.new.source
       c.args.schema.now.columns c.args.index.now c.args.self.now.core.history o)
       c.in-Some.is c.in_ok-expected.ensures.asks in
-      let fails =
-      subst (λ (due : Due). FailsSending g.B.Bench c.args.bench.now c.send_verdict.new.bench due) c.due-due.ensures c.in_err-send_verdict.ensures.fails in
       subst
       (λ (r : Result (Option Expected) SimulationFault). IfErr r (IsUnjudged g.P.Source g.B.Bench c.args.self.now.lines c.next_question.new.self.lines
       c.args.source.now c.next_question.new.source c.args.bench.now c.send_verdict.new.bench c.args.schema.now.columns c.args.index.now
       c.args.self.now.core.history))
-      (sym same) (inr (refl, record { expected = c.in-Some.expected; question = question; fails = fails }));
+      (sym same) (inr (refl, record { expected = c.in-Some.expected; question = question; fails = c.in_err-send_verdict.ensures.fails }));
   same = c.next_question.ensures.same;
   cuts = c.next_question.ensures.cuts;
 }
