@@ -10,6 +10,7 @@ use Rattle.audit_types.specs.Column.{Known, Answer, Agrees, IsPossible, IsWellFo
 use Rattle.audit_types.specs.Extremes.{upper_bound, extremes, is_bound, IsConsistent}
 use Rattle.audit_types.specs.Laws.{GreatestIsBoundAndReached}
 use Rattle.audit_types.specs.ListLaws.{all-push}
+use Rattle.audit_types.specs.Limits.{most_width}
 use Rattle.audit_core.specs.PlainColumns.{plain_as}
 use Rattle.max_bounds.specs.Laws.{UpperBoundIsLeast}
 use Rattle.max_bounds.specs.AnswerLaws.{all_at}
@@ -28,7 +29,7 @@ answer_over rows value = record { rows = rows; value = value }
 module _ (known : Known) (rows : List ℕ) (well : IsWellFormed known) (are : AreRows known.n rows) (some : rows ≢ []) (possible : IsPossible known) where
   -- what a column of this kind knows, apart from protected groups
   abbrev knows : Kind → Known
-  knows kind = plain_as kind known.n known.answers []
+  knows kind = plain_as kind known.n known.answers [] most_width
 
   module _ (kind : Kind) (is : known.kind ≡ kind) where
     to_plain : (w : List ℤ) → Agrees known w → Agrees (knows kind) w
