@@ -10,7 +10,6 @@ use Rattle.audit_types.specs.declared.shapes.Shape.{Shape}
 use Rattle.audit_types.specs.ListLaws.{all-get_or}
 use Rattle.audit_types.specs.RowLaws.{rows-again}
 use Rattle.audit_types.specs.Rows.{AreRows, has_row, rows_that}
-use Rattle.audit_types.specs.Limits.{most_width}
 use Rattle.audit_types.specs.PlainLaws.{plain_among}
 use Rattle.audit_types.specs.Widening.{groups_among, protection_among, first_rows}
 use Rattle.audit_types.specs.History.{Protection, Table, Secrets, AreSecrets, IsPlainFor, IsProtected, against_outsiders, entry_of, setting_of}
@@ -37,7 +36,7 @@ whole_groups shape (p ∷ protected) fit =
 
 whole_protection : (shape : Shape) (protected : Protection) → IsPlainFor shape protected → protection_among shape.rows protected ≡ protected
 whole_protection shape protected fit =
-    plain_among shape.rows protected fit.1 ∙ ap (λ groups. against_outsiders groups [] most_width) (whole_groups shape protected.groups fit.0.0) ∙ sym fit.1
+    plain_among shape.rows protected fit.1 ∙ ap (λ groups. against_outsiders groups [] protected.width) (whole_groups shape protected.groups fit.0.0) ∙ sym fit.1
 
 pub whole_table : (table : Table) → AreSecrets table.setting.shape table.secrets → IsPlainFor table.setting.shape table.setting.protected →
     first_rows table.setting.shape.rows table ≡ table
