@@ -29,11 +29,11 @@ CRATES = {
 MOST = {
     "disclosure": 100,
     "decision": 110,
-    "lines and conditions": 385,
-    "formats of files": 210,
+    "lines and conditions": 390,
+    "formats of files": 212,
     "journal and crash": 95,
     "lives": 288,
-    "the promise": 1175,
+    "the promise": 1185,
 }
 
 IMPORT = re.compile(r"(?:ghost )?use (?:Rattle\.)?([\w.]+?)(?:\.\{(.*)\}| as (\w+));?$")

@@ -6,7 +6,7 @@ use Rattle.schema_json.specs.Columns.{Column, Guards, SchemaView}
 use Rattle.schema_json.specs.Reading.{schema_of}
 use Rattle.schema_json.specs.declared.faults.SchemaFault.{SchemaFault}
 use Rattle.schema_json.specs.declared.faults.SchemaFault.TheVariants as schema_fault
-use Rattle.table_load.specs.Cells.{PublicView, TableView}
+use Rattle.table_load.specs.Cells.{PublicView, TableView, whole}
 use Rattle.table_load.specs.Database.{Database, table_in}
 use Rattle.table_load.specs.MeaningLaws.{means_read}
 use Rattle.table_load.specs.Tables.{table_of, public_of}
@@ -96,7 +96,7 @@ pub gives_up_over : (fault : OpenFault) (schema table : List ℕ) (base : Databa
     SchemaCause (open_status fault) (schema_of schema) →
     ((meant : SchemaView) → schema_of schema ≡ Ok meant → TableCause (open_status fault) (table_of meant.columns table)) → GivesUp (open_status fault)
 gives_up_over fault schema table base given schema_cause table_cause =
-    (file_refusal fault).gives_up TableView (record { columns = base.columns; guards = given.guards }) (record { public = base.public; secret = base.secret })
+    (file_refusal fault).gives_up TableView (record { columns = base.columns; guards = given.guards }) (record { public = whole base.public; secret = base.secret })
     (subst (λ (r : Result SchemaView SchemaFault). SchemaCause (open_status fault) r) given.schema_is schema_cause)
     (subst (λ (r : Result TableView TableFault). TableCause (open_status fault) r) (means_read given.table_means) (table_cause (record { columns = base.columns; guards = given.guards }) given.schema_is))
 
@@ -104,6 +104,6 @@ pub gives_up_public : (fault : OpenFault) (schema table : List ℕ) (columns : L
     SchemaCause (open_status fault) (schema_of schema) →
     ((meant : SchemaView) → schema_of schema ≡ Ok meant → TableCause (open_status fault) (public_of meant.columns table)) → GivesUp (open_status fault)
 gives_up_public fault schema table columns index given schema_cause table_cause =
-    (file_refusal fault).gives_up PublicView (record { columns = columns; guards = given.guards }) index.public
+    (file_refusal fault).gives_up PublicView (record { columns = columns; guards = given.guards }) (whole index.public)
     (subst (λ (r : Result SchemaView SchemaFault). SchemaCause (open_status fault) r) given.schema_is schema_cause)
     (subst (λ (r : Result PublicView TableFault). TableCause (open_status fault) r) given.public_is (table_cause (record { columns = columns; guards = given.guards }) given.schema_is))

@@ -15,10 +15,12 @@ use Rattle.set_index.specs.Groups.{Protects, IsFirstBad}
 use Rattle.set_index.specs.Indexed.{IndexView, OneListOfEntries}
 use Rattle.set_index.specs.declared.index.IndexFault.{IndexFault}
 use Rattle.set_index.specs.declared.index.IndexFault.TheVariants as index
+use Rattle.set_index.specs.declared.index.GuardPart.{GuardPart}
+use Rattle.set_index.specs.declared.index.GuardPart.TheVariants as part
 use Rattle.auditor_top.specs.declared.words.Command.{Command}
 use Rattle.auditor_top.specs.declared.words.Command.TheVariants.{Simulate}
 use Rattle.auditor_top.specs.declared.status.Status.{Status}
-use Rattle.auditor_top.specs.declared.status.Status.TheVariants.{BadGroup, NoMemory}
+use Rattle.auditor_top.specs.declared.status.Status.TheVariants.{BadOnly, BadGroup, NoMemory}
 use Rattle.auditor_top.specs.Faults.{index_status}
 use Rattle.auditor_top.specs.Causes.{FaultCounts, FaultCause, WordCause, SchemaCause, TableCause, GroupCause, FileCause, counts}
 use Rattle.auditor_top.specs.Commands.{AreSoundFilesOf, ArePublicFilesOf, opens_store, reads_groups, reads_secrets}
@@ -37,6 +39,7 @@ no_step step is taken none = absurd (true≢false (sym taken ∙ sym (ap step is
 
 -- a run may end so when the groups are made ready
 abbrev EndsGroups : Status → Type 0
+EndsGroups BadOnly = Unit {0}
 EndsGroups (BadGroup place) = Unit {0}
 EndsGroups NoMemory = Unit {0}
 EndsGroups status = ⊥
@@ -53,26 +56,28 @@ record GroupRefusal (fault : IndexFault) : Type 1 where
   pub same : (before : FaultCounts) → FaultCause (index_status fault) before before
 
 group_refusal : (fault : IndexFault) → GroupRefusal fault
-group_refusal (index.BadGroup place) = search rules
+group_refusal (index.Bad part.Only) = search rules
+group_refusal (index.Bad (part.Group place)) = search rules
 group_refusal index.NoMemory = search rules
 
--- the first bad group is reported, and none is if none has a fault
+-- the first part that has a fault is reported, and none is if none has one
 group_cause : (fault : IndexFault) (columns : List Column) (guards : Guards) →
-    ((place : ℕ) → fault ≡ index.BadGroup place → IsFirstBad columns guards place) → GroupCause (index_status fault) columns guards
-group_cause (index.BadGroup place) columns guards bad = bad place refl
+    ((bad : GuardPart) → fault ≡ index.Bad bad → IsFirstBad columns guards bad) → GroupCause (index_status fault) columns guards
+group_cause (index.Bad part.Only) columns guards bad = bad part.Only refl
+group_cause (index.Bad (part.Group place)) columns guards bad = bad (part.Group place) refl
 group_cause index.NoMemory columns guards bad = tt
 
 pub group_gives_up : OneListOfEntries → (fault : IndexFault) (columns : List Column) (public : PublicView) (guards : Guards) (protected : Protection) →
-    Protects columns public guards protected → ((place : ℕ) → fault ≡ index.BadGroup place → IsFirstBad columns guards place) →
+    Protects columns public guards protected → ((bad : GuardPart) → fault ≡ index.Bad bad → IsFirstBad columns guards bad) →
     GivesUp (index_status fault)
-group_gives_up law (index.BadGroup place) columns public guards protected entries bad =
-    absurd (law.bad columns guards place (bad place refl) (law.sound columns public guards protected entries))
+group_gives_up law (index.Bad found) columns public guards protected entries bad =
+    absurd (law.bad columns guards found (bad found refl) (law.sound columns public guards protected entries))
 group_gives_up law index.NoMemory columns public guards protected entries bad = tt
 
 module _ {P B : Type 0} (files : source.Ghosts P) (bench : Ghosts B) (asked : Command) (schema later_schema table later_table : P) (at : B)
     (grouped : reads_groups asked ≡ true) (read : SchemaView) (schema_is : files.told → schema_of (files.left schema) ≡ Ok read)
     (same_schema : files.faults later_schema ≡ files.faults schema) (same_table : files.faults later_table ≡ files.faults table)
-    (fault : IndexFault) (bad : (place : ℕ) → fault ≡ index.BadGroup place → IsFirstBad read.columns read.guards place) where
+    (fault : IndexFault) (bad : (found : GuardPart) → fault ≡ index.Bad found → IsFirstBad read.columns read.guards found) where
   pub groups_refused : (files.told → reads_secrets asked ≡ true → (other : SchemaView) → schema_of (files.left schema) ≡ Ok other →
       IsOk (table_of other.columns (files.left table))) →
       (files.told → asked ≡ Simulate → (other : SchemaView) → schema_of (files.left schema) ≡ Ok other → IsOk (public_of other.columns (files.left table))) →
@@ -106,19 +111,19 @@ module _ {P B : Type 0} (files : source.Ghosts P) (bench : Ghosts B) (asked : Co
       }
 
 pub public_gives_up : OneListOfEntries → (fault : IndexFault) (schema table : List ℕ) (read : SchemaView) (public : PublicView) → schema_of schema ≡ Ok read →
-    public_of read.columns table ≡ Ok public → ((place : ℕ) → fault ≡ index.BadGroup place → IsFirstBad read.columns read.guards place) →
+    public_of read.columns table ≡ Ok public → ((found : GuardPart) → fault ≡ index.Bad found → IsFirstBad read.columns read.guards found) →
     (columns : List Column) × (given : IndexView) × ArePublicFilesOf schema table columns given → GivesUp (index_status fault)
 public_gives_up law fault schema table read public schema_is public_is bad given =
     let view : SchemaView = record { columns = given.0; guards = given.2.guards } in
     let same : read ≡ view = same_ok (schema_of schema) read view schema_is given.2.schema_is in
     group_gives_up law fault given.0 given.1.public given.2.guards given.1.protected given.2.entries
-    (subst (λ (v : SchemaView). (place : ℕ) → fault ≡ index.BadGroup place → IsFirstBad v.columns v.guards place) same bad)
+    (subst (λ (v : SchemaView). (found : GuardPart) → fault ≡ index.Bad found → IsFirstBad v.columns v.guards found) same bad)
 
 pub growth_gives_up : OneListOfEntries → (fault : IndexFault) (schema table : List ℕ) (read : SchemaView) → schema_of schema ≡ Ok read →
-    ((place : ℕ) → fault ≡ index.BadGroup place → IsFirstBad read.columns read.guards place) →
+    ((found : GuardPart) → fault ≡ index.Bad found → IsFirstBad read.columns read.guards found) →
     (base : Database) × AreSoundFilesOf schema table base → GivesUp (index_status fault)
 growth_gives_up law fault schema table read schema_is bad given =
     let view : SchemaView = record { columns = given.0.columns; guards = given.1.files.guards } in
     group_gives_up law fault view.columns given.0.public view.guards given.0.protected given.1.entries
-    (subst (λ (v : SchemaView). (place : ℕ) → fault ≡ index.BadGroup place → IsFirstBad v.columns v.guards place)
+    (subst (λ (v : SchemaView). (found : GuardPart) → fault ≡ index.Bad found → IsFirstBad v.columns v.guards found)
     (same_ok (schema_of schema) read view schema_is given.1.files.schema_is) bad)

@@ -12,7 +12,7 @@ use Rattle.set_index.specs.Indexed.{OneListOfEntries}
 use Rattle.schema_json.specs.Columns.{Column, Guards, SchemaView}
 use Rattle.schema_json.specs.Reading.{schema_of}
 use Rattle.schema_json.specs.declared.faults.SchemaFault.{SchemaFault}
-use Rattle.table_load.specs.Cells.{PublicView, TableView}
+use Rattle.table_load.specs.Cells.{PublicView, TableView, whole}
 use Rattle.table_load.specs.Database.{Database, base_of}
 use Rattle.table_load.specs.MeaningLaws.{means_read}
 use Rattle.table_load.specs.Tables.{table_of}
@@ -39,13 +39,13 @@ same_ok r x y is other = ap (λ s. unwrap_or (result_ok s) x) (sym is ∙ other)
 -- the files mean one schema and one table
 same_files : (schema table : List ℕ) (a b : Database) (first : AreFilesOf schema table a) (second : AreFilesOf schema table b) →
     (◌≡◌ {A = SchemaView} (record { columns = a.columns; guards = first.guards }) (record { columns = b.columns; guards = second.guards })) ×
-    (◌≡◌ {A = TableView} (record { public = a.public; secret = a.secret }) (record { public = b.public; secret = b.secret }))
+    (◌≡◌ {A = TableView} (record { public = whole a.public; secret = a.secret }) (record { public = whole b.public; secret = b.secret }))
 same_files schema table a b first second =
     let one : ◌≡◌ {A = SchemaView} (record { columns = a.columns; guards = first.guards }) (record { columns = b.columns; guards = second.guards }) =
     same_ok (schema_of schema) _ _ first.schema_is second.schema_is in (
       one,
       same_ok (table_of b.columns table) _ _
-          (subst (λ (v : SchemaView). table_of v.columns table ≡ Ok (record { public = a.public; secret = a.secret })) one (means_read first.table_means)) (means_read second.table_means),
+          (subst (λ (v : SchemaView). table_of v.columns table ≡ Ok (record { public = whole a.public; secret = a.secret })) one (means_read first.table_means)) (means_read second.table_means),
     )
 
 -- so they have one secret part
@@ -56,11 +56,15 @@ one_secret schema table a b first second = ap (λ (v : TableView). v.secret) (sa
 pub one_base : OneListOfEntries → (schema table : List ℕ) (a b : Database) → AreSoundFilesOf schema table a → AreSoundFilesOf schema table b → a ≡ b
 one_base law schema table a b first second =
     let same = same_files schema table a b first.files second.files in
+    let own : Protects b.columns a.public second.files.guards a.protected =
+    subst (λ (v : SchemaView). Protects v.columns a.public v.guards a.protected) same.0 first.entries in
+    let part : a.public ≡ b.public = law.part b.columns a.public b.public second.files.guards a.protected b.protected
+    (ap (λ (v : TableView). v.public) same.1) own second.entries in
     let kept : a.protected ≡ b.protected = law.one b.columns b.public second.files.guards a.protected b.protected
-    (subst (λ (v : TableView). Protects b.columns v.public second.files.guards a.protected) same.1
-    (subst (λ (v : SchemaView). Protects v.columns a.public v.guards a.protected) same.0 first.entries)) second.entries in
+    (subst (λ (p : PublicView). Protects b.columns p second.files.guards a.protected) part own) second.entries in
     ap (λ (v : SchemaView). base_of v.columns a.public a.protected a.secret) same.0
-    ∙ ap (λ (v : TableView). base_of b.columns v.public a.protected v.secret) same.1 ∙ ap (λ (p : Protection). base_of b.columns b.public p b.secret) kept
+    ∙ ap (λ (p : PublicView). base_of b.columns p a.protected a.secret) part
+    ∙ ap (λ (v : TableView). base_of b.columns b.public a.protected v.secret) same.1 ∙ ap (λ (p : Protection). base_of b.columns b.public p b.secret) kept
 
 -- the file has a history with these secrets, so that is the one that is served
 pub same_given : OneReading → OneListOfEntries → (schema table file : List ℕ) (seen base : Database) (kept history : List Answered) (gate : ℕ)

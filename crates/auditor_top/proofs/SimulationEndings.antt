@@ -7,7 +7,7 @@ use Rattle.schema_json.specs.Columns.{Column, SchemaView}
 use Rattle.schema_json.specs.Reading.{schema_of}
 use Rattle.set_index.specs.Groups.{Protects}
 use Rattle.set_index.specs.Indexed.{IndexView, OneListOfEntries}
-use Rattle.table_load.specs.Cells.{PublicView}
+use Rattle.table_load.specs.Cells.{PublicView, whole}
 use Rattle.table_load.specs.Tables.{public_of}
 use Rattle.line_wire.specs.Lines.{CountedLine, counted_lines}
 use Rattle.question_plan.specs.Session.{Replied, bytes_of}
@@ -38,11 +38,13 @@ pub same_index : OneListOfEntries → (schema table : List ℕ) (opened columns 
 same_index law schema table opened columns shown index read files =
     let same : ◌≡◌ {A = SchemaView} (record { columns = opened; guards = read.guards }) (record { columns = columns; guards = files.guards }) =
     same_ok (schema_of schema) _ _ read.schema_is files.schema_is in
-    let part : shown.public ≡ index.public = same_ok (public_of columns table) shown.public index.public
-    (subst (λ (v : SchemaView). public_of v.columns table ≡ Ok shown.public) same read.public_is) files.public_is in
+    let all : whole shown.public ≡ whole index.public = same_ok (public_of columns table) (whole shown.public) (whole index.public)
+    (subst (λ (v : SchemaView). public_of v.columns table ≡ Ok (whole shown.public)) same read.public_is) files.public_is in
+    let own : Protects columns shown.public files.guards shown.protected =
+    subst (λ (v : SchemaView). Protects v.columns shown.public v.guards shown.protected) same read.entries in
+    let part : shown.public ≡ index.public = law.part columns shown.public index.public files.guards shown.protected index.protected all own files.entries in
     let kept : shown.protected ≡ index.protected = law.one columns index.public files.guards shown.protected index.protected
-    (subst (λ (p : PublicView). Protects columns p files.guards shown.protected) part
-    (subst (λ (v : SchemaView). Protects v.columns shown.public v.guards shown.protected) same read.entries)) files.entries in (
+    (subst (λ (p : PublicView). Protects columns p files.guards shown.protected) part own) files.entries in (
       ap (λ (v : SchemaView). v.columns) same,
       ap (λ (p : PublicView). index_of p shown.protected) part ∙ ap (λ (l : Protection). index_of index.public l) kept,
     )

@@ -5,7 +5,7 @@ use Rattle.audit_types.specs.History.{IsPlainFor}
 use Rattle.schema_json.specs.Columns.{Column, SchemaView, AreColumns, IsSchema}
 use Rattle.schema_json.specs.Reading.{schema_of}
 use Rattle.schema_json.specs.SecretShape.{shape_of}
-use Rattle.table_load.specs.Cells.{TableView, IsPublic, IsSecret}
+use Rattle.table_load.specs.Cells.{TableView, IsPublic, IsSecret, whole}
 use Rattle.table_load.specs.Database.{Database, IsDatabase}
 use Rattle.table_load.specs.MeaningLaws.{means_read}
 use Rattle.table_load.specs.Tables.{table_of}
@@ -22,7 +22,7 @@ pub record MeaningsFit : Type 0 where
 
 module _ (fit : MeaningsFit) (schema table : List ℕ) (base : Database) (sound : AreSoundFilesOf schema table base) where
   abbrev meant : TableView
-  meant = record { public = base.public; secret = base.secret }
+  meant = record { public = whole base.public; secret = base.secret }
 
   is_schema : IsSchema (record { columns = base.columns; guards = sound.files.guards })
   is_schema = fit.schema schema (record { columns = base.columns; guards = sound.files.guards }) sound.files.schema_is
@@ -33,10 +33,11 @@ module _ (fit : MeaningsFit) (schema table : List ℕ) (base : Database) (sound 
   pub is_database : IsDatabase base
   is_database =
       let shape : base.secret.shape ≡ shape_of base.columns base.public.rows = fit.shape base.columns table meant (means_read sound.files.table_means) in
+      let seen : IsPublic (whole base.public) = fit.public base.columns table meant (means_read sound.files.table_means) in
       record {
         schema = is_schema.columns;
         shape = shape;
         protected = subst (λ (s : Shape). IsPlainFor s base.protected) (sym shape)
             (fit.entries base.columns base.public sound.files.guards base.protected is_schema.columns
-            (fit.public base.columns table meant (means_read sound.files.table_means)) is_schema.guards sound.entries);
+            (record { some = seen.some; at_most = seen.at_most; columns = seen.columns }) is_schema.guards sound.entries);
       }

@@ -10,7 +10,7 @@ use Rattle.set_index.specs.Groups.{AreSound}
 use Rattle.auditor_top.specs.declared.status.Which.{Which}
 use Rattle.auditor_top.specs.declared.status.Which.TheVariants.{Schema, Table, Input}
 use Rattle.auditor_top.specs.declared.status.Status.{Status}
-use Rattle.auditor_top.specs.declared.status.Status.TheVariants.{Done, BadWords, BadSchema, BadTable, SourceFault, BenchFault, InputLimit, Disagrees, BadGroup, SpareFault, NoMemory}
+use Rattle.auditor_top.specs.declared.status.Status.TheVariants.{Done, BadWords, BadSchema, BadTable, SourceFault, BenchFault, InputLimit, Disagrees, BadOnly, BadGroup, SpareFault, NoMemory}
 use Rattle.auditor_top.specs.Causes.{FaultCounts, counts, NeverFall, SchemaCause, TableCause, GroupCause, InputCause}
 use Rattle.auditor_top.specs.Ready.{EndsEarly, GivesUp}
 use Rattle.auditor_top.specs.Stages.{Stage, reading_schema, reading_table, reading_groups, opening_journal, reading_lines, is_short_of, has_passed, reached, Before, Passed}
@@ -100,11 +100,13 @@ EndsLastStep (BadSchema fault) = ⊥
 EndsLastStep (BadTable fault) = ⊥
 EndsLastStep (SourceFault Schema) = ⊥
 EndsLastStep (SourceFault Table) = ⊥
+EndsLastStep BadOnly = ⊥
 EndsLastStep (BadGroup place) = ⊥
 EndsLastStep status = Unit {0}
 
 -- the files were read before, the groups were made ready, and the journal was opened
 pub groups_read : (status : Status) (columns : List Column) (guards : Guards) → EndsLastStep status → AreSound columns guards → GroupCause status columns guards
+groups_read BadOnly columns guards last are = absurd last
 groups_read (BadGroup place) columns guards last are = absurd last
 groups_read status columns guards last are = always_passed reading_groups status are
 
@@ -126,6 +128,7 @@ pub past_journal : (P : Type 0) (status : Status) → EndsLastStep status → Be
 past_journal P BadWords last = absurd last
 past_journal P (BadSchema fault) last = absurd last
 past_journal P (BadTable fault) last = absurd last
+past_journal P BadOnly last = absurd last
 past_journal P (BadGroup place) last = absurd last
 past_journal P (SourceFault Schema) last = absurd last
 past_journal P (SourceFault Table) last = absurd last

@@ -10,14 +10,16 @@ use Rattle.bench_core.specs.declared.bench.Bench.{Ghosts}
 use Rattle.bench_core.specs.declared.source.Source as source
 use Rattle.schema_json.specs.Columns.{Column, SchemaView}
 use Rattle.schema_json.specs.Reading.{schema_of}
-use Rattle.table_load.specs.Cells.{TableView}
+use Rattle.table_load.specs.Cells.{PublicView, TableView, whole}
 use Rattle.table_load.specs.Database.{Database, base_of, secret_table, table_in}
+use Rattle.table_load.specs.Meaning.{MeansTable}
 use Rattle.table_load.specs.MeaningLaws.{read_means}
 use Rattle.table_load.specs.Tables.{table_of}
 use Rattle.set_index.specs.Groups.{Protects, IsFirstBad}
 use Rattle.set_index.specs.Indexed.{OneListOfEntries}
 use Rattle.set_index.specs.declared.index.IndexFault.{IndexFault}
 use Rattle.set_index.specs.declared.index.IndexFault.TheVariants as index
+use Rattle.set_index.specs.declared.index.GuardPart.{GuardPart}
 use Rattle.journal_form.specs.Journal.{StandsFor}
 use Rattle.audit_store.specs.Starting.{StartCause}
 use Rattle.audit_store.specs.Starting as starting
@@ -101,24 +103,31 @@ module _ {P B : Type 0} (files : source.Ghosts P) (bench : Ghosts B) (law : OneL
   grouped : reads_groups asked ≡ true
   grouped = opens_groups asked (opens_too asked opens)
 
-  abbrev seen : Protection → Database
-  seen protected = base_of read.columns meant.public protected meant.secret
+  abbrev seen : PublicView → Protection → Database
+  seen public protected = base_of read.columns public protected meant.secret
 
-  sound_files : files.told → (protected : Protection) → Protects read.columns meant.public read.guards protected →
-      AreSoundFilesOf (files.left schema) (files.left table) (seen protected)
-  sound_files ptold protected entries =
-      record { files = record { guards = read.guards; schema_is = schema_is ptold; table_means = read_means _ _ meant (table_is ptold) }; entries = entries }
+  sound_files : files.told → (public : PublicView) (protected : Protection) → whole public ≡ meant.public → Protects read.columns public read.guards protected →
+      AreSoundFilesOf (files.left schema) (files.left table) (seen public protected)
+  sound_files ptold public protected all entries = record {
+    files = record {
+      guards = read.guards;
+      schema_is = schema_is ptold;
+      table_means = subst (λ (p : PublicView). MeansTable read.columns (files.left table) p meant.secret) (sym all) (read_means _ _ meant (table_is ptold));
+    };
+    entries = entries;
+  }
 
-  pub store_refused : {X : Type 0} (fault : StartFault) (protected : Protection) → Protects read.columns meant.public read.guards protected →
+  pub store_refused : {X : Type 0} (fault : StartFault) (public : PublicView) (protected : Protection) → whole public ≡ meant.public →
+      Protects read.columns public read.guards protected →
       (bench.told → StartCause fault (bench.file at) (secret_table meant.secret protected) × ((history : List Answered) →
       StandsFor (bench.file at) meant.secret.shape history → IsLegal (secret_table meant.secret protected) history → starting.GivesUp fault)) →
       TellsFault bench at later (IsErrOf {T = X} (Err fault) start.Failed) →
       Refuses files bench asked (start_status fault) schema later_schema table later_table at later
-  store_refused fault protected entries cause tells =
+  store_refused fault public protected all entries cause tells =
       let status = start_status fault in
       let says = start_says fault in
       let last = says.last in
-      let are = λ (ptold : files.told). sound_files ptold protected entries in
+      let are = λ (ptold : files.told). sound_files ptold public protected all entries in
       record {
         words = says.words asked (opens_too asked opens);
         schema = λ ptold reads. schema_so status _ _ _ last (are ptold).files;
@@ -126,12 +135,12 @@ module _ {P B : Type 0} (files : source.Ghosts P) (bench : Ghosts B) (law : OneL
         public = λ ptold is. not_public asked (opens_too asked opens) is;
         groups = λ ptold reads. groups_so law status _ _ _ last (are ptold);
         file = λ ptold told base given sound.
-            let one = one_base law _ _ (seen protected) base (are ptold) (record {
+            let one = one_base law _ _ (seen public protected) base (are ptold) (record {
               files = given;
               entries = subst (λ (b : Bool). OnTrue b (Protects base.columns base.public given.guards base.protected)) grouped sound;
             }) in
             subst (λ (b : Database). FileCause status asked (bench.file at) (table_in b)) one
-            (says.file asked (bench.file at) (table_in (seen protected)) (refused_so fault asked _ _ opens (cause told).0));
+            (says.file asked (bench.file at) (table_in (seen public protected)) (refused_so fault asked _ _ opens (cause told).0));
         own_schema_fault = no_schema_fault status last;
         own_table_fault = no_table_fault status last;
         schema_within = λ ptold. schema_was_read status last;
@@ -139,7 +148,7 @@ module _ {P B : Type 0} (files : source.Ghosts P) (bench : Ghosts B) (law : OneL
         early = says.early;
         gives_up = λ ptold told given.
             let all = given_history asked _ _ _ opens given in
-            let one = sym (one_base law _ _ (seen protected) all.0 (are ptold) all.2.files) in
+            let one = sym (one_base law _ _ (seen public protected) all.0 (are ptold) all.2.files) in
             says.gives_up ((cause (told opens)).1 all.1 (subst (λ (b : Database). StandsFor (bench.file at) b.secret.shape all.1) one all.2.stands)
             (subst (λ (b : Database). IsLegal (table_in b) all.1) one all.2.legal));
         faults = λ input spare.
@@ -164,16 +173,16 @@ pub not_started : {P B X : Type 0} (files : source.Ghosts P) (bench : Ghosts B) 
     (schema later_schema table later_table : P) (at later : B) (opens : opens_store asked ≡ true) (read : SchemaView) (meant : TableView)
     (schema_is : files.told → schema_of (files.left schema) ≡ Ok read) (table_is : files.told → table_of read.columns (files.left table) ≡ Ok meant)
     (same_schema : files.faults later_schema ≡ files.faults schema) (same_table : files.faults later_table ≡ files.faults table) (fault : NotStarted) →
-    ((place : ℕ) → ◌≡◌ {A = Result X NotStarted} (Err fault) (Err (began.Groups (index.BadGroup place))) → IsFirstBad read.columns read.guards place) →
-    ((f : StartFault) → ◌≡◌ {A = Result X NotStarted} (Err fault) (Err (began.Journal f)) → (protected : Protection) ×
-    Protects read.columns meant.public read.guards protected × (bench.told → StartCause f (bench.file at) (secret_table meant.secret protected) ×
+    ((found : GuardPart) → ◌≡◌ {A = Result X NotStarted} (Err fault) (Err (began.Groups (index.Bad found))) → IsFirstBad read.columns read.guards found) →
+    ((f : StartFault) → ◌≡◌ {A = Result X NotStarted} (Err fault) (Err (began.Journal f)) → (public : PublicView) × (protected : Protection) ×
+    (whole public ≡ meant.public) × Protects read.columns public read.guards protected × (bench.told → StartCause f (bench.file at) (secret_table meant.secret protected) ×
     ((history : List Answered) → StandsFor (bench.file at) meant.secret.shape history → IsLegal (secret_table meant.secret protected) history →
     starting.GivesUp f))) → TellsFault bench at later (IsErrOf {T = X} (Err fault) (began.Journal start.Failed)) →
     ((f : IndexFault) → ◌≡◌ {A = Result X NotStarted} (Err fault) (Err (began.Groups f)) → later ≡ at) →
     Refuses files bench asked (started_status fault) schema later_schema table later_table at later
 not_started {P} {B} {X} files bench law asked schema later_schema table later_table at later opens read meant schema_is table_is same_schema same_table
     (began.Groups f) bad cause tells uncalled =
-    let first = λ (place : ℕ) (is : f ≡ index.BadGroup place). bad place (ap (λ (g : IndexFault). Err (began.Groups g)) is) in
+    let first = λ (found : GuardPart) (is : f ≡ index.Bad found). bad found (ap (λ (g : IndexFault). Err (began.Groups g)) is) in
     subst (λ b. Refuses files bench asked (index_status f) schema later_schema table later_table at b) (sym (uncalled f refl))
     (groups_refused files bench asked schema later_schema table later_table at (opens_groups asked (opens_too asked opens)) read schema_is same_schema same_table f first
     (λ ptold reads other is. table_is_ok (λ (cs : List Column). table_of cs (files.left table)) (files.left schema) read other meant (schema_is ptold)
@@ -183,13 +192,13 @@ not_started {P} {B} {X} files bench law asked schema later_schema table later_ta
     let all = given_history asked _ _ _ opens given in
     let view : SchemaView = record { columns = all.0.columns; guards = all.2.files.files.guards } in
     group_gives_up law f all.0.columns all.0.public view.guards all.0.protected all.2.files.entries
-    (subst (λ (v : SchemaView). (place : ℕ) → f ≡ index.BadGroup place → IsFirstBad v.columns v.guards place)
+    (subst (λ (v : SchemaView). (found : GuardPart) → f ≡ index.Bad found → IsFirstBad v.columns v.guards found)
     (same_ok (schema_of (files.left schema)) read view (schema_is ptold) all.2.files.files.schema_is) first)))
 not_started {P} {B} {X} files bench law asked schema later_schema table later_table at later opens read meant schema_is table_is same_schema same_table
     (began.Journal f) bad cause tells uncalled =
     let all = cause f refl in
     store_refused files bench law asked schema later_schema table later_table at later opens read meant schema_is table_is same_schema same_table {X = X} f all.0
-    all.1 all.2 (record {
+    all.1 all.2 all.3 all.4 (record {
       later = tells.later;
       failed = λ is. tells.failed (same_start f is);
       last_call = λ is. tells.last_call (same_start f is);

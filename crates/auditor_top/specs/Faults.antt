@@ -16,6 +16,7 @@ use Rattle.audit_store.specs.declared.starting.StartFault.{StartFault}
 use Rattle.audit_store.specs.declared.starting.StartFault.TheVariants as start
 use Rattle.set_index.specs.declared.index.IndexFault.{IndexFault}
 use Rattle.set_index.specs.declared.index.IndexFault.TheVariants as index
+use Rattle.set_index.specs.declared.index.GuardPart.TheVariants as part
 use Rattle.certificate_lines.specs.declared.explaining.ExplainFault.{ExplainFault}
 use Rattle.certificate_lines.specs.declared.explaining.ExplainFault.TheVariants as explain
 use Rattle.journal_audit.specs.declared.faults.AuditFault.{AuditFault}
@@ -31,7 +32,7 @@ use Rattle.auditor_top.specs.declared.starting.NotStarted.{NotStarted}
 use Rattle.auditor_top.specs.declared.starting.NotStarted.TheVariants as starting
 use Rattle.auditor_top.specs.declared.status.Which.TheVariants.{Schema, Table, Input}
 use Rattle.auditor_top.specs.declared.status.Status.{Status}
-use Rattle.auditor_top.specs.declared.status.Status.TheVariants.{Done, BadSchema, BadTable, SourceFault, BenchFault, NotMade, AlreadyThere, Damaged, OtherShape, NothingNew, Untrue, Illegal, InputLimit, Disagrees, BadGroup, SpareThere, SpareFault, BadSpare, TwinsDiffer, NothingLost, NoMemory}
+use Rattle.auditor_top.specs.declared.status.Status.TheVariants.{Done, BadSchema, BadTable, SourceFault, BenchFault, NotMade, AlreadyThere, Damaged, OtherShape, NothingNew, Untrue, Illegal, InputLimit, Disagrees, BadOnly, BadGroup, SpareThere, SpareFault, BadSpare, TwinsDiffer, NothingLost, NoMemory}
 
 -- of opening the files
 abbrev pub open_status : OpenFault → Status
@@ -44,7 +45,8 @@ open_status (opening.Table (file.Bad fault)) = BadTable fault
 
 -- of making the groups ready
 abbrev pub index_status : IndexFault → Status
-index_status (index.BadGroup place) = BadGroup place
+index_status (index.Bad part.Only) = BadOnly
+index_status (index.Bad (part.Group place)) = BadGroup place
 index_status index.NoMemory = NoMemory
 
 -- of making a journal

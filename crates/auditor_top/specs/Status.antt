@@ -8,7 +8,7 @@ use Rattle.table_load.specs.declared.faults.TableFault.TheVariants as fault
 use Rattle.question_plan.specs.Dues.{word_of}
 use Rattle.auditor_top.specs.declared.status.Which.TheVariants.{Schema, Table, Input}
 use Rattle.auditor_top.specs.declared.status.Status.{Status}
-use Rattle.auditor_top.specs.declared.status.Status.TheVariants.{Done, BadWords, BadSchema, BadTable, SourceFault, BenchFault, NotMade, AlreadyThere, Damaged, OtherShape, NothingNew, Untrue, Illegal, InputLimit, Disagrees, BadGroup, SpareThere, SpareFault, BadSpare, TwinsDiffer, NothingLost, NoMemory}
+use Rattle.auditor_top.specs.declared.status.Status.TheVariants.{Done, BadWords, BadSchema, BadTable, SourceFault, BenchFault, NotMade, AlreadyThere, Damaged, OtherShape, NothingNew, Untrue, Illegal, InputLimit, Disagrees, BadOnly, BadGroup, SpareThere, SpareFault, BadSpare, TwinsDiffer, NothingLost, NoMemory}
 use Rattle.auditor_top.specs.Faults.{start_status}
 
 -- the exit status of the program
@@ -28,6 +28,7 @@ status_code (Illegal place group) = 12
 status_code InputLimit = 13
 status_code (Disagrees line due) = 14
 status_code NoMemory = 15
+status_code BadOnly = 16
 status_code (BadGroup place) = 16
 status_code (NothingNew rows) = 17
 status_code SpareThere = 18
@@ -80,6 +81,7 @@ words_of (Untrue place kept now) = codes ""
 words_of (Illegal place group) = codes ""
 words_of InputLimit = codes "input is too long"
 words_of (Disagrees line due) = codes ""
+words_of BadOnly = codes "schema: only is bad"
 words_of (BadGroup place) = codes ""
 words_of SpareThere = codes "spare is already there"
 words_of SpareFault = codes "spare failed"

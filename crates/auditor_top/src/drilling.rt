@@ -161,7 +161,7 @@ fn answer_table(
         Ok(index) => index,
         Err(fault) => match fault {
             IndexFault::NoMemory => return Err(NoMemory),
-            IndexFault::BadGroup { .. } => unreachable!(),
+            IndexFault::Bad { .. } => unreachable!(),
         },
     };
     answer_lines(alloc, number, schema, &index, secret, bench)?;

@@ -9,7 +9,7 @@ use audit_session::{EndFault, TwinEnd};
 use audit_store::{GrowFault, StartFault};
 use certificate_lines::ExplainFault;
 use journal_audit::AuditFault;
-use set_index::IndexFault;
+use set_index::{GuardPart, IndexFault};
 use transcript_sim::SimulationFault;
 use twin_journal::{RestoreFault, TwinFault};
 
@@ -40,7 +40,10 @@ impl From<IndexFault> for Status {
 
     fn from(fault: IndexFault) -> Status {
         match fault {
-            IndexFault::BadGroup { place } => Status::BadGroup { place },
+            IndexFault::Bad { part } => match part {
+                GuardPart::Only => Status::BadOnly,
+                GuardPart::Group { place } => Status::BadGroup { place },
+            },
             IndexFault::NoMemory => Status::NoMemory,
         }
     }

@@ -4,12 +4,13 @@ ghost use Rattle.audit_types.specs.declared.records.Answered.{Answered};
 ghost use Rattle.audit_types.specs.History.{Protection, IsLegal, IsPlainFor};
 ghost use Rattle.bench_core.specs.Calls.{OnlyReads, TellsFault};
 ghost use Rattle.schema_json.specs.SecretShape.{shape_of};
-ghost use Rattle.table_load.specs.Cells.{FitsSchema};
+ghost use Rattle.table_load.specs.Cells.{FitsSchema, PublicView, whole};
 ghost use Rattle.table_load.specs.Database.{secret_table};
 ghost use Rattle.journal_form.specs.Journal.{StandsFor};
 ghost use Rattle.audit_store.specs.Starting.{StartCause, GivesUp};
 ghost use Rattle.audit_store.specs.Stores.{IsStore, IsAsLeft};
 ghost use Rattle.set_index.specs.Groups.{Protects, IsFirstBad};
+ghost use Rattle.set_index.specs.declared.index.GuardPart.{GuardPart};
 ghost use Rattle.set_index.specs.declared.index.IndexFault.{IndexFault};
 ghost use Rattle.audit_store.specs.declared.starting.StartFault.{StartFault};
 
@@ -51,11 +52,11 @@ pub enum NotStarted {
 /// Makes the groups of a table's schema ready.
 pub fn make_ready(alloc: Global, opened: Opened) -> Result<ReadyTable, IndexFault>
     requires fits { FitsSchema opened.schema.columns opened.table.public }
-    ensures same { IfOk result (λ made. (made.schema ≡ opened.schema) × (made.index.public ≡ opened.table.public) × (made.secret ≡ opened.table.secret)
+    ensures same { IfOk result (λ made. (made.schema ≡ opened.schema) × (whole made.index.public ≡ opened.table.public) × (made.secret ≡ opened.table.secret)
         × (made.index.protected ≡ made.protected)) }
-    ensures fit { IfOk result (λ made. IsPlainFor (shape_of opened.schema.columns opened.table.public.rows) made.protected) }
-    ensures entries { IfOk result (λ made. Protects opened.schema.columns opened.table.public opened.schema.guards made.protected) }
-    ensures bad { (place : ℕ) → result ≡ Err (IndexFault.BadGroup place) → IsFirstBad opened.schema.columns opened.schema.guards place }
+    ensures fit { IfOk result (λ made. IsPlainFor (shape_of opened.schema.columns made.index.public.rows) made.protected) }
+    ensures entries { IfOk result (λ made. Protects opened.schema.columns made.index.public opened.schema.guards made.protected) }
+    ensures bad { (part : GuardPart) → result ≡ Err (IndexFault.Bad part) → IsFirstBad opened.schema.columns opened.schema.guards part }
 {
     let Opened { schema, table } = opened;
     let Table { public, secret } = table;
@@ -79,16 +80,16 @@ pub fn start<B: Bench>(alloc: Global, opened: Opened, bench: &mut B) -> Result<S
     requires fits { FitsSchema opened.schema.columns opened.table.public }
     requires shape { opened.table.secret.shape ≡ shape_of opened.schema.columns opened.table.public.rows }
 
-    ensures same { IfOk result (λ started. (started.schema ≡ opened.schema) × (started.index.public ≡ opened.table.public) × (started.store.secret ≡ opened.table.secret)
+    ensures same { IfOk result (λ started. (started.schema ≡ opened.schema) × (whole started.index.public ≡ opened.table.public) × (started.store.secret ≡ opened.table.secret)
         × (started.index.protected ≡ started.store.protected)) }
-    ensures entries { IfOk result (λ started. Protects opened.schema.columns opened.table.public opened.schema.guards started.store.protected) }
+    ensures entries { IfOk result (λ started. Protects opened.schema.columns started.index.public opened.schema.guards started.store.protected) }
     ensures store { IfOk result (λ started. (started.store.usable ≡ true) × IsStore started.store) }
     ensures stands { B.told → IfOk result (λ started. IsAsLeft (B.file bench.old) started.store) }
 
-    // A refusal has its cause in the groups, or over groups without fault in the file; a legal history isn't refused.
-    ensures bad { (place : ℕ) → result ≡ Err (NotStarted.Groups (IndexFault.BadGroup place)) → IsFirstBad opened.schema.columns opened.schema.guards place }
-    ensures cause { (fault : StartFault) → result ≡ Err (NotStarted.Journal fault) → (protected : Protection)
-        × Protects opened.schema.columns opened.table.public opened.schema.guards protected
+    // A refusal has its cause in what the schema says is guarded, or over that without fault in the file; a legal history isn't refused.
+    ensures bad { (part : GuardPart) → result ≡ Err (NotStarted.Groups (IndexFault.Bad part)) → IsFirstBad opened.schema.columns opened.schema.guards part }
+    ensures cause { (fault : StartFault) → result ≡ Err (NotStarted.Journal fault) → (public : PublicView) × (protected : Protection)
+        × (whole public ≡ opened.table.public) × Protects opened.schema.columns public opened.schema.guards protected
         × (B.told → StartCause fault (B.file bench.old) (secret_table opened.table.secret protected)
         × ((history : List Answered) → StandsFor (B.file bench.old) opened.table.secret.shape history → IsLegal (secret_table opened.table.secret protected) history → GivesUp fault)) }
 

@@ -51,6 +51,8 @@ pub enum Status {
     InputLimit,
     /// The line of the transcript, from 1, that is the first reply which doesn't agree, and the verdict on its question.
     Disagrees { line: u64, due: Due },
+    /// The schema's `only` isn't a condition.
+    BadOnly,
     /// The first group of the schema, from 0, whose column isn't one of sums, or whose condition is none.
     BadGroup { place: u8 },
     /// There is a made journal on the spare.
@@ -111,6 +113,7 @@ fn words_of(status: &Status) -> &'static str
         Status::InputLimit => "input is too long",
         Status::SpareThere => "spare is already there",
         Status::SpareFault => "spare failed",
+        Status::BadOnly => "schema: only is bad",
         Status::NothingLost => "no journal is lost",
         Status::NoMemory => "out of memory",
         Status::Done
@@ -216,7 +219,7 @@ pub fn status_code(status: &Status) -> u8
         Status::Illegal { .. } => 12,
         Status::InputLimit => 13,
         Status::Disagrees { .. } => 14,
-        Status::BadGroup { .. } => 16,
+        Status::BadOnly | Status::BadGroup { .. } => 16,
         Status::NothingNew { .. } => 17,
         Status::SpareThere => 18,
         Status::SpareFault => 19,

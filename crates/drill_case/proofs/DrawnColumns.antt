@@ -1,10 +1,10 @@
 -- The numbers of a drill's columns, row by row, and that they are those of a table.
-use Rattle.std.proofs.Common.{◌≡◌, ℕ, zero, suc, ◌+◌, ◌*◌, ◌≤◌, ◌<◌, ◌%◌, ℤ, pos, true, not, List, [], ◌∷◌, ◌++◌, length, map, Vec, Global, IfOk, Result, Ok, Err, refl, sym, ap, ◌∙◌, subst, arith}
+use Rattle.std.proofs.Common.{◌≡◌, ℕ, zero, suc, ◌+◌, ◌*◌, ◌≤◌, ◌<◌, ◌%◌, ℤ, pos, true, not, List, [], ◌∷◌, ◌++◌, length, map, Vec, Global, IfOk, Result, Ok, Err, None, refl, sym, ap, ◌∙◌, subst, arith}
 use Rattle.std.specs.List.{AllByRecursion, range_with_len}
 use Rattle.std.proofs.lemmas.Bool.{le-ltb}
 use Rattle.std.proofs.lemmas.List.FromFn.{length-map-range_with_len, map-range_with_len_more}
 use Rattle.schema_json.specs.Columns.{Column}
-use Rattle.table_load.specs.Cells.{AreLists, AreNumbers, FitsSchema, PublicView, first_list, numbered}
+use Rattle.table_load.specs.Cells.{AreLists, AreNumbers, FitsSchema, PublicView, first_list, numbered, whole}
 use Rattle.table_load.specs.Numerals.{in_range}
 use Rattle.drill_case.specs.Draws.{draw}
 use Rattle.drill_case.specs.Tables.{drill_rows, drill_columns, drill_public, drawn, bands, ages, pays, bests}
@@ -83,11 +83,12 @@ secrets_fit number rows lists are =
 -- the public part with these lists is that of the drill
 pub public_part : {E : Type 0} (number : ℕ) (columns : List Column) (lists : List (List ℤ)) (part : Result PublicView E)
     → columns ≡ drill_columns → lists ≡ bands number drill_rows ∷ ages number drill_rows ∷ [] → IfOk part (λ p. p.rows ≡ length (first_list lists))
-    → IfOk part (λ p. p.columns ≡ numbered columns lists) → IfOk part (λ p. FitsSchema columns p)
+    → IfOk part (λ p. p.columns ≡ numbered columns lists) → IfOk part (λ p. whole p ≡ p) → IfOk part (λ p. FitsSchema columns p)
     → IfOk part (λ p. (p ≡ drill_public number) × FitsSchema drill_columns p)
-public_part number columns lists (Err fault) schema are long cells fits = tt
-public_part number columns lists (Ok part) schema are long cells fits =
+public_part number columns lists (Err fault) schema are long cells all fits = tt
+public_part number columns lists (Ok part) schema are long cells all fits =
     let counted : part.rows ≡ drill_rows =
     long ∙ ap (λ ls. length (first_list ls)) are ∙ length-map-range_with_len (λ row. pos (draw number (4 * row + 0) % 8)) 0 drill_rows in
     let held : part.columns ≡ numbered drill_columns (bands number drill_rows ∷ ages number drill_rows ∷ []) = cells ∙ (λ i. numbered (schema i) (are i)) in
-    ((λ i. record { rows = counted i; columns = held i }), subst (λ (cs : List Column). FitsSchema cs part) schema fits)
+    let none : part.only ≡ None = ap (λ (p : PublicView). p.only) (sym all) in
+    ((λ i. record { rows = counted i; columns = held i; only = none i }), subst (λ (cs : List Column). FitsSchema cs part) schema fits)

@@ -1,5 +1,5 @@
 -- The table of a drill: four draws for each row.
-use Rattle.std.specs.Prelude.{ℕ, ◌+◌, ◌*◌, ◌%◌, ℤ, pos, List, [], ◌∷◌, map, codes}
+use Rattle.std.specs.Prelude.{ℕ, ◌+◌, ◌*◌, ◌%◌, ℤ, pos, List, [], ◌∷◌, map, None, codes}
 use Rattle.std.specs.List.{range_with_len}
 use Rattle.schema_json.specs.Columns.{Column}
 use Rattle.schema_json.specs.declared.roles.Role.TheVariants.{Number, Sum, Max}
@@ -38,7 +38,7 @@ bests number = drawn number 3 (λ d. d % 1000)
 -- ---- the table
 
 abbrev pub drill_public : ℕ → PublicView
-drill_public number = record { rows = drill_rows; columns = numbers (bands number drill_rows) ∷ numbers (ages number drill_rows) ∷ hidden ∷ hidden ∷ [] }
+drill_public number = record { rows = drill_rows; columns = numbers (bands number drill_rows) ∷ numbers (ages number drill_rows) ∷ hidden ∷ hidden ∷ []; only = None }
 
 abbrev pub drill_secret : ℕ → SecretView
 drill_secret number = record { shape = shape_of drill_columns drill_rows; lists = pays number drill_rows ∷ bests number drill_rows ∷ [] }

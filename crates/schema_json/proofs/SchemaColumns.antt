@@ -4,7 +4,7 @@ use Rattle.std.specs.Prelude.{if◌then◌else◌, option_and_then, option_map, 
 use Rattle.std.proofs.lemmas.Bool.{leb-true, ltb-false, true≢false}
 use Rattle.audit_types.specs.Limits.{most_groups, most_width}
 use Rattle.serde_json.specs.Data.{Data}
-use Rattle.serde_json.specs.Find.{get, as_number, as_u64}
+use Rattle.serde_json.specs.Find.{get, as_number, as_str, as_u64}
 use Rattle.schema_json.specs.Columns.{Column, Group, Guards, SchemaView, IsSchema, has_public, has_good_names, repeats, too_many}
 use Rattle.schema_json.specs.Reading.{value_of, columns_of, column_of, groups_in, guards_of, has_these_keys, key_or, number_within, each_as, items_at, listed_of, made_of, with_public, schema_of, checked, most_schema}
 use Rattle.schema_json.specs.declared.faults.SchemaFault.{SchemaFault}
@@ -72,14 +72,17 @@ number_read low high absent (Some d) n above below is = read (option_and_then as
 -- what a value says is guarded has a width that may be
 width_of : (d : Data) (guards : Guards) → guards_of d ≡ Some guards → IsWidth guards.width
 unfolding guards_of
-width_of d guards is = by (has_these_keys d) (key_or [] groups_in (codes "protect") d) (key_or most_width (number_within 1 most_width) (codes "width") d) refl is
+width_of d guards is =
+    by (has_these_keys d) (key_or None (λ v. option_map Some (as_str v)) (codes "only") d) (key_or [] groups_in (codes "protect") d) (key_or most_width (number_within 1 most_width) (codes "width") d) refl is
   where
-    by : (keys : Bool) (groups : Option (List Group)) (width : Option ℕ) → key_or most_width (number_within 1 most_width) (codes "width") d ≡ width →
-        (if keys then made_of (λ groups width. record { groups = groups; width = width }) groups width else None) ≡ Some guards → IsWidth guards.width
-    by false groups width w e = absurd (cc)
-    by true None width w e = absurd (cc)
-    by true (Some groups) None w e = absurd (cc)
-    by true (Some groups) (Some width) w e =
+    by : (keys : Bool) (only : Option (Option (List ℕ))) (groups : Option (List Group)) (width : Option ℕ) → key_or most_width (number_within 1 most_width) (codes "width") d ≡ width →
+        (if keys then made_of (λ (make : ℕ → Guards) width. make width) (made_of (λ only groups width. record { only = only; groups = groups; width = width }) only groups) width else None) ≡ Some guards →
+        IsWidth guards.width
+    by false only groups width w e = absurd (cc)
+    by true None groups width w e = absurd (cc)
+    by true (Some only) None width w e = absurd (cc)
+    by true (Some only) (Some groups) None w e = absurd (cc)
+    by true (Some only) (Some groups) (Some width) w e =
         let same : width ≡ guards.width = cc in
         subst IsWidth same (number_read 1 most_width most_width (get (codes "width") d) width (omega arith) (omega arith) w)
 

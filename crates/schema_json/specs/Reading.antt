@@ -77,13 +77,15 @@ has_key key d = cond (is_some (get key d)) 1 0
 
 -- an object has no keys but `columns` and those that say what is guarded
 abbrev pub has_these_keys : Data → Bool
-has_these_keys d = key_count d == 1 + has_key (codes "protect") d + has_key (codes "width") d
+has_these_keys d = key_count d == 1 + has_key (codes "only") d + has_key (codes "protect") d + has_key (codes "width") d
 
--- what an object says is guarded: no groups unless it has the key `protect`, and the greatest width unless it has `width`
+-- what an object says is guarded: no condition unless it has the key `only`, no groups unless it has `protect`, and the greatest width unless
+-- it has `width`
 unfoldable pub guards_of : Data → Option Guards
 guards_of d =
-    if has_these_keys d then made_of (λ groups width. record { groups = groups; width = width }) (key_or [] groups_in (codes "protect") d)
-    (key_or most_width (number_within 1 most_width) (codes "width") d) else None
+    if has_these_keys d then made_of (λ (make : ℕ → Guards) width. make width)
+    (made_of (λ only groups width. record { only = only; groups = groups; width = width }) (key_or None (λ v. option_map Some (as_str v)) (codes "only") d)
+    (key_or [] groups_in (codes "protect") d)) (key_or most_width (number_within 1 most_width) (codes "width") d) else None
 
 -- what a value lists: columns, and what is guarded
 abbrev pub listed_of : Data → Option SchemaView

@@ -7,11 +7,11 @@ use Rattle.std.proofs.lemmas.List.{take_more, get_or-take, length-take}
 use Rattle.std.proofs.lemmas.Option.{slice_get-get_or}
 use Rattle.audit_types.specs.declared.records.Protected.{Protected}
 use Rattle.audit_types.specs.History.{entry_of}
-use Rattle.schema_json.specs.Columns.{Column, Group, Guards}
+use Rattle.schema_json.specs.Columns.{Column, Group}
 use Rattle.table_load.specs.Cells.{PublicView}
 use Rattle.predicate_lang.specs.Trees.{Tree}
 use Rattle.set_index.specs.Asked.{meaning}
-use Rattle.set_index.specs.Groups.{AreEntries, IsGroup, HasNoFault, IsFirstBad}
+use Rattle.set_index.specs.Groups.{AreEntries, IsGroup, HasNoFault, IsFirstBadGroup}
 
 -- what was pushed stands last
 pub pushed : {T E : Type 0} (result : Result (Unit {0}) E) (old new : List T) (value : T) → is_err result ≡ false
@@ -74,14 +74,12 @@ entries_sound columns public from (g ∷ gs) protected (c, u, rest, was, before,
 entries_sound columns public from (g ∷ gs) protected (c, u, rest, was, before, more) (suc i) group is = entries_sound columns public (from + 1) gs rest more i group is
 
 -- a fault after groups that have entries is the first
-pub first_bad : (columns : List Column) (public : PublicView) (guards : Guards) (place at : ℕ) (protected : List Protected) → place < length guards.groups →
-    AreEntries columns public 0 (take place guards.groups) protected → at ≡ place → ((group : Group) → slice_get guards.groups place ≡ Some group → ¬ (HasNoFault columns group)) →
-    IsFirstBad columns guards at
-first_bad columns public guards place at protected low entries same bad =
-    let groups = guards.groups in
+pub first_bad : (columns : List Column) (public : PublicView) (groups : List Group) (place : ℕ) (protected : List Protected) → place < length groups →
+    AreEntries columns public 0 (take place groups) protected → ((group : Group) → slice_get groups place ≡ Some group → ¬ (HasNoFault columns group)) →
+    IsFirstBadGroup columns groups place
+first_bad columns public groups place protected low entries bad =
     let d : Group = record { column = []; condition = [] } in
-    let stands = slice_get-get_or groups place d low in
-    subst (IsFirstBad columns guards) (sym same) (record {
+    let stands = slice_get-get_or groups place d low in record {
       at = get_or groups place d;
       stands = stands;
       bad = bad (get_or groups place d) stands;
@@ -91,4 +89,4 @@ first_bad columns public guards place at protected low entries same bad =
           let one : get_or (take place groups) i group ≡ get_or groups i group = get_or-take place groups i group below in
           let all : slice_get groups i ≡ Some (get_or groups i group) = slice_get-get_or groups i group (omega (arith, below, low)) in
           entries_sound columns public 0 (take place groups) protected entries i group (there ∙ ap Some one ∙ sym all ∙ is);
-    })
+    }

@@ -14,11 +14,13 @@ use Rattle.audit_types.specs.declared.shapes.Kind.TheVariants as kind
 use Rattle.schema_json.specs.Columns.{Column, Group, Guards, AreColumns, place_of, role_at, secret_place}
 use Rattle.schema_json.specs.SecretShape.{IsSecretOf, PlacesAreColumns, role_of_kind, shape_of}
 use Rattle.schema_json.specs.declared.roles.Role.TheVariants.{Sum}
-use Rattle.table_load.specs.Cells.{PublicView}
+use Rattle.table_load.specs.Cells.{PublicView, whole}
 use Rattle.predicate_lang.specs.Laws.{OneMeaning}
 use Rattle.predicate_lang.specs.Trees.{Tree}
 use Rattle.set_index.specs.Asked.{meaning}
-use Rattle.set_index.specs.Groups.{AreEntries, Protects, AreSound, HasNoFault, IsGroup}
+use Rattle.set_index.specs.declared.index.GuardPart.{GuardPart}
+use Rattle.set_index.specs.declared.index.GuardPart.TheVariants as part
+use Rattle.set_index.specs.Groups.{AreEntries, Protects, AreSound, HasNoFault, IsFirstBad, IsGroup, IsSoundOnly, AsksOnly}
 use Rattle.set_index.specs.Indexed.{EntriesFit, OneListOfEntries}
 use Rattle.set_index.proofs.Entries.{entries_sound}
 
@@ -48,22 +50,57 @@ some_list columns public from (g ∷ gs) sound = by (sound 0 g refl) (some_list 
     by : HasNoFault columns g → ((rest : List Protected) × AreEntries columns public (from + 1) gs rest) → (protected : List Protected) × AreEntries columns public from (g ∷ gs) protected
     by (c, t, is) (rest, more) = (entry_of c from public.rows (meaning public t) ++ rest, (c, t, rest, is, refl, more))
 
--- so they protect in one way
+-- the rows that may be asked of are one set
+one_only : OneMeaning → (columns : List Column) (only : Option (List ℕ)) (public other : PublicView) → whole public ≡ whole other →
+    AsksOnly columns only public → AsksOnly columns only other → public.only ≡ other.only
+one_only means columns None public other same first second = first ∙ sym second
+one_only means columns (Some text) public other same (t, short, is, first) (u, few, was, second) =
+    first ∙ ap (λ v. Some (meaning (whole public) v)) (means.tree columns text t u is was) ∙ ap (λ p. Some (meaning p u)) same ∙ sym second
+
+one_part : OneMeaning → (columns : List Column) (public other : PublicView) (guards : Guards) (a b : Protection) → whole public ≡ whole other →
+    Protects columns public guards a → Protects columns other guards b → public ≡ other
+one_part means columns public other guards a b same first second =
+    let only : public.only ≡ other.only = one_only means columns guards.only public other same first.2 second.2 in
+    λ i. record { rows = (same i).rows; columns = (same i).columns; only = only i }
+
+-- there is one if the condition has no fault
+some_part : (columns : List Column) (only : Option (List ℕ)) (public : PublicView) → IsSoundOnly columns only →
+    (asked : PublicView) × (whole asked ≡ whole public) × AsksOnly columns only asked
+some_part columns None public sound = (whole public, refl, refl)
+some_part columns (Some text) public (t, short, is) = (record public { only = Some (meaning (whole public) t) }, refl, (t, short, is, refl))
+
+-- and only then
+pub sound_only : (columns : List Column) (only : Option (List ℕ)) (public : PublicView) → AsksOnly columns only public → IsSoundOnly columns only
+sound_only columns None public asks = tt
+sound_only columns (Some text) public (t, short, is, asks) = (t, short, is)
+
+-- and they protect in one way
 one_way : OneMeaning → (columns : List Column) (public : PublicView) (guards : Guards) (a b : Protection) → Protects columns public guards a → Protects columns public guards b → a ≡ b
 one_way means columns public guards a b first second =
     first.1 ∙ ap (λ entries. against_outsiders entries [] guards.width) (one_list means columns public 0 guards.groups a.groups b.groups first.0 second.0) ∙ sym second.1
 
-some_way : (columns : List Column) (public : PublicView) (guards : Guards) → AreSound columns guards → (protected : Protection) × Protects columns public guards protected
+some_way : (columns : List Column) (public : PublicView) (guards : Guards) → AreSound columns guards →
+    (asked : PublicView) × (protected : Protection) × (whole asked ≡ whole public) × Protects columns asked guards protected
 some_way columns public guards sound =
-    let list = some_list columns public 0 guards.groups sound in
-    (against_outsiders list.0 [] guards.width, (list.1, refl))
+    let part = some_part columns guards.only public sound.only in
+    let list = some_list columns part.0 0 guards.groups sound.groups in
+    (part.0, against_outsiders list.0 [] guards.width, part.1, (list.1, refl, part.2))
+
+-- what has a fault isn't sound
+bad_way : (columns : List Column) (guards : Guards) (bad : GuardPart) → IsFirstBad columns guards bad → ¬ (AreSound columns guards)
+bad_way columns guards part.Only bad sound = bad sound.only
+bad_way columns guards (part.Group place) first sound = first.1.bad (sound.groups place first.1.at first.1.stands)
 
 pub one_list_of_entries : OneMeaning → OneListOfEntries
 one_list_of_entries means = record {
+  part = one_part means;
   one = one_way means;
   some = some_way;
-  sound = λ columns public guards protected are. entries_sound columns public 0 guards.groups protected.groups are.0;
-  bad = λ columns guards place first sound. first.bad (sound place first.at first.stands);
+  sound = λ columns public guards protected are. record {
+    only = sound_only columns guards.only public are.2;
+    groups = entries_sound columns public 0 guards.groups protected.groups are.0;
+  };
+  bad = bad_way;
 }
 
 -- ---- they fit

@@ -1,5 +1,6 @@
 -- Sets of rows that pass tests: combined, they pass the combined test.
 use Rattle.std.proofs.Common.{◌≡◌, ℕ, ◌+◌, ◌<◌, Bool, true, false, ◌&&◌, ◌||◌, not, List, [], ◌∷◌, ◌++◌, length, take, get_or, refl, sym, ap, ◌∙◌}
+use Rattle.std.specs.Prelude.{Option, Some, None, IfSome, option_map}
 use Rattle.std.specs.List.{list_any}
 use Rattle.std.proofs.lemmas.List.{take_more}
 use Rattle.table_load.specs.Cells.{PublicView}
@@ -7,8 +8,8 @@ use Rattle.predicate_lang.specs.Meaning.{compares_cell, satisfies}
 use Rattle.predicate_lang.specs.Trees.{Tree, negation, both, either}
 use Rattle.predicate_lang.specs.declared.trees.Op.TheVariants.{Eq}
 use Rattle.predicate_lang.specs.declared.trees.Literal.{Literal}
-use Rattle.set_index.specs.Asked.{row_at, meaning, meets, meets_any}
-use Rattle.audit_types.specs.Rows.{has_row, rows_that, intersection, union, complement}
+use Rattle.set_index.specs.Asked.{row_at, satisfying, is_asked, meaning, meets, meets_any}
+use Rattle.audit_types.specs.Rows.{Rows, has_row, rows_that, intersection, union, complement}
 use Rattle.audit_types.specs.RowLaws.{rows_that_agree, has-rows_that, rows_that_none}
 
 -- the rows that don't pass
@@ -56,18 +57,34 @@ met_more p place m i ls l old one new inside is same met here added =
 
 -- ---- what the parts mean, the whole means
 
-pub not_meant : (p : PublicView) (t : Tree) (m : ℕ) (old new : List ℕ) → old ≡ meaning p t → m ≡ p.rows → new ≡ complement m old → new ≡ meaning p (negation t)
+pub not_meant : (p : PublicView) (t : Tree) (m : ℕ) (old new : List ℕ) → old ≡ satisfying p t → m ≡ p.rows → new ≡ complement m old → new ≡ satisfying p (negation t)
 not_meant p t m old new meant same flipped =
     flipped ∙ ap (λ n. complement n old) same ∙ ap (complement p.rows) meant ∙ complement_of p.rows (λ r. satisfies (row_at p r) t)
 
-pub both_meant : (p : PublicView) (t u : Tree) (m : ℕ) (left right new : List ℕ) → left ≡ meaning p t → right ≡ meaning p u → m ≡ p.rows →
-    new ≡ intersection m left right → new ≡ meaning p (both t u)
+pub both_meant : (p : PublicView) (t u : Tree) (m : ℕ) (left right new : List ℕ) → left ≡ satisfying p t → right ≡ satisfying p u → m ≡ p.rows →
+    new ≡ intersection m left right → new ≡ satisfying p (both t u)
 both_meant p t u m left right new first second same joined =
-    joined ∙ ap (λ n. intersection n left right) same ∙ ap (λ xs. intersection p.rows xs right) first ∙ ap (intersection p.rows (meaning p t)) second
+    joined ∙ ap (λ n. intersection n left right) same ∙ ap (λ xs. intersection p.rows xs right) first ∙ ap (intersection p.rows (satisfying p t)) second
     ∙ both_of p.rows (λ r. satisfies (row_at p r) t) (λ r. satisfies (row_at p r) u)
 
-pub either_meant : (p : PublicView) (t u : Tree) (m : ℕ) (left right new : List ℕ) → left ≡ meaning p t → right ≡ meaning p u → m ≡ p.rows →
-    new ≡ union m left right → new ≡ meaning p (either t u)
+pub either_meant : (p : PublicView) (t u : Tree) (m : ℕ) (left right new : List ℕ) → left ≡ satisfying p t → right ≡ satisfying p u → m ≡ p.rows →
+    new ≡ union m left right → new ≡ satisfying p (either t u)
 either_meant p t u m left right new first second same joined =
-    joined ∙ ap (λ n. union n left right) same ∙ ap (λ xs. union p.rows xs right) first ∙ ap (union p.rows (meaning p t)) second
+    joined ∙ ap (λ n. union n left right) same ∙ ap (λ xs. union p.rows xs right) first ∙ ap (union p.rows (satisfying p t)) second
     ∙ either_of p.rows (λ r. satisfies (row_at p r) t) (λ r. satisfies (row_at p r) u)
+
+-- of the rows that may be asked of, those that satisfy a condition
+pub only_meant : (p : PublicView) (t : Tree) (m : ℕ) (only rows new : List ℕ) → rows ≡ satisfying p t → m ≡ p.rows → new ≡ intersection m only rows →
+    new ≡ rows_that (λ r. has_row only r && satisfies (row_at p r) t) p.rows
+only_meant p t m only rows new meant same cut =
+    cut ∙ ap (λ n. intersection n only rows) same ∙ ap (intersection p.rows only) meant
+    ∙ rows_that_agree (λ r. has_row only r && has_row (satisfying p t) r) (λ r. has_row only r && satisfies (row_at p r) t) p.rows
+    (λ r low. ap (λ b. has_row only r && b) (has-rows_that (λ q. satisfies (row_at p q) t) p.rows r low))
+
+-- so the rows of a condition are those of a search, of those that may be asked of
+pub asked_meant : (p : PublicView) (t : Tree) (only : Option Rows) (n : ℕ) (rows result : List ℕ) → p.only ≡ option_map (λ set. set.list) only → rows ≡ satisfying p t →
+    n ≡ p.rows → (only ≡ None → result ≡ rows) → IfSome only (λ set. result ≡ intersection n set.list rows) → result ≡ meaning p t
+asked_meant p t None n rows result is meant same all cut =
+    all refl ∙ meant ∙ ap (λ o. rows_that (λ r. is_asked o r && satisfies (row_at p r) t) p.rows) (sym is)
+asked_meant p t (Some set) n rows result is meant same all cut =
+    only_meant p t n set.list rows result meant same cut ∙ ap (λ o. rows_that (λ r. is_asked o r && satisfies (row_at p r) t) p.rows) (sym is)

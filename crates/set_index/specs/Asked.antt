@@ -1,7 +1,7 @@
 -- What a condition means over the public part of a table.
-use Rattle.std.specs.Prelude.{ℕ, Bool, true, false, ◌&&◌, List}
+use Rattle.std.specs.Prelude.{ℕ, Bool, true, false, ◌&&◌, List, Option, Some, None}
 use Rattle.std.specs.List.{list_any, list_all}
-use Rattle.audit_types.specs.Rows.{rows_that}
+use Rattle.audit_types.specs.Rows.{has_row, rows_that}
 use Rattle.table_load.specs.Cells.{PublicView, Cells, hidden, numbers, texts, cells_at, number_of_cell, text_of_cell}
 use Rattle.predicate_lang.specs.Trees.{Tree, all_rows, negation, both, either, compared, among}
 use Rattle.predicate_lang.specs.Meaning.{Row, satisfies, compares_cell}
@@ -15,8 +15,17 @@ abbrev pub row_at : PublicView → ℕ → Row
 row_at p r = record { number = λ place. number_of_cell p place r; text = λ place. text_of_cell p place r }
 
 -- the rows that satisfy a condition
+abbrev pub satisfying : PublicView → Tree → List ℕ
+satisfying p t = rows_that (λ r. satisfies (row_at p r) t) p.rows
+
+-- whether a row is among those that may be asked of
+abbrev pub is_asked : Option (List ℕ) → ℕ → Bool
+is_asked None r = true
+is_asked (Some only) r = has_row only r
+
+-- the rows that a condition means: those that satisfy it, of those that may be asked of
 abbrev pub meaning : PublicView → Tree → List ℕ
-meaning p t = rows_that (λ r. satisfies (row_at p r) t) p.rows
+meaning p t = rows_that (λ r. is_asked p.only r && satisfies (row_at p r) t) p.rows
 
 -- the rows whose cell in a column compares so with a literal
 abbrev pub meets : PublicView → ℕ → Op → Literal → List ℕ

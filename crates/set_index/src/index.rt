@@ -1,18 +1,19 @@
 //! The public part of a table, asked for the rows that satisfy a condition.
-ghost use Rattle.std.specs.Prelude.{◌≡◌, ◌<◌, ◌≤◌, ℕ, true, None, Some, Err, IfOk, length, slice_get, slice_index_or};
+ghost use Rattle.std.specs.Prelude.{◌≡◌, ◌<◌, ◌≤◌, ℕ, true, None, Some, Err, Option, IfOk, IfSome, option_map, length, slice_get, slice_index_or};
 ghost use Rattle.std.specs.List.Sorted.{IsSorted};
 ghost use Rattle.std.specs.Option.{option_to_list};
 ghost use Rattle.std.specs.Ordering.{nat_cmp};
 ghost use Rattle.audit_types.specs.History.{IsPlainFor, entry_of};
 ghost use Rattle.audit_types.specs.Limits.{most_rows};
-ghost use Rattle.audit_types.specs.Rows.{rows_that};
+ghost use Rattle.audit_types.specs.Rows.{intersection, rows_that};
 ghost use Rattle.schema_json.specs.Columns.{Group};
 ghost use Rattle.schema_json.specs.SecretShape.{shape_of};
+ghost use Rattle.predicate_lang.specs.Places.{Means};
 ghost use Rattle.predicate_lang.specs.Trees.{Tree, fits, tree_of};
-ghost use Rattle.table_load.specs.Cells.{FitsSchema, cells_at};
+ghost use Rattle.table_load.specs.Cells.{FitsSchema, cells_at, whole};
 ghost use Rattle.table_load.specs.Kept.{cells_kept};
 ghost use Rattle.set_index.specs.Asked.{meaning, fits_public};
-ghost use Rattle.set_index.specs.Groups.{AreEntries, Protects, HasNoFault, IsFirstBad, IsGroup};
+ghost use Rattle.set_index.specs.Groups.{AreEntries, AsksOnly, Protects, HasNoFault, IsFirstBad, IsFirstBadGroup, IsSoundOnly, IsGroup};
 ghost use Rattle.set_index.specs.Marks.{SortsColumn};
 ghost use Rattle.set_index.specs.Ordered.{IsOrder, IsShown, compare_rows};
 
@@ -27,21 +28,32 @@ use std::alloc::Global;
 use std::marker::Model;
 use table_load::{Column, Public};
 
-// The most bytes of a group's condition.
+// The most bytes of a condition of a schema.
 const MOST_CONDITION: usize = 8192;
+
+/// A part of what a schema says is guarded.
+#[derive(Clone, Copy)]
+pub enum GuardPart {
+    /// The condition that each row asked of has to satisfy too.
+    Only,
+    /// The group at a place, from 0.
+    Group { place: u8 },
+}
 
 /// Why a public part wasn't made ready.
 #[derive(Clone, Copy)]
 pub enum IndexFault {
-    /// The first group, from 0, whose column isn't one of sums, or whose text is over 8,192 bytes or isn't a condition.
-    BadGroup { place: u8 },
+    /// The first part whose text is over 8,192 bytes or isn't a condition, or whose column isn't one of sums.
+    Bad { part: GuardPart },
     NoMemory,
 }
 
-/// The public part of a table, made ready for conditions: for each column the rows in ascending order of value.
+/// The public part of a table, made ready for conditions: for each column the rows in ascending order of value, and the rows
+/// that may be asked of, if the schema says which.
 #[derive(Drop)]
 pub struct Index {
     public: Public,
+    only: Option<RowSet>,
     protected: Guard,
     columns: Vec<Option<Sorted>>,
 }
@@ -105,29 +117,63 @@ fn sorted_columns(alloc: Global, public: &Public) -> Result<Vec<Option<Sorted>>,
     Ok(columns)
 }
 
+// What a text means as the condition of a part.
+fn condition(
+    alloc: Global,
+    schema: &Schema,
+    text: &str,
+    part: GuardPart,
+) -> Result<Pred, IndexFault>
+    ensures short { IfOk result (λ pred. length text.now ≤ 8192) }
+    ensures means { IfOk result (λ pred. Means schema.now.columns text.now (tree_of pred)) }
+    ensures fits { IfOk result (λ pred. fits schema.now.columns (tree_of pred) ≡ true) }
+    ensures bad { (at : GuardPart) → result ≡ Err (IndexFault.Bad at) → (at ≡ part) × ((t : Tree) → length text.now ≤ 8192 → ¬ (Means schema.now.columns text.now t)) }
+{
+    if text.len() > MOST_CONDITION {
+        return Err(IndexFault::Bad { part });
+    }
+    match read_where(alloc, schema, text) {
+        Ok(pred) => Ok(pred),
+        Err(WhereFault::NoMemory) => Err(IndexFault::NoMemory),
+        Err(WhereFault::Bad { .. }) => Err(IndexFault::Bad { part }),
+    }
+}
+
+// The rows that may be asked of, if the schema says which.
+fn only_rows(alloc: Global, schema: &Schema, index: &Index) -> Result<Option<RowSet>, IndexFault>
+    requires fits { FitsSchema schema.now.columns index.now.public }
+    requires whole { index.now.public.only ≡ None }
+    ensures n { IfOk result (λ only. IfSome only (λ rows. rows.n ≡ index.now.public.rows)) }
+    ensures asks { IfOk result (λ only. AsksOnly schema.now.columns schema.now.guards.only (record index.now.public { only = option_map (λ rows. rows.list) only })) }
+    ensures bad { (at : GuardPart) → result ≡ Err (IndexFault.Bad at) → (at ≡ GuardPart.Only) × ¬ (IsSoundOnly schema.now.columns schema.now.guards.only) }
+{
+    reads_what_fits();
+    match schema.only() {
+        Some(text) => {
+            let pred = condition(alloc, schema, text, GuardPart::Only)?;
+            Ok(Some(index.rows_of(&pred)))
+        }
+        None => Ok(None),
+    }
+}
+
 // The place among the secret columns of a group's column, and its condition.
 fn group_at(alloc: Global, schema: &Schema, place: u8) -> Result<(u8, Pred), IndexFault>
     requires { place < length schema.now.guards.groups }
     ensures ok { IfOk result (λ found. (group : Group) → slice_get schema.now.guards.groups place ≡ Some group → IsGroup schema.now.columns group found.0 (tree_of found.1)) }
-    ensures bad { (at : ℕ) → result ≡ Err (IndexFault.BadGroup at) → (at ≡ place) × ((group : Group) → slice_get schema.now.guards.groups place ≡ Some group → ¬ (HasNoFault schema.now.columns group)) }
+    ensures bad { (at : GuardPart) → result ≡ Err (IndexFault.Bad at) → (at ≡ GuardPart.Group place) × ((group : Group) → slice_get schema.now.guards.groups place ≡ Some group → ¬ (HasNoFault schema.now.columns group)) }
     ensures fits { IfOk result (λ found. fits schema.now.columns (tree_of found.1) ≡ true) }
 {
-    let bad = IndexFault::BadGroup { place };
-    let text = schema.group_where(place);
+    let part = GuardPart::Group { place };
+    let bad = IndexFault::Bad { part };
     let Some(column) = schema.find(schema.group_column(place)) else {
         return Err(bad);
     };
     let (Role::Sum, Some(secret)) = (schema.role(column), schema.secret(column)) else {
         return Err(bad);
     };
-    if text.len() > MOST_CONDITION {
-        return Err(bad);
-    }
-    match read_where(alloc, schema, text) {
-        Ok(pred) => Ok((secret, pred)),
-        Err(WhereFault::NoMemory) => Err(IndexFault::NoMemory),
-        Err(WhereFault::Bad { .. }) => Err(bad),
-    }
+    let pred = condition(alloc, schema, schema.group_where(place), part)?;
+    Ok((secret, pred))
 }
 
 // The entry of a group, if some row satisfies its condition.
@@ -141,7 +187,7 @@ fn group_entry(
     requires place { place < length schema.now.guards.groups }
     ensures ok { IfOk result (λ entry. (group : Group) → slice_get schema.now.guards.groups place ≡ Some group
         → (column : ℕ) × (t : Tree) × IsGroup schema.now.columns group column t × (option_to_list entry ≡ entry_of column place index.now.public.rows (meaning index.now.public t))) }
-    ensures bad { (at : ℕ) → result ≡ Err (IndexFault.BadGroup at) → (at ≡ place) × ((group : Group) → slice_get schema.now.guards.groups place ≡ Some group → ¬ (HasNoFault schema.now.columns group)) }
+    ensures bad { (at : GuardPart) → result ≡ Err (IndexFault.Bad at) → (at ≡ GuardPart.Group place) × ((group : Group) → slice_get schema.now.guards.groups place ≡ Some group → ¬ (HasNoFault schema.now.columns group)) }
 {
     reads_what_fits();
     let (column, pred) = group_at(alloc, schema, place)?;
@@ -160,7 +206,7 @@ fn group_entry(
 fn entries_of(alloc: Global, schema: &Schema, index: &Index) -> Result<Vec<Protected>, IndexFault>
     requires fits { FitsSchema schema.now.columns index.now.public }
     ensures entries { IfOk result (λ list. AreEntries schema.now.columns index.now.public 0 schema.now.guards.groups list.items) }
-    ensures bad { (place : ℕ) → result ≡ Err (IndexFault.BadGroup place) → IsFirstBad schema.now.columns schema.now.guards place }
+    ensures bad { (at : GuardPart) → result ≡ Err (IndexFault.Bad at) → (place : ℕ) × (at ≡ GuardPart.Group place) × IsFirstBadGroup schema.now.columns schema.now.guards.groups place }
 {
     let mut list = Vec::new(alloc);
     for place in 0..schema.groups() {
@@ -173,33 +219,56 @@ fn entries_of(alloc: Global, schema: &Schema, index: &Index) -> Result<Vec<Prote
     Ok(list)
 }
 
+// The rows of a set that may be asked of.
+fn among(only: &Option<RowSet>, rows: RowSet) -> RowSet
+    requires { IfSome only.now (λ set. set.n ≡ rows.n) }
+    ensures n { result.n ≡ rows.n }
+    ensures all { only.now ≡ None → result.list ≡ rows.list }
+    ensures cut { IfSome only.now (λ set. result.list ≡ intersection rows.n set.list rows.list) }
+{
+    match only {
+        Some(set) => {
+            let mut asked = *set;
+            asked.and_with(&rows);
+            asked
+        }
+        None => rows,
+    }
+}
+
 impl Index {
-    /// Makes a public part ready, and finds the rows of the groups that its schema protects. With a refusal it is dropped.
+    /// Makes a public part ready, and finds the rows that may be asked of, and those of the groups that its schema protects. With
+    /// a refusal it is dropped.
     pub fn new(alloc: Global, schema: &Schema, public: Public) -> Result<Index, IndexFault>
         requires { FitsSchema schema.now.columns public }
-        ensures public { IfOk result (λ index. index.public ≡ public) }
-        ensures entries { IfOk result (λ index. Protects schema.now.columns public schema.now.guards index.protected) }
-        ensures bad { (place : ℕ) → result ≡ Err (IndexFault.BadGroup place) → IsFirstBad schema.now.columns schema.now.guards place }
-        ensures fit { IfOk result (λ index. IsPlainFor (shape_of schema.now.columns public.rows) index.protected) }
+        ensures public { IfOk result (λ index. whole index.public ≡ public) }
+        ensures entries { IfOk result (λ index. Protects schema.now.columns index.public schema.now.guards index.protected) }
+        ensures bad { (part : GuardPart) → result ≡ Err (IndexFault.Bad part) → IsFirstBad schema.now.columns schema.now.guards part }
+        ensures fit { IfOk result (λ index. IsPlainFor (shape_of schema.now.columns index.public.rows) index.protected) }
+        ensures fits { IfOk result (λ index. FitsSchema schema.now.columns index.public) }
     {
         groups_of_a_schema();
         // The count says that these are a schema's columns, and the width that at most 64 groups are guarded, within bounds.
         let (_count, width) = (schema.count(), schema.width());
+        // What was read of a table says of no row that it may not be asked of.
+        let _rows = public.rows();
         let Ok(columns) = sorted_columns(alloc, &public) else {
             return Err(IndexFault::NoMemory);
         };
         let mut index = Index {
             public,
+            only: None,
             protected: Guard::new(Vec::new(alloc), width),
             columns,
         };
+        index.only = only_rows(alloc, schema, &index)?;
         index.protected = Guard::new(entries_of(alloc, schema, &index)?, width);
         Ok(index)
     }
 
     /// The public part.
     pub fn public(&self) -> &Public
-        ensures { result.now ≡ self.now.public }
+        ensures { result.now ≡ whole self.now.public }
     {
         &self.public
     }
@@ -232,13 +301,13 @@ impl Index {
         self.sorted(place).order()
     }
 
-    /// The rows that satisfy a condition. A comparison is a range of a column's order, found by binary search; sets are
-    /// combined word by word.
+    /// The rows that satisfy a condition, of those that may be asked of. A comparison is a range of a column's order, found by
+    /// binary search; sets are combined word by word.
     pub fn rows_of(&self, pred: &Pred) -> RowSet
         requires { fits_public self.now.public (tree_of pred.now) ≡ true }
         ensures n { result.n ≡ self.now.public.rows }
         ensures rows { result.list ≡ meaning self.now.public (tree_of pred.now) }
     {
-        rows_of(self, pred)
+        among(&self.only, rows_of(self, pred))
     }
 }

@@ -2,7 +2,7 @@
 //!
 //! Start with `Index::rows_of`: its clause says that it answers the rows that the condition means, by the public columns
 //! alone. `reads_what_fits` says that a condition which fits a table's schema can be asked of the table. `Index::new` finds the
-//! rows of the groups that the schema protects, and refuses the first group that has a fault.
+//! rows that may be asked of and those of the groups that the schema protects, and refuses the first part that has a fault.
 #![tactic(auto)]
 
 mod asking;
@@ -11,5 +11,5 @@ mod laws;
 mod sorted;
 mod values;
 
-pub use index::{Index, IndexFault};
+pub use index::{GuardPart, Index, IndexFault};
 pub use laws::{groups_of_a_schema, reads_what_fits};

@@ -1,5 +1,5 @@
 -- What a table holds, column by column.
-use Rattle.std.specs.Prelude.{◌≡◌, ◌≢◌, ℕ, ◌<◌, ◌≤◌, ℤ, pos, true, cond, List, [], ◌∷◌, length, drop, count_by, slice_index_or, Some}
+use Rattle.std.specs.Prelude.{◌≡◌, ◌≢◌, ℕ, ◌<◌, ◌≤◌, ℤ, pos, true, cond, List, [], ◌∷◌, length, drop, count_by, slice_index_or, Option, Some, None}
 use Rattle.std.specs.List.{AllByRecursion}
 use Rattle.audit_types.specs.Limits.{most_rows}
 use Rattle.audit_types.specs.History.{Secrets}
@@ -16,10 +16,16 @@ pub data Cells : Type 0 where
   numbers : List ℤ → Cells
   texts : List (List ℕ) → Cells
 
--- what contracts see of a `Public`: the number of rows, and the columns by their places in the schema
+-- what contracts see of a `Public`: the number of rows, and the columns by their places in the schema; and the rows that may be asked of, if
+-- not all may be, of which a file says nothing
 pub record PublicView : Type 0 where
   pub rows : ℕ
   pub columns : List Cells
+  pub only : Option (List ℕ)
+
+-- the same, of which each row may be asked
+abbrev pub whole : PublicView → PublicView
+whole p = record p { only = None }
 
 -- what contracts see of a `Secret`: the shape, and a list of numbers for each secret column
 pub record SecretView : Type 0 where

@@ -49,7 +49,7 @@ first_secrets n secret = record { shape = over n secret.shape; lists = map (take
 
 -- the first n rows of a table, with what is guarded among them
 abbrev pub first_of : ℕ → Database → Database
-first_of n base = record base { public = record { rows = n; columns = map (first_cells n) base.public.columns }; protected = protection_among n base.protected; secret = first_secrets n base.secret }
+first_of n base = record base { public = record base.public { rows = n; columns = map (first_cells n) base.public.columns }; protected = protection_among n base.protected; secret = first_secrets n base.secret }
 
 -- a table over the same schema with more rows, the first of which are those of this one
 abbrev pub Grows : Database → Database → Type 0

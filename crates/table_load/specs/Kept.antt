@@ -1,5 +1,5 @@
 -- How the two parts of a table keep their columns.
-use Rattle.std.specs.Prelude.{◌≡◌, ℕ, ◌+◌, ◌*◌, ◌/◌, ◌<◌, ◌≤◌, ℤ, pos, ◌==◌, List, [], map, slice_index_or}
+use Rattle.std.specs.Prelude.{◌≡◌, ℕ, ◌+◌, ◌*◌, ◌/◌, ◌<◌, ◌≤◌, ℤ, pos, ◌==◌, List, [], map, slice_index_or, None}
 use Rattle.audit_types.specs.Rows.{rows_that}
 use Rattle.audit_types.specs.Shapes.{columns, kind_at}
 use Rattle.audit_types.specs.Truth.{truth}
@@ -20,7 +20,7 @@ cells_kept (Texts v) = cells.texts (map (λ t. t.items) v.items)
 
 -- so many rows, and these columns
 abbrev pub public_with : ℕ → List Column → PublicView
-public_with rows columns = record { rows = rows; columns = map cells_kept columns }
+public_with rows columns = record { rows = rows; columns = map cells_kept columns; only = None }
 
 -- the public part as contracts see it
 abbrev pub public_view : public.Inside → PublicView

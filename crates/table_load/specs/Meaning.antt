@@ -1,5 +1,5 @@
 -- The table that bytes mean, in the words of the promise: no fault of other bytes is among them.
-use Rattle.std.specs.Prelude.{◌≡◌, ◌≢◌, ◌<◌, ◌≤◌, ℕ, ◌+◌, ℤ, true, Some, List, [], ◌∷◌, length, map, zip}
+use Rattle.std.specs.Prelude.{◌≡◌, ◌≢◌, ◌<◌, ◌≤◌, ℕ, ◌+◌, ℤ, true, Some, None, List, [], ◌∷◌, length, map, zip}
 use Rattle.std.specs.List.{AllByRecursion, list_all}
 use Rattle.std.specs.Str.{is_utf8}
 use Rattle.audit_types.specs.Limits.{most_rows}
@@ -30,5 +30,5 @@ pub record MeansTable (columns : List Column) (bytes : List ℕ) (public : Publi
   pub some : 0 < length rows
   pub at_most : length rows ≤ most_rows
   pub each : AllByRecursion (IsRecordOf columns) rows
-  pub public_is : public ≡ record { rows = length rows; columns = publics_from 0 columns rows }
+  pub public_is : public ≡ record { rows = length rows; columns = publics_from 0 columns rows; only = None }
   pub secret_is : secret ≡ record { shape = shape_of columns (length rows); lists = secrets_from 0 columns rows }

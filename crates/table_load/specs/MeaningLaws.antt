@@ -10,7 +10,7 @@ use Rattle.std.proofs.lemmas.Slice.Eq.{bytes_eq-Decides}
 use Rattle.schema_json.specs.Columns.{Column}
 use Rattle.schema_json.specs.declared.roles.Role.{Role}
 use Rattle.schema_json.specs.declared.roles.Role.TheVariants as role
-use Rattle.table_load.specs.Cells.{PublicView, SecretView, TableView}
+use Rattle.table_load.specs.Cells.{PublicView, SecretView, TableView, whole}
 use Rattle.table_load.specs.Faults.{unless_fault}
 use Rattle.table_load.specs.Numerals.{number_in, in_range}
 use Rattle.table_load.specs.Reading.{Fields, records_of, file_columns, roles_of, number_fault, cell_fault, cells_fault, record_fault, records_fault, names_are, count_fault, data_fault, header_fault, file_fault}
@@ -262,7 +262,7 @@ read_means columns bytes t is =
       at_most = fine.headed.rows.at_most;
       each = fine.headed.rows.each;
       public_is =
-          ap (λ (t : TableView). t.public) (sym parts.1) ∙ ap (λ cells. record { rows = length rows; columns = cells }) (all_publics 0 columns rows);
+          ap (λ (t : TableView). t.public) (sym parts.1) ∙ ap (λ cells. record { rows = length rows; columns = cells; only = None }) (all_publics 0 columns rows);
       secret_is = ap (λ (t : TableView). t.secret) (sym parts.1);
     }
 
@@ -274,9 +274,19 @@ means_read {columns} {bytes} {public} {secret} means =
     (good_rows (roles_of columns) means.rows means.some means.at_most (records_fine 2 columns means.rows means.each)) in
     let same : data_of bytes ≡ means.rows = ap (drop 1) means.records_are in
     let seen : public_in file.All columns means.rows ≡ public =
-    ap (λ cells. record { rows = length means.rows; columns = cells }) (all_publics 0 columns means.rows) ∙ sym means.public_is in
+    ap (λ cells. record { rows = length means.rows; columns = cells; only = None }) (all_publics 0 columns means.rows) ∙ sym means.public_is in
     ap (λ cs. unless_fault (file_fault cs bytes) (table_from columns (data_of bytes))) (all_columns columns)
     ∙ ap (λ fault. unless_fault fault (table_from columns (data_of bytes))) fine
     ∙ ap (λ rows. Ok (table_from columns rows)) same
     ∙ ap (λ p. Ok (record { public = p; secret = secret_in columns means.rows })) seen
     ∙ ap (λ s. Ok (record { public = public; secret = s })) (sym means.secret_is)
+
+-- of the table that bytes mean each row may be asked of
+pub means_whole : {columns : List Column} {bytes : List ℕ} {public : PublicView} {secret : SecretView} → MeansTable columns bytes public secret → whole public ≡ public
+means_whole means = ap whole means.public_is ∙ sym means.public_is
+
+-- so they mean it as one of which each row may be asked
+pub read_whole : (columns : List Column) (bytes : List ℕ) (t : TableView) → table_of columns bytes ≡ Ok t → MeansTable columns bytes (whole t.public) t.secret
+read_whole columns bytes t is =
+    let means = read_means columns bytes t is in
+    subst (λ p. MeansTable columns bytes p t.secret) (sym (means_whole means)) means

@@ -65,7 +65,7 @@ data_of bytes = drop 1 (records_of bytes)
 
 -- the public part of a table with these records
 abbrev pub public_in : FileColumns → List Column → List Fields → PublicView
-public_in which columns rows = record { rows = length rows; columns = cells_from which 0 columns rows }
+public_in which columns rows = record { rows = length rows; columns = cells_from which 0 columns rows; only = None }
 
 -- the secret part of a table with these records
 abbrev pub secret_in : List Column → List Fields → SecretView

@@ -4,7 +4,7 @@ ghost use Rattle.std.specs.Vec.Iter.{into_iter_items};
 ghost use Rattle.audit_types.specs.Limits.{most_rows};
 ghost use Rattle.schema_json.specs.Columns.{is_secret};
 ghost use Rattle.table_load.specs.Kept.{cells_kept, public_with};
-ghost use Rattle.table_load.specs.Cells.{AreLists, FitsSchema, IsPublic, first_list, hidden, numbers, numbered, number_of_cell, text_of_cell, cells_at, HasNumbers, HasTexts};
+ghost use Rattle.table_load.specs.Cells.{AreLists, FitsSchema, IsPublic, first_list, hidden, numbers, numbered, number_of_cell, text_of_cell, cells_at, whole, HasNumbers, HasTexts};
 
 use audit_types::NoMemory;
 use schema_json::{Role, Schema};
@@ -86,6 +86,7 @@ impl Public {
         requires { AreLists schema.now.columns (map (λ v. v.items) lists.items) }
         ensures rows { IfOk result (λ p. p.rows ≡ length (first_list (map (λ v. v.items) lists.items))) }
         ensures columns { IfOk result (λ p. p.columns ≡ numbered schema.now.columns (map (λ v. v.items) lists.items)) }
+        ensures whole { IfOk result (λ p. whole p ≡ p) }
         ensures fits { IfOk result (λ p. FitsSchema schema.now.columns p) }
     {
         let rows = rows_in(lists.as_slice());
@@ -101,6 +102,7 @@ impl Public {
     pub fn rows(&self) -> u16
         ensures rows { result ≡ self.now.rows }
         ensures is { IsPublic self.now }
+        ensures whole { whole self.now ≡ self.now }
     {
         self.rows
     }

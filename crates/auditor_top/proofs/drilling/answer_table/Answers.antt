@@ -1,24 +1,27 @@
-use Rattle.std.proofs.Common.{◌≡◌, ◌∙◌, ℕ, ◌<◌, List, [], length, Err, arith, ap, subst}
+use Rattle.std.proofs.Common.{◌≡◌, ◌∙◌, ℕ, ◌<◌, List, [], length, Err, None, refl, arith, ap, subst}
 use Rattle.std.proofs.lemmas.Option.{slice_get_within}
 use Rattle.std.proofs.lemmas.Result.{IfOk-from_err}
 use Rattle.audit_types.specs.declared.records.Protected.{Protected}
 use Rattle.audit_types.specs.Limits.{most_width}
 use Rattle.audit_types.specs.History.{Protection, against_outsiders}
 use Rattle.schema_json.specs.Columns.{Column, Group, Guards, no_guards}
-use Rattle.table_load.specs.Cells.{PublicView}
+use Rattle.table_load.specs.Cells.{PublicView, whole}
+use Rattle.set_index.specs.declared.index.GuardPart.{GuardPart}
+use Rattle.set_index.specs.declared.index.GuardPart.TheVariants as part
 use Rattle.set_index.specs.Groups.{Protects, IsFirstBad}
 use Rattle.auditor_top.proofs.drilling.answer_table.Goals as goal
 
--- of no groups none has a fault
-none_bad : (columns : List Column) (place : ℕ) → IsFirstBad columns no_guards place → ⊥
-none_bad columns place bad = let inside : place < length {A = Group} [] = slice_get_within [] place bad.at bad.stands in omega (arith, inside)
+-- of nothing nothing has a fault
+none_bad : (columns : List Column) (found : GuardPart) → IsFirstBad columns no_guards found → ⊥
+none_bad columns part.Only bad = bad (None, refl)
+none_bad columns (part.Group place) bad = let inside : place < length {A = Group} [] = slice_get_within [] place bad.1.at bad.1.stands in omega (arith, inside)
 
 pub unreachable-requires : goal.unreachable-requires
 unreachable-requires c =
     let schema = c.args.schema.now in
-    none_bad schema.columns c.in-BadGroup.place
-    (subst (λ (guards : Guards). IsFirstBad schema.columns guards c.in-BadGroup.place) c.requires.guards
-    (c.in-Err.ensures.bad c.in-BadGroup.place (ap (λ f. Err f) c.in-BadGroup.is)))
+    none_bad schema.columns c.in-Bad.part
+    (subst (λ (guards : Guards). IsFirstBad schema.columns guards c.in-Bad.part) c.requires.guards
+    (c.in-Err.ensures.bad c.in-Bad.part (ap (λ f. Err f) c.in-Bad.is)))
 
 -- no group guards each row alone
 none_guarded : (columns : List Column) (public : PublicView) (guards : Guards) (protected : Protection) → guards ≡ no_guards → Protects columns public guards protected →
@@ -27,9 +30,21 @@ none_guarded columns public guards protected none protects =
     let alone = subst (λ (g : Guards). Protects columns public g protected) none protects in
     alone.1 ∙ ap (λ (entries : List Protected). against_outsiders entries [] most_width) alone.0
 
+-- and each row may be asked of
+none_left : (columns : List Column) (public : PublicView) (guards : Guards) (protected : Protection) → guards ≡ no_guards → Protects columns public guards protected →
+    public ≡ whole public
+none_left columns public guards protected none protects =
+    let alone = subst (λ (g : Guards). Protects columns public g protected) none protects in
+    λ i. record { rows = public.rows; columns = public.columns; only = alone.2 i }
+
+pub answer_lines-requires-clause-public : goal.answer_lines-requires-clause-public
+answer_lines-requires-clause-public c =
+    none_left c.args.schema.now.columns c.in-Ok.index.public c.args.schema.now.guards c.in-Ok.index.protected c.requires.guards c.in-Ok.ensures.entries
+    ∙ c.in-Ok.ensures.public ∙ c.requires.public
+
 pub answer_lines-requires-clause-none : goal.answer_lines-requires-clause-none
 answer_lines-requires-clause-none c =
-    none_guarded c.args.schema.now.columns c.args.table.public c.args.schema.now.guards c.in-Ok.index.protected c.requires.guards c.in-Ok.ensures.entries
+    none_guarded c.args.schema.now.columns c.in-Ok.index.public c.args.schema.now.guards c.in-Ok.index.protected c.requires.guards c.in-Ok.ensures.entries
 
 -- ---- the lines were not answered
 

@@ -8,11 +8,12 @@ use Rattle.auditor_top.specs.Commands.{reads_files, reads_secrets, AreSoundFiles
 use Rattle.auditor_top.specs.Ready.{IsGiven, Refuses}
 use Rattle.auditor_top.proofs.FileRefusals.{files_refused, gives_up_over, gives_up_public, of_status}
 use Rattle.schema_json.specs.Columns.{Column}
-use Rattle.table_load.specs.MeaningLaws.{read_means}
+use Rattle.table_load.specs.MeaningLaws.{read_whole}
 use Rattle.table_load.specs.Tables.{public_of, table_of}
 use Rattle.set_index.specs.Indexed.{IndexView}
 use Rattle.set_index.specs.declared.index.IndexFault.{IndexFault}
 use Rattle.set_index.specs.declared.index.IndexFault.TheVariants as index
+use Rattle.set_index.specs.declared.index.GuardPart.{GuardPart}
 use Rattle.auditor_top.proofs.OneTable.{table_is_ok}
 use Rattle.auditor_top.proofs.GroupRefusals.{no_step, lacks, groups_refused, public_gives_up}
 use Rattle.auditor_top.proofs.ready.open.Goals as goal
@@ -41,7 +42,7 @@ returns-in_ok-opened-in-Init-clause-over g c =
     let opened = c.in_ok-opened-in-Init.opened in
     λ ptold. (
       base_of opened.schema.columns opened.table.public (against_outsiders [] [] most_width) opened.table.secret,
-      record { guards = opened.schema.guards; schema_is = e.schema_is ptold; table_means = read_means _ _ _ (e.table_is ptold) },
+      record { guards = opened.schema.guards; schema_is = e.schema_is ptold; table_means = read_whole _ _ _ (e.table_is ptold) },
       c.shape.ensures.shape,
     )
 
@@ -67,7 +68,7 @@ returns-in_err-index-in-Simulate-clause-refusal g c =
     let fault = c.in_err-index-in-Simulate.field-0.0 in
     let schema = g.P.Source.left c.args.schema.now in
     let table = g.P.Source.left c.args.table.now in
-    let bad = λ (place : ℕ) (is : fault ≡ index.BadGroup place). c.in_err-index-in-Simulate.ensures.bad place (ap index_refused is) in
+    let bad = λ (found : GuardPart) (is : fault ≡ index.Bad found). c.in_err-index-in-Simulate.ensures.bad found (ap index_refused is) in
     of_status (λ (s : Status). Refuses g.P.Source g.B.Bench c.args.command s c.args.schema.now c.open_public.new.schema c.args.table.now
     c.open_public.new.table c.args.bench.now c.args.bench.now) c.from_residual-in_err-index-in-Simulate.result _ c.from_residual-in_err-index-in-Simulate.ensures
     (groups_refused g.P.Source g.B.Bench c.args.command c.args.schema.now c.open_public.new.schema c.args.table.now c.open_public.new.table c.args.bench.now

@@ -6,10 +6,12 @@ use Rattle.audit_types.specs.declared.shapes.Shape.{Shape}
 use Rattle.table_load.specs.Cells.{FitsSchema, PublicView, SecretView}
 use Rattle.table_load.specs.Database.{base_of}
 use Rattle.table_load.specs.Loaded.{table_view}
+use Rattle.table_load.specs.Meaning.{MeansTable}
 use Rattle.table_load.specs.MeaningLaws.{read_means}
 use Rattle.table_load.specs.Tables.{table_of}
 use Rattle.set_index.specs.declared.index.IndexFault.{IndexFault}
 use Rattle.set_index.specs.declared.index.IndexFault.TheVariants as index
+use Rattle.set_index.specs.declared.index.GuardPart.{GuardPart}
 use Rattle.auditor_top.specs.declared.starting.ReadyTable.{ReadyTable}
 use Rattle.auditor_top.specs.declared.status.Status.{Status}
 use Rattle.auditor_top.specs.Commands.{AreSoundFilesOf}
@@ -45,7 +47,7 @@ returns-in_err-make_ready-clause-refusal g c =
     let asked = c.args.command in
     let fault = c.in_err-make_ready.field-0.0 in
     let meant = table_view opened.table in
-    let bad = λ (place : ℕ) (is : fault ≡ index.BadGroup place). c.in_err-make_ready.ensures.bad place (ap ungrouped is) in
+    let bad = λ (found : GuardPart) (is : fault ≡ index.Bad found). c.in_err-make_ready.ensures.bad found (ap ungrouped is) in
     of_status (λ (s : Status). Refuses g.P.Source g.B.Bench asked s c.args.schema.now c.open_table.new.schema c.args.table.now c.open_table.new.table
     c.args.bench.now c.args.bench.now) c.from_residual-in_err-make_ready.result _ c.from_residual-in_err-make_ready.ensures
     (groups_refused g.P.Source g.B.Bench asked c.args.schema.now c.open_table.new.schema c.args.table.now c.open_table.new.table c.args.bench.now
@@ -69,15 +71,18 @@ returns g c =
       over = λ ptold.
           subst (λ (v : SchemaView). AreSoundFilesOf (g.P.Source.left c.args.schema.now) (g.P.Source.left c.args.table.now)
           (base_of v.columns made.index.public made.protected made.secret)) (sym a.same.0)
-          (subst (λ (p : PublicView). AreSoundFilesOf (g.P.Source.left c.args.schema.now) (g.P.Source.left c.args.table.now)
-          (base_of opened.schema.columns p made.protected made.secret)) (sym a.same.1)
           (subst (λ (v : SecretView). AreSoundFilesOf (g.P.Source.left c.args.schema.now) (g.P.Source.left c.args.table.now)
-          (base_of opened.schema.columns opened.table.public made.protected v)) (sym a.same.2)
+          (base_of opened.schema.columns made.index.public made.protected v)) (sym a.same.2)
           (record {
-            files = record { guards = opened.schema.guards; schema_is = e.schema_is ptold; table_means = read_means _ _ _ (e.table_is ptold) };
+            files = record {
+              guards = opened.schema.guards;
+              schema_is = e.schema_is ptold;
+              table_means = subst (λ (p : PublicView). MeansTable opened.schema.columns (g.P.Source.left c.args.table.now) p opened.table.secret) (sym a.same.1)
+                  (read_means _ _ _ (e.table_is ptold));
+            };
             entries = a.entries;
-          })));
-      fit = subst (λ (s : Shape). IsPlainFor s made.protected) (sym shape) a.fit;
+          }));
+      fit = subst (λ (s : Shape). IsPlainFor s made.protected) (sym (shape ∙ ap (λ (p : PublicView). shape_of opened.schema.columns p.rows) (sym a.same.1))) a.fit;
       fits = subst (λ (p : PublicView). FitsSchema made.schema.columns p) (sym a.same.1) (subst (λ (v : SchemaView). FitsSchema v.columns opened.table.public) (sym a.same.0) e.fits);
       shape = shape ∙ ap (λ (v : SchemaView). shape_of v.columns opened.table.public.rows) (sym a.same.0)
           ∙ ap (λ (p : PublicView). shape_of made.schema.columns p.rows) (sym a.same.1);

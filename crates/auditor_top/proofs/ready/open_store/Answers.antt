@@ -4,6 +4,7 @@ use Rattle.schema_json.specs.SecretShape.{shape_of}
 use Rattle.table_load.specs.Cells.{FitsSchema, PublicView, SecretView}
 use Rattle.table_load.specs.Database.{base_of}
 use Rattle.table_load.specs.Loaded.{table_view}
+use Rattle.table_load.specs.Meaning.{MeansTable}
 use Rattle.table_load.specs.MeaningLaws.{read_means}
 use Rattle.table_load.specs.Tables.{table_of}
 use Rattle.audit_store.specs.Stores.{IsAsLeft}
@@ -52,14 +53,17 @@ returns g c =
       over = λ ptold.
           subst (λ (v : SchemaView). AreSoundFilesOf (g.P.Source.left c.args.schema.now) (g.P.Source.left c.args.table.now)
           (base_of v.columns s.index.public s.store.protected s.store.secret)) (sym a.same.0)
-          (subst (λ (p : PublicView). AreSoundFilesOf (g.P.Source.left c.args.schema.now) (g.P.Source.left c.args.table.now)
-          (base_of opened.schema.columns p s.store.protected s.store.secret)) (sym a.same.1)
           (subst (λ (v : SecretView). AreSoundFilesOf (g.P.Source.left c.args.schema.now) (g.P.Source.left c.args.table.now)
-          (base_of opened.schema.columns opened.table.public s.store.protected v)) (sym a.same.2)
+          (base_of opened.schema.columns s.index.public s.store.protected v)) (sym a.same.2)
           (record {
-            files = record { guards = opened.schema.guards; schema_is = e.schema_is ptold; table_means = read_means _ _ _ (e.table_is ptold) };
+            files = record {
+              guards = opened.schema.guards;
+              schema_is = e.schema_is ptold;
+              table_means = subst (λ (p : PublicView). MeansTable opened.schema.columns (g.P.Source.left c.args.table.now) p opened.table.secret) (sym a.same.1)
+                  (read_means _ _ _ (e.table_is ptold));
+            };
             entries = a.entries;
-          })));
+          }));
       opened = record { is = a.store.1; usable = a.store.0; left = λ told. subst (λ (f : List ℕ). IsAsLeft f s.store) (sym c.start.ensures.reads.file) (a.stands told) };
       fits = subst (λ (p : PublicView). FitsSchema s.schema.columns p) (sym a.same.1) (subst (λ (v : SchemaView). FitsSchema v.columns opened.table.public) (sym a.same.0) e.fits);
       shape = ap (λ (v : SecretView). v.shape) a.same.2 ∙ e.shape ∙ ap (λ (v : SchemaView). shape_of v.columns opened.table.public.rows) (sym a.same.0)

@@ -1,7 +1,7 @@
 use Rattle.std.proofs.Common.{◌≡◌, List, Result, Err, refl, sym, subst}
 use Rattle.audit_types.specs.declared.records.Answered.{Answered}
 use Rattle.audit_types.specs.History.{Protection, IsLegal}
-use Rattle.table_load.specs.Cells.{SecretView}
+use Rattle.table_load.specs.Cells.{PublicView, SecretView, whole}
 use Rattle.table_load.specs.Database.{secret_table}
 use Rattle.journal_form.specs.Journal.{StandsFor}
 use Rattle.audit_store.specs.Starting.{StartCause, GivesUp}
@@ -23,11 +23,14 @@ returns-in-Err-start-clause-cause g c = λ fault is.
     let made = c.in-Ok.ensures in
     let entries : Protection = c.in-Ok.grouped.protected in
     let found = c.in-Err-start.fault in
-    subst (λ (f : StartFault). (protected : Protection) × Protects opened.schema.columns opened.table.public opened.schema.guards protected ×
+    subst (λ (f : StartFault). (public : PublicView) × (protected : Protection) × (whole public ≡ opened.table.public) ×
+    Protects opened.schema.columns public opened.schema.guards protected ×
     (g.B.Bench.told → StartCause f (g.B.Bench.file c.args.bench.now) (secret_table opened.table.secret protected) ×
     ((history : List Answered) → StandsFor (g.B.Bench.file c.args.bench.now) opened.table.secret.shape history →
     IsLegal (secret_table opened.table.secret protected) history → GivesUp f))) (one_fault found fault is) (
+      c.in-Ok.grouped.index.public,
       entries,
+      made.same.1,
       c.in-Ok.ensures.entries,
       λ told. (
         subst (λ (s : SecretView). StartCause found (g.B.Bench.file c.args.bench.now) (secret_table s entries)) made.same.2 (c.in-Err-start.ensures.cause found told refl),

@@ -13,4 +13,4 @@ pub returns : goal.returns
 returns c =
     let number = c.args.number in
     public_part number _ _ _ c.requires (c.in_ok-draw_columns.ensures ∙ λ i. from_zero number 0 8 drill_rows i ∷ ages number drill_rows ∷ [])
-    c.of_numbers.ensures.rows c.of_numbers.ensures.columns c.of_numbers.ensures.fits
+    c.of_numbers.ensures.rows c.of_numbers.ensures.columns c.of_numbers.ensures.whole c.of_numbers.ensures.fits

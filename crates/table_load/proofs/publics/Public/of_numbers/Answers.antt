@@ -3,7 +3,7 @@ use Rattle.std.specs.List.{AllByRecursion}
 use Rattle.std.specs.Vec.Iter.{into_iter_items}
 use Rattle.std.proofs.lemmas.List.{length-map, map-append}
 use Rattle.std.proofs.Math.ListN.{drop_of_length-le}
-use Rattle.table_load.specs.Cells.{Cells, PublicView, AreCells, HoldsRole, first_list, hidden, numbered}
+use Rattle.table_load.specs.Cells.{Cells, PublicView, AreCells, HoldsRole, first_list, hidden, numbered, whole}
 use Rattle.table_load.specs.Kept.{cells_kept}
 use Rattle.table_load.specs.SchemaFits.{numbered_next, left_enough, one_left, numbered_are, numbered_fit}
 use Rattle.table_load.proofs.publics.Public.of_numbers.Goals as goal
@@ -82,6 +82,9 @@ returns-clause-columns c =
     (map (λ (v : Vec ℤ Global). v.items) (into_iter_items c.loop-place.left))) done
     ∙ append-nil (map cells_kept c.loop-place.columns.items) in
     ap (λ (p : PublicView). p.columns) c.of.ensures ∙ sym made
+
+pub returns-clause-whole : goal.returns-clause-whole
+returns-clause-whole c = ap whole c.of.ensures ∙ sym c.of.ensures
 
 pub rows_in-rows-requires : goal.rows_in-rows-requires
 rows_in-rows-requires c = rw c.as_slice.ensures.value c.requires.at_most
