@@ -13,17 +13,18 @@ import tempfile
 
 from .choices import PUBLIC
 from .faults import Fault
+from .keys import KEY
 from .protecting import total_words
 
 MOST_BYTES = 16_777_216
 MOST_SCHEMA_BYTES = 65_536
 
 
-def write_folders(folder, columns, protect, tables, program):
+def write_folders(folder, columns, schema, tables, program):
     """Writes a folder, or one for each part in it, has the program read them, and puts them into place."""
     with put_into_place(folder) as beside:
         for part in tables:
-            write_folder(beside / part.name, columns, protect, part.rows)
+            write_folder(beside / part.name, columns, schema, part.rows)
             try_program(beside / part.name, program)
     said_of_program(program)
 
@@ -65,13 +66,17 @@ def current_umask():
     return mask
 
 
-def write_folder(folder, columns, protect, rows):
-    """schema.json, and table.csv for its owner alone; in public/ the schema, the public columns and notes."""
+def schema_of(columns, protect, others):
+    """A schema with these columns and protected totals, and with other keys."""
+    schema = {"columns": [{"name": column.name, "is": column.kind} for column in columns]}
+    return {**schema, **({"protect": protect} if protect else {}), **others}
+
+
+def write_folder(folder, columns, schema, rows):
+    """schema.json, and table.csv and the rows' keys, if they have some, for their owner alone; in public/ the schema, the public
+    columns and notes."""
     public = folder / "public"
     public.mkdir(parents=True)
-    schema = {"columns": [{"name": column.name, "is": column.kind} for column in columns]}
-    if protect:
-        schema["protect"] = protect
     text = json.dumps(schema, indent=1, ensure_ascii=False) + "\n"
     if len(text.encode()) > MOST_SCHEMA_BYTES:
         raise Fault(
@@ -81,6 +86,8 @@ def write_folder(folder, columns, protect, rows):
     for where in (folder, public):
         (where / "schema.json").write_text(text, encoding="utf-8")
     write_table(folder / "table.csv", columns, rows, 0o600)
+    if KEY in rows[0]:
+        write_keys(folder / "keys.csv", rows)
     write_table(public / "table.csv", [column for column in columns if column.kind in PUBLIC], rows, 0o666)
     (public / "notes.json").write_text(
         json.dumps({"columns": notes(columns)}, indent=1, ensure_ascii=False) + "\n", encoding="utf-8"
@@ -89,10 +96,20 @@ def write_folder(folder, columns, protect, rows):
 
 def write_table(path, columns, rows, mode):
     """The table as CSV, with the line ends of its standard, so that a line end within a cell is quoted too."""
-    with open(os.open(path, os.O_WRONLY | os.O_CREAT | os.O_EXCL, mode), "w", encoding="utf-8", newline="") as file:
-        file.write(lines_of([[column.name for column in columns]]))
-        file.write(lines_of([row[column.name] for column in columns] for row in rows))
+    header = [column.name for column in columns]
+    write_lines(path, [header, *([row[name] for name in header] for row in rows)], mode)
     need_few_bytes(path)
+
+
+def write_keys(path, rows):
+    """The key of each row, in their order, for the owner alone."""
+    write_lines(path, [["row", "key"], *enumerate(row[KEY] for row in rows)], 0o600)
+
+
+def write_lines(path, records, mode):
+    """Records as CSV in a new file."""
+    with open(os.open(path, os.O_WRONLY | os.O_CREAT | os.O_EXCL, mode), "w", encoding="utf-8", newline="") as file:
+        file.write(lines_of(records))
 
 
 def lines_of(records):
@@ -112,7 +129,7 @@ def notes(columns):
     """For each column what people want to read beside its numbers. The program never reads it."""
     found = {}
     for column in columns:
-        chosen = column.chosen or {"from": "wave"}
+        chosen = column.chosen or {"from": column.name}
         title = f"{chosen['from']}: known" if column.marks else chosen["from"]
         numbers = (
             {key: chosen.get(key) for key in ("decimals", "unit")} if column.kind != "text" and not column.marks else {}
@@ -136,14 +153,16 @@ def try_program(folder, program):
             said = run.stderr.strip() or f"status {run.returncode}"
             raise Fault(
                 f"auditor {command} doesn't take the files, so nothing is written: {said}"
-                + protect_words(folder, run.returncode, said)
+                + complaint_words(folder, run.returncode, said)
             )
 
 
-def protect_words(folder, status, said):
-    """What the program's complaint may mean if totals are to be protected."""
-    groups = json.loads((folder / "schema.json").read_text(encoding="utf-8")).get("protect")
-    bad = re.fullmatch(r"schema: group (\d+) is bad", said)
+def complaint_words(folder, status, said):
+    """What the program's complaint may mean if totals are to be protected, or the questions kept to those who are there."""
+    schema = json.loads((folder / "schema.json").read_text(encoding="utf-8"))
+    groups, bad = schema.get("protect"), re.fullmatch(r"schema: group (\d+) is bad", said)
+    if "only" in schema and status == 3:
+        return '. This auditor may be older than the key "only", which keeps questions to those who are there: take a newer one'
     if groups and status == 3:
         return ". This auditor may be older than protected totals: choose protect=none, or take a newer one"
     if groups and status == 16 and bad and int(bad[1]) < len(groups):
