@@ -105,6 +105,10 @@ class Made(RenewingTest):
                 self.assertIn(due, self.begin(text, *kinds, due=1))
                 self.assertFalse(self.out.exists())
 
+    def test_look_says_that_a_table_may_be_renewed(self):
+        self.choices.unlink()
+        self.assertIn("make the table with key=TITLE", self.look(OCTOBER)[1])
+
     def test_two_columns_of_one_title_are_no_key(self):
         with self.assertRaisesRegex(renewing.Fault, "two columns are called 'id'"):
             keys.place_of_key(["id", "pay", "id"], {"columns": []}, "id")
