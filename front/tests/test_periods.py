@@ -366,5 +366,34 @@ class Renewed(DoorCase):
             self.assertEqual(self.door.stop(), 0)
 
 
+class OnlyThere(DoorCase):
+    """A door over a table of which questions are over some rows alone, by its schema. The program has to know the key."""
+
+    rows = 60
+
+    def setUp(self):
+        super().setUp()
+        for folder in (self.folder.path, self.folder.public):
+            schema = json.loads((folder / "schema.json").read_text())
+            (folder / "schema.json").write_text(json.dumps({**schema, "only": "k < 40"}))
+        self.folder.rows = self.folder.rows[:40]
+
+    async def test_questions_counts_and_what_is_near_are_over_these_rows(self):
+        self.door.start()
+        async with self.door.session() as session:
+            await self.door.ready(session)
+            self.assertEqual(await ask(session, line_of("count", 0, 59)), (200, b'{"count":40}\n'))
+            for low, high in ((0, 59), (0, 39), (10, 25)):
+                await self.ask(session, ("sum", low, high), line_of("sum", low, high))
+            # Over 60 rows and over 40 the same is asked, so it makes one record.
+            self.assertEqual([(await health(session))[name] for name in ("records", "repeats")], [2, 1])
+            self.assertEqual(await ask(session, line_of("sum", 40, 59)), (200, b'{"refused":"empty"}\n'))
+            self.assertEqual(await ask(session, line_of("sum", 10, 24), "/would"), (200, b'{"verdict":"unsafe"}\n'))
+            near = json.loads((await ask(session, line_of("sum", 10, 24), "/near"))[1])
+            self.assertEqual(near["verdict"], "unsafe")
+            self.assertLessEqual(near["rows"], 40)
+        self.end_and_check()
+
+
 if __name__ == "__main__":
     unittest.main()
