@@ -4,9 +4,10 @@
 # questions are explained after their answers: each denial has a certificate, which a script checks. Then a table gets a row at its end.
 # The questions are asked twice, and the journal compacted, so that each answer stands in it once; the replies stay. The journal gets a
 # twin, is lost, and is written anew from it. In a folder with the public columns alone the decisions of the transcript are computed
-# again: it agrees, and with one reply changed it doesn't. Then a schema protects a team's total, and that total is denied. At last the
-# table is prepared anew from its CSV, as with a table of your own, and asked about in plain words. The exit status is 0 if all is as it
-# should be. If no program is given it is built first, which takes the source and the kit; in a package it is the package's own.
+# again: it agrees, and with one reply changed it doesn't. Then a schema protects a team's total, and that total is denied. The table is
+# prepared anew from its CSV, as with a table of your own, and asked about in plain words. At last one is renewed over three months, in
+# which somebody moves, comes, leaves and gets a raise. The exit status is 0 if all is as it should be. If no program is given it is built
+# first, which takes the source and the kit; in a package it is the package's own.
 #
 #   demo/run.sh [PROGRAM]
 set -u
@@ -101,7 +102,7 @@ echo "with the total of that team protected: $(cat denied.jsonl)" >&2
 # From a CSV file to the first answer without an editor: the scripts in front/ need a python3 of 3.10 or later.
 front=$(dirname "$demo")/front
 if [ ! -f "$front/prepare.py" ] || ! python3 -c 'import sys; sys.exit(sys.version_info < (3, 10))' 2>/dev/null; then
-    echo "not shown: preparing a table and asking in words, which take front/ and a python3 of 3.10 or later" >&2
+    echo "not shown: preparing a table, asking in words and renewing it, which take front/ and a python3 of 3.10 or later" >&2
     exit 0
 fi
 AUDITOR=$program
@@ -120,3 +121,5 @@ python3 "$front/ask.py" table "count by team" "sum salary where age >= 41" "sum 
 cat said >&2
 # Why a question is denied is said in a sentence of front/words.json.
 sed 's/^not answered: .*/not answered/' said | cmp - "$demo/said.txt" || exit 1
+
+"$demo/months.sh" "$program" || { echo "demo: the table wasn't renewed" >&2; exit 1; }

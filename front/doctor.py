@@ -21,7 +21,7 @@ import tempfile
 import time
 
 HERE = pathlib.Path(__file__).resolve().parent
-JOURNAL, SPARE = "answers.journal", "answers.spare"
+JOURNAL, SPARE, KEYS = "answers.journal", "answers.spare", "keys.csv"
 DOOR, TRANSCRIPT = "auditor-door", "transcript.jsonl"
 RECORDS = 65_536                    # that a journal takes
 NETWORK = {"nfs", "nfs4", "cifs", "smb3", "9p", "fuse.sshfs"}
@@ -85,7 +85,7 @@ def of_journal(path):
 
 def of_modes(folder):
     """Whether what is for the operator alone can be read by nobody else, and is one user's."""
-    names = [name for name in ("schema.json", "table.csv", JOURNAL, SPARE) if (folder / name).is_file()]
+    names = [name for name in ("schema.json", "table.csv", KEYS, JOURNAL, SPARE) if (folder / name).is_file()]
     owners = {(folder / name).stat().st_uid for name in names} | {folder.stat().st_uid}
     if len(owners) > 1:
         yield wrong("the folder and its files are of several users: " + ", ".join(sorted(user_name(owner) for owner in owners)))
@@ -125,6 +125,8 @@ def of_public(folder, public, program):
     except (OSError, ValueError, LookupError, TypeError) as fault:
         yield wrong(f"{public}: can't be compared with the table: {fault}")
         return
+    if (public / KEYS).exists():
+        yield wrong(f"{public}/{KEYS}: for all to read, and it has whose row each is: remove it there")
     if [name for name in shown[0] if name not in names]:
         yield wrong(f"{public}/table.csv: has a secret column, for all to read: {', '.join(set(shown[0]) - set(names))}")
     elif due != shown:

@@ -8,6 +8,12 @@
     prepare.py make FILE CHOICES FOLDER
         writes FOLDER with schema.json and table.csv, and FOLDER/public with the public columns alone, says each change,
         and points out what people may conclude who know more than that secrets are whole numbers
+    prepare.py make FILE CHOICES FOLDER key=TITLE
+        the same for a table that lives: keys.csv has the key of each row, from the column TITLE, which stays outside of the table, and
+        the public number current is 1 in the rows of those who are there
+    prepare.py renew EXPORT CHOICES OLD NEW key=TITLE [many=left] [many=changed] [unit=same] [numbers=later]
+        writes the folder NEW, with the table of the folder OLD as it is by EXPORT: who is there in her row, who left no longer current,
+        another number in another row; numbers=later keeps the earlier numbers this time, the others say that what looks wrong is meant
     prepare.py add FILE CHOICES OLD NEW
         writes the folder NEW, with the tables of the folder OLD and the rows of FILE at their end, as auditor grow wants them
 
@@ -24,6 +30,7 @@ from preparing.choosing import choose
 from preparing.faults import Fault, os_words, shown
 from preparing.looking import look
 from preparing.making import make
+from preparing.renewing import renew
 
 OPTIONS = ("encoding", "separator", "untitled", "sheet")
 
@@ -57,6 +64,10 @@ def run(words):
             choose(path, choices)
         case ["make", path, choices, folder]:
             make(path, choices, folder, program())
+        case ["make", path, choices, folder, key] if key.startswith("key="):
+            make(path, choices, folder, program(), key.removeprefix("key="))
+        case ["renew", path, choices, old, new, key, *meant] if key.startswith("key="):
+            renew(path, choices, old, new, key.removeprefix("key="), meant, program())
         case ["add", path, choices, old, new]:
             add(path, choices, old, new, program())
         case ["-h" | "--help" | "help"]:

@@ -7,17 +7,16 @@ Promised: nothing. The program reads each line itself. If this reading differed 
 question; the tests compare both.
 """
 import bisect
-import csv
 import functools
 import hashlib
-import io
 import itertools
 import json
 import operator
 from dataclasses import dataclass
 
-from preparing.conditions import Reader, Wrong
+from preparing.conditions import Reader, Wrong, asked_rows
 
+from .growth import rows_of
 from .lines import read_question
 
 KINDS = ("sum", "avg", "max")
@@ -101,15 +100,15 @@ class RowReader(Reader):
 
 
 class Questions:
-    """Reads the questions on one table, by its schema and public columns."""
+    """Reads the questions on one table, by its schema and public columns. `rows` is the number of rows that questions are over."""
 
     def __init__(self, schema, table):
-        records = [record for record in csv.reader(io.StringIO(table.decode("utf-8-sig"), newline="")) if record]
-        self.kinds = {column["name"]: column["is"] for column in json.loads(schema)["columns"] if column["is"] in ("text", "number")}
-        cells = dict(zip(records[0], zip(*records[1:]))) if len(records) > 1 else {}
-        self.columns = {name: PublicColumn(cells[name] if kind == "text" else list(map(int, cells[name])))
-                        for name, kind in self.kinds.items()}
-        self.all_rows = (1 << len(records) - 1) - 1
+        schema = json.loads(schema)
+        self.kinds = {column["name"]: column["is"] for column in schema["columns"] if column["is"] in ("text", "number")}
+        rows = asked_rows(schema, self.kinds, rows_of(table, self.kinds))
+        self.columns = {name: PublicColumn([row[name] for row in rows]) for name in self.kinds}
+        self.rows, self.all_rows = len(rows), (1 << len(rows)) - 1
+        self.only_words = f" where {schema['only']}" if "only" in schema else ""
         self.read = functools.lru_cache(REMEMBERED)(self._read)
 
     def rows_of(self, where):

@@ -10,7 +10,7 @@ WORDS = json.loads((pathlib.Path(__file__).resolve().parent.parent / "words.json
 # Programs go by these codes: never change one.
 STATUS = {
     "lines": 400, "broken": 400, "token": 401, "site": 403, "address": 404, "missing": 404, "method": 405, "slow": 408, "long": 413, "type": 415,
-    "host": 421, "few": 422, "question": 422, "unicode": 422, "total": 422, "used": 429, "unexplained": 501, "questions": 503, "verdicts": 503,
+    "host": 421, "few": 422, "question": 422, "unicode": 422, "total": 422, "used": 429, "unexplained": 501, "renewed": 501, "questions": 503, "verdicts": 503,
     "certificates": 503, "away": 503, "late": 504}
 
 

@@ -112,13 +112,7 @@ def front_of(mark, schema, table):
 def rows_of(table, kinds):
     """A dict of the public values of each row."""
     records = [record for record in csv.reader(io.StringIO(table.decode("utf-8-sig"), newline="")) if record]
-    return [{name: int(cell) if kinds[name] == "number" else cell for name, cell in zip(records[0], record)} for record in records[1:]]
-
-
-def public_rows(public):
-    """How many rows the public table has."""
-    _, table = read_public(public)
-    return sum(1 for record in csv.reader(io.StringIO(table.decode("utf-8-sig"), newline="")) if record) - 1
+    return [{name: int(cell) if kinds.get(name) == "number" else cell for name, cell in zip(records[0], record)} for record in records[1:]]
 
 
 def number_apart(before, added, kinds):
@@ -127,8 +121,8 @@ def number_apart(before, added, kinds):
         if kinds[name] == "number" and max(row[name] for row in before) < min(row[name] for row in added):
             return name, max(row[name] for row in before)
     raise Damaged("rows were added to the public table.csv, and no public number, as wave, is greater in each of them than in all "
-                  "earlier rows: the transcript can't go on over them. Give the new rows such a number, or name another folder by "
-                  "--keep, where a transcript begins without the earlier answers")
+                  "earlier rows: the transcript can't go on over them. Give the new rows such a number, or put a file renewed beside "
+                  "transcript.jsonl, and another transcript begins")
 
 
 def keep_beside(keep, rows, text):

@@ -8,7 +8,9 @@ import collections
 import contextlib
 import json
 import os
+import re
 import time
+
 
 from aiohttp import web
 from aiohttp.http_exceptions import HttpProcessingError
@@ -20,11 +22,14 @@ from .interface import interface
 from .lines import LONGEST, line_of
 from .metrics import TYPE, Meter, text
 from .near import Nears
+from .periods import folder_of
 from .totals import total
 
 BODY_PATIENCE = 30                  # seconds that a body may take
 PIECE = 1 << 20
 JSON, JSONL, CSV = "application/json", "application/jsonl", "text/csv; charset=utf-8"
+PERIOD_FILES = {"schema.json": JSON, "table.csv": CSV, "notes.json": JSON, "transcript.jsonl": JSONL, "report.jsonl": JSONL,
+                "answers.journal": "application/octet-stream"}
 SAFE = {"X-Content-Type-Options": "nosniff", "Cache-Control": "no-store"}
 REPLY = {"Content-Type": JSON, **SAFE}
 
@@ -117,7 +122,9 @@ class TableHandlers:
             ("GET", prefix + "/notes.json"): sender(public / "notes.json", JSON),
             ("GET", prefix + "/table.csv"): sender(public / "table.csv", CSV),
             ("GET", prefix + "/report.jsonl"): sender_of_whole(self.table.reports.path, JSONL),
-            ("GET", prefix + "/transcript.jsonl"): self.transcript}
+            ("GET", prefix + "/transcript.jsonl"): self.transcript,
+            ("GET", prefix + "/periods.json"): self.periods,
+            ("GET", prefix + "/period.{period}/{file}"): self.period_file}
 
     async def _check_size(self, line):
         if self.least and not (await self.table.known(line))[1]:
@@ -160,6 +167,16 @@ class TableHandlers:
     async def health(self, _):
         health = self.table.health()
         return said(health, 200 if health["state"] == "serving" else 503)
+
+    async def periods(self, _):
+        return said(list(range(1, self.table.period.number + 1)))
+
+    async def period_file(self, request):
+        """A file of a period, by which others check its transcript. That of the period that goes on is at its old address."""
+        period, name = request.match_info["period"], request.match_info["file"]
+        if name not in PERIOD_FILES or not re.fullmatch("[1-9][0-9]{0,8}", period, re.ASCII):
+            raise Turned("address")
+        return await sender(folder_of(self.table.places.keep, int(period)) / name, PERIOD_FILES[name])(request)
 
     async def transcript(self, request):
         """As far as it is synced. What is being written isn't shown."""

@@ -10,12 +10,13 @@ POSTED = ("lines", "broken", "site", "slow", "long", "type", "used")
 # What a request may be turned away with besides.
 MORE = {
     "/ask": ("few", "question", "unicode", "questions", "away", "late"),
-    "/would": ("few", "question", "unicode", "questions", "verdicts", "away", "late"),
+    "/would": ("few", "question", "unicode", "questions", "verdicts", "renewed", "away", "late"),
     "/why": ("few", "question", "unicode", "questions", "unexplained", "certificates", "away", "late"),
-    "/near": ("question", "verdicts", "away"),
+    "/near": ("question", "verdicts", "renewed", "away"),
     "/hint": ("question",),
     "/total": ("total",),
-    "/": ("missing",), "/schema.json": ("missing",), "/table.csv": ("missing",), "/notes.json": ("missing",), "/report.jsonl": ("missing",)}
+    "/": ("missing",), "/schema.json": ("missing",), "/table.csv": ("missing",), "/notes.json": ("missing",), "/report.jsonl": ("missing",),
+    "/period.{period}/{file}": ("address", "missing")}
 OF_ALL = ("/", "/health", "/metrics", "/openapi.json", "/tables.json", "/total", "/words.json")    # those that are there once, beside several tables
 OF_SEVERAL = ("/total",)
 TOO = ("/", "/health", "/tables.json", "/words.json")      # and of these those that each of several tables has as well

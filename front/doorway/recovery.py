@@ -17,8 +17,13 @@ async def ask_again(table, left):
     if not left:
         return
     denied = []
+    if table.period.simulating is None:
+        table.say("what was with the program is asked again in its order: auditor simulate may disagree with a denial")
+        while left:
+            await _ask_first(table, left)
+        return
     try:
-        async with Simulation(table.auditor, table.places.public) as simulation:
+        async with Simulation(table.auditor, table.period.simulating) as simulation:
             await simulation.read(table.transcript.released())
             await _ask_those_due(table, simulation, left, denied)
             if simulation.gap:

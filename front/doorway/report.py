@@ -79,7 +79,7 @@ class Reports:
             return None
 
     def _compare(self, counted):
-        given = self.table.transcript.records - self.table.left_out
+        given = self.table.given()
         if counted < given:
             text = (f"the journal holds {counted} answers and {given} were given: it is an older copy, or a compacted one that "
                     f"{compacted.NAME} doesn't have. Put the last one back, or add the line, then remove this file")

@@ -81,13 +81,14 @@ class Verdicts:
     A run that says that a question would be answered waits for the answer, so it can't go on. The next one is fed at once.
     """
 
-    def __init__(self, auditor, public, transcript):
-        self.auditor, self.public, self.transcript = auditor, public, transcript
+    def __init__(self, auditor, period, transcript):
+        self.auditor, self.period, self.transcript = auditor, period, transcript
         self.one = asyncio.Lock()
         self.run, self.fed, self.next, self.idle = None, 0, None, None
 
     async def on(self, line):
         """The verdict on a question after what was answered so far."""
+        self.period.need_simulating()
         async with self.one:
             try:
                 await self._feed()
@@ -108,7 +109,7 @@ class Verdicts:
     async def _feed(self):
         """A run that has all answers."""
         if self.run is None:
-            self.run, self.fed = Simulation(self.auditor, self.public), 0
+            self.run, self.fed = Simulation(self.auditor, self.period.simulating), 0
             await self.run.start()
         size = self.transcript.size
         await self.run.read(self.transcript.released(self.fed, size))

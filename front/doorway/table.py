@@ -13,8 +13,8 @@ from .asked import Asked, Questions
 from .askers import NOBODY
 from .compacted import left_out
 from .faults import Turned, away, sentence_of
-from .growth import carry_over, public_rows
 from .lines import HISTORY
+from .periods import open_period
 from .places import Places
 from .recovery import ask_again
 from .report import Reports
@@ -70,8 +70,7 @@ class Table:
 
     def __init__(self, name, groups, places, auditor, report_every=0):
         self.name, self.groups, self.places, self.auditor = name, groups, places, auditor
-        carry_over(places.public, places.keep, self.say)
-        check_table(places.public, places.keep)
+        self.period = open_period(places.public, places.keep, self.say)
         self.left_out = left_out(places.keep)
         self.questions = Questions(*read_public(places.public))
         self.transcript = Transcript(places.keep, key=self.questions.key)
@@ -83,7 +82,7 @@ class Table:
         self.state = "starting"
         self.asked = self.sent = self.repeats = self.restarts = self.waiting = 0
         self.verdicts = Places(VERDICTS, EACH, "verdicts")
-        self.simulated = Verdicts(auditor, places.public, self.transcript)
+        self.simulated = Verdicts(auditor, self.period, self.transcript)
         self.whys = Whys(groups.opener, self.say)
 
     # What a request does.
@@ -144,10 +143,15 @@ class Table:
         return await self.whys.ask(line, asker)
 
     def health(self):
-        records = self.transcript.records - self.left_out
+        records = self.given()
         return {"state": self.state, "records": records, "room": max(HISTORY - records, 0), "asked": self.asked,
                 "groups": self.sent, "repeats": self.repeats, "restarts": self.restarts, "waiting": self.waiting,
-                "transcript": self.transcript.size, "unwritten": self.transcript.unwritten, "compacted": self.left_out}
+                "transcript": self.transcript.size, "unwritten": self.transcript.unwritten, "compacted": self.left_out,
+                "earlier": self.period.earlier}
+
+    def given(self):
+        """How many answers were given, in all periods, that the journal has to have."""
+        return self.period.earlier + self.transcript.records - self.left_out
 
     def is_stopped(self):
         """Whether no question is taken just now."""
@@ -246,16 +250,16 @@ class Table:
     async def _need_same_rows(self):
         """The program's table and the public columns grow together, or what is shown of one isn't true of the other."""
         reply, = await self.groups.ask([COUNT])
-        rows = public_rows(self.places.public)
+        rows = self.questions.rows
         if reply != b'{"count":%d}' % rows:
-            raise Ended(f"the public table.csv has {rows} rows, and the program says {reply.decode(errors='replace')}: put in the right one",
-                        "rows")
+            raise Ended(f"the public table.csv has {rows} rows{self.questions.only_words}, and the program says "
+                        f"{reply.decode(errors='replace')}: put in the right one", "rows")
 
     async def _cause(self, fault):
         """Why the program doesn't begin. A socket doesn't say it. If it is for schema and public columns, `simulate` does."""
         if self.places.serve:
             with contextlib.suppress(OSError):
-                found = await fault_over(self.auditor, self.places.public)
+                found = await fault_over(self.auditor, self.period.simulating or self.places.public)
                 if found:
                     self.say(f"auditor simulate: {found}")
                     return found.cause

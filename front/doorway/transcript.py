@@ -239,5 +239,5 @@ def check_table(public, keep):
         write_whole(mark, mark_of(*now))
     elif not is_of(mark, *now):
         raise Damaged("schema.json or the public table.csv isn't the one that transcript.jsonl was made over: put the right "
-                      "ones back. If only totals to protect were added, and auditor simulate ends with 0 over the "
-                      f"transcript, remove {mark}")
+                      f"ones back. If the table was renewed put a file renewed into {keep}, and another transcript begins. If only totals to "
+                      f"protect were added, and auditor simulate ends with 0 over the transcript, remove {mark}")

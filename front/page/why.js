@@ -84,13 +84,14 @@ async function whyWords(table, asked, line) {
 }
 
 // The answers that a certificate names, by the numbers of their records; null if the transcript doesn't show which they are. Record k is its k-th
-// answer, unless the journal was compacted or somebody asked beside the door: so columns, kinds and for sums the rows have to fit.
+// answer, unless the journal was compacted, the table renewed, or somebody asked beside the door: so columns, kinds and for sums the rows
+// have to fit.
 async function recordsOf(table, asked, line) {
   const places = "high" in line ? [line.pair].filter(place => place !== "asked") : line.by.map(([place]) => place);
   if (places.length > MOST_CHECKED) return null;
   try {
     const health = await (await fetchFrom(table.base + "health")).json();
-    if (health.compacted !== 0 || !(health.transcript <= MOST_TRANSCRIPT)) return null;
+    if (health.compacted !== 0 || health.earlier > 0 || !(health.transcript <= MOST_TRANSCRIPT)) return null;
     const answers = places.length ? await answersOf(table) : [], kinds = "high" in line ? ["max"] : ["sum", "avg"];
     const records = new Map(places.map(place => [place, answers[place]]));
     const fits = [...records.values()].every(one => one && one.asked.column === asked.column && kinds.includes(one.asked.ask));

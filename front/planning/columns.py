@@ -7,21 +7,22 @@ import io
 import json
 import pathlib
 
-from preparing.conditions import read_condition
+from preparing.conditions import asked_rows, read_condition
 
 PUBLIC = ("text", "number")
 
 
 class Columns:
-    """The schema and the public rows. `kinds` has the kind of each column by name, `rows` a dict for each row."""
+    """The schema and the public rows that questions are over. `kinds` has the kind of each column by name, `rows` a dict for each row."""
 
     def __init__(self, schema, table):
-        self.kinds = {column["name"]: column["is"] for column in json.loads(schema)["columns"]}
+        schema = json.loads(schema)
+        self.kinds = {column["name"]: column["is"] for column in schema["columns"]}
         self.publics = {name: kind for name, kind in self.kinds.items() if kind in PUBLIC}
         csv.field_size_limit(2**24)
         records = csv.DictReader(io.StringIO(table.decode("utf-8-sig"), newline=""))
-        self.rows = [{name: int(row[name]) if kind == "number" else row[name] for name, kind in self.publics.items()}
-                     for row in records]
+        self.rows = asked_rows(schema, self.publics, [
+            {name: int(row[name]) if kind == "number" else row[name] for name, kind in self.publics.items()} for row in records])
         self.everyone = (1 << len(self.rows)) - 1
         self._values = {name: self._rows_by_value(name) for name in self.publics}
 

@@ -69,13 +69,16 @@ def need_schema(folder, columns):
 
 def rows_before(path, columns):
     """The rows that are there, as a value for each name."""
-    records = [record for record in csv.reader(io.StringIO(path.read_text(encoding="utf-8"), newline="")) if record]
     try:
+        text = path.read_text(encoding="utf-8-sig")
+        header, *records = [record for record in csv.reader(io.StringIO(text, newline="")) if record]
+        if header != [column.name for column in columns]:
+            raise ValueError
         return [
             {column.name: cell if column.kind == "text" else int(cell) for column, cell in zip(columns, record, strict=True)}
-            for record in records[1:]
+            for record in records
         ]
-    except ValueError:
+    except (ValueError, csv.Error):
         raise Fault(f"{path} isn't a table of its schema") from None
 
 

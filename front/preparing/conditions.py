@@ -160,3 +160,11 @@ def read_condition(text, kinds):
     condition = reader.condition()
     reader.take("end")
     return condition
+
+
+def asked_rows(schema, kinds, rows):
+    """The rows that questions are over: those that satisfy the schema's `only`, or all. What isn't a condition the program says."""
+    try:
+        return list(filter(read_condition(schema["only"], kinds), rows)) if "only" in schema else rows
+    except (Wrong, TypeError):
+        return rows

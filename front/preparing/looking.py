@@ -208,4 +208,8 @@ def say_next(out, choices):
     )
     print('"wave" is for a table to which rows may be added later: choose wave=1, and prepare.py add can tell them apart.')
     limits.say_choice()
+    print(
+        "If people move, leave, come back or get other numbers, leave a column out by which they are known, and make the table with"
+        " key=TITLE, that column's title: prepare.py renew then writes it anew by each export."
+    )
     print(f'Go on with an editor, or with: prepare.py choose {out} NAME=KIND .. others="leave out"')

@@ -9,6 +9,7 @@ from .cells import FORMS, without_unit
 from .choices import PUBLIC, SECRET
 from .faults import Fault, counted, first_numbers, listed, shown
 from .guards import say_of_two, say_readers, say_what_is_known, secrets_apart
+from .keys import CURRENT, KEY, ONLY, keys_of_export, need_one_table, need_told_apart
 from .limits import say_limits, stated
 from .looking import step
 from .names import free
@@ -17,7 +18,7 @@ from .protecting import need_totals, say_totals
 from .ranges import need_ranges, say_ranges
 from .reading import Layout, decode, load, read_rows, without_separator_line
 from .splitting import parts, say_parts
-from .writing import Schema, write_folders
+from .writing import schema_of, write_folders
 
 MOST_COLUMNS, MOST_SECRET, MOST_SIZE = 32, 8, 10**12
 DROPPED = object()
@@ -55,27 +56,27 @@ class Changes:
     fine: dict = dataclasses.field(default_factory=dict)  # what is wrong with the first cell that is too fine, and how many are, by column
 
 
-def make(path, choices_path, folder, program):
-    """Writes the folders of the table, or raises a Fault and leaves nothing behind."""
+def make(path, choices_path, folder, program, key=None):
+    """Writes the folders of the table, or raises a Fault and leaves nothing behind. With the title of a key the table may be renewed."""
     choices = choosing.read(choices_path)
     choosing.need_decided(choices)
     table = read_as_chosen(path, choices)
-    columns = columns_to_write(choices)
+    columns = columns_to_write(choices) if key is None else columns_with_current(choices)
     need_columns(columns)
     totals = choices["protect"] or []
     need_totals(totals, columns)
     changes = Changes()
-    rows = convert_all(table, columns, changes)
+    rows = convert_all(table, columns, changes) if key is None else list(people_of(table, choices, columns, key, changes).values())
     public = [column.name for column in columns if column.kind in PUBLIC]
     secret = [column for column in columns if column.kind in SECRET]
     secrets_apart(
-        rows, columns, {column.name: texts_of(table, column, changes) for column in columns if column.kind == "text"}
+        rows, from_file(columns), {column.name: texts_of(table, column, changes) for column in columns if column.kind == "text"}
     )
     places = [number for number, _ in table.rows if number not in changes.dropped]
     need_ranges(rows, secret, places)
     tables = parts(by_public_cells(rows, public), choices["split by"], public)
     limits = stated(choices)
-    write_folders(folder, Schema(columns, limits, totals), tables, program)
+    write_folders(folder, columns, schema_of(columns, totals, {**limits, **({} if key is None else only())}), tables, program)
     say_changes(choices, columns, table, changes)
     say_names(choices)
     say_order()
@@ -87,7 +88,17 @@ def make(path, choices_path, folder, program):
     if any(column.kind == "sum" for column in secret):
         say_of_two()
     say_readers(path)
+    if key is not None:
+        say_key()
     say_next(folder, choices)
+
+
+def say_key():
+    """What the key makes of the table."""
+    print(
+        "keys.csv: the key of each row, for you alone. Keep it beside table.csv, and give it to nobody. current: public number, 1 in"
+        " every row; prepare.py renew makes it 0 where somebody leaves or gets another number, which everybody sees"
+    )
 
 
 def say_next(folder, choices):
@@ -130,6 +141,31 @@ def columns_to_write(choices):
     if choices["wave"] is not None:
         columns.append(Column("wave", "number"))
     return columns
+
+
+def columns_with_current(choices):
+    """The columns of a table with a key: in place of wave the public number `current`, which is 1 for whoever is in the file."""
+    need_one_table(choices)
+    return columns_to_write(choices) + [Column(CURRENT, "number")]
+
+
+def from_file(columns):
+    """The columns whose cells come from the file, so without wave and current."""
+    return [column for column in columns if column.chosen is not None]
+
+
+def only():
+    """The key of the schema that keeps every question to those who are there."""
+    return {"only": ONLY} if ONLY else {}
+
+
+def people_of(table, choices, columns, title, changes):
+    """The row of each person of an export, by her key. Whose row is dropped for what it lacks isn't among them."""
+    keys = keys_of_export(table, choices, title)
+    need_told_apart(keys.values())
+    rows = convert_all(table, columns, changes)
+    kept = [key for number, key in keys.items() if number not in changes.dropped]
+    return {key: {**row, KEY: key} for key, row in zip(kept, rows, strict=True)}
 
 
 def need_columns(columns):

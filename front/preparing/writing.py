@@ -14,6 +14,7 @@ import tempfile
 
 from .choices import PUBLIC
 from .faults import Fault
+from .keys import KEY
 from .limits import LIMITS
 from .protecting import total_words
 
@@ -21,27 +22,11 @@ MOST_BYTES = 16_777_216
 MOST_SCHEMA_BYTES = 65_536
 
 
-@dataclasses.dataclass(frozen=True)
-class Schema:
-    """What a schema states: columns, limits by key, and the totals that are protected."""
-
-    columns: list
-    limits: dict
-    protect: list
-
-    def text(self):
-        """The schema's file."""
-        schema = {"columns": [{"name": column.name, "is": column.kind} for column in self.columns], **self.limits}
-        if self.protect:
-            schema["protect"] = self.protect
-        return json.dumps(schema, indent=1, ensure_ascii=False) + "\n"
-
-
-def write_folders(folder, schema, tables, program):
+def write_folders(folder, columns, schema, tables, program):
     """Writes a folder, or one for each part in it, has the program read them, and puts them into place."""
     with put_into_place(folder) as beside:
         for part in tables:
-            write_folder(beside / part.name, schema, part.rows)
+            write_folder(beside / part.name, columns, schema, part.rows)
             try_program(beside / part.name, program)
     said_of_program(program)
 
@@ -83,11 +68,18 @@ def current_umask():
     return mask
 
 
-def write_folder(folder, schema, rows):
-    """schema.json, and table.csv for its owner alone; in public/ the schema, the public columns and notes."""
+def schema_of(columns, protect, others):
+    """A schema with these columns and protected totals, and with other keys."""
+    schema = {"columns": [{"name": column.name, "is": column.kind} for column in columns]}
+    return {**schema, **({"protect": protect} if protect else {}), **others}
+
+
+def write_folder(folder, columns, schema, rows):
+    """schema.json, and table.csv and the rows' keys, if they have some, for their owner alone; in public/ the schema, the public
+    columns and notes."""
     public = folder / "public"
     public.mkdir(parents=True)
-    text, columns = schema.text(), schema.columns
+    text = json.dumps(schema, indent=1, ensure_ascii=False) + "\n"
     if len(text.encode()) > MOST_SCHEMA_BYTES:
         raise Fault(
             f"the schema has {len(text.encode()):,} bytes, and at most {MOST_SCHEMA_BYTES:,} are read: protect fewer"
@@ -96,6 +88,8 @@ def write_folder(folder, schema, rows):
     for where in (folder, public):
         (where / "schema.json").write_text(text, encoding="utf-8")
     write_table(folder / "table.csv", columns, rows, 0o600)
+    if KEY in rows[0]:
+        write_keys(folder / "keys.csv", rows)
     write_table(public / "table.csv", [column for column in columns if column.kind in PUBLIC], rows, 0o666)
     (public / "notes.json").write_text(
         json.dumps({"columns": notes(columns)}, indent=1, ensure_ascii=False) + "\n", encoding="utf-8"
@@ -104,10 +98,20 @@ def write_folder(folder, schema, rows):
 
 def write_table(path, columns, rows, mode):
     """The table as CSV, with the line ends of its standard, so that a line end within a cell is quoted too."""
-    with open(os.open(path, os.O_WRONLY | os.O_CREAT | os.O_EXCL, mode), "w", encoding="utf-8", newline="") as file:
-        file.write(lines_of([[column.name for column in columns]]))
-        file.write(lines_of([row[column.name] for column in columns] for row in rows))
+    header = [column.name for column in columns]
+    write_lines(path, [header, *([row[name] for name in header] for row in rows)], mode)
     need_few_bytes(path)
+
+
+def write_keys(path, rows):
+    """The key of each row, in their order, for the owner alone."""
+    write_lines(path, [["row", "key"], *enumerate(row[KEY] for row in rows)], 0o600)
+
+
+def write_lines(path, records, mode):
+    """Records as CSV in a new file."""
+    with open(os.open(path, os.O_WRONLY | os.O_CREAT | os.O_EXCL, mode), "w", encoding="utf-8", newline="") as file:
+        file.write(lines_of(records))
 
 
 def lines_of(records):
@@ -127,7 +131,7 @@ def notes(columns):
     """For each column what people want to read beside its numbers. The program never reads it."""
     found = {}
     for column in columns:
-        chosen = column.chosen or {"from": "wave"}
+        chosen = column.chosen or {"from": column.name}
         title = f"{chosen['from']}: known" if column.marks else chosen["from"]
         numbers = (
             {key: chosen.get(key) for key in ("decimals", "unit")} if column.kind != "text" and not column.marks else {}
@@ -151,15 +155,16 @@ def try_program(folder, program):
             said = run.stderr.strip() or f"status {run.returncode}"
             raise Fault(
                 f"auditor {command} doesn't take the files, so nothing is written: {said}"
-                + schema_words(folder, run.returncode, said)
+                + complaint_words(folder, run.returncode, said)
             )
 
 
-def schema_words(folder, status, said):
-    """What the program's complaint may mean if totals are to be protected, or limits are stated."""
+def complaint_words(folder, status, said):
+    """What the program's complaint may mean if totals are to be protected, limits are stated, or the questions kept to those who are there."""
     schema = json.loads((folder / "schema.json").read_text(encoding="utf-8"))
-    groups = schema.get("protect")
-    bad = re.fullmatch(r"schema: group (\d+) is bad", said)
+    groups, bad = schema.get("protect"), re.fullmatch(r"schema: group (\d+) is bad", said)
+    if "only" in schema and status == 3:
+        return '. This auditor may be older than the key "only", which keeps questions to those who are there: take a newer one'
     newer = [("protected totals", "protect=none")] * bool(groups) + [(f"a {key}", f"{key}=none") for key in LIMITS if key in schema]
     if newer and status == 3:
         what, instead = (" or ".join(words) for words in zip(*newer))

@@ -70,6 +70,16 @@ class Doctor(unittest.TestCase):
         (self.path / "schema.json").unlink()
         self.assert_wrong("schema.json: not in")
 
+    def test_keys_are_the_owners_alone(self):
+        (self.path / "keys.csv").write_text("row,key\n")
+        (self.path / "keys.csv").chmod(0o600)
+        self.assertEqual(doctor(self.path).returncode, 0)
+        (self.path / "keys.csv").chmod(0o644)
+        self.path.chmod(0o755)
+        self.assert_wrong("others than the owner may read keys.csv")
+        (self.path / "keys.csv").rename(self.path / "public" / "keys.csv")
+        self.assert_wrong("public/keys.csv: for all to read")
+
     def test_what_the_program_refuses(self):
         with open(self.path / "answers.journal", "r+b") as file:
             file.write(b"\x07")

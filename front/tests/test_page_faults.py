@@ -180,8 +180,9 @@ class Scripted(OneTable):
                 self.browser.wait(lambda: self.browser.all("#answer details"))
                 self.assertIn(words, self.browser.text("answer"))
                 self.assertEqual(len(self.browser.all("#answer p a")), len(line.get("by", [0])) if "answered" in words or "group" in line else 0)
-        self.open("", {**more, "health": json.dumps({**health, "compacted": 1})})
-        self.assertIn("record 0, less the answer asked for", self.why(json.dumps({"verdict": "unsafe", **one})))
+        for other in ({"compacted": 1}, {"earlier": 2}):
+            self.open("", {**more, "health": json.dumps({**health, **other})})
+            self.assertIn("record 0, less the answer asked for", self.why(json.dumps({"verdict": "unsafe", **one})))
 
     def test_what_is_near_is_said_whatever_comes(self):
         found = {"ask": "sum", "column": "pay", "where": "constructor in ('A', '<b>')"}
