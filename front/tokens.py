@@ -1,7 +1,8 @@
 #!/usr/bin/python3
 """Gives out tokens with which people ask at the front door, each with limits of its own.
 
-    tokens.py add NAME [--records N] [--answers N] [--verdicts N] [--bytes N]    prints a token, once: only its sum is kept
+    tokens.py add NAME [--records N] [--new N] [--answers N] [--verdicts N] [--bytes N]
+                                                                prints a token, once: only its sum is kept
     tokens.py list                                                              prints the names with their limits
     tokens.py remove NAME
 

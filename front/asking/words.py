@@ -113,4 +113,5 @@ def near_words(said):
 
 def verdict_words(reply):
     """What would be said, in a sentence."""
-    return WORDS["verdict"].get(reply.get("verdict"), json.dumps(reply))
+    said = WORDS["verdict"].get(reply.get("verdict"), json.dumps(reply))
+    return f"{said} {WORDS['note']['follows']}" if reply.get("new") is False else said

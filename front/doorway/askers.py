@@ -19,8 +19,9 @@ from .files import write_whole
 from .lines import RELEASED
 
 NAME = re.compile(r"[A-Za-z0-9_][A-Za-z0-9_.@-]{0,63}")
-# What is counted: new answers in all, and within a day new answers, verdicts with reasons, and bytes of questions.
-LIMITS = {"records": "records of the history", "answers": "new answers of today", "verdicts": "verdicts of today", "bytes": "bytes of today"}
+# What is counted: new answers in all, those of them that don't follow from earlier ones, and within a day new answers, verdicts with reasons,
+# and bytes of questions.
+LIMITS = {"records": "records of the history", "new": "answers that tell something new", "answers": "new answers of today", "verdicts": "verdicts of today", "bytes": "bytes of today"}
 DAILY = ("answers", "verdicts", "bytes")
 LOOK = WRITE = 1                    # seconds after which the file is looked at again, and what was used is written
 LOGIN = {"WWW-Authenticate": 'Basic realm="auditor", charset="UTF-8"'}
@@ -55,19 +56,28 @@ class Asker:
             raise Turned("used", again=until_tomorrow() if what in DAILY else 0, what=LIMITS[what], most=most)
         self.used[what] = self.used.get(what, 0) + count
 
-    def begin_answer(self):
+    def counts_new(self):
+        """Whether she has a limit of answers that tell something new."""
+        return "new" in self.limits
+
+    def begin_answer(self, new=False):
         """Counts a question that may become a new answer, before it is asked: askers at once don't get past a limit."""
-        self.spend("records")
+        spent = []
         try:
-            self.spend("answers")
+            for what in ("records", "answers", *(["new"] if new else [])):
+                self.spend(what)
+                spent.append(what)
         except Turned:
-            self.used["records"] -= 1
+            for what in spent:
+                self.used[what] -= 1
             raise
 
-    def end_answer(self, reply=b""):
+    def end_answer(self, reply=b"", new=False):
         """Takes that back if it didn't."""
         if not reply.startswith(RELEASED):
             self.used["records"] -= 1
+            if new:
+                self.used["new"] -= 1
             self.used["answers"] = max(self.used["answers"] - 1, 0)         # a new day may have begun
 
 

@@ -14,11 +14,10 @@ from preparing.conditions import Wrong
 from .faults import Turned, away
 from .lines import read_question
 from .runs import Ended, cause_of
-from .simulation import DENIALS
+from .simulation import DENIALS, FOLLOWS, RELEASED
 
 MOST = 200                          # questions that are looked at
 ASKS = ("sum", "avg", "max")
-RELEASED = b'{"verdict":"released"}'
 WITHHELD = b'{"verdict":"withheld"}'    # what the door itself doesn't hand on
 
 
@@ -53,7 +52,7 @@ class Nears:
         """The first of some conditions with which the question is released, or None."""
         for tried, other in enumerate(others, 1):
             verdict = await self._verdict(line_of(question["ask"], question["column"], other.where))
-            if verdict == RELEASED:
+            if verdict in (RELEASED, FOLLOWS):
                 return said_of(question, other, tried)
             if verdict not in DENIALS:
                 break

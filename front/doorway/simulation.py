@@ -10,6 +10,8 @@ from .runs import Ended, ended_by
 
 DISAGREES = 14                      # the code with which `simulate` ends at a reply that wasn't due
 IDLE = 60                           # seconds that a run stays for the next question
+RELEASED = b'{"verdict":"released"}'
+FOLLOWS = b'{"verdict":"released","new":false}'       # the answer follows from earlier ones: it tells nothing new
 DENIALS = {b'{"verdict":"unsafe"}': b'{"denied":"unsafe"}', b'{"verdict":"wide"}': b'{"denied":"wide"}'}
 
 

@@ -19,7 +19,7 @@ from .places import Places
 from .recovery import ask_again
 from .report import Reports
 from .runs import Ended, cause_of
-from .simulation import Verdicts, fault_over
+from .simulation import FOLLOWS, Verdicts, fault_over
 from .transcript import Damaged, Transcript, check_table, read_public
 from .why import Whys
 
@@ -33,9 +33,10 @@ FIRST_PAUSE, QUIET, LONGEST_PAUSE = 0.02, 0.5, 10      # seconds between two sta
 class Question:
     """A line that waits for its reply, for one asker or for several who asked the same."""
 
-    def __init__(self, asked, first=None):
+    def __init__(self, asked, first=None, new=False):
         self.line, self.key = asked.line, asked.key
         self.first = first                  # whose new answer it is if it becomes one
+        self.new = new                      # whether it counts as one that tells something new
         self.askers = []                    # futures, with the time from which on they wait
 
     def wait(self):
@@ -54,7 +55,7 @@ class Question:
     def end(self, reply=b""):
         """Nothing more comes of it."""
         if self.first:
-            self.first.end_answer(reply)
+            self.first.end_answer(reply, self.new)
             self.first = None
 
     def fail(self, turned, since=math.inf):
@@ -106,40 +107,53 @@ class Table:
         if known:
             self.repeats += 1
             return known
-        if self.is_stopped():
-            raise Turned("away", again=1, sentence=self.state)
+        self._need_open()
         if self.waiting >= self.most_waiting:
             raise Turned("questions", again=1)
-        question = self.pending.get(asked.key)
-        if question is None:
-            if asked.is_secret:
-                asker.begin_answer()
-            question = self.pending[asked.key] = Question(asked, asker if asked.is_secret else None)
-            self.queue.append(question)
-            self.wake.set()
         self.waiting += 1
         try:
-            return await question.wait()
+            new = asked.is_secret and asker.counts_new() and await self._may_be_new(asked)
+            return await self._reply(asked, asker, new)
         finally:
             self.waiting -= 1
 
+    async def _may_be_new(self, asked):
+        """Whether an answer may tell something new. One that follows from earlier answers never will."""
+        return asked.key not in self.pending and await self._simulated(asked.line) != FOLLOWS
+
+    async def _reply(self, asked, asker, new):
+        given = self.transcript.answers.get(asked.key)      # by now
+        if given:
+            return given
+        self._need_open()
+        question = self.pending.get(asked.key)
+        if question is None:
+            if asked.is_secret:
+                asker.begin_answer(new)
+            question = self.pending[asked.key] = Question(asked, asker if asked.is_secret else None, new)
+            self.queue.append(question)
+            self.wake.set()
+        return await question.wait()
+
     async def verdict(self, line, asker):
-        """What would be said of a question that isn't asked, as `simulate` has it."""
+        """What would be said of a question that isn't asked, as `simulate` has it. An answer that was given tells nothing new."""
         asked, known = await self.known(line)
         if known:
-            return b'{"verdict":"released"}'
+            return FOLLOWS
         with self.verdicts.one(asker):
-            try:
-                return await self.simulated.on(asked.line)
-            except (Ended, OSError) as fault:
-                self.say(f"auditor simulate: {fault}")
-                raise away(cause_of(fault))
+            return await self._simulated(asked.line)
+
+    async def _simulated(self, line):
+        try:
+            return await self.simulated.on(line)
+        except (Ended, OSError) as fault:
+            self.say(f"auditor simulate: {fault}")
+            raise away(cause_of(fault))
 
     async def why(self, line, asker):
         """Why a question is denied, after the history as it is now."""
         self.whys.need_program()
-        if self.is_stopped():
-            raise Turned("away", again=1, sentence=self.state)
+        self._need_open()
         return await self.whys.ask(line, asker)
 
     def health(self):
@@ -152,6 +166,10 @@ class Table:
     def given(self):
         """How many answers were given, in all periods, that the journal has to have."""
         return self.period.earlier + self.transcript.records - self.left_out
+
+    def _need_open(self):
+        if self.is_stopped():
+            raise Turned("away", again=1, sentence=self.state)
 
     def is_stopped(self):
         """Whether no question is taken just now."""

@@ -71,7 +71,8 @@ async function wouldNow() {
   const lines = [element("div", sentence("verdict", first.verdict), {class: "verdict"}), element("p", await reasonOf(first, asked)),
     element("p", say(asked), {class: "hint"})];
   for (const one of chosen.length > 1 ? verdicts : []) {
-    lines.push(element("p", `${one.table.name}: ${sentence("verdict", one.verdict)}`, {class: "hint"}));
+    const more = one.follows ? " " + sentence("note", "follows") : "";
+    lines.push(element("p", `${one.table.name}: ${sentence("verdict", one.verdict)}${more}`, {class: "hint"}));
   }
   const unsafe = verdicts.filter(one => one.verdict === "unsafe").map(one => one.table);
   if (unsafe.length) lines.push(why(asked, unsafe));
@@ -80,11 +81,11 @@ async function wouldNow() {
   showAnswer(good(first) ? "good" : "not", ...lines);
 }
 
-async function reasonOf({table, verdict, sentence: said}, asked) {
+async function reasonOf({table, verdict, follows, sentence: said}, asked) {
   if (said) return said;
   if (verdict === "unsafe" && isProtected(asked)) return sentence("note", "protected");
   if (verdict === "unsafe" || verdict === "wide") return sentence("denied", verdict);
-  if (verdict !== "refused") return sentence("note", "would");
+  if (verdict !== "refused") return (follows ? sentence("note", "follows") + " " : "") + sentence("note", "would");
   const count = await askTable(table, {ask: "count", where: asked.where});
   if (count.state !== "answered") return count.sentence;
   return sentence("refused", count.numerator === 0n ? "empty" : "full");

@@ -67,7 +67,8 @@ async function verdictOf(table, question, signal) {
   const response = await post(table.base + "would", question, signal);
   if (response.status === 422) return {table, verdict: "withheld", sentence: await errorOf(response)};
   if (!response.ok) throw Error(await errorOf(response));
-  return {table, verdict: (await response.json()).verdict};
+  const {verdict, new: tells} = await response.json();
+  return {table, verdict, follows: tells === false};
 }
 
 // A question to the chosen table, or to all of them as parts of one.

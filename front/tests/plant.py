@@ -283,7 +283,7 @@ PLANTS = [
     ("why hands on what the program writes to standard error", "why.py", "fail(self.taken, cause_of(fault))",
      '[one.set_exception(Turned("away", sentence=f"auditor explain: {fault}")) for one in self.taken.values()]', "test_told.Raised.test_no_asker_learns_the_raise"),
     ("a verdict hands on what the program writes to standard error", "table.py",
-     "                raise away(cause_of(fault))\n", '                raise Turned("away", sentence=str(fault))\n',
+     "            raise away(cause_of(fault))\n", '            raise Turned("away", sentence=str(fault))\n',
      "test_told.Told.test_verdicts_and_reasons_are_refused_with_a_sentence_for_each_code"),
     ("the program's text isn't in the log", "table.py", '                self.say(f"program: {fault}")\n                self.groups.kill()\n',
      "                self.groups.kill()\n", "test_told.Told.test_a_program_that_doesnt_begin_is_said_with_a_sentence_for_its_code"),

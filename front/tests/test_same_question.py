@@ -48,7 +48,7 @@ class SameQuestion(DoorCase):
         replies, said = await self.replies(ways())
         self.assertEqual((set(replies), said["asked"]), ({(200, due)}, 0))
         verdicts, _ = await self.replies(ways()[-4:], "/would")
-        self.assertEqual(set(verdicts), {(200, b'{"verdict":"released"}\n')})
+        self.assertEqual(set(verdicts), {(200, b'{"verdict":"released","new":false}\n')})
         self.assertEqual(self.door.stop(), 0)
         self.assertEqual(len(self.folder.journal()), 1)
         self.check_all()

@@ -138,6 +138,29 @@ class Limits(TokenCase):
             self.assertEqual((await health(session))["records"], 5)
         self.assertEqual(self.door.stop(), 0)
 
+    async def test_what_follows_from_earlier_answers_isnt_new(self):
+        token = self.add("ann", new=2)
+        follows = b'{"verdict":"released","new":false}\n'
+        async with self.start() as session:
+            await self.door.ready(session)
+
+            async def said(low, high, path="/ask"):
+                return await ask(session, line_of("sum", low, high), path, **bearer(token))
+            self.assertEqual(await said(0, 90), (200, b'{"sum":%d}\n' % self.folder.due("sum", 0, 90)["sum"]))
+            self.assertEqual(await said(3, 3), (200, b'{"denied":"unsafe"}\n'))
+            self.assertEqual(await said(91, 150, "/would"), (200, b'{"verdict":"released"}\n'))
+            self.assertEqual((await said(0, 150))[0], 200)
+            # The third of two parts and their whole, what was answered, and an average.
+            for line in (line_of("sum", 91, 150), line_of("sum", 0, 150), line_of("avg", 0, 90)):
+                self.assertEqual(await ask(session, line, "/would", **bearer(token)), (200, follows))
+                self.assertEqual((await ask(session, line, **bearer(token)))[0], 200)
+            status, body = await said(0, 120)
+            self.assertEqual((status, "tell something new" in json.loads(body)["error"]), (429, True))
+            self.assertEqual((await health(session))["records"], 4)
+        self.assertEqual(self.door.stop(), 0)
+        self.assertEqual(json.loads(pathlib.Path(f"{self.file}.used").read_text())["used"]["ann"]["new"], 2)
+        self.check_all()
+
     async def test_verdicts_and_bytes_end_at_their_limits(self):
         line = line_of("sum", 0, 99)
         verdicts, sent = self.add("ann", verdicts=4), self.add("bob", bytes=3 * len(line) + 1)
