@@ -1,17 +1,15 @@
 -- If some numbers give the answers, an answer follows from them exactly if all numbers that give them give it.
-use Rattle.std.proofs.Common.{◌≡◌, ◌≢◌, ℕ, ◌<◌, ℤ, true, List, [], ◌∷◌, length, map, Some, refl, sym, ap, ◌∙◌, subst}
+use Rattle.std.proofs.Common.{◌≡◌, ◌≢◌, ℕ, ◌<◌, ℤ, List, [], length, Some, refl, sym, ap, ◌∙◌, subst}
 use Rattle.std.specs.Prelude.{◌↔◌}
 use Rattle.std.specs.List.{AllByRecursion}
 use Rattle.audit_types.specs.declared.shapes.Kind.{Kind}
 use Rattle.audit_types.specs.declared.shapes.Kind.TheVariants.{Sum, Max}
-use Rattle.audit_types.specs.Rows.{AreRows, has_row}
+use Rattle.audit_types.specs.Rows.{AreRows}
 use Rattle.audit_types.specs.Truth.{truth}
-use Rattle.audit_types.specs.Column.{Known, Answer, Agrees, IsPossible, IsWellFormed, known_max, with_answer}
+use Rattle.audit_types.specs.Column.{Known, Answer, Agrees, IsPossible, IsWellFormed, known_max, known_sum, with_answer}
 use Rattle.audit_types.specs.Extremes.{upper_bound, extremes, is_bound, IsConsistent}
 use Rattle.audit_types.specs.Laws.{GreatestIsBoundAndReached}
 use Rattle.audit_types.specs.ListLaws.{all-push}
-use Rattle.audit_types.specs.Limits.{most_width}
-use Rattle.audit_core.specs.PlainColumns.{plain_as}
 use Rattle.max_bounds.specs.Laws.{UpperBoundIsLeast}
 use Rattle.max_bounds.specs.AnswerLaws.{all_at}
 use Rattle.max_bounds.specs.BoundLaws.{exact_bound}
@@ -29,7 +27,7 @@ answer_over rows value = record { rows = rows; value = value }
 module _ (known : Known) (rows : List ℕ) (well : IsWellFormed known) (are : AreRows known.n rows) (some : rows ≢ []) (possible : IsPossible known) where
   -- what a column of this kind knows, apart from protected groups
   abbrev knows : Kind → Known
-  knows kind = plain_as kind known.n known.answers [] most_width
+  knows kind = record (known_sum known.n known.answers) { kind = kind }
 
   module _ (kind : Kind) (is : known.kind ≡ kind) where
     to_plain : (w : List ℤ) → Agrees known w → Agrees (knows kind) w
