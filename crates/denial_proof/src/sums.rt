@@ -76,7 +76,7 @@ pub(crate) fn prove_sum(
     requires answers { sums.now.answers ≡ answers_of facts.now.asked.now.column facts.now.history.now }
     requires few_groups { length facts.now.protected.now ≤ most_groups }
     requires marks { AreMarksOf sums.now.n facts.now.asked.now.column facts.now.history.now marks.now.places.items marks.now.form }
-    requires denied { IsUnsafeSum sums.now.n facts.now.history.now facts.now.protected.now facts.now.asked.now }
+    requires denied { IsUnsafeSum sums.now.n sums.now.width facts.now.history.now facts.now.protected.now facts.now.asked.now }
     ensures is { IfOk result (IsSumProof sums.now.n facts.now.history.now facts.now.protected.now facts.now.asked.now) }
     ensures wide { result ≡ Err ProveFault.Wide → IsSumTooWide sums.now.n facts.now.history.now facts.now.protected.now facts.now.asked.now }
     ensures narrow { IfOk result (λ proof. ¬ (IsSumTooWide sums.now.n facts.now.history.now facts.now.protected.now facts.now.asked.now)) }
