@@ -1,9 +1,8 @@
 -- What a legal history leaves open, and what a denial as unsafe says after it: of a column of sums what its canonical proof is made from, of a column of
 -- maxima that some candidate is bad.
-use Rattle.std.proofs.Common.{◌≡◌, ◌≢◌, ℕ, zero, suc, ◌<◌, Bool, true, false, cond, ◌==◌, ℤ, List, [], ◌∷◌, map, length, get_or, Some, refl, sym, ap, ◌∙◌, subst, arith, inl, inr, ◌⊎◌}
+use Rattle.std.proofs.Common.{◌≡◌, ◌≢◌, ℕ, ◌<◌, ◌==◌, ℤ, List, [], ◌∷◌, map, length, get_or, Some, refl, sym, ap, ◌∙◌, subst, arith, inl, inr, ◌⊎◌}
 use Rattle.std.specs.Prelude.{All, Contains, slice_get}
-use Rattle.std.specs.List.{AllByRecursion, filter}
-use Rattle.std.proofs.lemmas.Bool.{eqb-true}
+use Rattle.std.specs.List.{AllByRecursion}
 use Rattle.std.proofs.lemmas.List.{get_or_default}
 use Rattle.std.proofs.lemmas.List.Elements.{All-weaker, recursion_from_All}
 use Rattle.std.proofs.lemmas.Option.{get_or_from_slice_get, slice_get_within}
@@ -17,14 +16,14 @@ use Rattle.audit_types.specs.Rows.{AreRows, has_row}
 use Rattle.audit_types.specs.Shapes.{columns, kind_at}
 use Rattle.audit_types.specs.Column.{Answer, IsDangerous, IsWellFormed, known_sum, known_max, with_groups, with_width}
 use Rattle.audit_types.specs.Direction.{PinSomeRow}
-use Rattle.audit_types.specs.Form.{set_row, InSpan, HasNarrowForm}
+use Rattle.audit_types.specs.Form.{set_row, InSpan}
 use Rattle.audit_types.specs.Judgement.{IsWithinWidth}
 use Rattle.audit_types.specs.Limits.{most_width}
 use Rattle.audit_types.specs.WidthLaws.{dangerous_from, has_narrow_by_more}
 use Rattle.audit_types.specs.History.{Setting, Protection, Table, FitsShape, IsProtected, IsPlainFor, IsDecisionAfter, list_of, answers_of, answer_in, groups_of}
 use Rattle.audit_types.specs.ListLaws.{all-map, all-filter, all-push, all-weaker}
 use Rattle.audit_core.specs.Laws.{LegalIsNarrow, LegalPinsNothing, sets_before}
-use Rattle.audit_core.specs.GroupEntries.{HasEntry, entry_of_group}
+use Rattle.audit_core.specs.GroupEntries.{entry_of_group}
 use Rattle.audit_core.specs.PlainColumns.{plain_sums, plain_maxima, plain_danger}
 use Rattle.max_audit.specs.Laws.{DangerousByCandidates, HasBadCandidate}
 use Rattle.sum_audit.specs.Laws.{PinnedByUnitRow}
@@ -121,8 +120,8 @@ module _ (setting : Setting) (history : List Answered) (fit : All (λ (r : Answe
         let formed : IsWellFormed (known_max setting.shape.rows (answers_of asked.column history)) = record { are_rows = sets_are_rows asked.column; some = sets_have_rows asked.column } in
         let known = known_max setting.shape.rows (answers_of asked.column history) in
         let danger =
-            dangerous_from known setting.protected.width asked.rows.list
-            (subst (λ k. IsDangerous k asked.rows.list) (plain_maxima setting history asked.column protected.1 maxima (no_groups setting protected asked.column maxima)) denied.1) in
+        dangerous_from known setting.protected.width asked.rows.list
+        (subst (λ k. IsDangerous k asked.rows.list) (plain_maxima setting history asked.column protected.1 maxima (no_groups setting protected asked.column maxima)) denied.1) in
         (by_candidates setting.shape.rows (answers_of asked.column history) [] asked.rows.list formed own_rows question.some).0 danger
 
     module _ (laws : LegalLaws) (legal : IsLegalIn setting history) (sums : kind_at setting.shape asked.column ≡ Sum) where

@@ -47,7 +47,7 @@ pub(crate) fn prove_target(
     ensures is { IfOk result (IsSumProof facts.now.n facts.now.history.now facts.now.protected.now facts.now.asked.now) }
     ensures wide { result ≡ Err ProveFault.Wide → AreNumbersWide facts.now.n facts.now.history.now facts.now.protected.now facts.now.asked.now }
 {
-    // A form says of itself that it is narrow.
+    // A form says of itself how large its entries are.
     let _ = form.columns();
     let rows = rows_of(facts.n, facts.protected, facts.asked.column, target);
     let kept = places.len();
