@@ -99,9 +99,9 @@ marked_rows-push n m at sets s is = push_from n m 0 at sets s (omega arith)
 
 -- with the marked row of the asked set
 pub marked_with_asked : FormsAreUnique → (n : ℕ) (history : List Answered) (places : List ℕ) (rows : Rows) (old new : Echelon) → rows.n ≡ n → IsMarked n (length places + 1) (map (rows_at history) places) old →
-    new.n ≡ old.n → IsNarrow most_width new.rows → MarksNext old rows (length places) (λ whole. IsReducedForm old.n whole new.rows) →
+    new.n ≡ old.n → new.width ≡ old.width → IsNarrow most_width new.rows → MarksNext old rows (length places) (λ whole. IsReducedForm old.n whole new.rows) →
     IsMarked n (length places + 1) (kept_sets history places rows.list) new
-marked_with_asked unique n history places rows old new same_n marked same narrow next =
+marked_with_asked unique n history places rows old new same_n marked same same_width narrow next =
     let m = length places + 1 in
     let sets = map (rows_at history) places in
     let front = marked_rows n m 0 sets in
@@ -114,6 +114,7 @@ marked_with_asked unique n history places rows old new same_n marked same narrow
     = subst (λ c. IsReducedForm c (front ++ row ∷ []) new.rows) marked.columns (subst (λ x. IsReducedForm old.n (front ++ marked_row x m (length places) rows.list ∷ []) new.rows) same_n over_old) in
     record {
       columns = same ∙ marked.columns;
+      width = same_width ∙ marked.width;
       reduced = subst (λ all. IsReducedForm (n + m) all new.rows) (sym whole) over_n;
       narrow = subst (λ all. ¬ (HasWideFront (n + m) all)) (sym whole) (narrow_push unique (n + m) front row new.rows marked.narrow over_n narrow);
     }

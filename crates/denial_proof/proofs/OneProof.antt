@@ -25,11 +25,11 @@ use Rattle.denial_proof.proofs.OneCanonicalSum.{one_least, same_parts, same_targ
 
 -- ---- sums
 
-same_sums : (n : ℕ) (history : List Answered) (protected : List Protected) (asked : Asked) → IsUnsafeSum n history protected asked →
+same_sums : (n width : ℕ) (history : List Answered) (protected : List Protected) (asked : Asked) → IsUnsafeSum n width history protected asked →
     (target goal : Target) (times other : ℤ) (terms others : List Term) (own else : ℤ) →
     IsCanonicalSum n history protected asked target times terms own → IsCanonicalSum n history protected asked goal other others else →
     (let a : Proof = Sum target times terms own in a) ≡ Sum goal other others else
-same_sums n history protected asked unsafe target goal times other terms others own else first second =
+same_sums n width history protected asked unsafe target goal times other terms others own else first second =
     let targets : target ≡ goal = same_target n protected asked.column (sets_with_asked history asked) target goal first.first second.first in
     let moved = subst (λ (t : Target). IsCanonicalSum n history protected asked t other others else) (sym targets) second in
     let same = same_parts n history protected asked target times other terms others own else first moved
@@ -79,7 +79,7 @@ module _ (unsafe : DeniedSumsAreUnsafe) (setting : Setting) (history : List Answ
 
   pub same_proofs : (a b : Proof) → IsCanonical setting history asked a → IsCanonical setting history asked b → a ≡ b
   same_proofs (Sum target times terms own) (Sum goal other others else) (sums, first) (also, second) =
-      same_sums setting.shape.rows history setting.protected.groups asked (unsafe setting history asked records_fit fit legal question sums denied) target goal times other terms
+      same_sums setting.shape.rows setting.protected.width history setting.protected.groups asked (unsafe setting history asked records_fit fit legal question sums denied) target goal times other terms
       others own else first second
   same_proofs (Sum target times terms own) (Max answer row place high) (sums, first) (maxima, second) = absurd (let both : kind.Sum ≡ kind.Max = sym sums ∙ maxima in cc)
   same_proofs (Max answer row place high) (Sum target times terms own) (maxima, first) (sums, second) = absurd (let both : kind.Sum ≡ kind.Max = sym sums ∙ maxima in cc)

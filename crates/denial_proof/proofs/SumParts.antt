@@ -81,17 +81,17 @@ module _ (by_form : PinnedByForm) (n : ℕ) (history : List Answered) (protected
       ¬ (InSpan (map (set_row n) (sets_before asked.column history (length history))) (set_row n asked.rows.list)) → (target : Target) → IsSpannedTarget basis protected asked.column target →
       TargetParts n history protected asked places target
   target_parts decided fit places kept new target found =
-      let over_n = subst (λ (k : ℕ). IsSpannedTarget (record { n = k; rows = basis.rows }) protected asked.column target) same_n found in record {
+      let over_n = subst (λ (k : ℕ). IsSpannedTarget (record { n = k; width = basis.width; rows = basis.rows }) protected asked.column target) same_n found in record {
         independent = independent_with n asked.column history places kept asked.rows.list new;
-        is_target = target_is by_form n protected asked.column (sets_with_asked history asked) basis.rows all_rows form_is target over_n;
-        first = first_of_sets by_form n protected asked.column (sets_with_asked history asked) basis.rows all_rows form_is target over_n;
+        is_target = target_is by_form n basis.width protected asked.column (sets_with_asked history asked) basis.rows all_rows form_is target over_n;
+        first = first_of_sets by_form n basis.width protected asked.column (sets_with_asked history asked) basis.rows all_rows form_is target over_n;
         spanned = spanned_by_kept decided n history asked fit places kept (set_row n (rows_of protected target))
-            (target_spanned by_form n protected asked.column (sets_with_asked history asked) basis.rows all_rows form_is target over_n);
+            (target_spanned by_form n basis.width protected asked.column (sets_with_asked history asked) basis.rows all_rows form_is target over_n);
       }
 
   -- and there is one if the sets are dangerous
   pub target_there : PinSomeRow n (sets_with_asked history asked) ⊎ ((place : ℕ) × IsSpannedGroup n protected asked.column (sets_with_asked history asked) place) →
       ¬ (SpansNothing basis protected asked.column)
   target_there dangerous nothing =
-      some_target by_form n protected asked.column (sets_with_asked history asked) basis.rows all_rows form_is dangerous
-      (subst (λ (k : ℕ). SpansNothing (record { n = k; rows = basis.rows }) protected asked.column) same_n nothing)
+      some_target by_form n basis.width protected asked.column (sets_with_asked history asked) basis.rows all_rows form_is dangerous
+      (subst (λ (k : ℕ). SpansNothing (record { n = k; width = basis.width; rows = basis.rows }) protected asked.column) same_n nothing)

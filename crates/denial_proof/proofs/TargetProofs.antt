@@ -13,9 +13,9 @@ use Rattle.audit_types.specs.Products.{size_of_factor}
 use Rattle.audit_types.specs.Rows.{has_row}
 use Rattle.audit_types.specs.RowNumbers.{all_by_number}
 use Rattle.audit_types.specs.Truth.{number_at}
-use Rattle.audit_types.specs.Limits.{most_width}
-use Rattle.audit_types.specs.Form.{set_row, InSpan, IsPrimitive, IsReducedForm, IsNarrow, pivot, pivot_entry}
+use Rattle.audit_types.specs.Form.{set_row, InSpan, IsPrimitive, IsReducedForm, pivot, pivot_entry}
 use Rattle.sum_basis.specs.Basis.{Echelon}
+use Rattle.sum_basis.specs.Elimination.{IsWithin}
 use Rattle.denial_proof.specs.declared.proof_parts.Target.{Target}
 use Rattle.denial_proof.specs.declared.proof_parts.Target.TheVariants.{Row, Group}
 use Rattle.denial_proof.specs.declared.proof_parts.Term.{Term}
@@ -69,12 +69,12 @@ module _ (n : ℕ) (history : List Answered) (protected : List Protected) (asked
   few = let most = independent_few n (kept_sets history places asked.rows.list) independent in let all = count in omega arith
 
   -- the multipliers for one row are small
-  small_for_row : IsNarrow most_width form.rows → (row : ℕ) (list : List ℤ) → AreMultipliers form.rows (set_row n (row ∷ [])) n (length places + 1) list → AllByRecursion IsSmall list
-  small_for_row narrow row list are =
+  small_for_row : AllByRecursion (IsWithin (2 ^ 56)) form.rows → (row : ℕ) (list : List ℤ) → AreMultipliers form.rows (set_row n (row ∷ [])) n (length places + 1) list → AllByRecursion IsSmall list
+  small_for_row within row list are =
       let reduced = marks.marked.reduced in
       let leading = all-weaker (IsPrimitive (n + (length places + 1))) (λ r. pos 0 <ℤ pivot_entry r) (λ r p. p.leading) form.rows reduced.primitive in
       let entries : (j : ℕ) → AllByRecursion (λ r. unsigned_abs (number_at r j) ≤ 2 ^ 56) form.rows
-      = λ j. all-weaker (λ (r : List ℤ). AllByRecursion (λ x. unsigned_abs x ≤ 2 ^ 56) r) (λ r. unsigned_abs (number_at r j) ≤ 2 ^ 56) (λ r small. small_at r j small) form.rows narrow.entries in
+      = λ j. all-weaker (λ (r : List ℤ). AllByRecursion (λ x. unsigned_abs x ≤ 2 ^ 56) r) (λ r. unsigned_abs (number_at r j) ≤ 2 ^ 56) (λ r small. small_at r j small) form.rows within in
       let each : (k : ℕ) → IsSmall (number_at are.numbers k) = λ k. elim (cases_lt k (length are.numbers)) [
         | inl inside ↦
             let read = are.read.exact k (let all = are.read.one_each in omega arith) in
@@ -130,11 +130,11 @@ module _ (n : ℕ) (history : List Answered) (protected : List Protected) (asked
 -- if some number isn't small, the target is a group whose canonical numbers are too wide
 pub too_wide : (n : ℕ) (history : List Answered) (protected : List Protected) (asked : Asked) (places : List ℕ) (form : Echelon) (target : Target) (marks : AreMarks n history asked places form)
     (independent : AreIndependent n (kept_sets history places asked.rows.list)) → IsFirstTarget n protected asked.column (sets_with_asked history asked) target →
-    InSpan (map (set_row n) (kept_sets history places asked.rows.list)) (set_row n (rows_of protected target)) → IsNarrow most_width form.rows → (times : ℤ) (numbers : List ℤ) →
+    InSpan (map (set_row n) (kept_sets history places asked.rows.list)) (set_row n (rows_of protected target)) → AllByRecursion (IsWithin (2 ^ 56)) form.rows → (times : ℤ) (numbers : List ℤ) →
     AreMultipliers form.rows (set_row n (rows_of protected target)) n (length places + 1) (times ∷ numbers) → ¬ (AllByRecursion IsSmall (times ∷ numbers)) → AreNumbersWide n history protected asked
-too_wide n history protected asked places form (Row row) marks independent first span narrow times numbers are large =
-    absurd (large (small_for_row n history protected asked places form (Row row) marks independent narrow row (times ∷ numbers) are))
-too_wide n history protected asked places form (Group place) marks independent first span narrow times numbers are large =
+too_wide n history protected asked places form (Row row) marks independent first span within times numbers are large =
+    absurd (large (small_for_row n history protected asked places form (Row row) marks independent within row (times ∷ numbers) are))
+too_wide n history protected asked places form (Group place) marks independent first span within times numbers are large =
     let came = come_to n (length places + 1) (kept_sets history places asked.rows.list) form.rows (set_row n (rows_of protected (Group place))) (count n history protected asked places form (Group place) marks independent)
     independent marks.marked.reduced span times numbers are in
     let numbered : length numbers ≡ length places + 1 = came.one_each ∙ count n history protected asked places form (Group place) marks independent in

@@ -1,9 +1,8 @@
 -- What a legal history leaves open, and what a denial as unsafe says after it: of a column of sums what its canonical proof is made from, of a column of
 -- maxima that some candidate is bad.
-use Rattle.std.proofs.Common.{◌≡◌, ◌≢◌, ℕ, zero, suc, ◌<◌, Bool, true, false, cond, ◌==◌, ℤ, List, [], ◌∷◌, map, length, get_or, Some, refl, sym, ap, ◌∙◌, subst, arith, inl, inr, ◌⊎◌}
+use Rattle.std.proofs.Common.{◌≡◌, ◌≢◌, ℕ, ◌<◌, ◌==◌, ℤ, List, [], ◌∷◌, map, length, get_or, Some, refl, sym, ap, ◌∙◌, subst, arith, inl, inr, ◌⊎◌}
 use Rattle.std.specs.Prelude.{All, Contains, slice_get}
-use Rattle.std.specs.List.{AllByRecursion, filter}
-use Rattle.std.proofs.lemmas.Bool.{eqb-true}
+use Rattle.std.specs.List.{AllByRecursion}
 use Rattle.std.proofs.lemmas.List.{get_or_default}
 use Rattle.std.proofs.lemmas.List.Elements.{All-weaker, recursion_from_All}
 use Rattle.std.proofs.lemmas.Option.{get_or_from_slice_get, slice_get_within}
@@ -15,14 +14,16 @@ use Rattle.audit_types.specs.declared.shapes.Shape.{Shape}
 use Rattle.audit_types.specs.declared.shapes.Kind.TheVariants.{Sum, Max}
 use Rattle.audit_types.specs.Rows.{AreRows, has_row}
 use Rattle.audit_types.specs.Shapes.{columns, kind_at}
-use Rattle.audit_types.specs.Column.{Answer, IsDangerous, IsWellFormed, known_sum, known_max, with_groups}
+use Rattle.audit_types.specs.Column.{Answer, IsDangerous, IsWellFormed, known_sum, known_max, with_groups, with_width}
 use Rattle.audit_types.specs.Direction.{PinSomeRow}
-use Rattle.audit_types.specs.Form.{set_row, InSpan, HasNarrowForm}
+use Rattle.audit_types.specs.Form.{set_row, InSpan}
 use Rattle.audit_types.specs.Judgement.{IsWithinWidth}
+use Rattle.audit_types.specs.Limits.{most_width}
+use Rattle.audit_types.specs.WidthLaws.{dangerous_from, has_narrow_by_more}
 use Rattle.audit_types.specs.History.{Setting, Protection, Table, FitsShape, IsProtected, IsPlainFor, IsDecisionAfter, list_of, answers_of, answer_in, groups_of}
 use Rattle.audit_types.specs.ListLaws.{all-map, all-filter, all-push, all-weaker}
 use Rattle.audit_core.specs.Laws.{LegalIsNarrow, LegalPinsNothing, sets_before}
-use Rattle.audit_core.specs.GroupEntries.{HasEntry, entry_of_group}
+use Rattle.audit_core.specs.GroupEntries.{entry_of_group}
 use Rattle.audit_core.specs.PlainColumns.{plain_sums, plain_maxima, plain_danger}
 use Rattle.max_audit.specs.Laws.{DangerousByCandidates, HasBadCandidate}
 use Rattle.sum_audit.specs.Laws.{PinnedByUnitRow}
@@ -98,7 +99,9 @@ module _ (setting : Setting) (history : List Answered) (fit : All (λ (r : Answe
       let n = setting.shape.rows in
       let sets = map (λ (a : Answer). a.rows) (answers_of column history) in
       let table : Table = record { setting = setting; secrets = legal.secrets } in record {
-        narrow = λ place within. subst (λ (p : Protection). HasNarrowForm p.width n (sets_before column history place)) protected.1 (narrow table history column place protected.0 legal.legal sums within);
+        narrow = λ place within.
+            has_narrow_by_more setting.protected.width most_width n (sets_before column history place) protected.0.5
+            (narrow table history column place protected.0 legal.legal sums within);
         leaves_open = λ span.
             let pinned = (by_unit_row n sets 0 (all_sets column) some).1 (at_end column (set_row n (0 ∷ [])) span) in
             pins_nothing table history column 0 legal.are_secrets protected.0 legal.legal below sums (ap (λ (p : Protection). has_row p.shared 0) protected.1) pinned;
@@ -115,7 +118,10 @@ module _ (setting : Setting) (history : List Answered) (fit : All (λ (r : Answe
     pub bad_candidate : DangerousByCandidates → kind_at setting.shape asked.column ≡ Max → HasBadCandidate (known_max setting.shape.rows (answers_of asked.column history)) asked.rows.list
     bad_candidate by_candidates maxima =
         let formed : IsWellFormed (known_max setting.shape.rows (answers_of asked.column history)) = record { are_rows = sets_are_rows asked.column; some = sets_have_rows asked.column } in
-        let danger = subst (λ k. IsDangerous k asked.rows.list) (plain_maxima setting history asked.column protected.1 maxima (no_groups setting protected asked.column maxima)) denied.1 in
+        let known = known_max setting.shape.rows (answers_of asked.column history) in
+        let danger =
+        dangerous_from known setting.protected.width asked.rows.list
+        (subst (λ k. IsDangerous k asked.rows.list) (plain_maxima setting history asked.column protected.1 maxima (no_groups setting protected asked.column maxima)) denied.1) in
         (by_candidates setting.shape.rows (answers_of asked.column history) [] asked.rows.list formed own_rows question.some).0 danger
 
     module _ (laws : LegalLaws) (legal : IsLegalIn setting history) (sums : kind_at setting.shape asked.column ≡ Sum) where
@@ -133,8 +139,8 @@ module _ (setting : Setting) (history : List Answered) (fit : All (λ (r : Answe
           let with_asked = all-push (AreRows n) (map (λ a. a.rows) answers) asked.rows.list (all_sets asked.column) own_rows in
           let group_rows = All-weaker (λ group. AreRows n group × (group ≢ [])) (AreRows n) (λ group is. is.0) groups (groups_are_rows setting protected asked.column) in
           let danger = subst (λ k. IsDangerous k asked.rows.list) (plain_sums setting history asked.column protected.1 sums) denied.1 in
-          let told = plain_danger (with_groups (known_sum n answers) groups) (sets_with_asked history asked) refl refl
-          ((laws.dangerous n answers [] [] groups 0 asked.rows.list with_asked group_rows (list_of legal.secrets asked.column, agrees)).0 danger) in
+          let told = plain_danger (with_groups (with_width (known_sum n answers) setting.protected.width) groups) (sets_with_asked history asked) refl refl
+          ((laws.dangerous n answers [] [] groups 0 setting.protected.width asked.rows.list with_asked group_rows (list_of legal.secrets asked.column, agrees)).0 danger) in
           elim told [
             | inl pinned ↦ inl pinned
             | inr (group, guarded, spanned) ↦
@@ -150,11 +156,11 @@ module _ (setting : Setting) (history : List Answered) (fit : All (λ (r : Answe
                 )
           ]
 
-      pub unsafe_sum : IsUnsafeSum setting.shape.rows history setting.protected.groups asked
+      pub unsafe_sum : IsUnsafeSum setting.shape.rows setting.protected.width history setting.protected.groups asked
       unsafe_sum = record {
         new = λ span.
             asked_new laws table history legal.are_secrets protected legal.legal asked.column question.column_below sums (all_sets asked.column) asked.rows.list own_rows
             (groups_are_rows setting protected asked.column) denied.1 (at_end asked.column (set_row setting.shape.rows asked.rows.list) span);
-        width = subst (λ k. IsWithinWidth k asked.rows.list) (plain_sums setting history asked.column protected.1 sums) denied.0;
+        narrow = subst (λ k. IsWithinWidth k asked.rows.list) (plain_sums setting history asked.column protected.1 sums) denied.0;
         gives_away = gives_away;
       }

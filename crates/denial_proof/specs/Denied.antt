@@ -21,7 +21,7 @@ pub record IsLegalIn (setting : Setting) (history : List Answered) : Type 0 wher
   pub are_secrets : AreSecrets setting.shape secrets
   pub legal : IsLegal (record { setting = setting; secrets = secrets }) history
 
--- the sets of a column of sums were narrow at every record, and leave row 0 open
+-- the sets of a column of sums were narrow at every record, by the greatest width, and leave row 0 open
 pub record AreOpenSums (n column : ℕ) (history : List Answered) : Type 0 where
   pub narrow : (place : ℕ) → place ≤ length history → HasNarrowForm most_width n (sets_before column history place)
   pub leaves_open : ¬ (InSpan (map (set_row n) (sets_before column history (length history))) (set_row n (0 ∷ [])))
@@ -32,10 +32,10 @@ LegalSumsAreOpen =
     (setting : Setting) (history : List Answered) (column : ℕ) → All (λ r. FitsShape setting.shape r.column r.rows) history → IsPlainFor setting.shape setting.protected → IsLegalIn setting history →
     0 < setting.shape.rows → column < columns setting.shape → kind_at setting.shape column ≡ Sum → AreOpenSums setting.shape.rows column history
 
--- the asked set lies outside the span of the column's sets; with it they are narrow, and pin a row or span a protected group
-pub record IsUnsafeSum (n : ℕ) (history : List Answered) (protected : List Protected) (asked : Asked) : Type 0 where
+-- the asked set lies outside the span of the column's sets; with it they are narrow by the width, and pin a row or span a protected group
+pub record IsUnsafeSum (n width : ℕ) (history : List Answered) (protected : List Protected) (asked : Asked) : Type 0 where
   pub new : ¬ (InSpan (map (set_row n) (sets_before asked.column history (length history))) (set_row n asked.rows.list))
-  pub width : HasNarrowForm most_width n (sets_with_asked history asked)
+  pub narrow : HasNarrowForm width n (sets_with_asked history asked)
   pub gives_away : PinSomeRow n (sets_with_asked history asked) ⊎ ((place : ℕ) × IsSpannedGroup n protected asked.column (sets_with_asked history asked) place)
 
 -- a sum that is denied as unsafe after a legal history is such a sum
@@ -43,7 +43,7 @@ abbrev pub DeniedSumsAreUnsafe : Type 0
 DeniedSumsAreUnsafe =
     (setting : Setting) (history : List Answered) (asked : Asked) → All (λ r. FitsShape setting.shape r.column r.rows) history → IsPlainFor setting.shape setting.protected → IsLegalIn setting history →
     FitsShape setting.shape asked.column asked.rows → kind_at setting.shape asked.column ≡ Sum → IsDecisionAfter setting history asked.column asked.rows.list DeniedUnsafe →
-    IsUnsafeSum setting.shape.rows history setting.protected.groups asked
+    IsUnsafeSum setting.shape.rows setting.protected.width history setting.protected.groups asked
 
 -- a maximum that is denied as unsafe has a candidate that would leave a lone row
 abbrev pub DeniedMaximaHaveCandidates : Type 0

@@ -39,7 +39,7 @@ abbrev pub marked_rows : ℕ → ℕ → ℕ → List (List ℕ) → List (List 
 marked_rows n m mark [] = []
 marked_rows n m mark (rows ∷ sets) = marked_row n m mark rows ∷ marked_rows n m (mark + 1) sets
 
--- rows whose reduced form isn't narrow
+-- rows whose reduced form isn't narrow, by the greatest width: a certificate goes by no other
 abbrev pub HasWideFormOf : ℕ → List (List ℤ) → Type 0
 HasWideFormOf n rows = (form : List (List ℤ)) × IsReducedForm n rows form × ¬ (IsNarrow most_width form)
 
@@ -54,6 +54,7 @@ HasWideMarks n sets = HasWideFront (n + length sets) (marked_rows n (length sets
 -- the form of the marked rows of sets over n columns and m marks, of which no front is wide
 pub record IsMarked (n m : ℕ) (sets : List (List ℕ)) (form : Echelon) : Type 0 where
   pub columns : form.n ≡ n + m
+  pub width : form.width ≡ most_width
   pub reduced : IsReducedForm (n + m) (marked_rows n m 0 sets) form.rows
   pub narrow : ¬ (HasWideFront (n + m) (marked_rows n m 0 sets))
 

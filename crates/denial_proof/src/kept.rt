@@ -9,7 +9,7 @@ ghost use Rattle.denial_proof.specs.Kept.{AreKept, marked_rows, MarksNext, IsMar
 ghost use Rattle.denial_proof.specs.Weights.{rows_at};
 
 use crate::marking::write_marked;
-use audit_types::{Answered, NoMemory, RowSet};
+use audit_types::{Answered, MOST_WIDTH, NoMemory, RowSet};
 use std::alloc::Global;
 use sum_basis::laws::{forms_are_unique, one_more_set};
 use sum_basis::{Basis, Form, Grown};
@@ -20,6 +20,7 @@ fn adds_to(basis: &mut Basis, answered: &Answered, column: u8) -> Result<bool, N
     requires same_n { answered.now.rows.n ≡ basis.old.n }
     requires narrow { answered.now.column ≡ column → ¬ (GrowsWide basis.old (set_row basis.old.n answered.now.rows.list)) }
     ensures n { basis.new.n ≡ basis.old.n }
+    ensures width { basis.new.width ≡ basis.old.width }
     ensures other { answered.now.column ≢ column → IfOk result (λ new. (new ≡ false) × (basis.new ≡ basis.old)) }
     ensures stands { answered.now.column ≡ column → IfOk result (λ new. (sets : List (List ℕ)) → Reduced basis.old.n sets basis.old.rows → Reduced basis.old.n (sets ++ answered.now.rows.list ∷ []) basis.new.rows) }
     ensures same { answered.now.column ≡ column → IfOk result (λ new. (new ≡ false) ↔ InSpan basis.old.rows (set_row basis.old.n answered.now.rows.list)) }
@@ -50,7 +51,7 @@ pub(crate) fn kept_places(
 {
     one_more_set();
     forms_are_unique();
-    let mut basis = Basis::new(alloc, n)?;
+    let mut basis = Basis::new(alloc, n, MOST_WIDTH)?;
     let mut places = Vec::new(alloc);
     for place in 0..history.len() {
         if adds_to(&mut basis, &history[place], column)? {
@@ -60,10 +61,12 @@ pub(crate) fn kept_places(
     Ok(places)
 }
 
-// Adds the marked row of a set to a form, unless the form would no longer be narrow. Reports whether it was added.
+// Adds the marked row of a set to a form of the greatest width, unless the form would no longer be narrow. Reports whether it was added.
 fn mark_next(form: &mut Form, rows: &RowSet, mark: u16) -> Result<bool, NoMemory>
     requires mark { rows.now.n + mark < form.old.n }
+    requires width { form.old.width ≡ most_width }
     ensures n { form.new.n ≡ form.old.n }
+    ensures width { form.new.width ≡ form.old.width }
     ensures added { IfOk result (λ narrow. narrow ≡ true → MarksNext form.old rows.now mark (λ whole. IsReducedForm form.old.n whole form.new.rows)) }
     ensures wide { IfOk result (λ narrow. narrow ≡ false → MarksNext form.old rows.now mark (HasWideFormOf form.old.n)) }
     ensures narrow { IfOk result (λ narrow. IsNarrow most_width form.new.rows) }
@@ -97,7 +100,7 @@ pub(crate) fn mark_all(
 {
     forms_are_unique();
     let columns = n + places.len() as u16 + 1;
-    let mut form = Form::new(alloc, columns)?;
+    let mut form = Form::new(alloc, columns, MOST_WIDTH)?;
     for mark in 0..places.len() {
         if !mark_next(&mut form, &history[places[mark] as usize].rows, mark as u16)? {
             return Ok(None);
@@ -109,7 +112,8 @@ pub(crate) fn mark_all(
 /// The form with the marked row of the asked set, unless it isn't narrow.
 pub(crate) fn mark_asked(form: &Form, rows: &RowSet, mark: u16) -> Result<Option<Form>, NoMemory>
     requires mark { rows.now.n + mark < form.now.n }
-    ensures some { IfOk result (λ marked. IfSome marked (λ new. (new.n ≡ form.now.n) × IsNarrow most_width new.rows × MarksNext form.now rows.now mark (λ whole. IsReducedForm form.now.n whole new.rows))) }
+    requires width { form.now.width ≡ most_width }
+    ensures some { IfOk result (λ marked. IfSome marked (λ new. (new.n ≡ form.now.n) × (new.width ≡ form.now.width) × IsNarrow most_width new.rows × MarksNext form.now rows.now mark (λ whole. IsReducedForm form.now.n whole new.rows))) }
     ensures none { IfOk result (λ marked. IfNone marked (MarksNext form.now rows.now mark (HasWideFormOf form.now.n))) }
 {
     let mut with_asked = form.copy()?;

@@ -48,6 +48,7 @@ impl Marks {
     /// The form with the marked row of the asked set after the others, unless it isn't narrow, or that of some front of them isn't.
     pub(crate) fn with_asked(&self, asked: &Asked) -> Result<Form, ProveFault>
         requires room { IfSome self.now.form (λ form. form.n ≡ asked.now.rows.n + (length self.now.places.items + 1)) }
+        requires width { IfSome self.now.form (λ form. form.width ≡ most_width) }
         ensures marks { IfOk result (λ form. (history : List Answered) → AreMarksOf asked.now.rows.n asked.now.column history self.now.places.items self.now.form → AreMarks asked.now.rows.n history asked.now self.now.places.items form) }
         ensures wide { result ≡ Err ProveFault.Wide → (history : List Answered) → AreMarksOf asked.now.rows.n asked.now.column history self.now.places.items self.now.form → AreMarksWide asked.now.rows.n history asked.now }
     {

@@ -39,7 +39,7 @@ fn taken_at(form: &Form, times: i128, k: u16, column: u16) -> i128
     if times == 0 {
         return 0;
     }
-    // A form says of itself that it is narrow.
+    // A form says of itself how large its entries are.
     let _ = form.columns();
     times * form.entry(k, column)
 }
@@ -52,7 +52,7 @@ fn number_at(form: &Form, taken: &[i128], column: u16) -> i128
     ensures exact { result ≡ combined taken.now form.now.rows column }
     ensures small { unsigned_abs result ≤ 2 ^ 123 }
 {
-    // A form says of itself that it is narrow, and how many columns it has.
+    // A form says of itself how large its entries are, and how many columns it has.
     let _ = form.columns();
     let mut sum = 0;
     for k in 0..form.rank() {

@@ -47,7 +47,7 @@ pub(crate) fn prove_target(
     ensures is { IfOk result (IsSumProof facts.now.n facts.now.history.now facts.now.protected.now facts.now.asked.now) }
     ensures wide { result ≡ Err ProveFault.Wide → AreNumbersWide facts.now.n facts.now.history.now facts.now.protected.now facts.now.asked.now }
 {
-    // A form says of itself that it is narrow.
+    // A form says of itself how large its entries are.
     let _ = form.columns();
     let rows = rows_of(facts.n, facts.protected, facts.asked.column, target);
     let kept = places.len();
@@ -76,7 +76,7 @@ pub(crate) fn prove_sum(
     requires answers { sums.now.answers ≡ answers_of facts.now.asked.now.column facts.now.history.now }
     requires few_groups { length facts.now.protected.now ≤ most_groups }
     requires marks { AreMarksOf sums.now.n facts.now.asked.now.column facts.now.history.now marks.now.places.items marks.now.form }
-    requires denied { IsUnsafeSum sums.now.n facts.now.history.now facts.now.protected.now facts.now.asked.now }
+    requires denied { IsUnsafeSum sums.now.n sums.now.width facts.now.history.now facts.now.protected.now facts.now.asked.now }
     ensures is { IfOk result (IsSumProof sums.now.n facts.now.history.now facts.now.protected.now facts.now.asked.now) }
     ensures wide { result ≡ Err ProveFault.Wide → IsSumTooWide sums.now.n facts.now.history.now facts.now.protected.now facts.now.asked.now }
     ensures narrow { IfOk result (λ proof. ¬ (IsSumTooWide sums.now.n facts.now.history.now facts.now.protected.now facts.now.asked.now)) }

@@ -1,7 +1,7 @@
 //! What a sum would give away.
 ghost use Rattle.std.specs.Prelude.{◌≡◌, ◌↔◌, ◌≤◌, ◌<◌, ◌∷◌, ◌++◌, [], ℕ, List, map, length, All, IfOk, IfSome, IfNone};
 ghost use Rattle.std.specs.List.{AllByRecursion};
-ghost use Rattle.audit_types.specs.Limits.{most_groups, most_rows, most_width};
+ghost use Rattle.audit_types.specs.Limits.{most_groups, most_rows};
 ghost use Rattle.audit_types.specs.Form.{Reduced, HasNarrowForm};
 ghost use Rattle.sum_basis.specs.Basis.{HasUnitRow};
 ghost use Rattle.sum_audit.specs.Sets.{sets_of};
@@ -16,7 +16,7 @@ use sum_basis::Basis;
 /// The reduced form of the sets with the asked one.
 pub(crate) fn basis_with(sums: &SumColumn, rows: &RowSet) -> Result<Basis, NoMemory>
     requires same_n { rows.now.n ≡ sums.now.n }
-    requires narrow { HasNarrowForm most_width sums.now.n (sets_of sums.now.answers ++ rows.now.list ∷ []) }
+    requires narrow { HasNarrowForm sums.now.width sums.now.n (sets_of sums.now.answers ++ rows.now.list ∷ []) }
     ensures n { IfOk result (λ basis. basis.n ≡ sums.now.n) }
     ensures form { IfOk result (λ basis. Reduced sums.now.n (sets_of sums.now.answers ++ rows.now.list ∷ []) basis.rows) }
 {

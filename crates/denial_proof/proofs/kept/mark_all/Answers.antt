@@ -33,6 +33,7 @@ loop-mark-init c =
     let none : columns ≡ c.args.n + length c.args.places.now + 1 = omega arith in
     let first : IsReducedForm columns [] [] = record { primitive = tt; echelon = tt; within = tt; spans = tt } in record {
       same_n = ap (λ (f : Echelon). f.n) is ∙ sym none;
+      same_width = ap (λ (f : Echelon). f.width) is;
       reduced = subst (λ rows. IsReducedForm columns [] rows) (sym (ap (λ (f : Echelon). f.rows) is)) first;
       narrow = no_wide_front c.forms_are_unique.ensures columns (marked_rows c.args.n (length c.args.places.now + 1) 0 (map (rows_at c.args.history.now) c.args.places.now));
     }
@@ -53,6 +54,7 @@ loop-mark-preserved c =
     c.loop-mark.invariant.reduced (subst (λ (x : Answered). MarksNext c.loop-mark.form x.rows k (IsFormNow c.loop-mark.form.n)) (sym c.index-history-places.is) (c.in_ok-mark_next.ensures.added c.if-not-branch.false)) in
     let next = take_marked c.args.n m sets k (omega arith) in record {
       same_n = c.in_ok-mark_next.ensures.n ∙ c.loop-mark.invariant.same_n;
+      same_width = c.in_ok-mark_next.ensures.width ∙ c.loop-mark.invariant.same_width;
       reduced = reduced;
       narrow = subst (λ rows. ¬ (HasWideFront (c.args.n + m) rows)) (sym next)
           (narrow_push c.forms_are_unique.ensures (c.args.n + m) _ (marked_row c.args.n m k (get_or sets k [])) c.mark_next.new.form.rows c.loop-mark.invariant.narrow
@@ -67,6 +69,7 @@ returns-clause-some c =
     let count = length-map c.args.places.now (rows_at c.args.history.now) in
     let all = take_all c.loop-mark.mark (marked_rows c.args.n m 0 sets) (omega arith) in record {
       columns = c.loop-mark.invariant.same_n;
+      width = c.loop-mark.invariant.same_width;
       reduced = subst (λ (rows : List (List ℤ)). IsReducedForm (c.args.n + m) rows c.loop-mark.form.rows) all c.loop-mark.invariant.reduced;
       narrow = subst (λ (rows : List (List ℤ)). ¬ (HasWideFront (c.args.n + m) rows)) all c.loop-mark.invariant.narrow;
     }

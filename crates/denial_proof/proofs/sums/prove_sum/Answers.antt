@@ -2,7 +2,6 @@ use Rattle.std.proofs.Common.{◌≡◌, ◌∙◌, ◌++◌, ◌∷◌, [], ℕ
 use Rattle.std.specs.List.{AllByRecursion}
 use Rattle.audit_types.specs.declared.records.Protected.{Protected}
 use Rattle.audit_types.specs.Column.{Answer}
-use Rattle.audit_types.specs.Limits.{most_width}
 use Rattle.audit_types.specs.Form.{HasNarrowForm}
 use Rattle.audit_types.specs.Rows.{AreRows}
 use Rattle.denial_proof.specs.Kept.{AreMarks, AreMarksOf}
@@ -13,7 +12,7 @@ use Rattle.denial_proof.proofs.sums.prove_sum.Goals as goal
 
 pub basis_with-requires-clause-narrow : goal.basis_with-requires-clause-narrow
 basis_with-requires-clause-narrow c =
-    subst (λ (answers : List Answer). HasNarrowForm most_width c.args.sums.now.n (map (λ a. a.rows) answers ++ c.args.facts.now.asked.now.rows.list ∷ [])) (sym c.requires.answers) c.requires.denied.width
+    subst (λ (answers : List Answer). HasNarrowForm c.args.sums.now.width c.args.sums.now.n (map (λ a. a.rows) answers ++ c.args.facts.now.asked.now.rows.list ∷ [])) (sym c.requires.answers) c.requires.denied.narrow
 
 pub first_target-requires-clause-same_n : goal.first_target-requires-clause-same_n
 first_target-requires-clause-same_n c = subst (λ (k : ℕ). AllByRecursion (λ (p : Protected). p.rows.n ≡ k) c.args.facts.now.protected.now) (c.requires.same_n ∙ sym c.in_ok-basis.ensures.n) c.args.facts.now.entries

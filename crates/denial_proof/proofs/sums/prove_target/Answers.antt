@@ -42,7 +42,7 @@ returns-then-not-are_small-clause-wide c = λ fault.
     let are : AreMultipliers form.rows (set_row n group) n (length places + 1) items
     = as_asked form.rows n c.rows_of-rows.result.n group c.rows_of-rows.result.list (length places) (length places) items c.rows_of-rows.ensures.n c.rows_of-rows.ensures.rows mark c.in_ok-numbers.ensures.are in
     let split = head_and_tail form.rows (set_row n group) n (length places + 1) items are in
-    too_wide n c.args.facts.now.history.now c.args.facts.now.protected.now c.args.facts.now.asked.now places form c.args.target c.requires.marks c.requires.independent c.requires.first c.requires.spanned c.columns.ensures.narrow
+    too_wide n c.args.facts.now.history.now c.args.facts.now.protected.now c.args.facts.now.asked.now places form c.args.target c.requires.marks c.requires.independent c.requires.first c.requires.spanned c.columns.ensures.form.entries
     (number_at items 0) split.0 (subst (AreMultipliers form.rows (set_row n group) n (length places + 1)) split.1 are)
     (λ all. true≢false (sym (c.are_small.ensures.1 (subst (AllByRecursion IsSmall) (sym (c.deref.ensures.value ∙ split.1)) all)) ∙ c.if-not-are_small.true))
 

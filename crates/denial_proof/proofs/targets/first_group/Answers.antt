@@ -1,7 +1,7 @@
-use Rattle.std.proofs.Common.{◌≡◌, below_more, Some, length, refl, sym, ◌∙◌}
+use Rattle.std.proofs.Common.{◌≡◌, below_more, Some, length, refl, sym, ◌∙◌, arith}
 use Rattle.std.specs.Prelude.{slice_get}
 use Rattle.std.proofs.lemmas.Bool.{true≢false}
-use Rattle.std.proofs.lemmas.Option.{slice_get_read}
+use Rattle.std.proofs.lemmas.Option.{slice_get_read, slice_get_within}
 use Rattle.denial_proof.proofs.FirstTargets.{not_own, not_spanned}
 use Rattle.denial_proof.proofs.targets.first_group.Goals.{else-entry-column-via-then-entry-column+else-contains, else-entry-column-via-else-entry-column}
 use Rattle.denial_proof.proofs.targets.first_group.Goals as goal
@@ -18,3 +18,11 @@ loop-place-preserved c =
           not_spanned form protected c.args.column c.loop-place.place p there (λ span. true≢false (sym (w.contains.ensures.1 span) ∙ w.if-contains.false))
       | else-entry-column-via-else-entry-column w ↦ not_own form protected c.args.column c.loop-place.place p there w.if-entry-column.false
     ])
+
+pub returns-clause-none : goal.returns-clause-none
+returns-clause-none c = record {
+  no_row = c.requires.no_row;
+  no_group = λ place spans.
+      let within = slice_get_within c.args.protected.now place spans.entry spans.there in
+      c.loop-place.invariant place (omega arith) spans;
+}

@@ -28,9 +28,9 @@ returns-in-Some-2-clause-marks c = λ history marks.
     let mark : c.len.result ≡ length places = omega arith in
     let marked : IsMarked rows.n (length places + 1) _ old = rw c.in-Some.is at marks.marked in
     let told = rw c.in-Some-2.is at c.in_ok-with_asked.ensures.some in
-    let next = subst (λ (k : ℕ). MarksNext old rows k (λ whole. IsReducedForm old.n whole new.rows)) mark told.2 in record {
+    let next = subst (λ (k : ℕ). MarksNext old rows k (λ whole. IsReducedForm old.n whole new.rows)) mark told.3 in record {
       kept = marks.kept;
-      marked = marked_with_asked c.forms_are_unique.ensures rows.n history places rows old new refl marked told.0 told.1 next;
+      marked = marked_with_asked c.forms_are_unique.ensures rows.n history places rows old new refl marked told.0 told.1 told.2 next;
     }
 
 pub returns-in-None-clause-wide : goal.returns-in-None-clause-wide

@@ -1,4 +1,4 @@
-use Rattle.std.proofs.Common.{◌≡◌, ◌∙◌, ◌≤◌, ℕ, List, length, sym, ap, subst}
+use Rattle.std.proofs.Common.{◌≡◌, ◌∙◌, ◌≤◌, ℕ, List, length, refl, sym, ap, subst}
 use Rattle.std.specs.Prelude.{All}
 use Rattle.std.specs.List.{AllByRecursion}
 use Rattle.audit_types.specs.declared.records.Answered.{Answered}
@@ -48,7 +48,8 @@ prove_sum-requires-clause-denied c =
     let fit = subst (λ (list : List Answered). All (λ (r : Answered). FitsShape setting.shape r.column r.rows) list) c.history-history.ensures.is c.history-history.ensures.fit in
     let unsafe = c.denied_sums.ensures setting history c.args.asked.now fit c.groups-protected.ensures.fit c.requires.legal c.requires.question c.in-Sum-Sums.ensures.own_kind c.requires.denied in
     of_column setting history c.args.asked.now c.in-Sum-Sums.sums.now.n c.history-history.result.now c.in-Sum-Sums.ensures.n c.history-history.ensures.is c.groups-protected.result.now c.groups-protected.ensures.is
-    (λ n list groups. IsUnsafeSum n list groups c.args.asked.now) unsafe
+    (λ n list groups. IsUnsafeSum n c.in-Sum-Sums.sums.now.width list groups c.args.asked.now)
+    (subst (λ (width : ℕ). IsUnsafeSum setting.shape.rows width history setting.protected.groups c.args.asked.now) (sym (c.in-Sum-Sums.ensures.width refl)) unsafe)
 
 pub prove_max-requires-clause-same_n : goal.prove_max-requires-clause-same_n
 prove_max-requires-clause-same_n c = c.requires.question.same_n ∙ sym c.in-Max-Maxima.ensures.n
