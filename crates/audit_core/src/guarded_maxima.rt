@@ -67,7 +67,8 @@ impl GuardedMaxima {
     {
         // A column of maxima says of itself that it is one.
         let _ = self.maxima.bounds();
-        self.maxima.probe_sharing(rows, &self.shared)
+        let shared = &self.shared;
+        self.maxima.probe_sharing(rows, shared)
     }
 }
 
