@@ -243,3 +243,9 @@ returns-in-Err-copy_journal-2-clause-no_memory g c = λ is.
       (subst (λ (b : g.row.B.Denot). OnlyReads g.B.Bench c.args.bench.now b) (sym same) c.is_made.ensures.reads),
       (then_reads g.S.Bench c.args.spare.now c.is_made-2.new.bench c.copy_journal-2.new.kept c.is_made-2.ensures.reads c.copy_journal-2.ensures.reads),
     )
+
+-- ---- the spare is kept, and the journal lost
+
+pub returns-in-Err-copy_journal-2-clause-spare_kept : goal.returns-in-Err-copy_journal-2-clause-spare_kept
+returns-in-Err-copy_journal-2-clause-spare_kept g c = λ told quiet made.
+    (then_reads g.S.Bench c.args.spare.now c.is_made-2.new.bench c.copy_journal-2.new.kept c.is_made-2.ensures.reads c.copy_journal-2.ensures.reads).untouched quiet
