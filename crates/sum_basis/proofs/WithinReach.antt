@@ -126,16 +126,16 @@ module _ (n : ℕ) (e : FreeEntry) (es : List FreeEntry) (listed : IsListed 0 n 
       let g = grown_is n new_row p old grown q h z reduced in
       let place = pivot-row_of 0 n e es listed in
       let parts : (j : ℕ) → is_pivot grown j ≡ false → ((e.place == j) ≡ false) × (is_pivot old j ≡ false) =
-      λ j no. or_parts (e.place == j) (is_pivot old j) (is_pivot grown j) (g.pivots j ∙ ap (λ (q : ℕ). (q == j) || is_pivot old j) place) not_one in
+      λ j not_one. or_parts (e.place == j) (is_pivot old j) (is_pivot grown j) (g.pivots j ∙ ap (λ (q : ℕ). (q == j) || is_pivot old j) place) not_one in
       record {
         primitive = reduced.primitive;
         echelon = reduced.echelon;
-        free = λ j no. (parts j not_one).1;
-        off = λ j no. eqb_other e.place j (parts j not_one).0;
+        free = λ j not_one. (parts j not_one).1;
+        off = λ j not_one. eqb_other e.place j (parts j not_one).0;
         fresh = λ j not_one off.
             g.pivots j ∙ ap (λ (q : ℕ). (q == j) || is_pivot old j) place ∙ both_false (e.place == j) (is_pivot old j) (ne_eqb e.place j off) not_one;
         zeros = entries_zero old z;
-        count = λ j no.
+        count = λ j not_one.
             g.count j ∙ ap (λ (m : ℕ). one_if (number_at new_row j) + m) (count_is old j)
             ∙ ap (λ x. one_if x + count_with (e ∷ es) old j) (number_at-row_of 0 n (e ∷ es) listed j ∙ sym (rest_is j (eqb_other e.place j (parts j not_one).0)));
         row = λ k l.

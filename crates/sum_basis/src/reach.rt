@@ -1,6 +1,6 @@
 //! Whether what is guarded is within reach of a form with a new row. The form isn't built: each row's list, cleared at the new row's pivot,
 //! tells at which columns it isn't 0, and so how many rows a direction of each free column has.
-ghost use Rattle.std.specs.Prelude.{◌≡◌, ◌≢◌, ◌↔◌, ℕ, ◌<◌, ◌≤◌, ◌+◌, ◌^◌, cond, ℤ, pos, ◌*ℤ◌, List, [], ◌∷◌, length, map, unsigned_abs, All, IsTrue, slice_index_or, false, true};
+ghost use Rattle.std.specs.Prelude.{◌≡◌, ◌≢◌, ◌↔◌, ℕ, ◌<◌, ◌≤◌, ◌+◌, ◌^◌, cond, ℤ, pos, ◌+ℤ◌, ◌-ℤ◌, ◌*ℤ◌, List, [], ◌∷◌, length, map, unsigned_abs, All, IfOk, IsTrue, slice_index_or, false, true};
 ghost use Rattle.std.specs.List.{AllByRecursion};
 ghost use Rattle.std.specs.Vec.{vec_capacity};
 ghost use Rattle.audit_types.specs.Limits.{most_rows};
@@ -18,7 +18,8 @@ use crate::elimination::write_set;
 use crate::form::Form;
 use crate::merging::combine_into;
 use crate::sparse::FreeEntry;
-use audit_types::RowSet;
+use audit_types::{NoMemory, RowSet};
+use std::alloc::Global;
 
 // Counts one row more at each column of a list.
 fn tally(counts: &mut [u16], entries: &[FreeEntry])
@@ -206,8 +207,43 @@ fn is_new_near(counts: &[u16], reach: u16, shared: &RowSet, new: &[FreeEntry]) -
     is_near(counts, reach, &new[1..])
 }
 
-// Products are taken of parts with fewer bits than this number.
-const PART: i128 = 1 << 62;
+// A large number by two smaller ones: `high` times 2 ^ 62, and `low`.
+#[derive(Clone, Copy)]
+struct Parts {
+    high: i128,
+    low: i128,
+}
+
+fn parts_of(x: i128) -> Parts
+    requires { unsigned_abs x < 2 ^ 124 }
+    ensures is { x ≡ result.high *ℤ pos (2 ^ 62) +ℤ result.low }
+    ensures high { unsigned_abs result.high ≤ 2 ^ 62 }
+    ensures low { unsigned_abs result.low < 2 ^ 62 }
+{
+    Parts {
+        high: x / 4_611_686_018_427_387_904,
+        low: x % 4_611_686_018_427_387_904,
+    }
+}
+
+// `by * x - times * y`.
+fn wide_difference(by: i128, x: i128, times: i128, y: i128) -> i128
+    requires by { unsigned_abs by ≤ 2 ^ 56 }
+    requires x { unsigned_abs x ≤ 2 ^ 62 }
+    requires times { unsigned_abs times ≤ 2 ^ 56 }
+    requires y { unsigned_abs y ≤ 2 ^ 62 }
+    ensures exact { result ≡ by *ℤ x -ℤ times *ℤ y }
+    ensures small { unsigned_abs result ≤ 2 ^ 119 }
+{
+    by * x - times * y
+}
+
+// Whether both numbers are 0.
+fn are_zero(x: i128, y: i128) -> bool
+    ensures { IsTrue result ↔ ((x ≡ pos 0) × (y ≡ pos 0)) }
+{
+    x == 0 && y == 0
+}
 
 // Whether two products are equal, of which one factor each may be large.
 fn are_equal_products(by: i128, x: i128, times: i128, y: i128) -> bool
@@ -215,11 +251,13 @@ fn are_equal_products(by: i128, x: i128, times: i128, y: i128) -> bool
     requires x { unsigned_abs x < 2 ^ 124 }
     requires times { unsigned_abs times ≤ 2 ^ 56 }
     requires y { unsigned_abs y < 2 ^ 124 }
-    ensures { IsTrue result ↔ (by *ℤ x ≡ times *ℤ y) }
+    ensures { IsTrue result ↔ (by *ℤ x -ℤ times *ℤ y ≡ pos 0) }
 {
-    let high = by * (x / PART) - times * (y / PART);
-    let low = by * (x % PART) - times * (y % PART);
-    low % PART == 0 && high + low / PART == 0
+    let first = parts_of(x);
+    let second = parts_of(y);
+    let high = wide_difference(by, first.high, times, second.high);
+    let low = parts_of(wide_difference(by, first.low, times, second.low));
+    are_zero(high + low.high, low.low)
 }
 
 // Whether a row isn't 0 at a column when it is cleared by the new list.
@@ -324,4 +362,32 @@ fn is_within(
         return false;
     }
     are_sets_near(form, counts, reach, row, new, sets)
+}
+
+/// Whether all that is guarded is within reach of the form with a new list, or as it is if the list is empty: the number of each row that
+/// isn't shared, and the total of each of these sets.
+pub(crate) fn is_within_after(
+    form: &Form,
+    alloc: Global,
+    new: &[FreeEntry],
+    row: &mut [i128],
+    reach: u16,
+    shared: &RowSet,
+    sets: &[RowSet],
+) -> Result<bool, NoMemory>
+    requires length { length row.old ≡ form.now.n }
+    requires at_most { form.now.n ≤ most_rows }
+    requires reach { 0 < reach }
+    requires shared { shared.now.n ≡ form.now.n }
+    requires same_n { All (λ s. s.n ≡ form.now.n) sets.now }
+    requires new { IsLeftOverOrNone form.now new.now }
+    ensures { IfOk result (λ within. (grown : List (List ℤ)) → IsGrownBy form.now new.now grown → IsTrue within ↔ IsWithin form.now.n reach shared.now.list (map (λ s. s.list) sets.now) grown) }
+{
+    let columns = form.columns() as usize;
+    let mut zeros = [0; 1024];
+    let counts = &mut zeros[..columns];
+    let mut room = Vec::with_capacity(alloc, columns)?;
+    Ok(is_within(
+        form, new, counts, row, reach, shared, sets, &mut room,
+    ))
 }
