@@ -1,22 +1,29 @@
 -- What a form with a new list reaches, by its counts.
 use Rattle.std.proofs.Common.{◌≡◌, ◌≢◌, ℕ, zero, suc, ◌+◌, ◌<◌, ◌≤◌, Bool, true, false, cond, ◌||◌, ◌==◌, ℤ, pos, List, [], ◌∷◌, ◌++◌, ◌⊎◌, length, get_or, take, map, refl, sym, ap, ◌∙◌, subst, arith, inl, inr}
-use Rattle.std.specs.Prelude.{◌+ℤ◌, All, Contains}
+use Rattle.std.specs.Prelude.{◌+ℤ◌, ◌*ℤ◌, ◌-ℤ◌, All, Contains}
 use Rattle.std.specs.List.{AllByRecursion}
 use Rattle.std.proofs.lemmas.Int.{ints}
 use Rattle.std.proofs.lemmas.Bool.{cases_eq, eq-eqb, ne_eqb, eqb-true, or_cases, true≢false}
-use Rattle.std.proofs.lemmas.List.{take_more, take_all, get_or-map, length-map}
-use Rattle.audit_types.specs.Rows.{Rows, has_row}
+use Rattle.std.proofs.lemmas.List.{take_more, take_all, get_or_past, get_or-map, length-map}
+use Rattle.std.proofs.Math.IntN.{*ℤ_comm, *ℤ-zero}
+use Rattle.audit_types.specs.Rows.{Rows, AreRows, has_row}
 use Rattle.audit_types.specs.Truth.{is_zero, number_at, sum_over}
-use Rattle.audit_types.specs.Form.{pivot, IsPrimitive}
+use Rattle.audit_types.specs.Form.{set_row, InSpan, pivot, IsPrimitive}
+use Rattle.audit_types.specs.ListLaws.{all-front}
+use Rattle.audit_types.specs.PrimitiveLines.{times}
 use Rattle.audit_types.specs.FormRows.{pivot_below}
 use Rattle.audit_types.specs.Direction.{is_pivot}
 use Rattle.audit_types.specs.Numbers.{zero_or_not}
 use Rattle.sum_basis.specs.Basis.{Echelon, IsFreeList}
 use Rattle.sum_basis.specs.Reach.{IsReached, IsWithin, IsNear, AreCounts, one_if, met, without_new, count_with, rest_at}
-use Rattle.sum_basis.specs.Sparse.{entry_at}
+use Rattle.sum_basis.specs.Elimination.{IsRemainder}
+use Rattle.sum_basis.specs.Sparse.{entry_at, IsListed}
 use Rattle.sum_basis.specs.declared.sparse.FreeEntry.{FreeEntry}
+use Rattle.sum_basis.proofs.FormsAreUnique.{own}
+use Rattle.sum_basis.proofs.Remainders.{span_from_left, span_to_left}
+use Rattle.sum_basis.proofs.SparseRows.{zero_past}
 use Rattle.sum_basis.proofs.NearColumns.{Tells, reached_if_near, near_if_reached}
-use Rattle.sum_basis.proofs.WithinReach.{IsOff, HasGrown, row_value, column_value, new_value, same_free}
+use Rattle.sum_basis.proofs.WithinReach.{IsOff, HasGrown, row_value, column_value, set_value, new_value, same_free}
 
 -- a test that decides what a value is told by
 cond_false : (b : Bool) (m : ℕ) → b ≡ false → cond b 0 m ≡ m
@@ -195,3 +202,34 @@ module _ (n : ℕ) (old : List (List ℤ)) (new : List FreeEntry) (grown : List 
       go [] h own = λ j some. absurd (some refl)
       go (x ∷ list) h own =
           near (λ w. number_at w x.place) (rest_at (x ∷ list)) (new_value n old x list grown h) (within.numbers x.place h.has_new.1.1 own)
+
+-- what is left of a set's row tells what its total does
+pub set_tells : (n : ℕ) (old : List (List ℤ)) (new : List FreeEntry) (grown : List (List ℤ)) → HasGrown n old new grown → (left : List ℤ) → length left ≡ n →
+    (set : List ℕ) → AreRows n set → (rest : (m : ℕ) × (0 < m) × IsRemainder old (times (pos m) (set_row n set)) left) →
+    Tells n grown (λ w. sum_over w set) (without_new new (number_at left))
+set_tells n old new grown g left long set are rest =
+    let with_left = all-front (InSpan (old ++ left ∷ [])) old left (own (old ++ left ∷ [])) in
+    let with_set = all-front (InSpan (old ++ set_row n set ∷ [])) old (set_row n set) (own (old ++ set_row n set ∷ [])) in
+    set_value n old new grown g left long rest.2.zeros set are
+    (span_from_left old (set_row n set) left rest.0 rest.1 rest.2 (old ++ left ∷ []) with_left.0 with_left.1)
+    (span_to_left old (set_row n set) left rest.0 rest.1 rest.2 (old ++ set_row n set ∷ []) with_set.0 with_set.1)
+
+-- each set's list is among the lists
+pub contains_list : (sets : List Rows) (k : ℕ) (d : Rows) → k < length sets → Contains (map (λ (s : Rows). s.list) sets) (get_or sets k d).list
+contains_list sets k d l =
+    let long = length-map sets (λ (s : Rows). s.list) in
+    (k, omega arith, get_or-map (λ (s : Rows). s.list) sets k d (get_or sets k d).list l)
+
+-- past the columns there is nothing
+pub nothing_past : (n : ℕ) (new : List FreeEntry) (row : List ℤ) (j : ℕ) → IsListed 0 n new → length row ≤ j → n ≤ j → without_new new (number_at row) j ≡ pos 0
+nothing_past n [] row j listed past l = get_or_past row j (pos 0) past
+nothing_past n (e ∷ new) row j listed past l =
+    let first = ap (λ z. e.value *ℤ z) (get_or_past row j (pos 0) past) ∙ *ℤ-zero e.value in
+    let second = ap (λ z. number_at row e.place *ℤ z) (zero_past 0 n (e ∷ new) j listed l) ∙ *ℤ-zero (number_at row e.place) in
+    omega (arith, ints)
+
+-- what is left at a column, as the products that are compared
+pub as_products : (new : List FreeEntry) (f : ℕ → ℤ) (j : ℕ) (d : FreeEntry) → 0 < length new →
+    without_new new f j ≡ (get_or new 0 d).value *ℤ f j -ℤ entry_at new j *ℤ f (get_or new 0 d).place
+as_products [] f j d some = absurd (omega arith)
+as_products (e ∷ new) f j d some = ap (λ z. e.value *ℤ f j -ℤ z) (*ℤ_comm (f e.place) (entry_at (e ∷ new) j))

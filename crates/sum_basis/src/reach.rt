@@ -136,18 +136,17 @@ fn is_near_row(
 fn tally_rows(
     form: &Form,
     counts: &mut [u16],
-    columns: u16,
     new: &[FreeEntry],
     room: &mut Vec<FreeEntry>,
 )
-    requires columns { columns ≡ form.now.n }
-    requires counts { columns ≡ length counts.old }
+    requires counts { form.now.n ≡ length counts.old }
     requires first { (j : ℕ) → slice_index_or counts.old j 0 ≡ one_if (rest_at new.now j) }
-    requires room { columns ≤ vec_capacity room.old }
+    requires room { form.now.n ≤ vec_capacity room.old }
     requires new { IsLeftOverOrNone form.now new.now }
     ensures counted { (grown : List (List ℤ)) → IsGrownBy form.now new.now grown → AreCounts form.now.n grown counts.new }
-    ensures room { columns ≤ vec_capacity room.new }
+    ensures room { form.now.n ≤ vec_capacity room.new }
 {
+    let columns = form.columns();
     for k in 0..form.rank() {
         tally_row(counts, columns, form.free(k), new, room);
     }
@@ -158,20 +157,19 @@ fn are_rows_near(
     form: &Form,
     counts: &[u16],
     reach: u16,
-    columns: u16,
     shared: &RowSet,
     new: &[FreeEntry],
     room: &mut Vec<FreeEntry>,
 ) -> bool
-    requires columns { columns ≡ form.now.n }
     requires shared { shared.now.n ≡ form.now.n }
-    requires room { columns ≤ vec_capacity room.old }
+    requires room { form.now.n ≤ vec_capacity room.old }
     requires new { IsLeftOverOrNone form.now new.now }
-    requires counts { columns ≡ length counts.now }
+    requires counts { form.now.n ≡ length counts.now }
     requires counted { (grown : List (List ℤ)) → IsGrownBy form.now new.now grown → AreCounts form.now.n grown counts.now }
     ensures near { (grown : List (List ℤ)) → IsGrownBy form.now new.now grown → IsTrue result ↔ ((k : ℕ) → k < length form.now.rows → has_row shared.now.list (pivot (slice_index_or form.now.rows k [])) ≡ false → IsReached form.now.n reach grown (λ w. number_at w (pivot (slice_index_or form.now.rows k [])))) }
-    ensures room { columns ≤ vec_capacity room.new }
+    ensures room { form.now.n ≤ vec_capacity room.new }
 {
+    let columns = form.columns();
     for k in 0..form.rank() {
         if !shared.has(form.pivot(k))
             && !is_near_row(counts, reach, columns, form.free(k), new, room)
@@ -263,6 +261,7 @@ fn are_equal_products(by: i128, x: i128, times: i128, y: i128) -> bool
 // Whether a row isn't 0 at a column when it is cleared by the new list.
 fn is_met(row: &[i128], new: &[FreeEntry], place: u16) -> bool
     requires place { place < length row.now }
+    requires at_most { length row.now ≤ most_rows }
     requires small { (j : ℕ) → unsigned_abs (number_at row.now j) < 2 ^ 124 }
     requires new { AreSmallEntries (length row.now) new.now }
     ensures { IsTrue result ↔ (without_new new.now (number_at row.now) place ≢ pos 0) }
@@ -350,15 +349,19 @@ fn is_within(
     requires room { form.now.n ≤ vec_capacity room.old }
     ensures { (grown : List (List ℤ)) → IsGrownBy form.now new.now grown → IsTrue result ↔ IsWithin form.now.n reach shared.now.list (map (λ s. s.list) sets.now) grown }
 {
-    let columns = form.columns();
+    // What every form is: its rows are a form.
+    let _ = form.columns();
     if !new.is_empty() {
         tally(counts, &new[1..]);
     }
-    tally_rows(form, counts, columns, new, room);
-    if !are_columns_near(counts, reach, shared) || !is_new_near(counts, reach, shared, new) {
+    tally_rows(form, counts, new, room);
+    if !are_columns_near(counts, reach, shared) {
         return false;
     }
-    if !are_rows_near(form, counts, reach, columns, shared, new, room) {
+    if !is_new_near(counts, reach, shared, new) {
+        return false;
+    }
+    if !are_rows_near(form, counts, reach, shared, new, room) {
         return false;
     }
     are_sets_near(form, counts, reach, row, new, sets)
