@@ -1,7 +1,9 @@
 -- The form that grew by a row is the one that grows by what is left of it.
-use Rattle.std.proofs.Common.{◌≡◌, ℕ, ◌<◌, ◌≤◌, ℤ, List, [], ◌∷◌, ◌++◌, length, subst, arith, inl, inr}
+use Rattle.std.proofs.Common.{◌≡◌, ◌↔◌, ℕ, ◌<◌, ◌≤◌, Bool, IsTrue, ℤ, List, [], ◌∷◌, ◌++◌, length, sym, ap, ◌∙◌, subst, arith, inl, inr}
+use Rattle.std.specs.Prelude.{Result, IfOk}
 use Rattle.std.specs.List.{AllByRecursion}
-use Rattle.audit_types.specs.Form.{InSpan, IsReducedForm, IsNarrow}
+use Rattle.std.proofs.lemmas.Result.{IfOk-weaker}
+use Rattle.audit_types.specs.Form.{set_row, InSpan, IsReducedForm, IsNarrow}
 use Rattle.audit_types.specs.Truth.{number_at, sum_over}
 use Rattle.sum_basis.specs.Basis.{Echelon}
 use Rattle.sum_basis.specs.Elimination.{IsSmallForm}
@@ -42,3 +44,24 @@ within_all n reach shared sets form long = record { numbers = λ i l own. furthe
       near = let near = c.near in omega arith;
       changed = c.changed;
     }
+
+-- what is told of a form and a row, said of the set
+module _ (form seen : Echelon) (row : List ℤ) (m : ℕ) (list : List ℕ) (view : form ≡ seen) (is : row ≡ set_row m list) (same : m ≡ seen.n) where
+  row_is : row ≡ set_row form.n list
+  row_is = is ∙ ap (λ (k : ℕ). set_row k list) (same ∙ sym (ap (λ (e : Echelon). e.n) view))
+
+  pub told_by : {E : Type 0} (r : Result Bool E) (new : List FreeEntry) (reach : ℕ) (shared : List ℕ) (sets : List (List ℕ)) →
+      ((other : Echelon) → GrowsTo form row other → IsGrownBy form new other.rows) →
+      IfOk r (λ within. (grown : List (List ℤ)) → IsGrownBy form new grown → IsTrue within ↔ IsWithin form.n reach shared sets grown) →
+      IfOk r (λ within. (other : Echelon) → GrowsTo seen (set_row seen.n list) other → IsTrue within ↔ IsWithin seen.n reach shared sets other.rows)
+  told_by r new reach shared sets grown told =
+      subst (λ (s : Echelon). IfOk r (λ within. (other : Echelon) → GrowsTo s (set_row s.n list) other → IsTrue within ↔ IsWithin s.n reach shared sets other.rows)) view
+      (subst (λ (v : List ℤ). IfOk r (λ within. (other : Echelon) → GrowsTo form v other → IsTrue within ↔ IsWithin form.n reach shared sets other.rows)) row_is
+      (IfOk-weaker r (λ within. (g : List (List ℤ)) → IsGrownBy form new g → IsTrue within ↔ IsWithin form.n reach shared sets g)
+      (λ within. (other : Echelon) → GrowsTo form row other → IsTrue within ↔ IsWithin form.n reach shared sets other.rows)
+      (λ within h other grows. h other.rows (grown other grows)) told))
+
+  pub never_large : GrowsWide form row → (other : Echelon) → ¬ (GrowsTo seen (set_row seen.n list) other)
+  never_large wide other grows =
+      not_wide seen (set_row seen.n list) other grows
+      (subst (λ (s : Echelon). GrowsWide s (set_row s.n list)) view (subst (GrowsWide form) row_is wide))

@@ -1,7 +1,9 @@
 -- How large the entries of a form's rows and of a new list are.
-use Rattle.std.proofs.Common.{◌≡◌, ◌≢◌, ℕ, ◌+◌, ◌<◌, ◌≤◌, ◌^◌, cond, Bool, true, false, ℤ, pos, List, [], ◌∷◌, length, get_or, drop, refl, sym, ap, ◌∙◌, subst, arith, inl, inr}
+use Rattle.std.proofs.Common.{◌≡◌, ◌≢◌, ℕ, ◌+◌, ◌<◌, ◌≤◌, ◌^◌, cond, Bool, true, false, ℤ, pos, List, [], ◌∷◌, ◌-◌, length, get_or, take, drop, replicate, refl, sym, ap, ◌∙◌, subst, arith, inl, inr}
 use Rattle.std.specs.Prelude.{unsigned_abs}
 use Rattle.std.specs.List.{AllByRecursion}
+use Rattle.std.proofs.lemmas.Bool.{cases_lt}
+use Rattle.std.proofs.lemmas.List.{take_all, get_or-take, get_or-replicate, get_or_past, length-replicate, length-take-le}
 use Rattle.std.proofs.lemmas.List.Elements.{All-from_recursion, recursion_from_All}
 use Rattle.audit_types.specs.Truth.{is_zero, number_at}
 use Rattle.audit_types.specs.Form.{pivot}
@@ -46,6 +48,19 @@ new_small form new left = elim left [
 pub rest_is : (new : List FreeEntry) (j : ℕ) → entry_at (drop 1 new) j ≡ rest_at new j
 rest_is [] j = refl
 rest_is (e ∷ new) j = refl
+
+-- as the code takes it
+pub rest_taken : (new : List FreeEntry) (j : ℕ) → entry_at (take (length new - 1) (drop 1 new)) j ≡ rest_at new j
+rest_taken [] j = refl
+rest_taken (e ∷ new) j = ap (λ l. entry_at l j) (take_all (length (e ∷ new) - 1) new (omega arith))
+
+-- counts that are 0
+pub zeros_taken : (n m i : ℕ) → n ≤ m → get_or (take n (replicate m 0)) i 0 ≡ 0
+zeros_taken n m i within = elim (cases_lt i n) [
+  | inl l ↦ get_or-take n (replicate m 0) i 0 l ∙ get_or-replicate m i 0 0 (omega arith)
+  | inr past ↦ get_or_past (take n (replicate m 0)) i 0
+      (let long = length-replicate m 0 in let taken = length-take-le n (replicate m 0) (omega arith) in omega arith)
+]
 
 pub rest_listed : (n : ℕ) (new : List FreeEntry) → IsListed 0 n new → IsListed 0 n (drop 1 new)
 rest_listed n [] h = tt
