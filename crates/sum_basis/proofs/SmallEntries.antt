@@ -54,13 +54,18 @@ pub rest_taken : (new : List FreeEntry) (j : ℕ) → entry_at (take (length new
 rest_taken [] j = refl
 rest_taken (e ∷ new) j = ap (λ l. entry_at l j) (take_all (length (e ∷ new) - 1) new (omega arith))
 
--- counts that are 0
-pub zeros_taken : (n m i : ℕ) → n ≤ m → get_or (take n (replicate m 0)) i 0 ≡ 0
-zeros_taken n m i within = elim (cases_lt i n) [
-  | inl l ↦ get_or-take n (replicate m 0) i 0 l ∙ get_or-replicate m i 0 0 (omega arith)
-  | inr past ↦ get_or_past (take n (replicate m 0)) i 0
-      (let long = length-replicate m 0 in let taken = length-take-le n (replicate m 0) (omega arith) in omega arith)
-]
+abbrev zeros : ℕ → List ℕ
+zeros m = replicate m 0
+
+-- the first of counts that are 0
+pub zeros_taken : (n m i : ℕ) → n ≤ m → ◌≡◌ {A = ℕ} (get_or (take n (zeros m)) i 0) 0
+zeros_taken n m i within =
+    let long : length (zeros m) ≡ m = length-replicate m 0 in
+    let taken : length (take n (zeros m)) ≡ n = length-take-le n (zeros m) (omega arith) in
+    elim (cases_lt i n) [
+      | inl l ↦ get_or-take n (zeros m) i 0 l ∙ get_or-replicate m i 0 0 (omega arith)
+      | inr past ↦ get_or_past (take n (zeros m)) i 0 (omega arith)
+    ]
 
 pub rest_listed : (n : ℕ) (new : List FreeEntry) → IsListed 0 n new → IsListed 0 n (drop 1 new)
 rest_listed n [] h = tt
