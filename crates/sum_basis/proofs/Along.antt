@@ -2,11 +2,11 @@
 --
 -- A direction of a free column j is 0 at the other free columns. So the product with a row of the form has two numbers other than 0 at
 -- most: at the row's pivot, and at j. As it is 0, the direction isn't 0 at the pivot exactly if the row isn't 0 at j.
-use Rattle.std.proofs.Common.{◌≡◌, ◌≢◌, ℕ, zero, suc, ◌+◌, ◌<◌, ◌≤◌, Bool, true, false, cond, ◌||◌, ◌==◌, ℤ, pos, List, [], ◌∷◌, length, map, refl, sym, ap, ◌∙◌, arith, inl, inr, ◌⊎◌}
-use Rattle.std.specs.Prelude.{◌+ℤ◌, ◌*ℤ◌, ◌<ℤ◌, neg_ℤ, not, count_by}
+use Rattle.std.proofs.Common.{◌≡◌, ◌≢◌, ℕ, zero, suc, ◌+◌, ◌<◌, Bool, true, false, cond, ◌||◌, ◌==◌, ℤ, pos, List, [], ◌∷◌, length, map, refl, sym, ap, ◌∙◌, arith, inl, inr}
+use Rattle.std.specs.Prelude.{◌+ℤ◌, ◌*ℤ◌, neg_ℤ, not}
 use Rattle.std.specs.List.{AllByRecursion, range_with_len}
 use Rattle.std.proofs.lemmas.Int.{ints}
-use Rattle.std.proofs.lemmas.Bool.{cases_eq, cases_lt, eq-eqb, ne_eqb, eqb-true, true≢false}
+use Rattle.std.proofs.lemmas.Bool.{cases_eq, cases_lt, eq-eqb, ne_eqb, true≢false}
 use Rattle.std.proofs.lemmas.List.{get_or_past}
 use Rattle.std.proofs.lemmas.List.Sums.{sum_by-cons}
 use Rattle.std.proofs.lemmas.List.FromFn.{length-map-range_with_len, get_or-map-range_with_len}
@@ -18,7 +18,7 @@ use Rattle.audit_types.specs.Direction.{is_pivot}
 use Rattle.audit_types.specs.Reach.{extent, IsAlong}
 use Rattle.audit_types.specs.Numbers.{zero_from_test, not_zero_from_test, test_of_not_zero, positive_not_zero}
 use Rattle.audit_types.specs.Products.{neg-times, one-times, times-add, times_assoc, zero_product, product_not_zero}
-use Rattle.audit_types.specs.Totals.{total, total-agree, total-add, total-times, total-single, total-zero, product}
+use Rattle.audit_types.specs.Totals.{total, total-agree, total-add, total-times, total-single, product}
 use Rattle.sum_basis.specs.Reach.{one_if, met}
 
 -- ---- totals
@@ -191,8 +191,8 @@ module _ (n : ℕ) (form : List (List ℤ)) (primitive : AllByRecursion (IsPrimi
   met_at_pivots (row ∷ rows) p z o h =
       let rest = met_at_pivots rows p.1 z.1 o.1 h.1 in
       let first =
-          one_alike (number_at d (pivot row)) (number_at row j) (zero_there n form primitive echelon j d along row p.0 z.0 o.0 h.0)
-          (zero_back n form primitive echelon j d along row p.0 z.0 o.0 h.0) in
+      one_alike (number_at d (pivot row)) (number_at row j) (zero_there n form primitive echelon j d along row p.0 z.0 o.0 h.0)
+      (zero_back n form primitive echelon j d along row p.0 z.0 o.0 h.0) in
       omega (arith, ints)
 
   rest_is_one : total (off_pivots form (some_at (number_at d))) n ≡ pos 1
@@ -261,7 +261,7 @@ module _ (n : ℕ) where
   some_here (row ∷ rows) j p e none =
       let parts = or_false (pivot row == j) (is_pivot rows j) e in
       let off =
-          ap (λ b. neg_ℤ (product row (along_from n rows j) n) *ℤ cond b (pos 1) (pos 0)) parts.0 ∙ *ℤ-zero (neg_ℤ (product row (along_from n rows j) n)) in
+      ap (λ b. neg_ℤ (product row (along_from n rows j) n) *ℤ cond b (pos 1) (pos 0)) parts.0 ∙ *ℤ-zero (neg_ℤ (product row (along_from n rows j) n)) in
       product_not_zero (pivot_entry row) (along_from n rows j j) (positive_not_zero (pivot_entry row) p.0.leading) (some_here rows j p.1 parts.1)
       (let all = none in omega (arith, ints))
 

@@ -1,16 +1,16 @@
 -- The reduced form of a form's rows with a new row: each row, cleared, isn't 0 where its cross product with the new row isn't.
-use Rattle.std.proofs.Common.{◌≡◌, ◌≢◌, ℕ, zero, suc, ◌+◌, ◌<◌, ◌≤◌, Bool, true, false, cond, ◌||◌, ◌==◌, ℤ, pos, List, [], ◌∷◌, ◌++◌, length, get_or, refl, sym, ap, ◌∙◌, subst, arith, inl, inr}
-use Rattle.std.specs.Prelude.{◌+ℤ◌, ◌*ℤ◌, ◌-ℤ◌, ◌<ℤ◌, neg_ℤ, nat_lt}
+use Rattle.std.proofs.Common.{◌≡◌, ℕ, zero, suc, ◌+◌, ◌<◌, Bool, true, false, cond, ◌||◌, ◌==◌, ℤ, pos, List, [], ◌∷◌, ◌++◌, length, get_or, refl, sym, ap, ◌∙◌, subst, arith, inl, inr}
+use Rattle.std.specs.Prelude.{◌*ℤ◌, ◌-ℤ◌, nat_lt}
 use Rattle.std.specs.List.{AllByRecursion}
 use Rattle.std.proofs.lemmas.Int.{ints}
 use Rattle.std.proofs.Math.IntN.{zero-*ℤ, *ℤ-zero}
-use Rattle.audit_types.specs.Truth.{is_zero, number_at}
+use Rattle.audit_types.specs.Truth.{number_at}
 use Rattle.audit_types.specs.Form.{pivot, pivot_entry, IsPrimitive, IsEchelon, IsReducedForm}
 use Rattle.audit_types.specs.Direction.{is_pivot}
 use Rattle.audit_types.specs.RowNumbers.{some_entry}
 use Rattle.audit_types.specs.Numbers.{zero_or_not, positive_not_zero}
 use Rattle.audit_types.specs.Products.{neg-times, zero_product}
-use Rattle.audit_types.specs.PrimitiveLines.{times, number_at-times}
+use Rattle.audit_types.specs.PrimitiveLines.{number_at-times}
 use Rattle.sum_basis.specs.Combination.{combine}
 use Rattle.sum_basis.specs.CombinedRows.{number_at-combine, length-combine}
 use Rattle.sum_basis.specs.Elimination.{IsZeroAtPivots, IsCleared, AreCleared}
@@ -61,26 +61,31 @@ module _ (n : ℕ) (new : List ℤ) (p : IsPrimitive n new) where
   -- each row can be cleared so
   lined : (row : List ℤ) → IsPrimitive n row → number_at new (pivot row) ≡ pos 0 → (made : List ℤ) × IsLined row made
   lined row q e = elim (zero_or_not (number_at row (pivot new))) [
-    | inl z ↦ (row, record {
-      cleared = cleared_already n new row q z;
-      there = λ j h.
-          let first = ap (λ x. pivot_entry new *ℤ x) h ∙ *ℤ-zero (pivot_entry new) in
-          let second = ap (λ x. x *ℤ number_at new j) z ∙ zero-*ℤ (number_at new j) in
-          omega (arith, ints);
-      back = λ j h.
-          let second = ap (λ x. x *ℤ number_at new j) z ∙ zero-*ℤ (number_at new j) in
-          zero_product (pivot_entry new) (number_at row j) (omega (arith, ints)) (positive_not_zero (pivot_entry new) p.leading);
-    })
+    | inl z ↦ (
+      row,
+      record {
+        cleared = cleared_already n new row q z;
+        there = λ j h.
+            let first = ap (λ x. pivot_entry new *ℤ x) h ∙ *ℤ-zero (pivot_entry new) in
+            let second = ap (λ x. x *ℤ number_at new j) z ∙ zero-*ℤ (number_at new j) in
+            omega (arith, ints);
+        back = λ j h.
+            let second = ap (λ x. x *ℤ number_at new j) z ∙ zero-*ℤ (number_at new j) in
+            zero_product (pivot_entry new) (number_at row j) (omega (arith, ints)) (positive_not_zero (pivot_entry new) p.leading);
+      },
+    )
     | inr some ↦
         let c = combine (pivot_entry new) row (number_at row (pivot new)) new in
         let made = primitive_exists n c (length-combine n (pivot_entry new) row (number_at row (pivot new)) new q.one_each p.one_each)
-        (some_entry c (pivot row) (leads_combination n new row p q e)) in
-        (made.0, record {
-          cleared = cleared_from n new row made.0 made.1 p q e (comes_first n new row p e some) made.2 made.3 made.4;
-          there = λ j h.
-              sym (combine_is row j) ∙ ap (λ l. number_at l j) made.3 ∙ number_at-times made.1 made.0 j ∙ ap (λ x. made.1 *ℤ x) h ∙ *ℤ-zero made.1;
-          back = λ j h. line_zero c made.1 made.0 j made.2 made.3 (combine_is row j ∙ h);
-        })
+        (some_entry c (pivot row) (leads_combination n new row p q e)) in (
+          made.0,
+          record {
+            cleared = cleared_from n new row made.0 made.1 p q e (comes_first n new row p e some) made.2 made.3 made.4;
+            there = λ j h.
+                sym (combine_is row j) ∙ ap (λ l. number_at l j) made.3 ∙ number_at-times made.1 made.0 j ∙ ap (λ x. made.1 *ℤ x) h ∙ *ℤ-zero made.1;
+            back = λ j h. line_zero c made.1 made.0 j made.2 made.3 (combine_is row j ∙ h);
+          },
+        )
   ]
 
   -- all rows, each cleared in its place

@@ -1,13 +1,13 @@
 -- A value that changes along directions of free columns does so along a near one exactly if its row is near: a row that isn't 0 at the
 -- columns along whose directions the value changes.
-use Rattle.std.proofs.Common.{◌≡◌, ◌≢◌, ℕ, ◌+◌, ◌<◌, ◌≤◌, false, ℤ, pos, List, length, get_or, arith}
+use Rattle.std.proofs.Common.{◌≡◌, ◌≢◌, ℕ, ◌+◌, ◌<◌, ◌≤◌, false, ℤ, pos, List, get_or, arith}
 use Rattle.std.specs.Prelude.{not}
 use Rattle.std.specs.List.{AllByRecursion}
 use Rattle.std.proofs.lemmas.List.Sums.{count_by-le-length}
-use Rattle.audit_types.specs.Truth.{is_zero, number_at}
+use Rattle.audit_types.specs.Truth.{is_zero}
 use Rattle.audit_types.specs.Form.{IsPrimitive, IsEchelon}
 use Rattle.audit_types.specs.Direction.{is_pivot}
-use Rattle.audit_types.specs.Reach.{extent, IsAlong, Changes}
+use Rattle.audit_types.specs.Reach.{IsAlong, Changes}
 use Rattle.sum_basis.specs.Reach.{IsReached, IsNear, met}
 use Rattle.sum_basis.proofs.Along.{direction_of, extent_is, column_below}
 

@@ -1,20 +1,18 @@
 -- What a form with a new list reaches, by its counts.
-use Rattle.std.proofs.Common.{◌≡◌, ◌≢◌, ℕ, zero, suc, ◌+◌, ◌<◌, ◌≤◌, Bool, true, false, cond, ◌||◌, ◌==◌, ℤ, pos, List, [], ◌∷◌, ◌++◌, ◌⊎◌, length, get_or, take, map, refl, sym, ap, ◌∙◌, subst, arith, inl, inr}
-use Rattle.std.specs.Prelude.{◌+ℤ◌, ◌*ℤ◌, ◌-ℤ◌, All, Contains}
-use Rattle.std.specs.List.{AllByRecursion}
+use Rattle.std.proofs.Common.{◌≡◌, ◌≢◌, ℕ, suc, ◌+◌, ◌<◌, ◌≤◌, Bool, true, false, cond, ◌==◌, ℤ, pos, List, [], ◌∷◌, ◌++◌, ◌⊎◌, length, get_or, take, map, refl, sym, ap, ◌∙◌, subst, arith, inl, inr}
+use Rattle.std.specs.Prelude.{◌*ℤ◌, ◌-ℤ◌, All, Contains}
 use Rattle.std.proofs.lemmas.Int.{ints}
 use Rattle.std.proofs.lemmas.Bool.{cases_eq, eq-eqb, ne_eqb, eqb-true, or_cases, true≢false}
 use Rattle.std.proofs.lemmas.List.{take_more, take_all, get_or_past, get_or-map, length-map}
 use Rattle.std.proofs.Math.IntN.{*ℤ_comm, *ℤ-zero}
 use Rattle.audit_types.specs.Rows.{Rows, AreRows, has_row}
-use Rattle.audit_types.specs.Truth.{is_zero, number_at, sum_over}
-use Rattle.audit_types.specs.Form.{set_row, InSpan, pivot, IsPrimitive}
+use Rattle.audit_types.specs.Truth.{number_at, sum_over}
+use Rattle.audit_types.specs.Form.{set_row, InSpan, pivot}
 use Rattle.audit_types.specs.ListLaws.{all-front}
 use Rattle.audit_types.specs.PrimitiveLines.{times}
-use Rattle.audit_types.specs.FormRows.{pivot_below}
 use Rattle.audit_types.specs.Direction.{is_pivot}
 use Rattle.audit_types.specs.Numbers.{zero_or_not}
-use Rattle.sum_basis.specs.Basis.{Echelon, IsFreeList}
+use Rattle.sum_basis.specs.Basis.{IsFreeList}
 use Rattle.sum_basis.specs.Reach.{IsReached, IsWithin, IsNear, AreCounts, one_if, met, without_new, count_with, rest_at}
 use Rattle.sum_basis.specs.Elimination.{IsRemainder}
 use Rattle.sum_basis.specs.Sparse.{entry_at, IsListed}
@@ -142,8 +140,8 @@ module _ (n : ℕ) (old : List (List ℤ)) (new : List FreeEntry) (grown : List 
       go true e = let none = are.is j ∙ cond_true (is_pivot grown j) (met grown j) e in omega arith
       go false e =
           let q =
-              near (λ w. number_at w j) (λ i. cond (j == i) (pos 1) (pos 0)) (column_value n old new grown g j l e) (within.numbers j l own) j
-              (λ none. (let one = sym (ap (λ b. cond b (pos 1) (pos 0)) (eq-eqb j j refl)) ∙ none in omega (arith, ints))) in
+          near (λ w. number_at w j) (λ i. cond (j == i) (pos 1) (pos 0)) (column_value n old new grown g j l e) (within.numbers j l own) j
+          (λ none. (let one = sym (ap (λ b. cond b (pos 1) (pos 0)) (eq-eqb j j refl)) ∙ none in omega (arith, ints))) in
           elim (cases_eq j q.0) [
             | inl same ↦ let count = ap (λ (i : ℕ). get_or counts i 0) same in let small = q.2 in omega arith
             | inr other ↦ absurd (q.1 (ap (λ b. cond b (pos 1) (pos 0)) (ne_eqb j q.0 other)))

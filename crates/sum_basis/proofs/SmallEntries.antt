@@ -1,11 +1,11 @@
 -- How large the entries of a form's rows and of a new list are.
-use Rattle.std.proofs.Common.{◌≡◌, ◌≢◌, ℕ, ◌+◌, ◌<◌, ◌≤◌, ◌^◌, cond, Bool, true, false, ℤ, pos, List, [], ◌∷◌, ◌-◌, length, get_or, take, drop, replicate, refl, sym, ap, ◌∙◌, subst, arith, inl, inr}
+use Rattle.std.proofs.Common.{◌≡◌, ◌≢◌, ℕ, ◌+◌, ◌<◌, ◌≤◌, ◌^◌, cond, Bool, true, false, ℤ, List, [], ◌∷◌, ◌-◌, length, get_or, take, drop, replicate, refl, sym, ap, ◌∙◌, subst, arith, inl, inr}
 use Rattle.std.specs.Prelude.{unsigned_abs}
 use Rattle.std.specs.List.{AllByRecursion}
 use Rattle.std.proofs.lemmas.Bool.{cases_lt}
 use Rattle.std.proofs.lemmas.List.{take_all, get_or-take, get_or-replicate, get_or_past, length-replicate, length-take-le}
 use Rattle.std.proofs.lemmas.List.Elements.{All-from_recursion, recursion_from_All}
-use Rattle.audit_types.specs.Truth.{is_zero, number_at}
+use Rattle.audit_types.specs.Truth.{is_zero}
 use Rattle.audit_types.specs.Form.{pivot}
 use Rattle.sum_basis.specs.Basis.{Echelon, IsFreeList}
 use Rattle.sum_basis.specs.Elimination.{IsSmall, IsSmallForm}

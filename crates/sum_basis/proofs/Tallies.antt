@@ -1,18 +1,17 @@
 -- Counts by lists of entries, and lists that are near by them.
-use Rattle.std.proofs.Common.{◌≡◌, ◌≢◌, ℕ, zero, suc, ◌+◌, ◌<◌, ◌≤◌, nat_eq, ℤ, pos, List, [], ◌∷◌, length, get_or, set, take, refl, sym, ap, ◌∙◌, arith, inl, inr}
-use Rattle.std.specs.Prelude.{◌+ℤ◌, ◌*ℤ◌, ◌-ℤ◌}
+use Rattle.std.proofs.Common.{◌≡◌, ◌≢◌, ℕ, suc, ◌+◌, ◌<◌, ◌≤◌, nat_eq, ℤ, pos, List, [], ◌∷◌, length, get_or, set, take, refl, sym, ap, ◌∙◌, arith, inl, inr}
+use Rattle.std.specs.Prelude.{◌+ℤ◌, ◌*ℤ◌}
 use Rattle.std.proofs.lemmas.Int.{ints}
-use Rattle.std.proofs.lemmas.Bool.{cases_eq, eqb-true}
+use Rattle.std.proofs.lemmas.Bool.{cases_eq}
 use Rattle.std.proofs.lemmas.List.{take_all, get_or-set_same, get_or-set_other, length-set}
 use Rattle.std.proofs.Math.IntN.{zero-*ℤ, *ℤ-zero}
-use Rattle.audit_types.specs.Truth.{is_zero}
-use Rattle.audit_types.specs.Numbers.{zero_or_not, test_of_not_zero}
+use Rattle.audit_types.specs.Numbers.{test_of_not_zero}
 use Rattle.audit_types.specs.Products.{zero_product}
 use Rattle.sum_basis.specs.Reach.{IsNear, one_if, without_new, times_of}
 use Rattle.sum_basis.specs.Sparse.{entry_at, IsListed}
 use Rattle.sum_basis.specs.declared.sparse.FreeEntry.{FreeEntry}
 use Rattle.sum_basis.proofs.SparseRows.{here, elsewhere, no_entry, stands_within, front_zero, own_value, take_entry}
-use Rattle.std.proofs.Common.{cond, false}
+use Rattle.std.proofs.Common.{cond}
 
 -- the first k entries are counted
 pub record IsPartlyTallied (old counts : List ℕ) (es : List FreeEntry) (k : ℕ) : Type 0 where

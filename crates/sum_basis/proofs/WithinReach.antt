@@ -1,32 +1,32 @@
 -- What the reduced form with a new list reaches, by the lists of the form's rows.
-use Rattle.std.proofs.Common.{◌≡◌, ◌≢◌, ℕ, zero, suc, ◌+◌, ◌<◌, ◌≤◌, Bool, true, false, cond, ◌||◌, ◌==◌, ℤ, pos, List, [], ◌∷◌, ◌++◌, ◌⊎◌, length, get_or, nat_eq, refl, sym, ap, ◌∙◌, subst, arith, inl, inr}
-use Rattle.std.specs.Prelude.{◌+ℤ◌, ◌*ℤ◌, ◌-ℤ◌, ◌<ℤ◌, neg_ℤ}
+use Rattle.std.proofs.Common.{◌≡◌, ◌≢◌, ℕ, ◌+◌, ◌<◌, ◌≤◌, Bool, true, false, cond, ◌||◌, ◌==◌, ℤ, pos, List, [], ◌∷◌, ◌++◌, length, get_or, refl, sym, ap, ◌∙◌, subst, arith, inl, inr}
+use Rattle.std.specs.Prelude.{◌+ℤ◌, ◌*ℤ◌, ◌-ℤ◌, neg_ℤ}
 use Rattle.std.specs.List.{AllByRecursion}
 use Rattle.std.proofs.lemmas.Int.{ints}
-use Rattle.std.proofs.lemmas.Bool.{cases_eq, cases_lt, eq-eqb, ne_eqb, eqb-true, or_cases, true≢false}
+use Rattle.std.proofs.lemmas.Bool.{cases_eq, cases_lt, eq-eqb, ne_eqb, true≢false}
 use Rattle.std.proofs.lemmas.List.{get_or_past}
 use Rattle.std.proofs.Math.IntN.{zero-*ℤ, *ℤ-zero, *ℤ_comm}
 use Rattle.audit_types.specs.Rows.{AreRows}
-use Rattle.audit_types.specs.Truth.{is_zero, number_at, sum_over}
-use Rattle.audit_types.specs.Form.{set_row, InSpan, pivot, pivot_entry, IsPrimitive, IsEchelon, IsReducedForm}
+use Rattle.audit_types.specs.Truth.{number_at, sum_over}
+use Rattle.audit_types.specs.Form.{set_row, InSpan, pivot, IsPrimitive, IsEchelon, IsReducedForm}
 use Rattle.audit_types.specs.FormRows.{at_pivot, zero_at_others, IsZeroAtOthers}
 use Rattle.audit_types.specs.Direction.{is_pivot}
 use Rattle.audit_types.specs.Reach.{IsAlong}
 use Rattle.audit_types.specs.ListLaws.{all-push, all-front}
-use Rattle.audit_types.specs.Numbers.{zero_or_not, positive_not_zero}
-use Rattle.audit_types.specs.Products.{add-times, times_assoc, neg-times, zero_product, product_not_zero}
+use Rattle.audit_types.specs.Numbers.{zero_or_not}
+use Rattle.audit_types.specs.Products.{add-times, times_assoc, neg-times, zero_product}
 use Rattle.audit_types.specs.Totals.{total, total-agree, total-add, total-times, product, product-span, product-set_row, products_in_span}
 use Rattle.sum_basis.specs.Basis.{Echelon, IsFreeList}
 use Rattle.sum_basis.specs.Combination.{combine}
-use Rattle.sum_basis.specs.CombinedRows.{number_at-combine, length-combine}
+use Rattle.sum_basis.specs.CombinedRows.{number_at-combine}
 use Rattle.sum_basis.specs.Elimination.{IsSmallForm, IsZeroAtPivots}
 use Rattle.sum_basis.specs.Reach.{IsLeftOverOrNone, IsGrownBy, one_if, met, without_new, count_with, rest_at}
 use Rattle.sum_basis.specs.Sparse.{entry_at, row_of, IsListed}
 use Rattle.sum_basis.specs.Ties.{IsRowOf}
 use Rattle.sum_basis.specs.declared.sparse.FreeEntry.{FreeEntry}
-use Rattle.sum_basis.proofs.Along.{own_pivots, column_below, product_only, zero_there, zero_back}
+use Rattle.sum_basis.proofs.Along.{own_pivots, product_only, zero_there, zero_back}
 use Rattle.sum_basis.proofs.FormsAreUnique.{own}
-use Rattle.sum_basis.proofs.GrownForms.{of_own, all_own, crossed, IsGrown, IsLined, grown_is, count_crossed, combine_is}
+use Rattle.sum_basis.proofs.GrownForms.{of_own, crossed, grown_is, count_crossed}
 use Rattle.sum_basis.proofs.KeptForms.{row_among}
 use Rattle.sum_basis.proofs.NearColumns.{Tells}
 use Rattle.sum_basis.proofs.SparseRows.{number_at-row_of, pivot-row_of, pivot_entry-row_of, first_value, zero_below, zero_past, elsewhere}

@@ -133,12 +133,7 @@ fn is_near_row(
 }
 
 // Counts, at each column, the new row and all rows of the form that aren't 0 there when they are cleared.
-fn tally_rows(
-    form: &Form,
-    counts: &mut [u16],
-    new: &[FreeEntry],
-    room: &mut Vec<FreeEntry>,
-)
+fn tally_rows(form: &Form, counts: &mut [u16], new: &[FreeEntry], room: &mut Vec<FreeEntry>)
     requires counts { form.now.n ≡ length counts.old }
     requires first { (j : ℕ) → slice_index_or counts.old j 0 ≡ one_if (rest_at new.now j) }
     requires room { form.now.n ≤ vec_capacity room.old }
@@ -390,7 +385,5 @@ pub(crate) fn is_within_after(
     let mut zeros = [0; 1024];
     let counts = &mut zeros[..columns];
     let mut room = Vec::with_capacity(alloc, columns)?;
-    Ok(is_within(
-        form, new, counts, row, reach, shared, sets, &mut room,
-    ))
+    Ok(is_within(form, new, counts, row, reach, shared, sets, &mut room))
 }

@@ -1,7 +1,6 @@
-use Rattle.std.proofs.Common.{◌≡◌, ◌≤◌, ◌^◌, ℤ, pos, sym, ap, ◌∙◌, arith, rules}
-use Rattle.std.specs.Prelude.{FitsSigned, ◌+ℤ◌, ◌-ℤ◌, ◌*ℤ◌, unsigned_abs}
+use Rattle.std.proofs.Common.{◌≤◌, ◌^◌, ℤ, sym, ◌∙◌, arith, rules}
+use Rattle.std.specs.Prelude.{FitsSigned, ◌+ℤ◌, unsigned_abs}
 use Rattle.std.specs.Int.{w128}
-use mir.Val.{to_z, of_z}
 use Rattle.std.proofs.lemmas.Int.{ints, to_z-of_z, fits_signed_from_abs}
 use Rattle.sum_basis.proofs.LargeProducts.{between_parts, zero_parts, parts_zero}
 use Rattle.sum_basis.proofs.reach.are_equal_products.Goals as goal
@@ -42,13 +41,13 @@ returns c =
     let sum = c.wide_difference-high.result +ℤ c.parts_of-low.result.high in
     let fits = sum_fits c.wide_difference-high.result c.parts_of-low.result.high c.wide_difference-high.ensures.small c.parts_of-low.ensures.high in
     let told =
-        rw (
-          to_z-of_z w128 c.wide_difference-high.result high,
-          to_z-of_z w128 c.parts_of-low.result.high lh,
-          to_z-of_z w128 sum fits,
-          to_z-of_z w128 c.parts_of-low.result.low ll,
-        )
-        at c.are_zero.ensures in (
+    rw (
+      to_z-of_z w128 c.wide_difference-high.result high,
+      to_z-of_z w128 c.parts_of-low.result.high lh,
+      to_z-of_z w128 sum fits,
+      to_z-of_z w128 c.parts_of-low.result.low ll,
+    )
+    at c.are_zero.ensures in (
       λ yes. let zero = told.0 yes in whole ∙ parts_zero sum c.parts_of-low.result.low zero.0 zero.1,
       λ none. told.1 (zero_parts sum c.parts_of-low.result.low c.parts_of-low.ensures.low (sym whole ∙ none)),
     )

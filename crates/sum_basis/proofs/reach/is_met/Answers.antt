@@ -1,4 +1,4 @@
-use Rattle.std.proofs.Common.{◌≡◌, ℕ, ◌<◌, ◌≤◌, Bool, true, false, not, ℤ, pos, length, get_or, refl, sym, ◌∙◌, arith, rules}
+use Rattle.std.proofs.Common.{◌≡◌, ℕ, ◌<◌, Bool, true, false, not, pos, length, get_or, refl, sym, ◌∙◌, arith, rules}
 use Rattle.std.specs.Prelude.{FitsSigned}
 use Rattle.std.specs.Int.{w128}
 use Rattle.std.proofs.lemmas.Int.{to_z-of_z}
@@ -38,14 +38,14 @@ returns c =
     let entry : FitsSigned w128 c.value_at.result = search rules in
     let there : FitsSigned w128 (get_or row (get_or new 0 (record { place = 0; value = pos 0 })).place (pos 0)) = search rules in
     let told =
-        rw (
-          to_z-of_z w128 (get_or new 0 none).value value,
-          to_z-of_z w128 (get_or row c.args.place (pos 0)) here,
-          to_z-of_z w128 c.value_at.result entry,
-          to_z-of_z w128 (get_or row (get_or new 0 none).place (pos 0)) there,
-          c.value_at.ensures,
-        )
-        at c.are_equal_products.ensures in
+    rw (
+      to_z-of_z w128 (get_or new 0 none).value value,
+      to_z-of_z w128 (get_or row c.args.place (pos 0)) here,
+      to_z-of_z w128 c.value_at.result entry,
+      to_z-of_z w128 (get_or row (get_or new 0 none).place (pos 0)) there,
+      c.value_at.ensures,
+    )
+    at c.are_equal_products.ensures in
     let is = as_products new (number_at row) c.args.place none
     (some_entry (length new) (λ e. false≢true (sym c.if-is_empty.false ∙ c.is_empty.ensures ∙ eq-eqb (length new) 0 e))) in (
       λ yes zero. both_ways c.are_equal_products.result yes (told.1 (sym is ∙ zero)),

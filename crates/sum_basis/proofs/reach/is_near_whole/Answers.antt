@@ -1,7 +1,7 @@
-use Rattle.std.proofs.Common.{◌≡◌, ◌≢◌, ℕ, ◌<◌, ◌≤◌, Bool, true, false, not, pos, length, get_or, refl, sym, ◌∙◌, arith, inl, inr}
-use Rattle.std.proofs.lemmas.Bool.{cases_lt, true≢false}
+use Rattle.std.proofs.Common.{◌≡◌, Bool, true, false, not, length, refl, arith, inl, inr}
+use Rattle.std.proofs.lemmas.Bool.{cases_lt}
 use Rattle.audit_types.specs.Truth.{number_at}
-use Rattle.sum_basis.specs.Reach.{IsNear, without_new}
+use Rattle.sum_basis.specs.Reach.{without_new}
 use Rattle.sum_basis.proofs.Reaching.{nothing_past}
 use Rattle.sum_basis.proofs.reach.is_near_whole.Goals as goal
 

@@ -1,4 +1,4 @@
-use Rattle.std.proofs.Common.{◌+◌, get_or, pos, refl, arith}
+use Rattle.std.proofs.Common.{get_or, pos, refl, arith}
 use Rattle.sum_basis.proofs.Tallies.{place_inside, not_yet_tallied, one_more_tallied}
 use Rattle.sum_basis.proofs.reach.tally.Goals as goal
 
@@ -23,4 +23,3 @@ pub loop-e-preserved : goal.loop-e-preserved
 loop-e-preserved c =
     one_more_tallied c.args.counts.now c.loop-e.counts c.args.entries.now c.loop-e.e-index (record { place = 0; value = pos 0 }) c.requires.listed
     c.loop-e-test.true c.loop-e.invariant _ refl
-

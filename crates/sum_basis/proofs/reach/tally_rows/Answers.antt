@@ -1,4 +1,4 @@
-use Rattle.std.proofs.Common.{◌≡◌, ℕ, ◌+◌, ◌≤◌, ℤ, List, [], length, get_or, sym, ap, ◌∙◌, subst, arith}
+use Rattle.std.proofs.Common.{ℕ, sym, ◌∙◌, subst, arith}
 use Rattle.sum_basis.specs.Reach.{AreSmallEntries, rest_at, without_new}
 use Rattle.sum_basis.specs.Sparse.{entry_at}
 use Rattle.sum_basis.proofs.Reaching.{first_counts, more_counts, all_counts}

@@ -1,7 +1,6 @@
-use Rattle.std.proofs.Common.{◌≡◌, ◌<◌, ◌≤◌, ◌^◌, ℤ, arith}
+use Rattle.std.proofs.Common.{◌≤◌, ◌^◌, ℤ, arith}
 use Rattle.std.specs.Prelude.{FitsSigned, ◌-ℤ◌, ◌*ℤ◌, unsigned_abs}
 use Rattle.std.specs.Int.{w128}
-use mir.Val.{to_z, of_z}
 use Rattle.std.proofs.lemmas.Int.{to_z-of_z, fits_signed_from_abs}
 use Rattle.sum_basis.proofs.LargeProducts.{part_small, between_small}
 use Rattle.sum_basis.proofs.reach.wide_difference.Goals as goal

@@ -3,7 +3,6 @@ use Rattle.audit_types.specs.Rows.{Rows}
 use Rattle.sum_basis.specs.Sparse.{row_of, IsNew}
 use Rattle.sum_basis.specs.Growth.{IsNewRow}
 use Rattle.sum_basis.specs.Reach.{IsLeftOverOrNone}
-use Rattle.sum_basis.specs.declared.sparse.FreeEntry.{FreeEntry}
 use Rattle.sum_basis.proofs.GrownBy.{by_list, by_nothing, told_by, never_large}
 use Rattle.sum_basis.proofs.SetRows.{set_bits}
 use Rattle.sum_basis.proofs.basis.Basis.is_within_reach.Goals as goal
