@@ -1,6 +1,6 @@
 //! A column of maxima, with the rows of the table that several people share.
 ghost use Rattle.std.specs.Prelude.{◌≡◌, ◌<◌, ◌≤◌, [], IfOk};
-ghost use Rattle.audit_types.specs.Column.{known_max, guarding};
+ghost use Rattle.audit_types.specs.Column.{known_max, guarding, with_width};
 ghost use Rattle.audit_types.specs.Limits.{most_rows};
 
 use audit_types::{ColumnAudit, NoMemory, RowSet, Verdict};
@@ -13,34 +13,45 @@ use std::marker::Model;
 pub(crate) struct GuardedMaxima {
     maxima: MaxColumn,
     shared: RowSet,
+    // What is known says it. No verdict on a maximum goes by it.
+    width: u64,
 }
 
 impl Model for GuardedMaxima {
     ghost use Rattle.std.specs.Prelude.{◌≡◌, []};
-    ghost use Rattle.audit_types.specs.Column.{Known, guarding};
+    ghost use Rattle.audit_types.specs.Column.{Known, guarding, with_width};
 
     ghost Value = { Known };
 
-    ghost view = { λ g. guarding g.maxima g.shared.list [] };
+    ghost view = { λ g. with_width (guarding g.maxima g.shared.list []) g.width };
 
     ghost invariant = { λ g. g.shared.n ≡ g.maxima.n };
 }
 
 impl GuardedMaxima {
-    /// No answers yet, over n rows.
-    pub(crate) fn new(alloc: Global, n: u16, shared: RowSet) -> Result<GuardedMaxima, NoMemory>
+    /// No answers yet, over n rows of a table that is guarded with this width.
+    pub(crate) fn new(
+        alloc: Global,
+        n: u16,
+        width: u64,
+        shared: RowSet,
+    ) -> Result<GuardedMaxima, NoMemory>
         requires some { 0 < n }
         requires at_most { n ≤ most_rows }
         requires shared { shared.n ≡ n }
-        ensures { IfOk result (λ column. column ≡ guarding (known_max n []) shared.list []) }
+        ensures { IfOk result (λ column. column ≡ with_width (guarding (known_max n []) shared.list []) width) }
     {
         let maxima = MaxColumn::new(alloc, n)?;
-        Ok(GuardedMaxima { maxima, shared })
+        Ok(GuardedMaxima {
+            maxima,
+            shared,
+            width,
+        })
     }
 
     /// The answered maxima, of which no row is shared.
     pub(crate) fn maxima(&self) -> &MaxColumn
-        ensures { guarding result.now self.now.shared [] ≡ self.now }
+        ensures { with_width (guarding result.now self.now.shared []) self.now.width ≡ self.now }
     {
         &self.maxima
     }
@@ -50,10 +61,13 @@ impl ColumnAudit for GuardedMaxima {
     ghost known = { λ g. g };
 
     fn probe(&self, rows: &RowSet) -> Result<Verdict, NoMemory> {
+        // A column of maxima says of itself that it is one.
+        let _ = self.maxima.bounds();
         self.maxima.probe_sharing(rows, &self.shared)
     }
 
     fn accept(&mut self, rows: &RowSet, answer: i64) -> Result<(), NoMemory> {
+        let _ = self.maxima.bounds();
         self.maxima.accept(rows, answer)
     }
 }

@@ -14,7 +14,7 @@ use Rattle.audit_types.specs.Numbers.{zero_or_not, positive_not_zero}
 use Rattle.audit_types.specs.RowNumbers.{some_entry, all_by_number}
 use Rattle.sum_basis.specs.declared.sparse.FreeEntry.{FreeEntry}
 use Rattle.sum_basis.specs.declared.sparse.SparseRow.{SparseRow}
-use Rattle.sum_basis.specs.Elimination.{IsSmall, IsCleared, IsLone}
+use Rattle.sum_basis.specs.Elimination.{IsWithin, IsCleared, IsLone}
 use Rattle.sum_basis.specs.Sparse.{entry_at, row_of, IsListed, entries_of, IsKept, IsNew, scaled}
 use Rattle.sum_basis.specs.CombinedRows.{length-combine}
 use Rattle.sum_basis.proofs.Reduction.{primitive_exists}
@@ -28,8 +28,8 @@ use Rattle.sum_basis.proofs.Parallels.{same_listed, same_length}
 use Rattle.sum_basis.proofs.KeptRows.{stands_earlier, cleared_as_it_is, lone_list}
 
 -- what a row adds is within the limit, if its bound is sure
-pub within_limit : (by most sure bound : ℕ) → bound ≤ sure → sure * (by + most) ≤ 2 ^ 56 → by * bound + bound * most ≤ 2 ^ 56
-within_limit by most sure bound less enough =
+pub within_limit : (limit by most sure bound : ℕ) → bound ≤ sure → sure * (by + most) ≤ limit → by * bound + bound * most ≤ limit
+within_limit limit by most sure bound less enough =
     let part = mul-le-mul_right (by + most) less in omega arith
 
 -- bounds that are at most one are at most any greater one
@@ -163,11 +163,11 @@ module _ (n : ℕ) (r : SparseRow) (new : List FreeEntry) (kept : IsKept n r) (p
 
 module _ (n : ℕ) (r : SparseRow) (new : List FreeEntry) (kept : IsKept n r) (primitive : IsPrimitive n (row_of n (entries_of r))) (is_new : IsNew n new)
     (nothing : entry_at new r.pivot ≡ pos 0)
-    (most : ℕ) (all : AllByRecursion (λ (e : FreeEntry). unsigned_abs e.value ≤ most) new) (by : ℤ) (by_is : by ≡ (get_or new 0 none).value) where
-  -- a row that the bounds show to be small, and whether it is lone
+    (most : ℕ) (all : AllByRecursion (λ (e : FreeEntry). unsigned_abs e.value ≤ most) new) (by : ℤ) (by_is : by ≡ (get_or new 0 none).value) (width : ℕ) where
+  -- a row that the bounds show to be within the width, and whether it is lone
   pub by_bounds : (times : ℤ) (b : Bool) → times ≡ entry_at r.free.items (get_or new 0 none).place → times ≢ pos 0
-      → unsigned_abs by * r.most + unsigned_abs times * most ≤ 2 ^ 56 → IsTrue b ↔ (map (scaled by) r.free.items ≡ map (scaled times) new)
-      → (made : List ℤ) × IsCleared n (row_of n new) (row_of n (entries_of r)) made × (IsSmall made × (IsTrue b ↔ IsLone made))
+      → unsigned_abs by * r.most + unsigned_abs times * most ≤ width → IsTrue b ↔ (map (scaled by) r.free.items ≡ map (scaled times) new)
+      → (made : List ℤ) × IsCleared n (row_of n new) (row_of n (entries_of r)) made × (IsWithin width made × (IsTrue b ↔ IsLone made))
   by_bounds times b is some enough told =
       let before = stands_earlier n r new kept is_new (λ z. some (is ∙ z)) in
       let line = on_line n r new kept primitive is_new nothing before by times by_is is in
@@ -177,16 +177,16 @@ module _ (n : ℕ) (r : SparseRow) (new : List FreeEntry) (kept : IsKept n r) (p
         line.0,
         line.1.cleared,
         (
-          within_bounds n r new kept primitive is_new nothing before by times by_is is line.0 line.1 most (2 ^ 56) all enough,
+          within_bounds n r new kept primitive is_new nothing before by times by_is is line.0 line.1 most width all enough,
           (λ yes. lone.0 (told.0 yes), λ is_lone. told.1 (lone.1 is_lone)),
         ),
       )
 
   -- if its list has another length than the new one, it is lone exactly if it was
-  pub by_length : (b : Bool) → IsSmall (row_of n (entries_of r)) → length r.free.items ≢ length new → unsigned_abs by * r.most + r.most * most ≤ 2 ^ 56
+  pub by_length : (b : Bool) → IsWithin width (row_of n (entries_of r)) → length r.free.items ≢ length new → unsigned_abs by * r.most + r.most * most ≤ width
       → IsTrue b ↔ (length r.free.items ≡ 0)
-      → (made : List ℤ) × IsCleared n (row_of n new) (row_of n (entries_of r)) made × (IsSmall made × (IsTrue b ↔ IsLone made))
-  by_length b small other enough empty =
+      → (made : List ℤ) × IsCleared n (row_of n new) (row_of n (entries_of r)) made × (IsWithin width made × (IsTrue b ↔ IsLone made))
+  by_length b within other enough empty =
       let place = (get_or new 0 none).place in
       let times = entry_at r.free.items place in
       elim (zero_or_not times) [
@@ -194,7 +194,7 @@ module _ (n : ℕ) (r : SparseRow) (new : List FreeEntry) (kept : IsKept n r) (p
             let lone = lone_list n (record { place = r.pivot; value = r.head }) r.free.items kept.listed in (
               row_of n (entries_of r),
               cleared_as_it_is n r new kept is_new nothing primitive z,
-              (small, (λ yes. lone.0 (empty.0 yes), λ is_lone. empty.1 (lone.1 is_lone))),
+              (within, (λ yes. lone.0 (empty.0 yes), λ is_lone. empty.1 (lone.1 is_lone))),
             )
         | inr some ↦
             let bound = bounded_at (r.pivot + 1) n r.most r.free.items kept.listed.3 kept.bounded.1 place in
@@ -203,20 +203,20 @@ module _ (n : ℕ) (r : SparseRow) (new : List FreeEntry) (kept : IsKept n r) (p
             (λ yes. absurd (some (no_entry r.free.items place (empty.0 yes))), λ same. absurd (other (same_length by times r.free.items new same)))
       ]
 
-  -- if the bound suffices, it is small
-  pub stays_small : IsSmall (row_of n (entries_of r)) → unsigned_abs by * r.most + r.most * most ≤ 2 ^ 56
-      → (made : List ℤ) × IsCleared n (row_of n new) (row_of n (entries_of r)) made × IsSmall made
-  stays_small small enough =
+  -- if the bound suffices, it is within the width
+  pub stays_within : IsWithin width (row_of n (entries_of r)) → unsigned_abs by * r.most + r.most * most ≤ width
+      → (made : List ℤ) × IsCleared n (row_of n new) (row_of n (entries_of r)) made × IsWithin width made
+  stays_within within enough =
       let place = (get_or new 0 none).place in
       let times = entry_at r.free.items place in
       elim (zero_or_not times) [
-        | inl z ↦ (row_of n (entries_of r), cleared_as_it_is n r new kept is_new nothing primitive z, small)
+        | inl z ↦ (row_of n (entries_of r), cleared_as_it_is n r new kept is_new nothing primitive z, within)
         | inr some ↦
             let line = on_line n r new kept primitive is_new nothing (stands_earlier n r new kept is_new some) by times by_is refl in
             let part = mul-le-mul_right most (bounded_at (r.pivot + 1) n r.most r.free.items kept.listed.3 kept.bounded.1 place) in (
               line.0,
               line.1.cleared,
               within_bounds n r new kept primitive is_new nothing (stands_earlier n r new kept is_new some) by times by_is refl line.0 line.1 most
-                  (2 ^ 56) all (omega arith),
+                  width all (omega arith),
             )
       ]

@@ -4,11 +4,11 @@ use Rattle.std.specs.List.{AllByRecursion}
 use Rattle.std.proofs.lemmas.List.{take_more}
 use Rattle.audit_types.specs.Form.{IsPrimitive}
 use Rattle.audit_types.specs.ListLaws.{all-push}
-use Rattle.sum_basis.specs.Elimination.{IsSmall, IsZeroAtPivots, IsCleared, AreCleared}
+use Rattle.sum_basis.specs.Elimination.{IsWithin, IsZeroAtPivots, IsCleared, AreCleared}
 use Rattle.sum_basis.specs.Growth.{ClearsFirst, ClearsWide}
 use Rattle.sum_basis.proofs.Clearing.{cleared_all}
 
-module _ (n : ℕ) (new : List ℤ) where
+module _ (n width : ℕ) (new : List ℤ) where
   -- rows cleared in two parts are cleared
   pub cleared-append : (rows others made more : List (List ℤ)) → AreCleared n new rows made → AreCleared n new others more →
       AreCleared n new (rows ++ others) (made ++ more)
@@ -18,15 +18,15 @@ module _ (n : ℕ) (new : List ℤ) where
   cleared-append (row ∷ rows) others (m ∷ made) more h k = (h.0, cleared-append rows others made more h.1 k)
 
   -- at the start none is
-  pub no_rows : (form : List (List ℤ)) → ClearsFirst n form new 0 []
-  no_rows form = record { cleared = tt; small = tt }
+  pub no_rows : (form : List (List ℤ)) → ClearsFirst n width form new 0 []
+  no_rows form = record { cleared = tt; within = tt }
 
   -- one row more is cleared
-  pub one_more_cleared : (form made : List (List ℤ)) (k : ℕ) (row : List ℤ) → k < length form → ClearsFirst n form new k made →
-      IsCleared n new (get_or form k []) row → IsSmall row → ClearsFirst n form new (k + 1) (made ++ row ∷ [])
-  one_more_cleared form made k row h first is small = record {
+  pub one_more_cleared : (form made : List (List ℤ)) (k : ℕ) (row : List ℤ) → k < length form → ClearsFirst n width form new k made →
+      IsCleared n new (get_or form k []) row → IsWithin width row → ClearsFirst n width form new (k + 1) (made ++ row ∷ [])
+  one_more_cleared form made k row h first is within = record {
     cleared = rw (take_more form k [] h) (cleared-append (take k form) (get_or form k [] ∷ []) made (row ∷ []) first.cleared (is, tt));
-    small = all-push IsSmall made row first.small small;
+    within = all-push (IsWithin width) made row first.within within;
   }
 
   -- what holds of a form holds of its rows from a place on
@@ -44,7 +44,7 @@ module _ (n : ℕ) (new : List ℤ) where
 
   -- when the first rows and one more are cleared, the rest can be, if not by the code
   pub rest_cleared : (form made : List (List ℤ)) (k : ℕ) (row : List ℤ) → k < length form → IsPrimitive n new → AllByRecursion (IsPrimitive n) form
-      → IsZeroAtPivots form new → ClearsFirst n form new k made → IsCleared n new (get_or form k []) row
+      → IsZeroAtPivots form new → ClearsFirst n width form new k made → IsCleared n new (get_or form k []) row
       → (rest : List (List ℤ)) × AreCleared n new form (made ++ row ∷ rest)
   rest_cleared form made k row h p q z first is =
       let parts = primitives_from form (suc k) q z in
@@ -52,14 +52,14 @@ module _ (n : ℕ) (new : List ℤ) where
       let all = cleared-append (take k form) (get_or form k [] ∷ drop (suc k) form) made (row ∷ rest.0) first.cleared (is, rest.1) in
       (rest.0, subst (λ l. AreCleared n new l (made ++ row ∷ rest.0)) (sym (split_at form k h)) all)
 
-  -- the last of small rows are small
-  later : (made more : List (List ℤ)) → AllByRecursion IsSmall (made ++ more) → AllByRecursion IsSmall more
+  -- the last of rows within the width are within it
+  later : (made more : List (List ℤ)) → AllByRecursion (IsWithin width) (made ++ more) → AllByRecursion (IsWithin width) more
   later [] more h = h
   later (m ∷ made) more h = later made more h.1
 
   -- any row that is too large does
   pub too_large : (form : List (List ℤ)) (k : ℕ) (row : List ℤ) → k < length form → IsPrimitive n new → AllByRecursion (IsPrimitive n) form →
-      IsZeroAtPivots form new → IsCleared n new (get_or form k []) row → ¬ (IsSmall row) → ClearsWide n form new
+      IsZeroAtPivots form new → IsCleared n new (get_or form k []) row → ¬ (IsWithin width row) → ClearsWide n width form new
   too_large [] k row h p q z is large = absurd (omega arith)
   too_large (r ∷ form) zero row h p q z is large =
       let rest = cleared_all n new form p q.1 z.1 in

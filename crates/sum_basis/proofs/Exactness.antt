@@ -4,7 +4,6 @@ use Rattle.std.specs.Prelude.{Result, IfOk}
 use Rattle.std.specs.List.{AllByRecursion}
 use Rattle.std.proofs.lemmas.Result.{IfOk-weaker}
 use Rattle.std.proofs.lemmas.List.{map-append}
-use Rattle.audit_types.specs.Limits.{most_width}
 use Rattle.audit_types.specs.Form.{set_row, InSpan, IsReducedForm, IsNarrow, Reduced}
 use Rattle.audit_types.specs.ListLaws.{all-push, all-front}
 use Rattle.sum_basis.specs.Basis.{Echelon}
@@ -72,10 +71,10 @@ of_itself : (n : ℕ) (form : List (List ℤ)) → IsSmallForm n form → IsRedu
 of_itself n form f = record { primitive = f.primitive; echelon = f.echelon; within = own form; spans = own form }
 
 -- a row in the span doesn't make a narrow form wide
-pub never_wide : (old : Echelon) (row : List ℤ) → IsSmallForm old.n old.rows → IsNarrow most_width old.rows → InSpan old.rows row → ¬ (GrowsWide old row)
+pub never_wide : (old : Echelon) (row : List ℤ) → IsSmallForm old.n old.rows → IsNarrow old.width old.rows → InSpan old.rows row → ¬ (GrowsWide old row)
 never_wide old row f narrow p w =
     let kept = span_keeps_form old.n old.rows old.rows row (of_itself old.n old.rows f) p in
-    w.2 (subst (IsNarrow most_width) (forms_are_unique old.n (old.rows ++ row ∷ []) old.rows w.0 kept w.1) narrow)
+    w.2 (subst (IsNarrow old.width) (forms_are_unique old.n (old.rows ++ row ∷ []) old.rows w.0 kept w.1) narrow)
 
 -- Same comes exactly if the row lies in the span
 pub same_exactly : (old new : Echelon) (row : List ℤ) (grown : Grown) → Grows old row grown new → (grown ≡ Same) ↔ InSpan old.rows row
@@ -84,11 +83,11 @@ same_exactly old new row Added g = (λ e. absurd cc, λ p. absurd (g.0 p))
 same_exactly old new row Wide g = (λ e. absurd cc, λ p. absurd (g.0 p))
 
 -- Wide comes exactly if the form with the row isn't narrow
-pub wide_exactly : (old new : Echelon) (row : List ℤ) (grown : Grown) → IsSmallForm old.n old.rows → IsNarrow most_width old.rows → Grows old row grown new →
+pub wide_exactly : (old new : Echelon) (row : List ℤ) (grown : Grown) → IsSmallForm old.n old.rows → IsNarrow old.width old.rows → Grows old row grown new →
     (grown ≡ Wide) ↔ GrowsWide old row
 wide_exactly old new row Same f narrow g = (λ e. absurd cc, λ w. absurd (never_wide old row f narrow g.0 w))
 wide_exactly old new row Added f narrow g =
-    (λ e. absurd cc, λ w. absurd (w.2 (subst (IsNarrow most_width) (forms_are_unique old.n (old.rows ++ row ∷ []) new.rows w.0 g.1.reduced w.1) g.1.narrow)))
+    (λ e. absurd cc, λ w. absurd (w.2 (subst (IsNarrow old.width) (forms_are_unique old.n (old.rows ++ row ∷ []) new.rows w.0 g.1.reduced w.1) g.1.narrow)))
 wide_exactly old new row Wide f narrow g = (λ e. g.2, λ w. refl)
 
 -- what a row does to a form, of the form as it is seen and the row of a set
@@ -104,7 +103,7 @@ module _ {E : Type 0} (r : Result Grown E) (old new : Echelon) (row : List ℤ) 
       IfOk-weaker r (λ grown. Grows old row grown new) (λ grown. (grown ≡ Same) ↔ InSpan old.rows row)
       (λ grown g. same_exactly old new row grown g) grows
 
-  pub wide_told : IsSmallForm old.n old.rows → IsNarrow most_width old.rows → IfOk r (λ grown. (grown ≡ Wide) ↔ GrowsWide old row)
+  pub wide_told : IsSmallForm old.n old.rows → IsNarrow old.width old.rows → IfOk r (λ grown. (grown ≡ Wide) ↔ GrowsWide old row)
   wide_told f narrow =
       IfOk-weaker r (λ grown. Grows old row grown new) (λ grown. (grown ≡ Wide) ↔ GrowsWide old row)
       (λ grown g. wide_exactly old new row grown f narrow g) grows
@@ -123,7 +122,7 @@ stands_for_rows old new v Wide g rows r = (g.2.0, of_rows old.n rows old.rows g.
 pub not_wide_with : (old : Echelon) (rows : List ℕ) → StaysNarrow old rows → ¬ (GrowsWide old (set_row old.n rows))
 not_wide_with old rows narrow wide =
     let of_sets = of_rows old.n (map (set_row old.n) narrow.0) old.rows wide.0 (set_row old.n rows) narrow.1 wide.1 in
-    (narrow_or_wide most_width old.n (narrow.0 ++ rows ∷ [])).1 narrow.2 (record { form = wide.0; reduced = more_sets old.n narrow.0 rows wide.0 of_sets; wide = wide.2 })
+    (narrow_or_wide old.width old.n (narrow.0 ++ rows ∷ [])).1 narrow.2 (record { form = wide.0; reduced = more_sets old.n narrow.0 rows wide.0 of_sets; wide = wide.2 })
 
 -- the same of the row as it was written, and of the form as it is seen
 pub not_wide_at : (form seen : Echelon) (row : List ℤ) (n : ℕ) (rows : List ℕ) → form ≡ seen → row ≡ set_row n rows → n ≡ seen.n → StaysNarrow seen rows →

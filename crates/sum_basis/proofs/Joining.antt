@@ -3,19 +3,19 @@ use Rattle.std.proofs.Common.{◌≡◌, ℕ, ◌<◌, ◌≤◌, ◌^◌, ℤ, 
 use Rattle.std.specs.Prelude.{◌<ℤ◌, unsigned_abs}
 use Rattle.std.proofs.lemmas.Int.{ints}
 use Rattle.std.specs.List.{AllByRecursion}
-use Rattle.audit_types.specs.Limits.{most_width}
 use Rattle.audit_types.specs.Form.{InSpan, IsPrimitive, IsReducedForm, IsNarrow, IsLeastCommonMultiple, pivot, pivot_entry, pivot_entries}
 use Rattle.sum_basis.specs.declared.sparse.FreeEntry.{FreeEntry}
 use Rattle.sum_basis.specs.declared.sparse.SparseRow.{SparseRow}
 use Rattle.sum_basis.specs.declared.Prospect.{Prospect}
 use Rattle.sum_basis.specs.declared.Prospect.TheVariants.{Wide, Fixing, Open}
-use Rattle.sum_basis.specs.Basis.{Echelon, IsForm}
-use Rattle.sum_basis.specs.Elimination.{IsSmall, IsSmallForm, IsZeroAtPivots}
+use Rattle.sum_basis.specs.Basis.{Echelon, IsForm, IsWidth}
+use Rattle.sum_basis.specs.Elimination.{IsSmall, IsSmallForm, IsFormWithin, IsZeroAtPivots}
 use Rattle.sum_basis.specs.Growth.{Foresees, GrowsTo, GrowsWide, IsNewRow, IsAsItIs, LeavesNoList}
 use Rattle.sum_basis.specs.Sparse.{row_of, rows_of, IsListed, IsKept, IsNew}
 use Rattle.sum_basis.proofs.FormsAreUnique.{own, forms_are_unique}
 use Rattle.sum_basis.proofs.NarrowOrWide.{narrow_or_not}
 use Rattle.sum_basis.proofs.SpanKeepsForm.{span_keeps_form}
+use Rattle.sum_basis.proofs.Sizes.{small_form}
 use Rattle.sum_basis.proofs.Exactness.{other_row}
 use Rattle.sum_basis.proofs.Extending.{grows_to, grows_wide}
 use Rattle.sum_basis.proofs.LeastMultiples.{heads, least_unique}
@@ -29,14 +29,15 @@ foresees_from old v made Fixing row h = (h.0, grows_to old h.0 v made row h.1, h
 foresees_from old v made Open row h = (h.0, grows_to old h.0 v made row h.1, h.2)
 
 -- a row in the span leaves the form as it is
-grows_same : (old : Echelon) (v : List ℤ) → IsSmallForm old.n old.rows → IsNarrow most_width old.rows → InSpan old.rows v → GrowsTo old v old
+grows_same : (old : Echelon) (v : List ℤ) → IsSmallForm old.n old.rows → IsNarrow old.width old.rows → InSpan old.rows v → GrowsTo old v old
 grows_same old v f narrow p = record {
   n = refl;
+  width = refl;
   reduced = span_keeps_form old.n old.rows old.rows v (record { primitive = f.primitive; echelon = f.echelon; within = own old.rows; spans = own old.rows }) p;
   narrow = narrow;
 }
 
-pub foresees_same : (old : Echelon) (v : List ℤ) (p : Prospect) → IsSmallForm old.n old.rows → IsNarrow most_width old.rows → InSpan old.rows v → IsAsItIs old p →
+pub foresees_same : (old : Echelon) (v : List ℤ) (p : Prospect) → IsSmallForm old.n old.rows → IsNarrow old.width old.rows → InSpan old.rows v → IsAsItIs old p →
     Foresees old v p
 foresees_same old v Wide f narrow p is = absurd is
 foresees_same old v Fixing f narrow p is = (old, grows_same old v f narrow p, is)
@@ -62,41 +63,46 @@ small_heads n [] h s = tt
 small_heads n (r ∷ rows) h s = ((h.0.leading, head_small n r h.0 s.0), small_heads n rows h.1 s.1)
 
 -- what is true of the kept rows once a row has joined
-pub record IsJoined (n : ℕ) (rows : List SparseRow) : Type 0 where
-  pub form : IsSmallForm n (rows_of n rows)
-  pub narrow : IsNarrow most_width (rows_of n rows)
+pub record IsJoined (n width : ℕ) (rows : List SparseRow) : Type 0 where
+  pub form : IsFormWithin width n (rows_of n rows)
+  pub narrow : IsNarrow width (rows_of n rows)
   pub small : AllByRecursion (λ r. (pos 0 <ℤ r.head) × (unsigned_abs r.head ≤ 2 ^ 56)) rows
   pub same : pivot_entries (rows_of n rows) ≡ heads rows
 
-pub joined : (n : ℕ) (old : List (List ℤ)) (v : List ℤ) (rows : List SparseRow) → ¬ (GrowsWide (record { n = n; rows = old }) v) →
-    IsReducedForm n (old ++ v ∷ []) (rows_of n rows) → AllByRecursion (IsKept n) rows → IsJoined n rows
-joined n old v rows other reduced kept = elim (narrow_or_not most_width n (old ++ v ∷ []) (rows_of n rows) reduced) [
+pub joined : (n width : ℕ) (old : List (List ℤ)) (v : List ℤ) (rows : List SparseRow) → IsWidth width
+    → ¬ (GrowsWide (record { n = n; width = width; rows = old }) v) → IsReducedForm n (old ++ v ∷ []) (rows_of n rows) → AllByRecursion (IsKept n) rows
+    → IsJoined n width rows
+joined n width old v rows fits other reduced kept = elim (narrow_or_not width n (old ++ v ∷ []) (rows_of n rows) reduced) [
   | inr wide ↦ absurd (other (rows_of n rows, reduced, wide))
-  | inl narrow ↦ record {
-    form = record { primitive = reduced.primitive; echelon = reduced.echelon; entries = narrow.entries };
-    narrow = narrow;
-    small = small_heads n rows kept narrow.entries;
-    same = heads_are n rows kept;
-  }
+  | inl narrow ↦
+      let form : IsFormWithin width n (rows_of n rows) = record { primitive = reduced.primitive; echelon = reduced.echelon; entries = narrow.entries } in
+      record {
+        form = form;
+        narrow = narrow;
+        small = small_heads n rows kept (small_form width n (rows_of n rows) fits.1 form).entries;
+        same = heads_are n rows kept;
+      }
 ]
 
--- the multiple of the pivot entries is within the limit
-pub within_limit : (n : ℕ) (rows : List SparseRow) (m : ℕ) → IsJoined n rows → IsLeastCommonMultiple (heads rows) m → 2 ^ 56 < m → ⊥
-within_limit n rows m j least more =
+-- the multiple of the pivot entries is within the width
+pub within_width : (n width : ℕ) (rows : List SparseRow) (m : ℕ) → IsJoined n width rows → IsLeastCommonMultiple (heads rows) m → m ≤ width
+within_width n width rows m j least =
     let same = least_unique (heads rows) j.narrow.common m (subst (λ l. IsLeastCommonMultiple l j.narrow.common) j.same j.narrow.common_is) least in
     let small = j.narrow.common_small in
     omega arith
 
 -- the fields of the form with the row
-pub joined_form : (n : ℕ) (rows : List SparseRow) (m : ℕ) (common : ℤ) (greatest_bound : ℕ) → 0 < n → n ≤ 2048 → AllByRecursion (IsKept n) rows → IsJoined n rows →
-    IsLeastCommonMultiple (heads rows) m → common ≡ pos m → 0 < m → m ≤ 2 ^ 56 → AllByRecursion (λ r. r.most ≤ greatest_bound) rows → IsForm n common greatest_bound rows
-joined_form n rows m common greatest_bound some most kept j least e positive small bounded = record {
+pub joined_form : (n width : ℕ) (rows : List SparseRow) (m : ℕ) (common : ℤ) (greatest_bound : ℕ) → 0 < n → n ≤ 2048 → IsWidth width
+    → AllByRecursion (IsKept n) rows → IsJoined n width rows → IsLeastCommonMultiple (heads rows) m → common ≡ pos m → 0 < m
+    → AllByRecursion (λ r. r.most ≤ greatest_bound) rows → IsForm n width common greatest_bound rows
+joined_form n width rows m common greatest_bound some most fits kept j least e positive bounded = record {
   some = some;
   at_most = most;
+  width_fits = fits;
   kept = kept;
   form = j.form;
   positive = positive_of m common e positive;
-  small = rw e small;
+  within = rw e (within_width n width rows m j least);
   multiple = rw (e, j.same) least;
   bounded = bounded;
 }
@@ -113,17 +119,17 @@ some_entry n [] p h = absurd (none (pivot_entry (row_of n [])) p.leading (number
 some_entry n (e ∷ list) p h = omega arith
 
 -- what is told of the list holds of the row, for the form as it is seen
-pub told : (seen : Echelon) (n : ℕ) (rows items : List SparseRow) (new list : List FreeEntry) (v : List ℤ) (p : Prospect) (room : ℕ)
-    → record { n = n; rows = rows_of n items } ≡ seen → rows ≡ items → new ≡ list
-    → Foresees (record { n = n; rows = rows_of n rows }) (row_of n new) p → IsNew seen.n list × IsNewRow seen v (row_of seen.n list) × (seen.n ≤ room) →
+pub told : {width : ℕ} (seen : Echelon) (n : ℕ) (rows items : List SparseRow) (new list : List FreeEntry) (v : List ℤ) (p : Prospect) (room : ℕ)
+    → record { n = n; width = width; rows = rows_of n items } ≡ seen → rows ≡ items → new ≡ list
+    → Foresees (record { n = n; width = width; rows = rows_of n rows }) (row_of n new) p → IsNew seen.n list × IsNewRow seen v (row_of seen.n list) × (seen.n ≤ room) →
     Foresees seen v p
-told seen n rows items new list v p room view e f h left =
-    let here = subst (λ (r : List SparseRow). Foresees (record { n = n; rows = rows_of n r }) (row_of n new) p) e h in
-    let there = subst (λ (l : List FreeEntry). Foresees (record { n = n; rows = rows_of n items }) (row_of n l) p) f here in
+told {width} seen n rows items new list v p room view e f h left =
+    let here = subst (λ (r : List SparseRow). Foresees (record { n = n; width = width; rows = rows_of n r }) (row_of n new) p) e h in
+    let there = subst (λ (l : List FreeEntry). Foresees (record { n = n; width = width; rows = rows_of n items }) (row_of n l) p) f here in
     foresees_from seen v (row_of seen.n list) p left.1 (subst (λ (s : Echelon). Foresees s (row_of s.n list) p) view there)
 
 -- the list of a new row is 0 at the form's pivots, for the form as it is seen
-pub zeros_of_list : (seen : Echelon) (n : ℕ) (rows items : List SparseRow) (new list : List FreeEntry) → record { n = n; rows = rows_of n items } ≡ seen
+pub zeros_of_list : {width : ℕ} (seen : Echelon) (n : ℕ) (rows items : List SparseRow) (new list : List FreeEntry) → record { n = n; width = width; rows = rows_of n items } ≡ seen
     → rows ≡ items → new ≡ list
     → IsZeroAtPivots seen.rows (row_of seen.n list) → IsZeroAtPivots (rows_of n rows) (row_of n new)
 zeros_of_list seen n rows items new list view e f zeros =
@@ -136,19 +142,19 @@ pub not_grown_wide : (old : Echelon) (v : List ℤ) (p : Prospect) → Foresees 
 not_grown_wide old v p h other wide =
     let grown = not_wide old v p h other in
     let same = forms_are_unique old.n (old.rows ++ v ∷ []) grown.0.rows wide.0 grown.1.reduced wide.1 in
-    wide.2 (subst (IsNarrow most_width) same grown.1.narrow)
+    wide.2 (subst (IsNarrow old.width) same grown.1.narrow)
 
 -- the rows once the row has joined
-pub after_growth : (seen : Echelon) (n : ℕ) (items before grown : List SparseRow) (list : List FreeEntry) → record { n = n; rows = rows_of n items } ≡ seen
-    → before ≡ items
+pub after_growth : (width : ℕ) (seen : Echelon) (n : ℕ) (items before grown : List SparseRow) (list : List FreeEntry) → record { n = n; width = width; rows = rows_of n items } ≡ seen
+    → before ≡ items → IsWidth width
     → ¬ (GrowsWide seen (row_of seen.n list)) → IsReducedForm n (rows_of n before ++ row_of n list ∷ []) (rows_of n grown) → AllByRecursion (IsKept n) grown →
-    IsJoined n grown
-after_growth seen n items before grown list view g other reduced kept =
-    joined n (rows_of n items) (row_of n list) grown (subst (λ (s : Echelon). ¬ (GrowsWide s (row_of s.n list))) (sym view) other)
+    IsJoined n width grown
+after_growth width seen n items before grown list view g fits other reduced kept =
+    joined n width (rows_of n items) (row_of n list) grown fits (subst (λ (s : Echelon). ¬ (GrowsWide s (row_of s.n list))) (sym view) other)
     (subst (λ (r : List SparseRow). IsReducedForm n (rows_of n r ++ row_of n list ∷ []) (rows_of n grown)) g reduced) kept
 
 -- the rows of the form with the list, as the form was seen
-pub grown_rows : (seen : Echelon) (n : ℕ) (items before grown : List SparseRow) (list : List FreeEntry) → record { n = n; rows = rows_of n items } ≡ seen
+pub grown_rows : {width : ℕ} (seen : Echelon) (n : ℕ) (items before grown : List SparseRow) (list : List FreeEntry) → record { n = n; width = width; rows = rows_of n items } ≡ seen
     → before ≡ items
     → IsReducedForm n (rows_of n before ++ row_of n list ∷ []) (rows_of n grown) → IsReducedForm seen.n (seen.rows ++ row_of seen.n list ∷ []) (rows_of n grown)
 grown_rows seen n items before grown list view g reduced =
@@ -182,13 +188,14 @@ without_list form v Fixing other left = left
 without_list form v Open other left = left
 
 -- the form with the row, once its list has joined, if it was said not to be wide
-pub grown_to : (old new : Echelon) (list : List FreeEntry) (v : List ℤ) (p : Prospect) → Foresees old v p → ¬ (p ≡ Wide) → new.n ≡ old.n
+pub grown_to : (old new : Echelon) (list : List FreeEntry) (v : List ℤ) (p : Prospect) → Foresees old v p → ¬ (p ≡ Wide) → new.n ≡ old.n → new.width ≡ old.width
     → IsNewRow old v (row_of old.n list) → IsReducedForm old.n (old.rows ++ row_of old.n list ∷ []) new.rows → GrowsTo old v new
-grown_to old new list v p told other n row reduced =
+grown_to old new list v p told other n width row reduced =
     let grown = not_wide old v p told other in
     let form = grown_with old new.rows list v row reduced in
     record {
       n = n;
+      width = width;
       reduced = form;
-      narrow = subst (IsNarrow most_width) (forms_are_unique old.n (old.rows ++ v ∷ []) grown.0.rows new.rows grown.1.reduced form) grown.1.narrow;
+      narrow = subst (IsNarrow old.width) (forms_are_unique old.n (old.rows ++ v ∷ []) grown.0.rows new.rows grown.1.reduced form) grown.1.narrow;
     }

@@ -46,7 +46,7 @@ each_entry P from n (e ∷ es) f h is each = (
       (λ x l some same. each x (let after = h.0 in omega arith) some same),
 )
 
-module _ (n : ℕ) (rows : List SparseRow) (seen : Echelon) (view_is : record { n = n; rows = rows_of n rows } ≡ seen)
+module _ (n : ℕ) (rows : List SparseRow) (seen : Echelon) {width : ℕ} (view_is : record { n = n; width = width; rows = rows_of n rows } ≡ seen)
     (kept : AllByRecursion (IsKept n) rows) (k : ℕ) (r : SparseRow) (h : k < length seen.rows) (is : r ≡ get_or rows k r) where
   -- there are as many kept rows
   pub k_inside : k < length rows

@@ -1,5 +1,5 @@
 -- A new row with one entry: it takes a column out of the rows of a form.
-use Rattle.std.proofs.Common.{◌≡◌, ◌≢◌, ℕ, ◌≤◌, ◌^◌, ℤ, pos, List, [], ◌∷◌, length, get_or, refl, sym, ap, ◌∙◌, subst, arith, inl, inr}
+use Rattle.std.proofs.Common.{◌≡◌, ◌≢◌, ℕ, ◌≤◌, ℤ, pos, List, [], ◌∷◌, length, get_or, refl, sym, ap, ◌∙◌, subst, arith, inl, inr}
 use Rattle.std.specs.Prelude.{◌*ℤ◌, neg_ℤ, ◌<ℤ◌, unsigned_abs}
 use Rattle.std.specs.Int.{◌∣◌}
 use Rattle.std.specs.List.{AllByRecursion}
@@ -14,9 +14,9 @@ use Rattle.audit_types.specs.Products.{size_of_factor, one-times}
 use Rattle.audit_types.specs.RowNumbers.{all_by_number}
 use Rattle.sum_basis.specs.declared.sparse.FreeEntry.{FreeEntry}
 use Rattle.sum_basis.specs.declared.sparse.SparseRow.{SparseRow}
-use Rattle.sum_basis.specs.Elimination.{IsSmall, IsZeroAtPivots, IsCleared, AreCleared}
+use Rattle.sum_basis.specs.Elimination.{IsWithin, IsZeroAtPivots, IsCleared, AreCleared}
 use Rattle.sum_basis.specs.Sparse.{entry_at, row_of, rows_of, entries_of, IsKept, IsNew}
-use Rattle.sum_basis.proofs.Sizes.{small_at}
+use Rattle.sum_basis.proofs.Sizes.{within_at}
 use Rattle.sum_basis.proofs.SparseRows.{elsewhere, number_at-row_of}
 use Rattle.sum_basis.proofs.ListContents.{none}
 use Rattle.sum_basis.proofs.ClearedLists.{IsLed, is_led}
@@ -33,7 +33,7 @@ elsewhere_nothing (e ∷ f ∷ es) j one other = absurd (omega arith)
 size_one : (x : ℤ) → pos 0 <ℤ x → unsigned_abs x ≤ 1 → x ≡ pos 1
 size_one x p h = omega (arith, ints)
 
-module _ (n : ℕ) (new : List FreeEntry) (is_new : IsNew n new) (one : length new ≡ 1) where
+module _ (n width : ℕ) (new : List FreeEntry) (is_new : IsNew n new) (one : length new ≡ 1) where
   led : IsLed n new (get_or new 0 none).place (get_or new 0 none).value
   led = is_led n new is_new.some is_new.listed
 
@@ -54,34 +54,34 @@ module _ (n : ℕ) (new : List FreeEntry) (is_new : IsNew n new) (one : length n
             (dvd-zero (unsigned_abs v))
       ]
 
-  -- a row that it clears is small
-  pub cleared_small : (r : SparseRow) → IsKept n r → IsPrimitive n (row_of n (entries_of r)) → entry_at new r.pivot ≡ pos 0 →
-      IsSmall (row_of n (entries_of r)) → (made : List ℤ) × IsCleared n (row_of n new) (row_of n (entries_of r)) made × IsSmall made
-  cleared_small r kept primitive nothing small = elim (zero_or_not (entry_at r.free.items (get_or new 0 none).place)) [
-    | inl z ↦ (row_of n (entries_of r), cleared_as_it_is n r new kept is_new nothing primitive z, small)
+  -- a row that it clears stays within the width
+  pub cleared_within : (r : SparseRow) → IsKept n r → IsPrimitive n (row_of n (entries_of r)) → entry_at new r.pivot ≡ pos 0 →
+      IsWithin width (row_of n (entries_of r)) → (made : List ℤ) × IsCleared n (row_of n new) (row_of n (entries_of r)) made × IsWithin width made
+  cleared_within r kept primitive nothing within = elim (zero_or_not (entry_at r.free.items (get_or new 0 none).place)) [
+    | inl z ↦ (row_of n (entries_of r), cleared_as_it_is n r new kept is_new nothing primitive z, within)
     | inr some ↦
         let place = (get_or new 0 none).place in
         let times = entry_at r.free.items place in
         let line = on_line n r new kept primitive is_new nothing (stands_earlier n r new kept is_new some) (pos 1) times (sym value_is) refl in
-        let at : (j : ℕ) → unsigned_abs (number_at line.0 j) ≤ 2 ^ 56 = λ j. elim (cases_eq j place) [
-          | inl same ↦ subst (λ z. unsigned_abs z ≤ 2 ^ 56) (sym (ap (number_at line.0) (same ∙ sym led.at_pivot) ∙ line.1.cleared.zero_there)) (omega arith)
+        let at : (j : ℕ) → unsigned_abs (number_at line.0 j) ≤ width = λ j. elim (cases_eq j place) [
+          | inl same ↦ subst (λ z. unsigned_abs z ≤ width) (sym (ap (number_at line.0) (same ∙ sym led.at_pivot) ∙ line.1.cleared.zero_there)) (omega arith)
           | inr other ↦
               let is = line.1.line j in
               let least = size_of_factor line.1.over (number_at line.0 j) line.1.not_zero in
               let once = one-times (entry_at (entries_of r) j) in
               let gone = ap (λ z. neg_ℤ times *ℤ z) (elsewhere_nothing new j one other) ∙ *ℤ-zero (neg_ℤ times) in
-              let was = subst (λ z. unsigned_abs z ≤ 2 ^ 56) (number_at-row_of 0 n (entries_of r) kept.listed j) (small_at (row_of n (entries_of r)) j small) in
+              let was = subst (λ z. unsigned_abs z ≤ width) (number_at-row_of 0 n (entries_of r) kept.listed j) (within_at width (row_of n (entries_of r)) j within) in
               omega (arith, ints)
         ] in
-        (line.0, line.1.cleared, all_by_number (λ x. unsigned_abs x ≤ 2 ^ 56) line.0 at)
+        (line.0, line.1.cleared, all_by_number (λ x. unsigned_abs x ≤ width) line.0 at)
   ]
 
   -- and so are all rows
-  pub all_cleared_small : (rows : List SparseRow) → AllByRecursion (IsKept n) rows → AllByRecursion (IsPrimitive n) (rows_of n rows)
-      → AllByRecursion IsSmall (rows_of n rows) → IsZeroAtPivots (rows_of n rows) (row_of n new)
-      → (made : List (List ℤ)) × AreCleared n (row_of n new) (rows_of n rows) made × AllByRecursion IsSmall made
-  all_cleared_small [] kept primitive small zero = ([], tt, tt)
-  all_cleared_small (r ∷ rows) kept primitive small zero =
-      let first = cleared_small r kept.0 primitive.0 (nothing_at n r new kept.0 is_new zero.0) small.0 in
-      let rest = all_cleared_small rows kept.1 primitive.1 small.1 zero.1 in
+  pub all_cleared_within : (rows : List SparseRow) → AllByRecursion (IsKept n) rows → AllByRecursion (IsPrimitive n) (rows_of n rows)
+      → AllByRecursion (IsWithin width) (rows_of n rows) → IsZeroAtPivots (rows_of n rows) (row_of n new)
+      → (made : List (List ℤ)) × AreCleared n (row_of n new) (rows_of n rows) made × AllByRecursion (IsWithin width) made
+  all_cleared_within [] kept primitive within zero = ([], tt, tt)
+  all_cleared_within (r ∷ rows) kept primitive within zero =
+      let first = cleared_within r kept.0 primitive.0 (nothing_at n r new kept.0 is_new zero.0) within.0 in
+      let rest = all_cleared_within rows kept.1 primitive.1 within.1 zero.1 in
       (first.0 ∷ rest.0, (first.1, rest.1), (first.2, rest.2))

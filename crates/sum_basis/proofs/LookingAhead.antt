@@ -1,5 +1,5 @@
 -- What is told of a form with a new row while its rows are cleared one after the other.
-use Rattle.std.proofs.Common.{◌≡◌, ◌↔◌, ℕ, zero, suc, ◌+◌, ◌*◌, ◌<◌, ◌≤◌, ◌^◌, Bool, true, ℤ, pos, List, [], ◌∷◌, ◌++◌, length, take, drop, get_or, refl, sym, subst, arith, inl, inr, ◌⊎◌, IsTrue}
+use Rattle.std.proofs.Common.{◌≡◌, ◌↔◌, ℕ, zero, suc, ◌+◌, ◌*◌, ◌<◌, ◌≤◌, Bool, true, ℤ, pos, List, [], ◌∷◌, ◌++◌, length, take, drop, get_or, refl, sym, subst, arith, inl, inr, ◌⊎◌, IsTrue}
 use Rattle.std.specs.Prelude.{◌<ℤ◌, unsigned_abs}
 use Rattle.std.specs.Int.{◌∣◌}
 use Rattle.std.specs.List.{AllByRecursion}
@@ -13,7 +13,7 @@ use Rattle.audit_types.specs.ListLaws.{all-append, all-push, all-take, all-map, 
 use Rattle.audit_types.specs.Numbers.{size_positive}
 use Rattle.audit_types.specs.FormRows.{pivot_below}
 use Rattle.sum_basis.specs.Basis.{Echelon, HasUnitRow}
-use Rattle.sum_basis.specs.Elimination.{IsSmall, IsSmallForm, IsZeroAtPivots, IsCleared, AreCleared, IsLone}
+use Rattle.sum_basis.specs.Elimination.{IsWithin, IsFormWithin, IsZeroAtPivots, IsCleared, AreCleared, IsLone}
 use Rattle.sum_basis.specs.Growth.{ClearsFirst, GrowsTo, GrowsWide}
 use Rattle.sum_basis.proofs.FormsAreUnique.{own, leads_from}
 use Rattle.sum_basis.proofs.LeastMultiples.{least-push, least_positive, least_exists, least_unique, entries_positive, pivot_entries-push}
@@ -31,21 +31,21 @@ SomeLone [] = ⊥
 SomeLone (row ∷ rows) = IsLone row ⊎ SomeLone rows
 
 -- the first k rows of the form are cleared, and none is too large; and what their pivot entries and the lone ones among them come to
-pub record IsLooked (n : ℕ) (form : List (List ℤ)) (new : List ℤ) (k : ℕ) (common : ℤ) (fixing : Bool) : Type 0 where
+pub record IsLooked (n width : ℕ) (form : List (List ℤ)) (new : List ℤ) (k : ℕ) (common : ℤ) (fixing : Bool) : Type 0 where
   pub made : List (List ℤ)
-  pub clears : ClearsFirst n form new k made
+  pub clears : ClearsFirst n width form new k made
   pub positive : pos 0 <ℤ common
-  pub within : unsigned_abs common ≤ 2 ^ 56
+  pub within : unsigned_abs common ≤ width
   pub multiple : IsLeastCommonMultiple (pivot_entries (new ∷ made)) (unsigned_abs common)
   pub lone : IsTrue fixing → SomeLone (new ∷ made)
   pub none : ¬ (IsTrue fixing) → AllByRecursion (λ r. ¬ (IsLone r)) (new ∷ made)
 
 -- at the start only the new row was looked at
-pub nothing_looked : (n : ℕ) (form : List (List ℤ)) (new : List ℤ) (common : ℤ) (fixing : Bool) → IsPrimitive n new → unsigned_abs common ≤ 2 ^ 56 →
-    common ≡ pivot_entry new → IsTrue fixing ↔ IsLone new → IsLooked n form new 0 common fixing
-nothing_looked n form new common fixing p small e lone = record {
+pub nothing_looked : (n width : ℕ) (form : List (List ℤ)) (new : List ℤ) (common : ℤ) (fixing : Bool) → IsPrimitive n new → unsigned_abs common ≤ width →
+    common ≡ pivot_entry new → IsTrue fixing ↔ IsLone new → IsLooked n width form new 0 common fixing
+nothing_looked n width form new common fixing p small e lone = record {
   made = [];
-  clears = no_rows n new form;
+  clears = no_rows n width new form;
   positive = subst (λ z. pos 0 <ℤ z) (sym e) p.leading;
   within = small;
   multiple = rw e (record { multiple = (dvd_refl (unsigned_abs (pivot_entry new)), tt); least = λ k all. all.0 });
@@ -62,15 +62,15 @@ some_push (r ∷ rows) row (inl (inr some)) = inr (some_push rows row (inl some)
 some_push (r ∷ rows) row (inr is) = inr (some_push rows row (inr is))
 
 -- one row more was looked at
-pub one_more_looked : (n : ℕ) (form : List (List ℤ)) (new : List ℤ) (k : ℕ) (common : ℤ) (fixing : Bool) (row : List ℤ) (m : ℕ) (multiple : ℤ)
+pub one_more_looked : (n width : ℕ) (form : List (List ℤ)) (new : List ℤ) (k : ℕ) (common : ℤ) (fixing : Bool) (row : List ℤ) (m : ℕ) (multiple : ℤ)
     (lone also : Bool)
-    → k < length form → IsLooked n form new k common fixing
-    → IsPrimitive n row → IsCleared n new (get_or form k []) row → IsSmall row →
-    IsLeastCommonMultiple (unsigned_abs common ∷ unsigned_abs (pivot_entry row) ∷ []) m → multiple ≡ pos m → m ≤ 2 ^ 56 → IsTrue lone ↔ IsLone row
-    → IsTrue also ↔ (IsTrue fixing ⊎ IsTrue lone) → IsLooked n form new (k + 1) multiple also
-one_more_looked n form new k common fixing row m multiple lone also h l p is small least e within one both = record {
+    → k < length form → IsLooked n width form new k common fixing
+    → IsPrimitive n row → IsCleared n new (get_or form k []) row → IsWithin width row →
+    IsLeastCommonMultiple (unsigned_abs common ∷ unsigned_abs (pivot_entry row) ∷ []) m → multiple ≡ pos m → m ≤ width → IsTrue lone ↔ IsLone row
+    → IsTrue also ↔ (IsTrue fixing ⊎ IsTrue lone) → IsLooked n width form new (k + 1) multiple also
+one_more_looked n width form new k common fixing row m multiple lone also h l p is small least e within one both = record {
   made = l.made ++ row ∷ [];
-  clears = one_more_cleared n new form l.made k row h l.clears is small;
+  clears = one_more_cleared n width new form l.made k row h l.clears is small;
   positive =
       let above = least_positive (unsigned_abs common) (unsigned_abs (pivot_entry row)) m (size_positive common l.positive)
       (size_positive (pivot_entry row) p.leading) least in
@@ -90,31 +90,31 @@ all_before P [] rest row h = (tt, h.0)
 all_before P (r ∷ made) rest row h = let more = all_before P made rest row h.1 in ((h.0, more.0), more.1)
 
 -- the same, if the pivot entries are only known to divide the product of the new one and any multiple of the form's
-pub record IsGlanced (n : ℕ) (form : List (List ℤ)) (new : List ℤ) (k : ℕ) (fixing : Bool) : Type 0 where
+pub record IsGlanced (n width : ℕ) (form : List (List ℤ)) (new : List ℤ) (k : ℕ) (fixing : Bool) : Type 0 where
   pub made : List (List ℤ)
-  pub clears : ClearsFirst n form new k made
+  pub clears : ClearsFirst n width form new k made
   pub divides : (m : ℕ) → AllByRecursion (λ x. x ∣ m) (pivot_entries form) →
       AllByRecursion (λ r. unsigned_abs (pivot_entry r) ∣ (unsigned_abs (pivot_entry new) * m)) (new ∷ made)
   pub lone : IsTrue fixing → SomeLone (new ∷ made)
   pub none : ¬ (IsTrue fixing) → AllByRecursion (λ r. ¬ (IsLone r)) (new ∷ made)
 
 -- at the start only the new row was looked at
-pub nothing_glanced : (n : ℕ) (form : List (List ℤ)) (new : List ℤ) (fixing : Bool) → IsTrue fixing ↔ IsLone new → IsGlanced n form new 0 fixing
-nothing_glanced n form new fixing lone = record {
+pub nothing_glanced : (n width : ℕ) (form : List (List ℤ)) (new : List ℤ) (fixing : Bool) → IsTrue fixing ↔ IsLone new → IsGlanced n width form new 0 fixing
+nothing_glanced n width form new fixing lone = record {
   made = [];
-  clears = no_rows n new form;
+  clears = no_rows n width new form;
   divides = λ m all. (dvd-mul_right (unsigned_abs (pivot_entry new)) m, tt);
   lone = λ yes. inl (lone.0 yes);
   none = λ no. (λ is. no (lone.1 is), tt);
 }
 
 -- one row more was looked at
-pub one_more_glanced : (n : ℕ) (form : List (List ℤ)) (new : List ℤ) (k : ℕ) (fixing : Bool) (row : List ℤ) (lone also : Bool) → k < length form
-    → IsGlanced n form new k fixing → IsCleared n new (get_or form k []) row → IsSmall row
-    → IsTrue lone ↔ IsLone row → IsTrue also ↔ (IsTrue fixing ⊎ IsTrue lone) → IsGlanced n form new (k + 1) also
-one_more_glanced n form new k fixing row lone also h g is small one both = record {
+pub one_more_glanced : (n width : ℕ) (form : List (List ℤ)) (new : List ℤ) (k : ℕ) (fixing : Bool) (row : List ℤ) (lone also : Bool) → k < length form
+    → IsGlanced n width form new k fixing → IsCleared n new (get_or form k []) row → IsWithin width row
+    → IsTrue lone ↔ IsLone row → IsTrue also ↔ (IsTrue fixing ⊎ IsTrue lone) → IsGlanced n width form new (k + 1) also
+one_more_glanced n width form new k fixing row lone also h g is small one both = record {
   made = g.made ++ row ∷ [];
-  clears = one_more_cleared n new form g.made k row h g.clears is small;
+  clears = one_more_cleared n width new form g.made k row h g.clears is small;
   divides = λ m all. all-push (λ r. unsigned_abs (pivot_entry r) ∣ (unsigned_abs (pivot_entry new) * m)) (new ∷ g.made) row (g.divides m all)
       (dvd_trans (unsigned_abs (pivot_entry row)) is.head (mul-dvd-mul_left (unsigned_abs (pivot_entry (get_or form k []))) (unsigned_abs (pivot_entry new))
       (All-from_recursion (λ r. unsigned_abs (pivot_entry r) ∣ m) form (all-unmap (λ r. unsigned_abs (pivot_entry r)) (λ x. x ∣ m) form all) k [] h)));
@@ -135,11 +135,11 @@ heads_divide n new (r ∷ form) (row ∷ made) m cleared all = (
 )
 
 -- a lone new row that leaves all rows small fixes a number
-pub glanced_at_once : (n : ℕ) (form : List (List ℤ)) (new : List ℤ) (made : List (List ℤ)) → AreCleared n new form made → AllByRecursion IsSmall made →
-    IsLone new → IsGlanced n form new (length form) true
-glanced_at_once n form new made cleared small lone = record {
+pub glanced_at_once : (n width : ℕ) (form : List (List ℤ)) (new : List ℤ) (made : List (List ℤ)) → AreCleared n new form made → AllByRecursion (IsWithin width) made →
+    IsLone new → IsGlanced n width form new (length form) true
+glanced_at_once n width form new made cleared small lone = record {
   made = made;
-  clears = record { cleared = rw (take-length form) cleared; small = small };
+  clears = record { cleared = rw (take-length form) cleared; within = small };
   divides =
       λ m all. (
         dvd-mul_right (unsigned_abs (pivot_entry new)) m,
@@ -162,15 +162,15 @@ all_from P (suc k) [] h = tt
 all_from P (suc k) (r ∷ rows) h = all_from P k rows h.1
 
 -- once a row is lone, the others needn't be looked at if they stay small
-pub glanced_to_end : (n : ℕ) (form : List (List ℤ)) (new : List ℤ) (k : ℕ) (rest : List (List ℤ)) → IsGlanced n form new k true
-    → AreCleared n new (drop k form) rest → AllByRecursion IsSmall rest → IsGlanced n form new (length form) true
-glanced_to_end n form new k rest g cleared small = record {
+pub glanced_to_end : (n width : ℕ) (form : List (List ℤ)) (new : List ℤ) (k : ℕ) (rest : List (List ℤ)) → IsGlanced n width form new k true
+    → AreCleared n new (drop k form) rest → AllByRecursion (IsWithin width) rest → IsGlanced n width form new (length form) true
+glanced_to_end n width form new k rest g cleared small = record {
   made = g.made ++ rest;
   clears = record {
     cleared =
         rw (take-length form) (subst (λ rows. AreCleared n new rows (g.made ++ rest)) (take-append-drop k form)
-        (cleared-append n new (take k form) (drop k form) g.made rest g.clears.cleared cleared));
-    small = all-append IsSmall g.made rest g.clears.small small;
+        (cleared-append n width new (take k form) (drop k form) g.made rest g.clears.cleared cleared));
+    within = all-append (IsWithin width) g.made rest g.clears.within small;
   };
   divides =
       λ m all. all-append (λ r. unsigned_abs (pivot_entry r) ∣ (unsigned_abs (pivot_entry new) * m)) (new ∷ g.made) rest (g.divides m all)
@@ -181,10 +181,10 @@ glanced_to_end n form new k rest g cleared small = record {
 }
 
 -- if that product is within the limit, so is the least common multiple
-pub glanced_is_looked : (n : ℕ) (form : List (List ℤ)) (new : List ℤ) (k m : ℕ) (fixing : Bool) → IsPrimitive n new → 0 < m
-    → AllByRecursion (λ x. x ∣ m) (pivot_entries form) → unsigned_abs (pivot_entry new) * m ≤ 2 ^ 56 → IsGlanced n form new k fixing
-    → (common : ℤ) × IsLooked n form new k common fixing
-glanced_is_looked n form new k m fixing p some all within g =
+pub glanced_is_looked : (n width : ℕ) (form : List (List ℤ)) (new : List ℤ) (k m : ℕ) (fixing : Bool) → IsPrimitive n new → 0 < m
+    → AllByRecursion (λ x. x ∣ m) (pivot_entries form) → unsigned_abs (pivot_entry new) * m ≤ width → IsGlanced n width form new k fixing
+    → (common : ℤ) × IsLooked n width form new k common fixing
+glanced_is_looked n width form new k m fixing p some all within g =
     let rows = primitives n new (take k form) g.made g.clears.cleared in
     let least = least_exists (pivot_entries (new ∷ g.made)) (entries_positive (new ∷ g.made) (leads_from n (new ∷ g.made) (p, rows))) in
     let divides = least.2.least (unsigned_abs (pivot_entry new) * m)
@@ -204,18 +204,18 @@ glanced_is_looked n form new k m fixing p some all within g =
       },
     )
 
-module _ (form : Echelon) (new : List ℤ) (f : IsSmallForm form.n form.rows) (p : IsPrimitive form.n new) (z : IsZeroAtPivots form.rows new) where
+module _ (form : Echelon) (new : List ℤ) (f : IsFormWithin form.width form.n form.rows) (p : IsPrimitive form.n new) (z : IsZeroAtPivots form.rows new) where
   -- a cleared row that is too large
-  pub looked_large : (k : ℕ) (common : ℤ) (fixing : Bool) (row : List ℤ) → k < length form.rows → IsLooked form.n form.rows new k common fixing →
-      IsCleared form.n new (get_or form.rows k []) row → ¬ (IsSmall row) → GrowsWide form new
-  looked_large k common fixing row h l is large = row_too_large form new f p z (too_large form.n new form.rows k row h p f.primitive z is large)
+  pub looked_large : (k : ℕ) (common : ℤ) (fixing : Bool) (row : List ℤ) → k < length form.rows → IsLooked form.n form.width form.rows new k common fixing →
+      IsCleared form.n new (get_or form.rows k []) row → ¬ (IsWithin form.width row) → GrowsWide form new
+  looked_large k common fixing row h l is large = row_too_large form new f p z (too_large form.n form.width new form.rows k row h p f.primitive z is large)
 
   -- pivot entries whose multiple is too large
-  pub looked_multiple : (k : ℕ) (common : ℤ) (fixing : Bool) (row : List ℤ) (m : ℕ) → k < length form.rows → IsLooked form.n form.rows new k common fixing
+  pub looked_multiple : (k : ℕ) (common : ℤ) (fixing : Bool) (row : List ℤ) (m : ℕ) → k < length form.rows → IsLooked form.n form.width form.rows new k common fixing
       → IsCleared form.n new (get_or form.rows k []) row
-      → IsLeastCommonMultiple (unsigned_abs common ∷ unsigned_abs (pivot_entry row) ∷ []) m → 2 ^ 56 < m → GrowsWide form new
+      → IsLeastCommonMultiple (unsigned_abs common ∷ unsigned_abs (pivot_entry row) ∷ []) m → form.width < m → GrowsWide form new
   looked_multiple k common fixing row m h l is least more =
-      let rest = rest_cleared form.n new form.rows l.made k row h p f.primitive z l.clears is in
+      let rest = rest_cleared form.n form.width new form.rows l.made k row h p f.primitive z l.clears is in
       let all = l.made ++ row ∷ rest.0 in
       let grown = placed new all in
       let reduced = placed_is_reduced form.n form.rows all new f.primitive f.echelon p z rest.1 in (
@@ -234,7 +234,7 @@ module _ (form : Echelon) (new : List ℤ) (f : IsSmallForm form.n form.rows) (p
       )
 
   -- all rows were looked at
-  module _ (k : ℕ) (common : ℤ) (fixing : Bool) (past : length form.rows ≤ k) (l : IsLooked form.n form.rows new k common fixing) (small : IsSmall new) where
+  module _ (k : ℕ) (common : ℤ) (fixing : Bool) (past : length form.rows ≤ k) (l : IsLooked form.n form.width form.rows new k common fixing) (small : IsWithin form.width new) where
     abbrev grown : List (List ℤ)
     grown = placed new l.made
 
@@ -244,8 +244,8 @@ module _ (form : Echelon) (new : List ℤ) (f : IsSmallForm form.n form.rows) (p
     reduced : IsReducedForm form.n (form.rows ++ new ∷ []) grown
     reduced = placed_is_reduced form.n form.rows l.made new f.primitive f.echelon p z cleared
 
-    small_form : IsSmallForm form.n grown
-    small_form = record { primitive = reduced.primitive; echelon = reduced.echelon; entries = all_placed IsSmall new l.made small l.clears.small }
+    form_within : IsFormWithin form.width form.n grown
+    form_within = record { primitive = reduced.primitive; echelon = reduced.echelon; entries = all_placed (IsWithin form.width) new l.made small l.clears.within }
 
     least : IsLeastCommonMultiple (pivot_entries grown) (unsigned_abs common)
     least = record {
@@ -260,11 +260,11 @@ module _ (form : Echelon) (new : List ℤ) (f : IsSmallForm form.n form.rows) (p
     }
 
     abbrev pub foreseen : Echelon
-    foreseen = record { n = form.n; rows = placed new l.made }
+    foreseen = record { n = form.n; width = form.width; rows = placed new l.made }
 
     -- the form with the new row is narrow
     pub looked_grows : GrowsTo form new foreseen
-    looked_grows = record { n = refl; reduced = reduced; narrow = is_narrow form.n (unsigned_abs common) grown small_form least l.within }
+    looked_grows = record { n = refl; width = refl; reduced = reduced; narrow = is_narrow form.n form.width (unsigned_abs common) grown form_within least l.within }
 
     -- a lone row has a unit row in the span
     unit_of : (rows : List (List ℤ)) → AllByRecursion (InSpan grown) rows → AllByRecursion (IsPrimitive form.n) rows → SomeLone rows → HasUnitRow foreseen
@@ -283,5 +283,5 @@ module _ (form : Echelon) (new : List ℤ) (f : IsSmallForm form.n form.rows) (p
     looked_open denied unit =
         let none = l.none denied in
         let all = all_placed (λ r. ¬ (IsLone r)) new l.made none.0 none.1 in
-        no_unit foreseen (length grown) small_form (omega arith)
+        no_unit foreseen (length grown) form_within (omega arith)
         (record { none = all-take (λ r. ¬ (IsLone r)) (length grown) grown all }) unit.0 unit.1.0 unit.1.1

@@ -11,14 +11,14 @@ use Rattle.audit_types.specs.Truth.{number_at}
 use Rattle.audit_types.specs.Form.{pivot, pivot_entry}
 use Rattle.sum_basis.specs.declared.sparse.FreeEntry.{FreeEntry}
 use Rattle.sum_basis.specs.Combination.{combine}
-use Rattle.sum_basis.specs.Elimination.{IsSmall}
+use Rattle.sum_basis.specs.Elimination.{IsWithin, IsSmall}
 use Rattle.sum_basis.specs.Sparse.{entry_at, row_of, IsListed}
 use Rattle.sum_basis.specs.Merging.{first_value as first_value_at}
 use Rattle.sum_basis.specs.CombinedRows.{number_at-combine, length-combine}
 use Rattle.std.specs.List.Sorted.{IsNonDecreasingBy}
 use Rattle.audit_types.specs.Products.{times-add, neg-times, one-times}
 use Rattle.sum_basis.proofs.FormsAreUnique.{pivot_is}
-use Rattle.sum_basis.proofs.Sizes.{small_at}
+use Rattle.sum_basis.proofs.Sizes.{within_at}
 use Rattle.audit_types.specs.PrimitiveLines.{same_rows}
 use Rattle.audit_types.specs.RowNumbers.{all_by_number}
 
@@ -213,12 +213,12 @@ all_entries_taken old row times es k same h past part =
         let minus = neg-times times (number_at whole j) in
         omega (arith, ints)
 
--- small values make a small row
-pub small_row : (n : ℕ) (es : List FreeEntry) → IsListed 0 n es → AllByRecursion (λ e. unsigned_abs e.value ≤ 2 ^ 56) es → IsSmall (row_of n es)
-small_row n es h small = all_by_number (λ x. unsigned_abs x ≤ 2 ^ 56) (row_of n es) (λ j. rw (number_at-row_of 0 n es h j) (at 0 es j h small))
+-- values within a width make a row within it
+pub row_within : (width n : ℕ) (es : List FreeEntry) → IsListed 0 n es → AllByRecursion (λ e. unsigned_abs e.value ≤ width) es → IsWithin width (row_of n es)
+row_within width n es h within = all_by_number (λ x. unsigned_abs x ≤ width) (row_of n es) (λ j. rw (number_at-row_of 0 n es h j) (at 0 es j h within))
   where
-    at : (from : ℕ) (xs : List FreeEntry) (j : ℕ) → IsListed from n xs → AllByRecursion (λ e. unsigned_abs e.value ≤ 2 ^ 56) xs →
-        unsigned_abs (entry_at xs j) ≤ 2 ^ 56
+    at : (from : ℕ) (xs : List FreeEntry) (j : ℕ) → IsListed from n xs → AllByRecursion (λ e. unsigned_abs e.value ≤ width) xs →
+        unsigned_abs (entry_at xs j) ≤ width
     at from [] j l all = omega arith
     at from (e ∷ xs) j l all = elim (cases_eq e.place j) [
       | inl same ↦
@@ -232,23 +232,27 @@ small_row n es h small = all_by_number (λ x. unsigned_abs x ≤ 2 ^ 56) (row_of
           rw sum (at (e.place + 1) xs j l.3 all.1)
     ]
 
--- and a small row has small values
-pub small_values : (n : ℕ) (es : List FreeEntry) → IsListed 0 n es → IsSmall (row_of n es) → AllByRecursion (λ e. unsigned_abs e.value ≤ 2 ^ 56) es
-small_values n es h small = go 0 es h (λ j. subst (λ z. unsigned_abs z ≤ 2 ^ 56) (number_at-row_of 0 n es h j) (small_at (row_of n es) j small))
+-- and a row within it has such values
+pub values_within : (width n : ℕ) (es : List FreeEntry) → IsListed 0 n es → IsWithin width (row_of n es) → AllByRecursion (λ e. unsigned_abs e.value ≤ width) es
+values_within width n es h within = go 0 es h (λ j. subst (λ z. unsigned_abs z ≤ width) (number_at-row_of 0 n es h j) (within_at width (row_of n es) j within))
   where
-    go : (from : ℕ) (xs : List FreeEntry) → IsListed from n xs → ((j : ℕ) → unsigned_abs (entry_at xs j) ≤ 2 ^ 56) →
-        AllByRecursion (λ e. unsigned_abs e.value ≤ 2 ^ 56) xs
+    go : (from : ℕ) (xs : List FreeEntry) → IsListed from n xs → ((j : ℕ) → unsigned_abs (entry_at xs j) ≤ width) →
+        AllByRecursion (λ e. unsigned_abs e.value ≤ width) xs
     go from [] l all = tt
     go from (e ∷ xs) l all = (
-      subst (λ z. unsigned_abs z ≤ 2 ^ 56) (first_value from n e xs l) (all e.place),
+      subst (λ z. unsigned_abs z ≤ width) (first_value from n e xs l) (all e.place),
       go (e.place + 1) xs l.3 (λ j. elim (cases_lt e.place j) [
         | inl after ↦
             let first = elsewhere e j (λ same. omega arith) in
             let sum : entry_at (e ∷ xs) j ≡ entry_at xs j = omega (arith, ints) in
-            subst (λ z. unsigned_abs z ≤ 2 ^ 56) sum (all j)
+            subst (λ z. unsigned_abs z ≤ width) sum (all j)
         | inr before ↦ rw (zero_below (e.place + 1) n xs j l.3 (omega arith)) (omega arith)
       ]),
     )
+
+-- a small row has small values
+pub small_values : (n : ℕ) (es : List FreeEntry) → IsListed 0 n es → IsSmall (row_of n es) → AllByRecursion (λ e. unsigned_abs e.value ≤ 2 ^ 56) es
+small_values n es h small = values_within (2 ^ 56) n es h small
 
 -- the entries from entry k on
 pub drop_entry : (es : List FreeEntry) (k : ℕ) (d : FreeEntry) → k < length es → drop k es ≡ get_or es k d ∷ drop (suc k) es

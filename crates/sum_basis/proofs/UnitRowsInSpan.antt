@@ -10,7 +10,7 @@ use Rattle.std.proofs.Math.IntN.{*ℤ-zero, *ℤ_comm}
 use Rattle.audit_types.specs.Truth.{number_at}
 use Rattle.audit_types.specs.Form.{InSpan, IsPrimitive, IsEchelon, pivot, pivot_entry}
 use Rattle.sum_basis.specs.Basis.{Echelon, unit_row}
-use Rattle.sum_basis.specs.Elimination.{IsSmallForm, IsLone}
+use Rattle.sum_basis.specs.Elimination.{IsFormWithin, IsLone}
 use Rattle.audit_types.specs.Products.{neg-times, one-times}
 use Rattle.audit_types.specs.ListLaws.{all-push}
 use Rattle.audit_types.specs.Numbers.{positive_is}
@@ -43,7 +43,7 @@ record HasLoneRow (form : List (List ℤ)) (i : ℕ) : Type 0 where
   lone : IsLone row
 
 -- a unit row in the span has a row of the form with its only entry there
-lone_row : (n : ℕ) (form : List (List ℤ)) (i : ℕ) → IsSmallForm n form → i < n → InSpan form (unit_row n i) → HasLoneRow form i
+lone_row : {width : ℕ} (n : ℕ) (form : List (List ℤ)) (i : ℕ) → IsFormWithin width n form → i < n → InSpan form (unit_row n i) → HasLoneRow form i
 lone_row n form i f h p = record { row = hit.0; among = hit.1; at = at; lone = lone }
   where
     unit : List ℤ
@@ -148,7 +148,7 @@ pub record IsFirstUnit (form : Echelon) (i : ℕ) : Type 0 where
   pub least : (j : ℕ) → j < i → ¬ (InSpan form.rows (unit_row form.n j))
 
 -- the first row with a lone entry has the least unit row of the span
-pub first_unit : (form : Echelon) (k : ℕ) → IsSmallForm form.n form.rows → k < length form.rows → NoneLone form.rows k → IsLone (get_or form.rows k []) →
+pub first_unit : {width : ℕ} (form : Echelon) (k : ℕ) → IsFormWithin width form.n form.rows → k < length form.rows → NoneLone form.rows k → IsLone (get_or form.rows k []) →
     IsFirstUnit form (pivot (get_or form.rows k []))
 first_unit form k f h none lone =
     let row = get_or form.rows k [] in
@@ -166,6 +166,6 @@ first_unit form k f h none lone =
     }
 
 -- with no lone entry there is no unit row in the span
-pub no_unit : (form : Echelon) (k : ℕ) → IsSmallForm form.n form.rows → length form.rows ≤ k → NoneLone form.rows k → (i : ℕ) → i < form.n →
+pub no_unit : {width : ℕ} (form : Echelon) (k : ℕ) → IsFormWithin width form.n form.rows → length form.rows ≤ k → NoneLone form.rows k → (i : ℕ) → i < form.n →
     ¬ (InSpan form.rows (unit_row form.n i))
 no_unit form k f h none i inside p = let other = lone_row form.n form.rows i f inside p in not_among form.rows k other.row h none.none other.among other.lone

@@ -1,11 +1,11 @@
 -- Whether a list divided by its content is within the limit, by the content alone.
-use Rattle.std.proofs.Common.{◌≡◌, ℕ, ◌+◌, ◌*◌, ◌<◌, ◌≤◌, ◌^◌, ℤ, pos, List, [], ◌∷◌, map, take, refl, sym, ap, ◌∙◌, subst, arith}
+use Rattle.std.proofs.Common.{◌≡◌, ℕ, ◌+◌, ◌*◌, ◌<◌, ◌≤◌, ℤ, pos, List, [], ◌∷◌, map, take, refl, sym, ap, ◌∙◌, subst, arith}
 use Rattle.std.specs.Prelude.{◌*ℤ◌, ◌<ℤ◌, int_div, unsigned_abs}
 use Rattle.std.specs.Int.{◌∣◌}
 use Rattle.std.specs.List.{AllByRecursion}
 use Rattle.std.proofs.lemmas.Int.{ints, unsigned_abs-mul}
 use Rattle.std.proofs.lemmas.Nat.Gcd.{le_of_dvd}
-use Rattle.std.proofs.Math.Nat.{pos_of_dvd_of_pos, mul-le-mul_left, le_of_mul-le-mul_left}
+use Rattle.std.proofs.Math.Nat.{pos_of_dvd_of_pos, mul-le-mul_left, mul-le-mul_right, le_of_mul-le-mul_left}
 use Rattle.audit_types.specs.Form.{IsContent}
 use Rattle.audit_types.specs.PrimitiveLines.{scaled_content}
 use Rattle.audit_types.specs.Numbers.{size_positive}
@@ -58,49 +58,51 @@ size_times : (g : ℕ) (x y : ℤ) → x ≡ pos g *ℤ y → unsigned_abs x ≡
 size_times g x y e = ap unsigned_abs e ∙ unsigned_abs-mul (pos g) y
 
 -- what is within the limit over the content
-pub comes_within : (g most : ℕ) (x y : ℤ) → 0 < g → x ≡ pos g *ℤ y → unsigned_abs x ≤ most → most ≤ g * 2 ^ 56 → unsigned_abs y ≤ 2 ^ 56
-comes_within g most x y p e h l = le_of_mul-le-mul_left (subst (λ z. z ≤ g * 2 ^ 56) (size_times g x y e) (omega arith)) p
+pub comes_within : (limit g most : ℕ) (x y : ℤ) → 0 < g → x ≡ pos g *ℤ y → unsigned_abs x ≤ most → most ≤ g * limit → unsigned_abs y ≤ limit
+comes_within limit g most x y p e h l = le_of_mul-le-mul_left (subst (λ z. z ≤ g * limit) (size_times g x y e) (omega arith)) p
 
-pub come_within : (g most : ℕ) (es made : List FreeEntry) → 0 < g → es ≡ map (scaled (pos g)) made →
-    AllByRecursion (λ (e : FreeEntry). unsigned_abs e.value ≤ most) es → most ≤ g * 2 ^ 56 →
-    AllByRecursion (λ (e : FreeEntry). unsigned_abs e.value ≤ 2 ^ 56) made
-come_within g most es made p e all l = go made (subst (AllByRecursion (λ (e : FreeEntry). unsigned_abs e.value ≤ most)) e all)
+pub come_within : (limit g most : ℕ) (es made : List FreeEntry) → 0 < g → es ≡ map (scaled (pos g)) made →
+    AllByRecursion (λ (e : FreeEntry). unsigned_abs e.value ≤ most) es → most ≤ g * limit →
+    AllByRecursion (λ (e : FreeEntry). unsigned_abs e.value ≤ limit) made
+come_within limit g most es made p e all l = go made (subst (AllByRecursion (λ (e : FreeEntry). unsigned_abs e.value ≤ most)) e all)
   where
     go : (xs : List FreeEntry) → AllByRecursion (λ (e : FreeEntry). unsigned_abs e.value ≤ most) (map (scaled (pos g)) xs) →
-        AllByRecursion (λ (e : FreeEntry). unsigned_abs e.value ≤ 2 ^ 56) xs
+        AllByRecursion (λ (e : FreeEntry). unsigned_abs e.value ≤ limit) xs
     go [] h = tt
-    go (x ∷ xs) h = (comes_within g most (pos g *ℤ x.value) x.value p refl h.0 l, go xs h.1)
+    go (x ∷ xs) h = (comes_within limit g most (pos g *ℤ x.value) x.value p refl h.0 l, go xs h.1)
 
 -- what was within the limit times the content
-pub was_within : (g : ℕ) (x y : ℤ) → x ≡ pos g *ℤ y → unsigned_abs y ≤ 2 ^ 56 → unsigned_abs x ≤ g * 2 ^ 56
-was_within g x y e h = subst (λ z. z ≤ g * 2 ^ 56) (sym (size_times g x y e)) (mul-le-mul_left g h)
+pub was_within : (limit g : ℕ) (x y : ℤ) → x ≡ pos g *ℤ y → unsigned_abs y ≤ limit → unsigned_abs x ≤ g * limit
+was_within limit g x y e h = subst (λ z. z ≤ g * limit) (sym (size_times g x y e)) (mul-le-mul_left g h)
 
-pub were_within : (g : ℕ) (es made : List FreeEntry) → es ≡ map (scaled (pos g)) made → AllByRecursion (λ (e : FreeEntry). unsigned_abs e.value ≤ 2 ^ 56) made →
-    AllByRecursion (λ (e : FreeEntry). unsigned_abs e.value ≤ g * 2 ^ 56) es
-were_within g es made e all = subst (AllByRecursion (λ (e : FreeEntry). unsigned_abs e.value ≤ g * 2 ^ 56)) (sym e) (go made all)
+pub were_within : (limit g : ℕ) (es made : List FreeEntry) → es ≡ map (scaled (pos g)) made → AllByRecursion (λ (e : FreeEntry). unsigned_abs e.value ≤ limit) made →
+    AllByRecursion (λ (e : FreeEntry). unsigned_abs e.value ≤ g * limit) es
+were_within limit g es made e all = subst (AllByRecursion (λ (e : FreeEntry). unsigned_abs e.value ≤ g * limit)) (sym e) (go made all)
   where
-    go : (xs : List FreeEntry) → AllByRecursion (λ (e : FreeEntry). unsigned_abs e.value ≤ 2 ^ 56) xs →
-        AllByRecursion (λ (e : FreeEntry). unsigned_abs e.value ≤ g * 2 ^ 56) (map (scaled (pos g)) xs)
+    go : (xs : List FreeEntry) → AllByRecursion (λ (e : FreeEntry). unsigned_abs e.value ≤ limit) xs →
+        AllByRecursion (λ (e : FreeEntry). unsigned_abs e.value ≤ g * limit) (map (scaled (pos g)) xs)
     go [] h = tt
-    go (x ∷ xs) h = (was_within g (pos g *ℤ x.value) x.value refl h.0, go xs h.1)
+    go (x ∷ xs) h = (was_within limit g (pos g *ℤ x.value) x.value refl h.0, go xs h.1)
 
 -- if the content brings the greatest size within the limit, all are
-pub small_enough : (head over_head : ℤ) (es : List FreeEntry) (g most least : ℕ) → 0 < g → IsContent (head ∷ values es) g → head ≡ pos g *ℤ over_head
-    → unsigned_abs head ≤ most → AllByRecursion (λ (e : FreeEntry). unsigned_abs e.value ≤ most) es → most ≤ least * 2 ^ 56 → least ≤ g
-    → (unsigned_abs over_head ≤ 2 ^ 56) × AllByRecursion (λ (e : FreeEntry). unsigned_abs e.value ≤ 2 ^ 56) (over g es)
-small_enough head over_head es g most least p content e at_head at_values enough h =
-    let within : most ≤ g * 2 ^ 56 = omega arith in (
-      comes_within g most head over_head p e at_head within,
-      come_within g most es (over g es) p
+pub small_enough : (limit : ℕ) (head over_head : ℤ) (es : List FreeEntry) (g most least : ℕ) → 0 < g → IsContent (head ∷ values es) g → head ≡ pos g *ℤ over_head
+    → unsigned_abs head ≤ most → AllByRecursion (λ (e : FreeEntry). unsigned_abs e.value ≤ most) es → most ≤ least * limit → least ≤ g
+    → (unsigned_abs over_head ≤ limit) × AllByRecursion (λ (e : FreeEntry). unsigned_abs e.value ≤ limit) (over g es)
+small_enough limit head over_head es g most least p content e at_head at_values enough h =
+    let part = mul-le-mul_right limit h in
+    let within : most ≤ g * limit = omega arith in (
+      comes_within limit g most head over_head p e at_head within,
+      come_within limit g most es (over g es) p
           (over_is g es (all-unmap (λ (e : FreeEntry). e.value) (λ x. g ∣ unsigned_abs x) es content.divides.1)) at_values within,
     )
 
 -- and if it is less than that needs, not all are
-pub too_large : (head over_head : ℤ) (es : List FreeEntry) (g most least : ℕ) → IsContent (head ∷ values es) g → head ≡ pos g *ℤ over_head
-    → ((m : ℕ) → unsigned_abs head ≤ m → AllByRecursion (λ (e : FreeEntry). unsigned_abs e.value ≤ m) es → most ≤ m) → least * 2 ^ 56 < most + 2 ^ 56
+pub too_large : (limit : ℕ) (head over_head : ℤ) (es : List FreeEntry) (g most least : ℕ) → IsContent (head ∷ values es) g → head ≡ pos g *ℤ over_head
+    → ((m : ℕ) → unsigned_abs head ≤ m → AllByRecursion (λ (e : FreeEntry). unsigned_abs e.value ≤ m) es → most ≤ m) → least * limit < most + limit
     → g < least
-    → ¬ ((unsigned_abs over_head ≤ 2 ^ 56) × AllByRecursion (λ (e : FreeEntry). unsigned_abs e.value ≤ 2 ^ 56) (over g es))
-too_large head over_head es g most least content e greatest needed h small =
-    let most_at = greatest (g * 2 ^ 56) (was_within g head over_head e small.0)
-    (were_within g es (over g es) (over_is g es (all-unmap (λ (e : FreeEntry). e.value) (λ x. g ∣ unsigned_abs x) es content.divides.1)) small.1) in
+    → ¬ ((unsigned_abs over_head ≤ limit) × AllByRecursion (λ (e : FreeEntry). unsigned_abs e.value ≤ limit) (over g es))
+too_large limit head over_head es g most least content e greatest needed h small =
+    let most_at = greatest (g * limit) (was_within limit g head over_head e small.0)
+    (were_within limit g es (over g es) (over_is g es (all-unmap (λ (e : FreeEntry). e.value) (λ x. g ∣ unsigned_abs x) es content.divides.1)) small.1) in
+    let part = mul-le-mul_right limit h in
     absurd (omega arith)

@@ -1,5 +1,6 @@
 -- A reduced form, as contracts see it.
-use Rattle.std.specs.Prelude.{◌≡◌, ◌≢◌, ℕ, ◌<◌, ◌≤◌, ◌^◌, ℤ, pos, ◌<ℤ◌, List, [], ◌∷◌, Option, unsigned_abs}
+use Rattle.std.specs.Prelude.{◌≡◌, ◌≢◌, ℕ, ◌<◌, ◌≤◌, ℤ, pos, ◌<ℤ◌, List, [], ◌∷◌, Option, unsigned_abs}
+use Rattle.audit_types.specs.Limits.{most_width}
 use Rattle.audit_types.specs.Rows.{IsLeast}
 use Rattle.audit_types.specs.Form.{set_row, InSpan, IsLeastCommonMultiple, pivot, pivot_entries}
 use Rattle.std.specs.List.{AllByRecursion}
@@ -7,12 +8,17 @@ use Rattle.sum_basis.specs.declared.sparse.SparseRow.{SparseRow}
 use Rattle.sum_basis.specs.Sparse.{entry_at, rows_of, IsListed, IsKept}
 use Rattle.sum_basis.specs.declared.sparse.FreeEntry.{FreeEntry}
 use Rattle.audit_types.specs.Truth.{number_at}
-use Rattle.sum_basis.specs.Elimination.{IsSmallForm}
+use Rattle.sum_basis.specs.Elimination.{IsFormWithin}
 
--- a number of columns, and reduced rows in the order of their pivots
+-- a number of columns, the width that the form may have, and reduced rows in the order of their pivots
 pub record Echelon : Type 0 where
   pub n : ℕ
+  pub width : ℕ
   pub rows : List (List ℤ)
+
+-- a width that a form may have
+abbrev pub IsWidth : ℕ → Type 0
+IsWidth width = (0 < width) × (width ≤ most_width)
 
 -- the row of zeros and ones of one row number
 abbrev pub unit_row : ℕ → ℕ → List ℤ
@@ -32,13 +38,14 @@ HasUnitRow form = (i : ℕ) × SpansUnit form i
 
 -- what is true of the fields of every form: the kept rows are a reduced form, `common` is the multiple that makes it narrow, and no row has a
 -- bound above `greatest_bound`
-pub record IsForm (n : ℕ) (common : ℤ) (greatest_bound : ℕ) (rows : List SparseRow) : Type 0 where
+pub record IsForm (n width : ℕ) (common : ℤ) (greatest_bound : ℕ) (rows : List SparseRow) : Type 0 where
   pub some : 0 < n
   pub at_most : n ≤ 2048
+  pub width_fits : IsWidth width
   pub kept : AllByRecursion (IsKept n) rows
-  pub form : IsSmallForm n (rows_of n rows)
+  pub form : IsFormWithin width n (rows_of n rows)
   pub positive : pos 0 <ℤ common
-  pub small : unsigned_abs common ≤ 2 ^ 56
+  pub within : unsigned_abs common ≤ width
   pub multiple : IsLeastCommonMultiple (pivot_entries (rows_of n rows)) (unsigned_abs common)
   pub bounded : AllByRecursion (λ r. r.most ≤ greatest_bound) rows
 

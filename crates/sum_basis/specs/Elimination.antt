@@ -5,15 +5,23 @@ use Rattle.std.specs.List.{AllByRecursion}
 use Rattle.audit_types.specs.Truth.{number_at}
 use Rattle.audit_types.specs.Form.{combined, InSpan, IsPrimitive, IsEchelon, pivot, pivot_entry}
 
--- no entry is above 2 ^ 56
-abbrev pub IsSmall : List ℤ → Type 0
-IsSmall row = AllByRecursion (λ x. unsigned_abs x ≤ 2 ^ 56) row
+-- no entry is above the width
+abbrev pub IsWithin : ℕ → List ℤ → Type 0
+IsWithin width row = AllByRecursion (λ x. unsigned_abs x ≤ width) row
 
--- primitive rows with small entries, in the order of their pivots, each 0 at the pivots of the others
-pub record IsSmallForm (n : ℕ) (form : List (List ℤ)) : Type 0 where
+-- no entry is above 2 ^ 56, so that products of entries can be worked out
+abbrev pub IsSmall : List ℤ → Type 0
+IsSmall row = IsWithin (2 ^ 56) row
+
+-- primitive rows with no entry above the width, in the order of their pivots, each 0 at the pivots of the others
+pub record IsFormWithin (width n : ℕ) (form : List (List ℤ)) : Type 0 where
   pub primitive : AllByRecursion (IsPrimitive n) form
   pub echelon : IsEchelon form
-  pub entries : AllByRecursion IsSmall form
+  pub entries : AllByRecursion (IsWithin width) form
+
+-- the same with small entries
+abbrev pub IsSmallForm : ℕ → List (List ℤ) → Type 0
+IsSmallForm n form = IsFormWithin (2 ^ 56) n form
 
 -- the row is 0 at all pivots of the form
 abbrev pub IsZeroAtPivots : List (List ℤ) → List ℤ → Type 0

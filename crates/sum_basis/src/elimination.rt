@@ -9,9 +9,6 @@ ghost use Rattle.sum_basis.specs.Elimination.{IsSmall};
 use crate::cleared_list::product;
 use audit_types::RowSet;
 
-/// The greatest size of an entry of a narrow form, and of the common multiple of its pivot entries.
-pub const LIMIT: u128 = 1 << 56;
-
 /// The place of the first entry that isn't 0, and the length if all are 0.
 pub fn pivot_of(row: &[i128]) -> usize
     ensures { result ≡ pivot row.now }

@@ -4,12 +4,12 @@ ghost use Rattle.std.specs.List.{AllByRecursion};
 ghost use Rattle.audit_types.specs.Limits.{most_width};
 ghost use Rattle.audit_types.specs.Form.{InSpan, IsNarrow, IsReducedForm, pivot, pivot_entries, IsLeastCommonMultiple};
 ghost use Rattle.audit_types.specs.Truth.{number_at};
-ghost use Rattle.sum_basis.specs.Basis.{IsLeastUnit, IsFreeList};
+ghost use Rattle.sum_basis.specs.Basis.{IsLeastUnit, IsFreeList, IsWidth};
 ghost use Rattle.audit_types.specs.PrimitiveLines.{times};
 ghost use Rattle.sum_basis.specs.Elimination.{IsSmallForm, IsRemainder, IsZeroAtPivots};
 ghost use Rattle.std.specs.Vec.{vec_capacity};
 ghost use Rattle.sum_basis.specs.Sparse.{row_of, IsNew};
-ghost use Rattle.sum_basis.specs.Growth.{Grows, GrowsForRows, GrowsWide, Foresees, IsLeft, IsAsItIs, LeavesNoList};
+ghost use Rattle.sum_basis.specs.Growth.{Grows, GrowsForRows, GrowsWide, Foresees, IsLeft, IsLeftWithin, IsAsItIs, LeavesNoList};
 ghost use Rattle.sum_basis.specs.Ties.{ShowsTie, ShowsTieBut};
 ghost use Rattle.sum_basis.specs.declared.Grown.TheVariants.{Same, Wide};
 ghost use Rattle.sum_basis.specs.declared.form.Left.TheVariants.{Entries};
@@ -18,7 +18,7 @@ use crate::cleared_list::value_at;
 use crate::elimination::{scale, write_bits};
 use crate::growth::{common_multiple, greatest_bound, grow_rows};
 use crate::looking::look_ahead;
-use crate::primitive_list::{are_small, make_primitive};
+use crate::primitive_list::{are_within, make_primitive};
 use crate::sparse::{FreeEntry, SparseRow, copy_list, copy_rows, list_of, reduce};
 use crate::ties::{ties_some, ties_some_but};
 use crate::{Grown, Prospect};
@@ -26,10 +26,12 @@ use audit_types::{NoMemory, RowSet};
 use std::alloc::Global;
 use std::marker::Model;
 
-/// A reduced form that is narrow. It keeps no added row: it stands for each list of rows whose reduced form it is.
+/// A reduced form that is narrow, by the width that it may have. It keeps no added row: it stands for each list of rows whose reduced form it is.
 #[derive(Drop)]
 pub struct Form {
     columns: u16,
+    // How wide the form may be.
+    width: u64,
     // The least common multiple of the pivot entries.
     common: i128,
     // No row has a bound above it.
@@ -44,16 +46,16 @@ impl Model for Form {
 
     ghost Value = { Echelon };
 
-    ghost view = { λ f. record { n = f.columns; rows = rows_of f.columns f.rows.items } };
+    ghost view = { λ f. record { n = f.columns; width = f.width; rows = rows_of f.columns f.rows.items } };
 
-    ghost invariant = { λ f. IsForm f.columns f.common f.greatest_bound f.rows.items };
+    ghost invariant = { λ f. IsForm f.columns f.width f.common f.greatest_bound f.rows.items };
 }
 
 // What is left of a row when the rows of a form are taken from it.
 #[derive(Drop)]
 pub(crate) enum Left {
     Nothing,
-    // An entry of the primitive row is above the limit.
+    // An entry of the primitive row is above the limit, and so above the width.
     Large,
     // The list of the primitive row.
     Entries(Vec<FreeEntry>),
@@ -63,19 +65,21 @@ pub(crate) enum Left {
 #[derive(Drop)]
 pub(crate) struct Weighed {
     pub prospect: Prospect,
-    // None if nothing is left, or an entry above the limit.
+    // None if nothing is left, or an entry above the width.
     pub list: Option<Vec<FreeEntry>>,
 }
 
 impl Form {
-    /// The form of no rows. It takes no memory yet.
-    pub fn new(alloc: Global, columns: u16) -> Result<Form, NoMemory>
+    /// The form of no rows, which may have this width. It takes no memory yet.
+    pub fn new(alloc: Global, columns: u16, width: u64) -> Result<Form, NoMemory>
         requires some { 0 < columns }
         requires at_most { columns ≤ 2048 }
-        ensures { IfOk result (λ form. form ≡ record { n = columns; rows = [] }) }
+        requires width { IsWidth width }
+        ensures { IfOk result (λ form. form ≡ record { n = columns; width = width; rows = [] }) }
     {
         Ok(Form {
             columns,
+            width,
             common: 1,
             greatest_bound: 0,
             alloc,
@@ -93,21 +97,23 @@ impl Form {
 
         // What is true of every form.
         ensures form { IsSmallForm self.now.n self.now.rows }
-        ensures narrow { IsNarrow most_width self.now.rows }
+        ensures narrow { IsNarrow self.now.width self.now.rows }
     {
         scale(row, self.common);
         reduce(row, &self.rows);
     }
 
-    // The primitive row that the form leaves of a row of zeros and ones.
-    pub(crate) fn settle(&self, row: &mut [i128]) -> Result<Left, NoMemory>
+    // The primitive row that the form leaves of a row of zeros and ones, if it has no entry above the limit.
+    pub(crate) fn settle(&self, row: &mut [i128], limit: u64) -> Result<Left, NoMemory>
         requires length { length row.old ≡ self.now.n }
         requires bits { (j : ℕ) → unsigned_abs (number_at row.old j) ≤ 1 }
+        requires limit { (self.now.width ≤ limit) × (limit ≤ most_width) }
         ensures left { IfOk result (λ left. IsLeft self.now row.old left) }
+        ensures within { IfOk result (λ left. IsLeftWithin self.now.n limit left) }
 
         // What is true of every form.
         ensures form { IsSmallForm self.now.n self.now.rows }
-        ensures narrow { IsNarrow most_width self.now.rows }
+        ensures narrow { IsNarrow self.now.width self.now.rows }
     {
         self.remainder(row);
         let mut list = list_of(self.alloc, row)?;
@@ -115,7 +121,7 @@ impl Form {
             return Ok(Left::Nothing);
         }
         make_primitive(&mut list);
-        if !are_small(&list) {
+        if !are_within(&list, limit) {
             return Ok(Left::Large);
         }
         Ok(Left::Entries(list))
@@ -131,9 +137,9 @@ impl Form {
 
         // What is true of every form.
         ensures form { IsSmallForm self.now.n self.now.rows }
-        ensures narrow { IsNarrow most_width self.now.rows }
+        ensures narrow { IsNarrow self.now.width self.now.rows }
     {
-        match self.settle(row)? {
+        match self.settle(row, self.width)? {
             Left::Nothing => Ok(Weighed {
                 prospect: self.as_it_is(),
                 list: None,
@@ -147,6 +153,7 @@ impl Form {
                 let prospect = look_ahead(
                     &self.rows,
                     self.columns,
+                    self.width,
                     self.common,
                     self.greatest_bound,
                     &new,
@@ -186,6 +193,7 @@ impl Form {
         requires bits { (j : ℕ) → unsigned_abs (number_at row.old j) ≤ 1 }
         ensures grows { IfOk result (λ grown. Grows self.old row.old grown self.new) }
         ensures n { self.new.n ≡ self.old.n }
+        ensures width { self.new.width ≡ self.old.width }
         ensures err { OnErr result (self.new ≡ self.old) }
     {
         let Weighed { prospect, list } = self.weigh(row)?;
@@ -206,10 +214,11 @@ impl Form {
         requires narrow { ¬ (GrowsWide self.old row.old) }
         ensures reduced { OnOk result (IsReducedForm self.old.n (self.old.rows ++ row.old ∷ []) self.new.rows) }
         ensures n { self.new.n ≡ self.old.n }
+        ensures width { self.new.width ≡ self.old.width }
         ensures stays { result ≡ Ok false → self.new ≡ self.old }
         ensures err { OnErr result (self.new ≡ self.old) }
     {
-        let new = match self.settle(row)? {
+        let new = match self.settle(row, self.width)? {
             Left::Nothing => return Ok(false),
             Left::Large => unreachable!(),
             Left::Entries(new) => new,
@@ -226,6 +235,7 @@ impl Form {
         requires narrow { ¬ (GrowsWide self.old (row_of self.old.n new.items)) }
         ensures reduced { OnOk result (IsReducedForm self.old.n (self.old.rows ++ row_of self.old.n new.items ∷ []) self.new.rows) }
         ensures n { self.new.n ≡ self.old.n }
+        ensures width { self.new.width ≡ self.old.width }
         ensures err { OnErr result (self.new ≡ self.old) }
     {
         self.rows.reserve(1)?;
@@ -248,6 +258,7 @@ impl Form {
         ensures grows { IfOk result (λ grown. Grows self.old (map pos row.now) grown self.new) }
         ensures stands { IfOk result (λ grown. (rows : List (List ℤ)) → IsReducedForm self.old.n rows self.old.rows → GrowsForRows rows (map pos row.now) self.old grown self.new) }
         ensures n { self.new.n ≡ self.old.n }
+        ensures width { self.new.width ≡ self.old.width }
 
         // Both directions of the two answers that leave the form as it is.
         ensures same { IfOk result (λ grown. (grown ≡ Same) ↔ InSpan self.old.rows (map pos row.now)) }
@@ -287,6 +298,14 @@ impl Form {
         ties_some_but(&self.rows, several)
     }
 
+    /// How wide the form may be.
+    pub fn width(&self) -> u64
+        ensures is { result ≡ self.now.width }
+        ensures fits { IsWidth self.now.width }
+    {
+        self.width
+    }
+
     /// The number of columns.
     pub fn columns(&self) -> u16
         ensures columns { result ≡ self.now.n }
@@ -294,8 +313,9 @@ impl Form {
         // What is true of every form.
         ensures some { 0 < self.now.n }
         ensures at_most { self.now.n ≤ 2048 }
+        ensures fits { IsWidth self.now.width }
         ensures form { IsSmallForm self.now.n self.now.rows }
-        ensures narrow { IsNarrow most_width self.now.rows }
+        ensures narrow { IsNarrow self.now.width self.now.rows }
     {
         self.columns
     }
@@ -304,8 +324,9 @@ impl Form {
     pub fn rank(&self) -> u16
         ensures rank { result ≡ length self.now.rows }
         ensures at_most { length self.now.rows ≤ self.now.n }
+        ensures fits { IsWidth self.now.width }
         ensures form { IsSmallForm self.now.n self.now.rows }
-        ensures narrow { IsNarrow most_width self.now.rows }
+        ensures narrow { IsNarrow self.now.width self.now.rows }
     {
         self.rows.len() as u16
     }
@@ -347,6 +368,7 @@ impl Form {
         let rows = copy_rows(self.alloc, &self.rows, self.columns)?;
         Ok(Form {
             columns: self.columns,
+            width: self.width,
             common: self.common,
             greatest_bound: greatest_bound(&rows),
             alloc: self.alloc,

@@ -9,8 +9,8 @@ ghost use Rattle.sum_basis.specs.Sparse.{entry_at, row_of, rows_of, entries_of, 
 
 use crate::cleared_list::{bound_of, clear_into, value_at};
 use crate::editing::take_entries;
-use crate::elimination::LIMIT;
 use crate::sparse::{FreeEntry, SparseRow};
+use audit_types::MOST_WIDTH;
 use int_rows::lcm_within;
 use std::mem;
 
@@ -221,14 +221,14 @@ pub fn greatest_bound(rows: &[SparseRow]) -> u128
     greatest
 }
 
-/// The least common multiple of the pivot entries, if it is within the limit.
+/// The least common multiple of the pivot entries, if it is within the greatest width.
 pub fn common_multiple(rows: &[SparseRow]) -> Option<i128>
     requires { AllByRecursion (λ r. (pos 0 <ℤ r.head) × (unsigned_abs r.head ≤ 2 ^ 56)) rows.now }
     ensures { (m : ℕ) × IsLeastCommonMultiple (map (λ r. unsigned_abs r.head) rows.now) m × MatchOption result (2 ^ 56 < m) (λ x. (x ≡ pos m) × (0 < m) × (m ≤ 2 ^ 56)) }
 {
     let mut common = 1;
     for row in rows {
-        common = lcm_within(common, row.head, LIMIT as i128)?;
+        common = lcm_within(common, row.head, MOST_WIDTH as i128)?;
     }
     Some(common)
 }

@@ -16,10 +16,10 @@ use crate::elimination::write_set;
 use crate::form::{Form, Left, Weighed};
 use crate::guarding::{has_own_unit, spans_after};
 use crate::sparse::FreeEntry;
-use audit_types::{NoMemory, RowSet};
+use audit_types::{MOST_WIDTH, NoMemory, RowSet};
 
 /// A set, and the list that the form leaves of its row, if that is known. There is none if the row lies in the span, or has an entry
-/// above the limit.
+/// above the greatest width.
 #[derive(Drop)]
 pub(crate) struct KeptSet {
     pub rows: RowSet,
@@ -72,7 +72,9 @@ fn settle(form: &Form, kept: &mut KeptSet, row: &mut [i128]) -> Result<(), NoMem
         return Ok(());
     }
     write_set(row, &kept.rows);
-    kept.list = match form.settle(row)? {
+    // What every form is: its width isn't above the greatest.
+    let _ = form.columns();
+    kept.list = match form.settle(row, MOST_WIDTH)? {
         Left::Nothing => None,
         Left::Large => None,
         Left::Entries(list) => Some(list),
@@ -137,6 +139,7 @@ pub(crate) fn join_list(
     requires kept { AllByRecursion (IsKeptOf form.old) kept.old.items }
     ensures reduced { OnOk result (IsReducedForm form.old.n (form.old.rows ++ row_of form.old.n new.items ∷ []) form.new.rows) }
     ensures n { form.new.n ≡ form.old.n }
+    ensures width { form.new.width ≡ form.old.width }
     ensures err { OnErr result (form.new ≡ form.old) }
     ensures kept { AllByRecursion (IsKeptOf form.new) kept.new.items }
 {

@@ -5,14 +5,15 @@ ghost use Rattle.std.specs.Vec.{vec_len, vec_capacity};
 ghost use Rattle.sum_basis.specs.Sparse.{scaled, IsMadeList};
 
 use crate::cleared_list::over_content;
-use crate::elimination::LIMIT;
 use crate::sparse::FreeEntry;
 
 /// Whether no value is above the limit.
-pub fn are_small(entries: &[FreeEntry]) -> bool
-    ensures { IsTrue result ↔ AllByRecursion (λ e. unsigned_abs e.value ≤ 2 ^ 56) entries.now }
+pub fn are_within(entries: &[FreeEntry], limit: u64) -> bool
+    ensures { IsTrue result ↔ AllByRecursion (λ e. unsigned_abs e.value ≤ limit) entries.now }
 {
-    entries.iter().all(|e| e.value.unsigned_abs() <= LIMIT)
+    entries
+        .iter()
+        .all(|e| e.value.unsigned_abs() <= limit as u128)
 }
 
 /// A number with the other sign.

@@ -1,4 +1,4 @@
-//! Whether a row over its content is within the limit. Only its pivot entry is divided.
+//! Whether a row over its content is within a limit. Only its pivot entry is divided.
 ghost use Rattle.std.specs.Prelude.{◌≡◌, ◌↔◌, ℕ, ◌*◌, ◌<◌, ◌≤◌, ◌+◌, ◌^◌, ℤ, pos, ◌<ℤ◌, List, ◌∷◌, map, unsigned_abs, IsTrue, MatchOption};
 ghost use Rattle.std.specs.List.{AllByRecursion};
 ghost use Rattle.audit_types.specs.Form.{IsContent};
@@ -6,17 +6,21 @@ ghost use Rattle.sum_basis.specs.declared.sparse.FreeEntry.{FreeEntry};
 ghost use Rattle.sum_basis.specs.Sparse.{IsOverContent};
 
 use crate::cleared_list::bound_of;
-use crate::elimination::LIMIT;
 use crate::sparse::FreeEntry;
 use int_rows::Divisor;
 
-// The least content that brings a size within the limit.
-fn least_content(size: u128) -> u128
-    requires { size ≤ 2 ^ 126 }
-    ensures enough { size ≤ result * 2 ^ 56 }
-    ensures least { result * 2 ^ 56 < size + 2 ^ 56 }
+// The least content that brings a size, other than 0, within the limit.
+fn least_content(size: u128, limit: u64) -> u128
+    requires size { (0 < size) × (size ≤ 2 ^ 126) }
+    requires limit { 0 < limit }
+    ensures enough { size ≤ result * limit }
+    ensures least { result * limit < size + limit }
 {
-    (size + (LIMIT - 1)) / LIMIT
+    let limit = limit as u128;
+    if size <= limit {
+        return 1;
+    }
+    (size + (limit - 1)) / limit
 }
 
 fn is_below(divisor: &Divisor, least: u128) -> bool
@@ -48,12 +52,13 @@ fn content_from(head: i128, entries: &[FreeEntry], least: u128) -> Option<Diviso
 }
 
 /// The pivot entry over the content of it and the values. None if it or a value, over the content, is above the limit.
-pub fn head_within(head: i128, entries: &[FreeEntry]) -> Option<i128>
+pub fn head_within(head: i128, entries: &[FreeEntry], limit: u64) -> Option<i128>
+    requires limit { 0 < limit }
     requires head { (pos 0 <ℤ head) × (unsigned_abs head ≤ 2 ^ 126) }
     requires entries { AllByRecursion (λ e. unsigned_abs e.value ≤ 2 ^ 126) entries.now }
-    ensures within { (over : ℤ) × (made : List FreeEntry) × IsOverContent head entries.now over made × MatchOption result (¬ ((unsigned_abs over ≤ 2 ^ 56) × AllByRecursion (λ e. unsigned_abs e.value ≤ 2 ^ 56) made)) (λ h. (h ≡ over) × (unsigned_abs over ≤ 2 ^ 56) × AllByRecursion (λ e. unsigned_abs e.value ≤ 2 ^ 56) made) }
+    ensures within { (over : ℤ) × (made : List FreeEntry) × IsOverContent head entries.now over made × MatchOption result (¬ ((unsigned_abs over ≤ limit) × AllByRecursion (λ e. unsigned_abs e.value ≤ limit) made)) (λ h. (h ≡ over) × (unsigned_abs over ≤ limit) × AllByRecursion (λ e. unsigned_abs e.value ≤ limit) made) }
 {
     let most = bound_of(head, entries);
-    let divisor = content_from(head, entries, least_content(most))?;
+    let divisor = content_from(head, entries, least_content(most, limit))?;
     Some(divisor.quotient(head))
 }

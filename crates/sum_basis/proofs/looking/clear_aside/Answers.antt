@@ -7,7 +7,8 @@ use Rattle.std.proofs.lemmas.List.{length-map}
 use Rattle.int_rows.specs.PrimitiveLaws.{zero_from_bits}
 use Rattle.sum_basis.specs.declared.sparse.FreeEntry.{FreeEntry}
 use Rattle.sum_basis.specs.Sparse.{entry_at, row_of, entries_of, scaled}
-use Rattle.sum_basis.proofs.SparseRows.{listed_from, listed_to, pivot_entry-row_of, small_values, small_row}
+use Rattle.sum_basis.proofs.Sizes.{within_more}
+use Rattle.sum_basis.proofs.SparseRows.{listed_from, listed_to, pivot_entry-row_of, values_within, row_within}
 use Rattle.sum_basis.proofs.ListContents.{none}
 use Rattle.sum_basis.proofs.KeptRows.{stands_earlier, cleared_as_it_is, lone_by_length}
 use Rattle.sum_basis.proofs.ClearedLists.{result_of_bits}
@@ -31,7 +32,7 @@ returns-then-times-eq0-clause-cleared c =
       cleared_as_it_is n r c.args.new.now c.requires.kept c.requires.new c.requires.zero c.requires.primitive
           (ap (λ l. entry_at l (get_or c.args.new.now 0 none).place) (sym c.deref.ensures.value) ∙ nothing),
       (
-        c.requires.small,
+        c.requires.within,
         to_z-of_z w128 r.head head ∙ sym (pivot_entry-row_of 0 n (record { place = r.pivot; value = r.head }) r.free.items c.requires.kept.listed),
         lone_by_length n r.free.len
             (record { place = r.pivot; value = r.head }) r.free.items c.is_empty.result c.requires.kept.listed r.free.ok.0 c.is_empty.ensures,
@@ -59,7 +60,7 @@ returns-in_err-head-clause-cleared c =
     let e : FreeEntry = record { place = r.pivot; value = all.0 } in (
       row_of n (e ∷ all.1),
       made.cleared,
-      rw c.from_residual.ensures (λ small. all.3 (small_values n (e ∷ all.1) made.listed small)),
+      rw c.from_residual.ensures (λ within. all.3 (values_within c.args.width n (e ∷ all.1) made.listed within)),
     )
 
 pub returns-clause-cleared : goal.returns-clause-cleared
@@ -82,8 +83,11 @@ returns-clause-cleared c =
       row_of n (e ∷ all.1),
       made.cleared,
       (
-        small_row n (e ∷ all.1) made.listed (all.3.1, all.3.2),
+        row_within c.args.width n (e ∷ all.1) made.listed (all.3.1, all.3.2),
         to_z-of_z w128 c.in_ok-head.head head ∙ all.3.0 ∙ sym (pivot_entry-row_of 0 n e all.1 made.listed),
         lone_by_length n out.len e all.1 c.is_empty-2.result made.listed length_is c.is_empty-2.ensures,
       ),
     )
+
+pub combine_at_pivot-combined-requires-clause-small : goal.combine_at_pivot-combined-requires-clause-small
+combine_at_pivot-combined-requires-clause-small c = within_more c.args.width _ _ c.requires.width.1 c.requires.within

@@ -1,4 +1,4 @@
-use Rattle.std.proofs.Common.{◌≡◌, ℕ, ◌*◌, ◌≤◌, ◌^◌, ℤ, pos, List, get_or, refl, sym, ap, ◌∙◌, subst, arith, rules}
+use Rattle.std.proofs.Common.{◌≡◌, ℕ, ◌*◌, ◌≤◌, ℤ, pos, List, get_or, refl, sym, ap, ◌∙◌, subst, arith, rules}
 use Rattle.std.specs.Prelude.{FitsSigned, unsigned_abs, ◌*ℤ◌, ◌<ℤ◌, ◌≤ℤ◌}
 use Rattle.std.specs.Int.{w128}
 use Rattle.std.proofs.lemmas.Int.{ints, to_z-of_z, unsigned_abs-mul}
@@ -17,12 +17,13 @@ product-requires-clause-x c =
     ((is_led c.args.columns c.args.new.now c.requires.new.some c.requires.new.listed).small c.requires.new.small)
 
 pub product-requires-clause-y : goal.product-requires-clause-y
-product-requires-clause-y c = rw (to_z-of_z w128 c.args.common c.ranges.common) c.requires.within
+product-requires-clause-y c =
+    rw (to_z-of_z w128 c.args.common c.ranges.common) (let within = c.requires.within in let fits = c.requires.width.1 in omega arith)
 
--- a product of positive numbers within the limit
-within_limit : (n : ℕ) (new : List FreeEntry) (by common x y p : ℤ) → IsNew n new → by ≡ (get_or new 0 none).value → x ≡ by → y ≡ common → pos 0 <ℤ common →
-    p ≡ x *ℤ y → p ≤ℤ pos (2 ^ 56) → unsigned_abs (get_or new 0 none).value * unsigned_abs common ≤ 2 ^ 56
-within_limit n new by common x y p is_new e f g positive is most =
+-- a product of positive numbers within the width
+within_limit : (n width : ℕ) (new : List FreeEntry) (by common x y p : ℤ) → IsNew n new → by ≡ (get_or new 0 none).value → x ≡ by → y ≡ common → pos 0 <ℤ common →
+    p ≡ x *ℤ y → p ≤ℤ pos width → unsigned_abs (get_or new 0 none).value * unsigned_abs common ≤ width
+within_limit n width new by common x y p is_new e f g positive is most =
     let led = is_led n new is_new.some is_new.listed in
     let leads : pos 0 <ℤ (get_or new 0 none).value = subst (λ z. pos 0 <ℤ z) led.pivot_entry_is is_new.primitive.leading in
     let above = positive_times (get_or new 0 none).value common leads positive in
@@ -35,11 +36,11 @@ look_by_bounds-requires-clause-multiple c =
     let fits : FitsSigned w128 (get_or c.args.new.now 0 (record { place = 0; value = pos 0 })).value = search rules in
     let product : FitsSigned w128 c.product.result = search rules in
     let is = to_z-of_z w128 c.product.result product in
-    let most : c.product.result ≤ℤ pos (2 ^ 56) = omega (arith, ints) in (
+    let most : c.product.result ≤ℤ pos c.args.width = omega (arith, ints) in (
       unsigned_abs c.args.common,
       c.requires.multiple.multiple,
       size_positive c.args.common c.requires.positive,
-      within_limit c.args.columns c.args.new.now _ c.args.common _ _ c.product.result c.requires.new refl
+      within_limit c.args.columns c.args.width c.args.new.now _ c.args.common _ _ c.product.result c.requires.new refl
           (to_z-of_z w128 (get_or c.args.new.now 0 none).value fits)
           (to_z-of_z w128 c.args.common c.ranges.common) c.requires.positive c.product.ensures.exact most,
     )

@@ -10,9 +10,9 @@ use Rattle.audit_types.specs.Form.{IsPrimitive, IsLeastCommonMultiple, pivot, pi
 use Rattle.sum_basis.specs.declared.sparse.FreeEntry.{FreeEntry}
 use Rattle.sum_basis.specs.declared.sparse.SparseRow.{SparseRow}
 use Rattle.sum_basis.specs.Basis.{Echelon}
-use Rattle.sum_basis.specs.Elimination.{IsSmall}
+use Rattle.sum_basis.specs.Elimination.{IsWithin}
 use Rattle.sum_basis.specs.Sparse.{row_of, rows_of, entries_of, IsKept, IsNew}
-use Rattle.sum_basis.proofs.Sizes.{small_at}
+use Rattle.sum_basis.proofs.Sizes.{within_at}
 use Rattle.sum_basis.proofs.ListContents.{none}
 use Rattle.sum_basis.proofs.ClearedLists.{is_led}
 use Rattle.sum_basis.proofs.KeptRows.{of_row, of_whole_row, nothing_at, lone_new, cleared_at, row_within}
@@ -21,12 +21,13 @@ use Rattle.sum_basis.proofs.looking.look_at_each.Goals as goal
 use Rattle.sum_basis.proofs.LeastMultiples.{positive_size}
 
 -- at the start
-start : (n : ℕ) (rows : List SparseRow) (new : List FreeEntry) (common : ℤ) → IsNew n new → common ≡ (get_or new 0 none).value →
-    IsLooked n (rows_of n rows) (row_of n new) 0 common (nat_eq (length new) 1)
-start n rows new common is_new e =
+start : (n width : ℕ) (rows : List SparseRow) (new : List FreeEntry) (common : ℤ) → IsNew n new → IsWithin width (row_of n new)
+    → common ≡ (get_or new 0 none).value → IsLooked n width (rows_of n rows) (row_of n new) 0 common (nat_eq (length new) 1)
+start n width rows new common is_new within e =
     let led = is_led n new is_new.some is_new.listed in
     let lone = lone_new n new is_new in
-    nothing_looked n (rows_of n rows) (row_of n new) common (nat_eq (length new) 1) is_new.primitive (rw e (led.small is_new.small))
+    nothing_looked n width (rows_of n rows) (row_of n new) common (nat_eq (length new) 1) is_new.primitive
+    (rw e (subst (λ z. unsigned_abs z ≤ width) led.pivot_entry_is (within_at width (row_of n new) (pivot (row_of n new)) within)))
     (e ∙ sym led.pivot_entry_is)
     (λ t. lone.0 (eqb-true (length new) 1 t), λ is. eq-eqb (length new) 1 (lone.1 is))
 
@@ -34,9 +35,9 @@ pub loop-row-init : goal.loop-row-init
 loop-row-init c =
     let fits : FitsSigned w128 (get_or c.args.new.now 0 (record { place = 0; value = pos 0 })).value = search rules in
     record {
-      looked = start c.args.columns c.args.rows.now c.args.new.now _ c.requires.new (to_z-of_z w128 (get_or c.args.new.now 0 none).value fits);
-      room =
-          c.requires.room;
+      looked = start c.args.columns c.args.width c.args.rows.now c.args.new.now _ c.requires.new c.requires.new_within
+          (to_z-of_z w128 (get_or c.args.new.now 0 none).value fits);
+      room = c.requires.room;
     }
 
 pub clear_aside-requires-clause-primitive : goal.clear_aside-requires-clause-primitive
@@ -45,9 +46,9 @@ clear_aside-requires-clause-primitive c =
     (IsPrimitive c.args.columns) c.args.columns c.args.rows.now c.loop-row.row-index c.row-item.result c.loop-row-test.true c.row-item.is
     c.requires.form.primitive
 
-pub clear_aside-requires-clause-small : goal.clear_aside-requires-clause-small
-clear_aside-requires-clause-small c =
-    of_whole_row IsSmall c.args.columns c.args.rows.now c.loop-row.row-index c.row-item.result c.loop-row-test.true c.row-item.is c.requires.form.entries
+pub clear_aside-requires-clause-within : goal.clear_aside-requires-clause-within
+clear_aside-requires-clause-within c =
+    of_whole_row (IsWithin c.args.width) c.args.columns c.args.rows.now c.loop-row.row-index c.row-item.result c.loop-row-test.true c.row-item.is c.requires.form.entries
 
 pub clear_aside-requires-clause-zero : goal.clear_aside-requires-clause-zero
 clear_aside-requires-clause-zero c =
@@ -60,17 +61,17 @@ pub returns-in_default-clause-foresees : goal.returns-in_default-clause-foresees
 returns-in_default-clause-foresees c =
     let n = c.args.columns in
     let rows = c.args.rows.now in
-    let form : Echelon = record { n = n; rows = rows_of n rows } in
+    let form : Echelon = record { n = n; width = c.args.width; rows = rows_of n rows } in
     let all = rw c.in_default.is at c.clear_aside.ensures.cleared in
     looked_large form (row_of n c.args.new.now) c.requires.form c.requires.new.primitive c.requires.zero c.loop-row.row-index
     (to_z w128 c.loop-row.common-bits) c.loop-row.fixing all.0 (row_within n rows c.loop-row.row-index c.loop-row-test.true) c.loop-row.invariant.looked
     (cleared_at n (row_of n c.args.new.now) rows c.loop-row.row-index c.row-item.result all.0 c.loop-row-test.true c.row-item.is all.1) all.2
 
--- a positive pivot entry of a small row
-head_within : (n : ℕ) (head : ℤ) (made : List ℤ) → IsPrimitive n made → IsSmall made → head ≡ pivot_entry made → (pos 0 <ℤ head) × (head ≤ℤ pos (2 ^ 56))
-head_within n head made p small e =
+-- a positive pivot entry of a row within the width
+head_within : (n width : ℕ) (head : ℤ) (made : List ℤ) → width ≤ 2 ^ 56 → IsPrimitive n made → IsWithin width made → head ≡ pivot_entry made → (pos 0 <ℤ head) × (head ≤ℤ pos (2 ^ 56))
+head_within n width head made fits p within e =
     let positive : pos 0 <ℤ head = subst (λ z. pos 0 <ℤ z) (sym e) p.leading in
-    let size : unsigned_abs head ≤ 2 ^ 56 = rw e (small_at made (pivot made) small) in
+    let size : unsigned_abs head ≤ width = rw e (within_at width made (pivot made) within) in
     let is = positive_size head positive in
     (positive, omega (arith, ints))
 
@@ -78,7 +79,7 @@ pub lcm_within-requires-clause-b : goal.lcm_within-requires-clause-b
 lcm_within-requires-clause-b c =
     let head : FitsSigned w128 c.in-Some.cleared.head = search rules in
     let all = rw c.in-Some.is at c.clear_aside.ensures.cleared in
-    rw (to_z-of_z w128 c.in-Some.cleared.head head) (head_within c.args.columns c.in-Some.cleared.head all.0 all.1.primitive all.2.0 all.2.1)
+    rw (to_z-of_z w128 c.in-Some.cleared.head head) (head_within c.args.columns c.args.width c.in-Some.cleared.head all.0 c.requires.width.1 all.1.primitive all.2.0 all.2.1)
 
 -- the multiple of the two numbers as they are
 multiple_of : (common head : ℤ) (made : List ℤ) (m : ℕ) → FitsSigned w128 head → head ≡ pivot_entry made →
@@ -91,7 +92,7 @@ pub returns-in_default-lcm_within-clause-foresees : goal.returns-in_default-lcm_
 returns-in_default-lcm_within-clause-foresees c =
     let n = c.args.columns in
     let rows = c.args.rows.now in
-    let form : Echelon = record { n = n; rows = rows_of n rows } in
+    let form : Echelon = record { n = n; width = c.args.width; rows = rows_of n rows } in
     let head : FitsSigned w128 c.in-Some.cleared.head = search rules in
     let all = rw c.in-Some.is at c.clear_aside.ensures.cleared in
     let least = rw c.in_default-lcm_within.is at c.lcm_within.ensures in
@@ -110,7 +111,7 @@ loop-row-preserved c =
     let least = rw c.in-Some-lcm_within.is at c.lcm_within.ensures in
     record {
       looked =
-          one_more_looked n (rows_of n rows) (row_of n c.args.new.now) c.loop-row.row-index
+          one_more_looked n c.args.width (rows_of n rows) (row_of n c.args.new.now) c.loop-row.row-index
           (to_z w128 c.loop-row.common-bits) c.loop-row.fixing all.0 least.0 _ c.in-Some.cleared.lone c.either-fixing.result
           (row_within n rows c.loop-row.row-index c.loop-row-test.true) c.loop-row.invariant.looked
           all.1.primitive
@@ -125,32 +126,32 @@ pub returns-then-fixing-clause-foresees : goal.returns-then-fixing-clause-forese
 returns-then-fixing-clause-foresees c =
     let n = c.args.columns in
     let rows = c.args.rows.now in
-    let form : Echelon = record { n = n; rows = rows_of n rows } in
+    let form : Echelon = record { n = n; width = c.args.width; rows = rows_of n rows } in
     let past : length form.rows ≤ c.loop-row.row-index = let l = length-map rows (λ (x : SparseRow). row_of n (entries_of x)) in omega arith in
     let l = c.loop-row.invariant.looked in
     let new = row_of n c.args.new.now in (
       foreseen form new c.requires.form c.requires.new.primitive c.requires.zero c.loop-row.row-index
-          (to_z w128 c.loop-row.common-bits) c.loop-row.fixing past l c.requires.new.small,
+          (to_z w128 c.loop-row.common-bits) c.loop-row.fixing past l c.requires.new_within,
       looked_grows form new c.requires.form c.requires.new.primitive c.requires.zero c.loop-row.row-index
-          (to_z w128 c.loop-row.common-bits) c.loop-row.fixing past l c.requires.new.small,
+          (to_z w128 c.loop-row.common-bits) c.loop-row.fixing past l c.requires.new_within,
       looked_fixing form new c.requires.form c.requires.new.primitive c.requires.zero c.loop-row.row-index
-          (to_z w128 c.loop-row.common-bits) c.loop-row.fixing past l c.requires.new.small c.if-fixing.true,
+          (to_z w128 c.loop-row.common-bits) c.loop-row.fixing past l c.requires.new_within c.if-fixing.true,
     )
 
 pub returns-else-fixing-clause-foresees : goal.returns-else-fixing-clause-foresees
 returns-else-fixing-clause-foresees c =
     let n = c.args.columns in
     let rows = c.args.rows.now in
-    let form : Echelon = record { n = n; rows = rows_of n rows } in
+    let form : Echelon = record { n = n; width = c.args.width; rows = rows_of n rows } in
     let past : length form.rows ≤ c.loop-row.row-index = let l = length-map rows (λ (x : SparseRow). row_of n (entries_of x)) in omega arith in
     let l = c.loop-row.invariant.looked in
     let new = row_of n c.args.new.now in (
       foreseen form new c.requires.form c.requires.new.primitive c.requires.zero c.loop-row.row-index
-          (to_z w128 c.loop-row.common-bits) c.loop-row.fixing past l c.requires.new.small,
+          (to_z w128 c.loop-row.common-bits) c.loop-row.fixing past l c.requires.new_within,
       looked_grows form new c.requires.form c.requires.new.primitive c.requires.zero c.loop-row.row-index
-          (to_z w128 c.loop-row.common-bits) c.loop-row.fixing past l c.requires.new.small,
+          (to_z w128 c.loop-row.common-bits) c.loop-row.fixing past l c.requires.new_within,
       looked_open form new c.requires.form c.requires.new.primitive c.requires.zero c.loop-row.row-index
-          (to_z w128 c.loop-row.common-bits) c.loop-row.fixing past l c.requires.new.small (λ t. true≢false (sym t ∙ c.if-fixing.false)),
+          (to_z w128 c.loop-row.common-bits) c.loop-row.fixing past l c.requires.new_within (λ t. true≢false (sym t ∙ c.if-fixing.false)),
     )
 
 pub clear_aside-requires-clause-kept : goal.clear_aside-requires-clause-kept

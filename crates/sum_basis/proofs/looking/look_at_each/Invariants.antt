@@ -6,6 +6,6 @@ use Rattle.sum_basis.proofs.looking.look_at_each.Given as goal
 
 abbrev pub invariant-loop-row : goal.invariant-loop-row
 invariant-loop-row l = record {
-  looked : IsLooked l.columns (rows_of l.columns l.rows) (row_of l.columns l.new) l.row-index l.common l.fixing;
+  looked : IsLooked l.columns l.fn.width (rows_of l.columns l.rows) (row_of l.columns l.new) l.row-index l.common l.fixing;
   room : l.columns ≤ vec_capacity l.room;
 }

@@ -6,6 +6,6 @@ use Rattle.sum_basis.proofs.looking.look_by_bounds.Given as goal
 
 abbrev pub invariant-loop-row : goal.invariant-loop-row
 invariant-loop-row l = record {
-  glanced : IsGlanced l.columns (rows_of l.columns l.rows) (row_of l.columns l.new) l.row-index l.fixing;
+  glanced : IsGlanced l.columns l.fn.width (rows_of l.columns l.rows) (row_of l.columns l.new) l.row-index l.fixing;
   room : l.columns ≤ vec_capacity l.room;
 }

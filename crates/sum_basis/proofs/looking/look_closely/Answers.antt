@@ -9,6 +9,7 @@ use Rattle.sum_basis.specs.declared.sparse.FreeEntry.{FreeEntry}
 use Rattle.sum_basis.specs.declared.sparse.SparseRow.{SparseRow}
 use Rattle.sum_basis.specs.Elimination.{IsSmall}
 use Rattle.sum_basis.specs.Sparse.{entry_at, row_of, entries_of, IsKept, scaled}
+use Rattle.sum_basis.proofs.Sizes.{within_more}
 use Rattle.sum_basis.proofs.SparseRows.{listed_from, listed_to, small_values}
 use Rattle.sum_basis.proofs.ListContents.{none}
 use Rattle.sum_basis.proofs.ClearedLists.{entry_small}
@@ -31,8 +32,8 @@ are_parallel-requires-clause-by c =
     let fits : FitsSigned w128 (get_or c.args.new.now 0 (record { place = 0; value = pos 0 })).value = search rules in
     first_small c.args.columns c.args.new.now _ c.requires.new (to_z-of_z w128 (get_or c.args.new.now 0 none).value fits)
 
-pub returns-then-is_surely_small-clause-room : goal.returns-then-is_surely_small-clause-room
-returns-then-is_surely_small-clause-room c = c.requires.room
+pub returns-then-is_surely_within-clause-room : goal.returns-then-is_surely_within-clause-room
+returns-then-is_surely_within-clause-room c = c.requires.room
 
 pub returns-then-times-eq0-clause-room : goal.returns-then-times-eq0-clause-room
 returns-then-times-eq0-clause-room c = c.requires.room
@@ -46,8 +47,8 @@ clear_aside-requires-clause-kept c = c.requires.kept
 pub clear_aside-requires-clause-primitive : goal.clear_aside-requires-clause-primitive
 clear_aside-requires-clause-primitive c = c.requires.primitive
 
-pub clear_aside-requires-clause-small : goal.clear_aside-requires-clause-small
-clear_aside-requires-clause-small c = c.requires.small
+pub clear_aside-requires-clause-within : goal.clear_aside-requires-clause-within
+clear_aside-requires-clause-within c = c.requires.within
 
 pub clear_aside-requires-clause-new : goal.clear_aside-requires-clause-new
 clear_aside-requires-clause-new c = c.requires.new
@@ -66,41 +67,42 @@ times_small : (n : ℕ) (r : SparseRow) (place : ℕ) (list : List FreeEntry) (f
     list ≡ r.free.items → found ≡ entry_at list place → times ≡ found → unsigned_abs times ≤ 2 ^ 56
 times_small n r place list found times kept small l is e = rw (e, is, l) (entry_small n r place kept small)
 
-pub is_surely_small-requires : goal.is_surely_small-requires
-is_surely_small-requires c =
+pub is_surely_within-requires : goal.is_surely_within-requires
+is_surely_within-requires c =
     let fits : FitsSigned w128 (get_or c.args.new.now 0 (record { place = 0; value = pos 0 })).value = search rules in
-    record { by = first_small c.args.columns c.args.new.now _ c.requires.new (to_z-of_z w128 (get_or c.args.new.now 0 none).value fits) }
+    record { width = c.requires.width.1; by = first_small c.args.columns c.args.new.now _ c.requires.new (to_z-of_z w128 (get_or c.args.new.now 0 none).value fits) }
 
 pub are_parallel-requires-clause-first : goal.are_parallel-requires-clause-first
 are_parallel-requires-clause-first c =
-    subst (AllByRecursion (λ (e : FreeEntry). unsigned_abs e.value ≤ 2 ^ 56)) (sym c.deref-then-is_surely_small.ensures.value)
-    (small_values c.args.columns (entries_of c.args.row.now) c.requires.kept.listed c.requires.small).1
+    subst (AllByRecursion (λ (e : FreeEntry). unsigned_abs e.value ≤ 2 ^ 56)) (sym c.deref-then-is_surely_within.ensures.value)
+    (small_values c.args.columns (entries_of c.args.row.now) c.requires.kept.listed (within_more c.args.width _ _ c.requires.width.1 c.requires.within)).1
 
 pub are_parallel-requires-clause-times : goal.are_parallel-requires-clause-times
 are_parallel-requires-clause-times c =
     let times : FitsSigned w128 c.value_at-times.result = search rules in
-    times_small c.args.columns c.args.row.now _ c.deref.result.now c.value_at-times.result _ c.requires.kept c.requires.small c.deref.ensures.value
+    times_small c.args.columns c.args.row.now _ c.deref.result.now c.value_at-times.result _ c.requires.kept
+    (within_more c.args.width _ _ c.requires.width.1 c.requires.within) c.deref.ensures.value
     c.value_at-times.ensures
     (to_z-of_z w128 c.value_at-times.result times)
 
 pub are_parallel-requires-clause-second : goal.are_parallel-requires-clause-second
 are_parallel-requires-clause-second c = small_values c.args.columns c.args.new.now c.requires.new.listed c.requires.new.small
 
-pub returns-then-is_surely_small-clause-cleared : goal.returns-then-is_surely_small-clause-cleared
-returns-then-is_surely_small-clause-cleared c =
+pub returns-then-is_surely_within-clause-cleared : goal.returns-then-is_surely_within-clause-cleared
+returns-then-is_surely_within-clause-cleared c =
     let by : FitsSigned w128 (get_or c.args.new.now 0 (record { place = 0; value = pos 0 })).value = search rules in
     let times : FitsSigned w128 c.value_at-times.result = search rules in
     let is = to_z-of_z w128 c.value_at-times.result times in
-    let list = c.deref-then-is_surely_small.ensures.value in
+    let list = c.deref-then-is_surely_within.ensures.value in
     let told = c.are_parallel.ensures in
     let first = to_z w128 (of_z w128 (get_or c.args.new.now 0 none).value) in
     let found = to_z w128 (of_z w128 c.value_at-times.result) in
     by_bounds c.args.columns c.args.row.now c.args.new.now c.requires.kept c.requires.primitive c.requires.new c.requires.zero c.args.most c.requires.most first
-    (to_z-of_z w128 (get_or c.args.new.now 0 none).value by) found c.are_parallel.result
+    (to_z-of_z w128 (get_or c.args.new.now 0 none).value by) c.args.width found c.are_parallel.result
     (is ∙ c.value_at-times.ensures ∙ ap (λ l. entry_at l (get_or c.args.new.now 0 none).place) c.deref.ensures.value)
     (λ z. c.if-times-eq0.false (ap (of_z w128) (sym is ∙ z)))
-    (subst (λ (size : ℕ). unsigned_abs first * c.args.row.now.most + size * c.args.most ≤ 2 ^ 56) c.unsigned_abs.ensures.value
-    (c.is_surely_small.ensures c.if-is_surely_small.true))
+    (subst (λ (size : ℕ). unsigned_abs first * c.args.row.now.most + size * c.args.most ≤ c.args.width) c.unsigned_abs.ensures.value
+    (c.is_surely_within.ensures c.if-is_surely_within.true))
     (λ yes. ap (map (scaled first)) (sym list) ∙ told.0 yes, λ same. told.1 (ap (map (scaled first)) list ∙ same))
 
 pub returns-then-times-eq0-clause-cleared : goal.returns-then-times-eq0-clause-cleared
@@ -113,7 +115,7 @@ returns-then-times-eq0-clause-cleared c =
       cleared_as_it_is n r c.args.new.now c.requires.kept c.requires.new c.requires.zero c.requires.primitive
           (ap (λ l. entry_at l (get_or c.args.new.now 0 none).place) (sym c.deref.ensures.value) ∙ nothing),
       (
-        c.requires.small,
+        c.requires.within,
         lone_by_length n r.free.len (record {
           place = r.pivot;
           value =

@@ -1,7 +1,12 @@
-use Rattle.std.proofs.Common.{[]}
-use Rattle.audit_core.proofs.SeenColumns.{decided_guarded}
+use Rattle.audit_core.proofs.SeenColumns.{judged_maximum, decided_maximum}
 use Rattle.audit_core.proofs.guarded_maxima.GuardedMaximaColumnAudit.probe.Goals as goal
+
+pub returns-clause-judged : goal.returns-clause-judged
+returns-clause-judged c =
+    judged_maximum c.self.inside.maxima c.args.self.now c.self.inside.shared.list c.self.inside.width c.bounds.ensures.maxima c.self.view_is c.args.rows.now.list
+    c.probe_sharing.result c.probe_sharing.ensures.judged
 
 pub returns-clause-decided : goal.returns-clause-decided
 returns-clause-decided c =
-    decided_guarded c.self.inside.maxima c.args.self.now c.self.inside.shared.list [] c.self.view_is c.args.rows.now.list c.probe_sharing.result c.probe_sharing.ensures.decided
+    decided_maximum c.self.inside.maxima c.args.self.now c.self.inside.shared.list c.self.inside.width c.bounds.ensures.maxima c.self.view_is c.args.rows.now.list
+    c.probe_sharing.result c.probe_sharing.ensures.decided

@@ -1,7 +1,6 @@
 use Rattle.std.proofs.Common.{subst, length, sym, ap, ◌∙◌, arith, ◌≡◌, ℕ, ℤ, List}
 use Rattle.std.proofs.lemmas.List.{length-take-le}
 use Rattle.audit_types.specs.RowNumbers.{length-set_row}
-use Rattle.audit_types.specs.Limits.{most_width}
 use Rattle.audit_types.specs.Form.{set_row, IsNarrow}
 use Rattle.sum_basis.specs.Basis.{Echelon}
 use Rattle.sum_basis.specs.Elimination.{IsSmallForm}
@@ -60,9 +59,10 @@ returns c =
       grows = grows;
       stands = stands_told c.join.result c.args.self.now c.join.new.self c.args.rows.now.list grows;
       n = c.join.ensures.n ∙ ap (λ (e : Echelon). e.n) c.self.view_is;
+      width = c.join.ensures.width ∙ ap (λ (e : Echelon). e.width) c.self.view_is;
       same = same_told c.join.result c.args.self.now c.join.new.self row grows;
       wide = wide_told c.join.result c.args.self.now c.join.new.self row grows
           (subst (λ (e : Echelon). IsSmallForm e.n e.rows) c.self.view_is c.columns.ensures.form)
-          (subst (λ (e : Echelon). IsNarrow most_width e.rows) c.self.view_is c.columns.ensures.narrow);
+          (subst (λ (e : Echelon). IsNarrow e.width e.rows) c.self.view_is c.columns.ensures.narrow);
       err = on_err_weaker c.join.result (λ same. same ∙ c.self.view_is) c.join.ensures.err;
     }

@@ -71,6 +71,7 @@ returns-in-Some c =
       reduced = reduced;
       stands = on_ok_weaker c.join_held.result (stands_with c.args.self.now c.join_held.new.form c.args.rows.now.list) reduced;
       n = c.join_held.ensures.n ∙ ap (λ (e : Echelon). e.n) c.self.view_is;
+      width = c.join_held.ensures.width ∙ ap (λ (e : Echelon). e.width) c.self.view_is;
       err = on_err_weaker c.join_held.result (λ same. same ∙ c.self.view_is) c.join_held.ensures.err;
     }
 

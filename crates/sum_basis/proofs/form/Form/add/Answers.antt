@@ -41,6 +41,7 @@ returns c =
       grows = grows;
       stands = stands_told c.join.result c.args.self.now c.join.new.self (map pos c.args.row.now) grows;
       n = c.join.ensures.n;
+      width = c.join.ensures.width;
       same = same_told c.join.result c.args.self.now c.join.new.self (map pos c.args.row.now) grows;
       wide = wide_told c.join.result c.args.self.now c.join.new.self (map pos c.args.row.now) grows c.columns.ensures.form c.columns.ensures.narrow;
       err = c.join.ensures.err;

@@ -1,4 +1,4 @@
-use Rattle.std.proofs.Common.{◌∙◌, subst, rules}
+use Rattle.std.proofs.Common.{◌∙◌, subst, rules, arith}
 use Rattle.std.specs.Prelude.{unsigned_abs, FitsSigned}
 use Rattle.std.specs.Int.{w128}
 use Rattle.std.proofs.lemmas.Int.{to_z-of_z}
@@ -16,5 +16,5 @@ returns c =
       to_z-of_z w128 c.self.inside.common fits ∙ positive_size c.self.inside.common is.positive,
       subst (λ (e : Echelon). IsLeastCommonMultiple (pivot_entries e.rows) (unsigned_abs c.self.inside.common)) c.self.view_is is.multiple,
       size_positive c.self.inside.common is.positive,
-      is.small,
+      (let within = is.within in let fits = is.width_fits.1 in omega arith),
     )

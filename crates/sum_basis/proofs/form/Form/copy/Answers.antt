@@ -17,16 +17,17 @@ invariant_of-result c =
     record {
       some = c.self.invariant.some;
       at_most = c.self.invariant.at_most;
+      width_fits = c.self.invariant.width_fits;
       kept = c.in_ok-rows.ensures.kept;
       form = rw rows c.self.invariant.form;
       positive = rw common c.self.invariant.positive;
-      small = rw common c.self.invariant.small;
+      within = rw common c.self.invariant.within;
       multiple = rw (common, rows) c.self.invariant.multiple;
       bounded = subst (AllByRecursion (λ r. r.most ≤ c.greatest_bound.result)) c.deref-2.ensures.value c.greatest_bound.ensures;
     }
 
 pub returns : goal.returns
 returns c =
-    ap (λ (rows : List (List ℤ)). record { n = c.self.inside.columns; rows = rows })
+    ap (λ (rows : List (List ℤ)). record { n = c.self.inside.columns; width = c.self.inside.width; rows = rows })
     (c.in_ok-rows.ensures.same ∙ ap (rows_of c.self.inside.columns) c.deref.ensures.value)
     ∙ c.self.view_is

@@ -8,8 +8,9 @@ use Rattle.sum_basis.specs.declared.sparse.FreeEntry.{FreeEntry}
 use Rattle.sum_basis.specs.declared.sparse.SparseRow.{SparseRow}
 use Rattle.sum_basis.specs.Basis.{Echelon, IsForm}
 use Rattle.sum_basis.proofs.LeastMultiples.{heads}
-use Rattle.sum_basis.proofs.Joining.{after_growth, grown_rows, within_limit, joined_form}
+use Rattle.sum_basis.proofs.Joining.{after_growth, grown_rows, within_width, joined_form}
 use Rattle.sum_basis.specs.Elimination.{IsSmallForm}
+use Rattle.sum_basis.proofs.Sizes.{small_form}
 use Rattle.sum_basis.specs.Sparse.{row_of, rows_of, IsKept, IsNew}
 use Rattle.sum_basis.proofs.form.Form.insert_list.Goals as goal
 
@@ -20,50 +21,55 @@ grown_from n old list new rows same reduced = subst (λ (l : List FreeEntry). Is
 
 pub common_multiple-requires : goal.common_multiple-requires
 common_multiple-requires c =
-    let j = after_growth c.args.self.now c.self.inside.columns c.self.inside.rows.items c.reserve.new.self.items c.grow_rows.new.rows.items c.args.new.items
-    c.self.view_is c.reserve.ensures.items c.requires.narrow
+    let j = after_growth c.self.inside.width c.args.self.now c.self.inside.columns c.self.inside.rows.items c.reserve.new.self.items c.grow_rows.new.rows.items c.args.new.items
+    c.self.view_is c.reserve.ensures.items c.self.invariant.width_fits c.requires.narrow
     (grown_from _ _ _ _ _ (c.in_ok-list.ensures.same ∙ c.deref.ensures.value) c.grow_rows.ensures.reduced) c.grow_rows.ensures.kept in
     subst (AllByRecursion (λ (r : SparseRow). (pos 0 <ℤ r.head) × (unsigned_abs r.head ≤ 2 ^ 56))) (sym c.deref-3.ensures.value) j.small
 
 pub invariant_of-self-in-Some : goal.invariant_of-self-in-Some
 invariant_of-self-in-Some c =
     let fits : FitsSigned w128 c.in-Some.common = search rules in
-    let j = after_growth c.args.self.now c.self.inside.columns c.self.inside.rows.items c.reserve.new.self.items c.grow_rows.new.rows.items c.args.new.items
-    c.self.view_is c.reserve.ensures.items c.requires.narrow
+    let j = after_growth c.self.inside.width c.args.self.now c.self.inside.columns c.self.inside.rows.items c.reserve.new.self.items c.grow_rows.new.rows.items c.args.new.items
+    c.self.view_is c.reserve.ensures.items c.self.invariant.width_fits c.requires.narrow
     (grown_from _ _ _ _ _ (c.in_ok-list.ensures.same ∙ c.deref.ensures.value) c.grow_rows.ensures.reduced) c.grow_rows.ensures.kept in
     let least = rw c.in-Some.is at c.common_multiple.ensures in
-    joined_form c.self.inside.columns c.grow_rows.new.rows.items least.0 _ c.greatest_bound-self-inside.result c.self.invariant.some c.self.invariant.at_most c.grow_rows.ensures.kept j
+    joined_form c.self.inside.columns c.self.inside.width c.grow_rows.new.rows.items least.0 _ c.greatest_bound-self-inside.result c.self.invariant.some c.self.invariant.at_most
+    c.self.invariant.width_fits c.grow_rows.ensures.kept j
     (subst (λ (l : List SparseRow). IsLeastCommonMultiple (heads l) least.0) c.deref-3.ensures.value least.1)
-    (to_z-of_z w128 c.in-Some.common fits ∙ least.2.0) least.2.1 least.2.2
+    (to_z-of_z w128 c.in-Some.common fits ∙ least.2.0) least.2.1
     (subst (AllByRecursion (λ r. r.most ≤ c.greatest_bound-self-inside.result)) c.deref-2.ensures.value c.greatest_bound-self-inside.ensures)
 
 pub unreachable-requires : goal.unreachable-requires
 unreachable-requires c =
-    let j = after_growth c.args.self.now c.self.inside.columns c.self.inside.rows.items c.reserve.new.self.items c.grow_rows.new.rows.items c.args.new.items
-    c.self.view_is c.reserve.ensures.items c.requires.narrow
+    let j = after_growth c.self.inside.width c.args.self.now c.self.inside.columns c.self.inside.rows.items c.reserve.new.self.items c.grow_rows.new.rows.items c.args.new.items
+    c.self.view_is c.reserve.ensures.items c.self.invariant.width_fits c.requires.narrow
     (grown_from _ _ _ _ _ (c.in_ok-list.ensures.same ∙ c.deref.ensures.value) c.grow_rows.ensures.reduced) c.grow_rows.ensures.kept in
     let least = rw c.in-None.is at c.common_multiple.ensures in
-    within_limit c.self.inside.columns c.grow_rows.new.rows.items least.0 j
-    (subst (λ (l : List SparseRow). IsLeastCommonMultiple (heads l) least.0) c.deref-3.ensures.value least.1) least.2
+    let within = within_width c.self.inside.columns c.self.inside.width c.grow_rows.new.rows.items least.0 j
+    (subst (λ (l : List SparseRow). IsLeastCommonMultiple (heads l) least.0) c.deref-3.ensures.value least.1) in
+    let fits = c.self.invariant.width_fits.1 in
+    let more = least.2 in
+    omega arith
 
 pub returns : goal.returns
 returns c =
-    let j = after_growth c.args.self.now c.self.inside.columns c.self.inside.rows.items c.reserve.new.self.items c.grow_rows.new.rows.items c.args.new.items
-    c.self.view_is c.reserve.ensures.items c.requires.narrow
+    let j = after_growth c.self.inside.width c.args.self.now c.self.inside.columns c.self.inside.rows.items c.reserve.new.self.items c.grow_rows.new.rows.items c.args.new.items
+    c.self.view_is c.reserve.ensures.items c.self.invariant.width_fits c.requires.narrow
     (grown_from _ _ _ _ _ (c.in_ok-list.ensures.same ∙ c.deref.ensures.value) c.grow_rows.ensures.reduced) c.grow_rows.ensures.kept in
     record {
       reduced =
           grown_rows c.args.self.now c.self.inside.columns c.self.inside.rows.items c.reserve.new.self.items c.grow_rows.new.rows.items c.args.new.items
           c.self.view_is c.reserve.ensures.items (grown_from _ _ _ _ _ (c.in_ok-list.ensures.same ∙ c.deref.ensures.value) c.grow_rows.ensures.reduced);
       n = ap (λ (e : Echelon). e.n) c.self.view_is;
+      width = ap (λ (e : Echelon). e.width) c.self.view_is;
       err = tt;
     }
 
 pub invariant_of-self : goal.invariant_of-self
-invariant_of-self c = subst (IsForm c.self.inside.columns c.self.inside.common c.self.inside.greatest_bound) (sym c.reserve.ensures.items) c.self.invariant
+invariant_of-self c = subst (IsForm c.self.inside.columns c.self.inside.width c.self.inside.common c.self.inside.greatest_bound) (sym c.reserve.ensures.items) c.self.invariant
 
 pub invariant_of-self-in_err-room : goal.invariant_of-self-in_err-room
-invariant_of-self-in_err-room c = subst (IsForm c.self.inside.columns c.self.inside.common c.self.inside.greatest_bound) (sym c.reserve.ensures.items) c.self.invariant
+invariant_of-self-in_err-room c = subst (IsForm c.self.inside.columns c.self.inside.width c.self.inside.common c.self.inside.greatest_bound) (sym c.reserve.ensures.items) c.self.invariant
 
 pub grow_rows-requires-clause-space : goal.grow_rows-requires-clause-space
 grow_rows-requires-clause-space c = omega (arith, c.in_ok-reserve.ensures)
@@ -79,7 +85,8 @@ grow_rows-requires-clause-kept c = subst (AllByRecursion (IsKept c.self.inside.c
 
 pub grow_rows-requires-clause-form : goal.grow_rows-requires-clause-form
 grow_rows-requires-clause-form c =
-    subst (λ (l : List SparseRow). IsSmallForm c.self.inside.columns (rows_of c.self.inside.columns l)) (sym c.reserve.ensures.items) c.self.invariant.form
+    subst (λ (l : List SparseRow). IsSmallForm c.self.inside.columns (rows_of c.self.inside.columns l)) (sym c.reserve.ensures.items)
+    (small_form c.self.inside.width c.self.inside.columns _ c.self.invariant.width_fits.1 c.self.invariant.form)
 
 pub grow_rows-requires-clause-new : goal.grow_rows-requires-clause-new
 grow_rows-requires-clause-new c =

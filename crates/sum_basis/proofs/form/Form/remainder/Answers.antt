@@ -6,7 +6,6 @@ use mir.Val.{to_z, of_z}
 use Rattle.std.proofs.lemmas.Int.{to_z-of_z}
 use Rattle.std.proofs.lemmas.List.{length-map}
 use Rattle.audit_types.specs.Truth.{number_at}
-use Rattle.audit_types.specs.Limits.{most_width}
 use Rattle.audit_types.specs.Form.{IsNarrow, pivot, pivot_entry}
 use Rattle.audit_types.specs.Numbers.{size_positive}
 use Rattle.audit_types.specs.PrimitiveLines.{times}
@@ -17,6 +16,7 @@ use Rattle.sum_basis.specs.Sparse.{row_of, rows_of, entries_of}
 use Rattle.sum_basis.proofs.Ranks.{rank_at_most}
 use Rattle.sum_basis.proofs.SetRows.{multiple_small, entries_divide}
 use Rattle.sum_basis.proofs.WideForms.{is_narrow}
+use Rattle.sum_basis.proofs.Sizes.{small_form}
 use Rattle.sum_basis.proofs.form.Form.remainder.Goals as goal
 use Rattle.sum_basis.proofs.LeastMultiples.{positive_size}
 
@@ -41,7 +41,7 @@ pub reduce-requires-clause-small : goal.reduce-requires-clause-small
 reduce-requires-clause-small c =
     let fits : FitsSigned w128 c.self.inside.common = search rules in
     subst IsSmall (sym (is_multiple c.scale.new.row c.args.row.now c.self.inside.common fits c.scale.ensures))
-    (multiple_small c.args.row.now c.self.inside.common c.requires.bits c.self.invariant.small)
+    (multiple_small c.args.row.now c.self.inside.common c.requires.bits (let within = c.self.invariant.within in let fits = c.self.invariant.width_fits.1 in omega arith))
 
 pub reduce-requires-clause-divides : goal.reduce-requires-clause-divides
 reduce-requires-clause-divides c =
@@ -70,10 +70,12 @@ returns-clause-remainder c =
     )
 
 pub returns-clause-form : goal.returns-clause-form
-returns-clause-form c = subst (λ (e : Echelon). IsSmallForm e.n e.rows) c.self.view_is c.self.invariant.form
+returns-clause-form c =
+    subst (λ (e : Echelon). IsSmallForm e.n e.rows) c.self.view_is
+    (small_form c.self.inside.width c.self.inside.columns _ c.self.invariant.width_fits.1 c.self.invariant.form)
 
 pub returns-clause-narrow : goal.returns-clause-narrow
 returns-clause-narrow c =
-    subst (λ (e : Echelon). IsNarrow most_width e.rows) c.self.view_is
-    (is_narrow c.self.inside.columns (unsigned_abs c.self.inside.common)
-    (rows_of c.self.inside.columns c.self.inside.rows.items) c.self.invariant.form c.self.invariant.multiple c.self.invariant.small)
+    subst (λ (e : Echelon). IsNarrow e.width e.rows) c.self.view_is
+    (is_narrow c.self.inside.columns c.self.inside.width (unsigned_abs c.self.inside.common)
+    (rows_of c.self.inside.columns c.self.inside.rows.items) c.self.invariant.form c.self.invariant.multiple c.self.invariant.within)

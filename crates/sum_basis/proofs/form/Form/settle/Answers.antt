@@ -8,7 +8,8 @@ use Rattle.sum_basis.specs.declared.sparse.FreeEntry.{FreeEntry}
 use Rattle.sum_basis.specs.Sparse.{entry_at}
 use Rattle.sum_basis.proofs.ListContents.{first_some}
 use Rattle.sum_basis.proofs.ClearedLists.{values_from}
-use Rattle.sum_basis.proofs.SparseRows.{small_row, small_values}
+use Rattle.sum_basis.proofs.SparseRows.{row_within, values_within}
+use Rattle.sum_basis.proofs.Sizes.{within_more}
 use Rattle.sum_basis.proofs.WideForms.{new_too_large}
 use Rattle.sum_basis.proofs.Extending.{nothing_new, new_row, grows_wide}
 use Rattle.sum_basis.proofs.PrimitiveLists.{made_listed, made_some, made_line}
@@ -51,8 +52,8 @@ make_primitive-requires-clause-size c =
     (values_from (λ x. unsigned_abs x ≤ 2 ^ 126) 0 (length c.remainder.new.row) c.in_ok-list.list.items c.in_ok-list.ensures.listed
     (λ j. rw (c.in_ok-list.ensures.is j) (let small = c.remainder.ensures.small j in omega arith)) (omega arith))
 
-pub returns-then-not-are_small-clause-left : goal.returns-then-not-are_small-clause-left
-returns-then-not-are_small-clause-left c =
+pub returns-then-not-are_within-clause-left : goal.returns-then-not-are_within-clause-left
+returns-then-not-are_within-clause-left c =
     let n = c.args.self.now.n in
     let line = made_line n c.remainder.new.row c.in_ok-list.list.items c.make_primitive.new.entries.items c.remainder.ensures.length c.in_ok-list.ensures.listed
     c.in_ok-list.ensures.is (not_empty c.in_ok-list.list.len c.in_ok-list.list.items c.is_empty.result c.in_ok-list.list.ok.0 c.is_empty.ensures
@@ -60,11 +61,14 @@ returns-then-not-are_small-clause-left c =
     let listed = made_listed n c.remainder.new.row c.in_ok-list.list.items c.make_primitive.new.entries.items c.remainder.ensures.length
     c.in_ok-list.ensures.listed c.in_ok-list.ensures.is (not_empty c.in_ok-list.list.len c.in_ok-list.list.items c.is_empty.result c.in_ok-list.list.ok.0
     c.is_empty.ensures c.if-is_empty.false) c.make_primitive.ensures.made in
-    let row = new_row c.args.self.now c.args.row.now c.remainder.new.row c.remainder.ensures.form c.remainder.ensures.remainder _ line in (
+    let row = new_row c.args.self.now c.args.row.now c.remainder.new.row c.remainder.ensures.form c.remainder.ensures.remainder _ line in
+    let f = c.remainder.ensures.form in (
       row.outside,
-      grows_wide c.args.self.now c.args.row.now _ row (new_too_large c.args.self.now _ c.remainder.ensures.form row.primitive row.zeros
-          (λ small. true≢false (sym (c.are_small.ensures.1 (subst (AllByRecursion (λ (e : FreeEntry). unsigned_abs e.value ≤ 2 ^ 56))
-          (sym c.deref.ensures.value) (small_values n c.make_primitive.new.entries.items listed small))) ∙ c.if-not-are_small.true))),
+      grows_wide c.args.self.now c.args.row.now _ row (new_too_large c.args.self.now _
+          (record { primitive = f.primitive; echelon = f.echelon; entries = c.remainder.ensures.narrow.entries }) row.primitive row.zeros
+          c.args.limit c.requires.limit.0
+          (λ within. true≢false (sym (c.are_within.ensures.1 (subst (AllByRecursion (λ (e : FreeEntry). unsigned_abs e.value ≤ c.args.limit))
+          (sym c.deref.ensures.value) (values_within c.args.limit n c.make_primitive.new.entries.items listed within))) ∙ c.if-not-are_within.true))),
     )
 
 pub returns-clause-left : goal.returns-clause-left
@@ -77,16 +81,25 @@ returns-clause-left c =
     c.in_ok-list.ensures.is (not_empty c.in_ok-list.list.len c.in_ok-list.list.items c.is_empty.result c.in_ok-list.list.ok.0 c.is_empty.ensures
     c.if-is_empty.false) c.make_primitive.ensures.made in
     let row = new_row c.args.self.now c.args.row.now c.remainder.new.row c.remainder.ensures.form c.remainder.ensures.remainder _ line in
-    let small = subst (AllByRecursion (λ (e : FreeEntry). unsigned_abs e.value ≤ 2 ^ 56)) c.deref.ensures.value
-    (c.are_small.ensures.0 c.if-not-are_small.false) in (
+    let within = subst (AllByRecursion (λ (e : FreeEntry). unsigned_abs e.value ≤ c.args.limit)) c.deref.ensures.value
+    (c.are_within.ensures.0 c.if-not-are_within.false) in (
       record {
         some = made_some n c.remainder.new.row c.in_ok-list.list.items c.make_primitive.new.entries.items c.remainder.ensures.length c.in_ok-list.ensures.listed
             c.in_ok-list.ensures.is (not_empty c.in_ok-list.list.len c.in_ok-list.list.items c.is_empty.result c.in_ok-list.list.ok.0 c.is_empty.ensures
             c.if-is_empty.false) c.make_primitive.ensures.made;
         listed = listed;
         primitive = row.primitive;
-        small = small_row n c.make_primitive.new.entries.items listed small;
+        small = within_more c.args.limit (2 ^ 56) _ c.requires.limit.1 (row_within c.args.limit n c.make_primitive.new.entries.items listed within);
       },
       row,
       (let room = c.in_ok-list.ensures.room in let long = c.remainder.ensures.length in let kept = c.make_primitive.ensures.capacity in omega arith),
     )
+
+pub returns-clause-within : goal.returns-clause-within
+returns-clause-within c =
+    let n = c.args.self.now.n in
+    let listed = made_listed n c.remainder.new.row c.in_ok-list.list.items c.make_primitive.new.entries.items c.remainder.ensures.length
+    c.in_ok-list.ensures.listed c.in_ok-list.ensures.is (not_empty c.in_ok-list.list.len c.in_ok-list.list.items c.is_empty.result c.in_ok-list.list.ok.0
+    c.is_empty.ensures c.if-is_empty.false) c.make_primitive.ensures.made in
+    row_within c.args.limit n c.make_primitive.new.entries.items listed
+    (subst (AllByRecursion (λ (e : FreeEntry). unsigned_abs e.value ≤ c.args.limit)) c.deref.ensures.value (c.are_within.ensures.0 c.if-not-are_within.false))

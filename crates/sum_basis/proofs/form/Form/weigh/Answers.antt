@@ -1,11 +1,12 @@
-use Rattle.std.proofs.Common.{sym, ap, subst, rules}
+use Rattle.std.proofs.Common.{List, sym, ap, subst, rules, arith}
 use Rattle.std.specs.Prelude.{FitsSigned}
 use Rattle.std.specs.Int.{w128}
 use Rattle.std.specs.List.{AllByRecursion}
 use Rattle.std.proofs.lemmas.Int.{to_z-of_z}
+use Rattle.sum_basis.specs.declared.sparse.FreeEntry.{FreeEntry}
 use Rattle.sum_basis.specs.Basis.{Echelon}
-use Rattle.sum_basis.specs.Elimination.{IsSmallForm}
-use Rattle.sum_basis.specs.Sparse.{rows_of, IsKept, IsNew}
+use Rattle.sum_basis.specs.Elimination.{IsWithin, IsFormWithin}
+use Rattle.sum_basis.specs.Sparse.{row_of, rows_of, IsKept, IsNew}
 use Rattle.sum_basis.proofs.Joining.{zeros_of_list, told, foresees_same, no_list}
 use Rattle.sum_basis.proofs.form.Form.weigh.Goals as goal
 
@@ -14,7 +15,7 @@ look_ahead-prospect-requires-clause-kept c = subst (AllByRecursion (IsKept c.sel
 
 pub look_ahead-prospect-requires-clause-form : goal.look_ahead-prospect-requires-clause-form
 look_ahead-prospect-requires-clause-form c =
-    subst (λ rows. IsSmallForm c.self.inside.columns (rows_of c.self.inside.columns rows)) (sym c.deref.ensures.value) c.self.invariant.form
+    subst (λ rows. IsFormWithin c.self.inside.width c.self.inside.columns (rows_of c.self.inside.columns rows)) (sym c.deref.ensures.value) c.self.invariant.form
 
 pub look_ahead-prospect-requires-clause-positive : goal.look_ahead-prospect-requires-clause-positive
 look_ahead-prospect-requires-clause-positive c =
@@ -24,7 +25,7 @@ look_ahead-prospect-requires-clause-positive c =
 pub look_ahead-prospect-requires-clause-within : goal.look_ahead-prospect-requires-clause-within
 look_ahead-prospect-requires-clause-within c =
     let fits : FitsSigned w128 c.self.inside.common = search rules in
-    rw (to_z-of_z w128 c.self.inside.common fits) c.self.invariant.small
+    rw (to_z-of_z w128 c.self.inside.common fits) c.self.invariant.within
 
 pub look_ahead-prospect-requires-clause-multiple : goal.look_ahead-prospect-requires-clause-multiple
 look_ahead-prospect-requires-clause-multiple c =
@@ -67,3 +68,13 @@ returns-in-Nothing-clause-nothing c =
 
 pub returns-in-Large-clause-nothing : goal.returns-in-Large-clause-nothing
 returns-in-Large-clause-nothing c = let left = rw c.in-Large.is at c.in_ok-settle.ensures.left in left.1
+
+pub look_ahead-prospect-requires-clause-new_within : goal.look_ahead-prospect-requires-clause-new_within
+look_ahead-prospect-requires-clause-new_within c =
+    let within = rw c.in-Entries.is at c.in_ok-settle.ensures.within in
+    subst (λ n. IsWithin c.self.inside.width (row_of n c.deref-in-Entries.result.now)) (sym (ap (λ (e : Echelon). e.n) c.self.view_is))
+    (subst (λ (l : List FreeEntry). IsWithin c.self.inside.width (row_of c.args.self.now.n l)) (sym c.deref-in-Entries.ensures.value) within)
+
+-- the width is the one that is seen
+pub settle-requires-clause-limit : goal.settle-requires-clause-limit
+settle-requires-clause-limit c = let same = ap (λ (e : Echelon). e.width) c.self.view_is in let fits = c.self.invariant.width_fits.1 in (omega arith, fits)
