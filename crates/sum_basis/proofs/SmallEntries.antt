@@ -13,12 +13,12 @@ use Rattle.sum_basis.specs.Reach.{IsLeftOverOrNone, AreSmallEntries, one_if, res
 use Rattle.sum_basis.specs.Sparse.{entry_at, row_of, IsListed}
 use Rattle.sum_basis.specs.declared.sparse.FreeEntry.{FreeEntry}
 use Rattle.sum_basis.proofs.Sizes.{small_at}
-use Rattle.sum_basis.proofs.SparseRows.{own_value, small_row, small_values, number_at-row_of, listed_from}
+use Rattle.sum_basis.proofs.SparseRows.{own_value, row_within, small_values, number_at-row_of, listed_from}
 
 -- what a list of small entries has anywhere
 pub entry_small : (n : ℕ) (es : List FreeEntry) (j : ℕ) → AreSmallEntries n es → unsigned_abs (entry_at es j) ≤ 2 ^ 56
 entry_small n es j small =
-    subst (λ z. unsigned_abs z ≤ 2 ^ 56) (number_at-row_of 0 n es small.0 j) (small_at (row_of n es) j (small_row n es small.0 small.1))
+    subst (λ z. unsigned_abs z ≤ 2 ^ 56) (number_at-row_of 0 n es small.0 j) (small_at (row_of n es) j (row_within (2 ^ 56) n es small.0 small.1))
 
 -- and at the pivot of a new list
 pub times_small : (n : ℕ) (new es : List FreeEntry) → AreSmallEntries n es → unsigned_abs (times_of new (entry_at es)) ≤ 2 ^ 56
