@@ -50,7 +50,7 @@ at_both_zero x y f g p q =
     ap (λ z. x *ℤ z +ℤ y *ℤ g) p ∙ ap (λ z. x *ℤ pos 0 +ℤ y *ℤ z) q ∙ ap (λ z. z +ℤ y *ℤ pos 0) (*ℤ-zero x) ∙ ap (λ z. pos 0 +ℤ z) (*ℤ-zero y)
 
 -- a row that isn't 0 at the new pivot has the earlier pivot, if the new row is 0 at its own
-comes_first : (n : ℕ) (new row : List ℤ) → IsPrimitive n new → number_at new (pivot row) ≡ pos 0 → number_at row (pivot new) ≢ pos 0 → pivot row < pivot new
+pub comes_first : (n : ℕ) (new row : List ℤ) → IsPrimitive n new → number_at new (pivot row) ≡ pos 0 → number_at row (pivot new) ≢ pos 0 → pivot row < pivot new
 comes_first n new row p e some = elim (cases_order (pivot row) (pivot new)) [
   | inl same ↦ absurd (positive_not_zero (pivot_entry new) p.leading (ap (number_at new) (sym same) ∙ e))
   | inr other ↦ elim other [ inl lt ↦ lt | inr gt ↦ absurd (some (zero_before row (pivot new) gt)) ]

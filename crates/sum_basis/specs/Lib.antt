@@ -10,3 +10,4 @@ pub mod Merging
 pub mod Holding
 pub mod Ties
 pub mod Points
+pub mod Reach

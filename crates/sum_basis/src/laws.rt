@@ -2,6 +2,7 @@
 ghost use Rattle.sum_basis.specs.Laws.{EveryRowSpaceHasAForm, FormsAreUnique, SpanKeepsForm, OneMoreSet, NarrowOrWide};
 ghost use Rattle.sum_basis.specs.Ties.{TiesByForm, TiesByFormBut};
 ghost use Rattle.sum_basis.specs.Points.{TiesAreInLine};
+ghost use Rattle.sum_basis.specs.Reach.{FreeColumnsHaveDirections};
 
 /// Every list of rows has a reduced form.
 pub fn every_row_space_has_a_form()
@@ -42,4 +43,9 @@ pub fn ties_but()
 /// Two directions modulo a number show a form to tie no two columns: the points of tied columns lie on one line.
 pub fn points()
     ensures { TiesAreInLine }
+{}
+
+/// Each free column of a form has a direction.
+pub fn directions()
+    ensures { FreeColumnsHaveDirections }
 {}

@@ -1,0 +1,41 @@
+use Rattle.std.proofs.Common.{[], map, sym, subst, inr}
+use Rattle.audit_types.specs.Rows.{Rows}
+use Rattle.sum_basis.specs.Sparse.{row_of, IsNew}
+use Rattle.sum_basis.specs.Growth.{IsNewRow}
+use Rattle.sum_basis.specs.Reach.{IsLeftOverOrNone}
+use Rattle.sum_basis.proofs.GrownBy.{by_list, by_nothing, told_by, never_large}
+use Rattle.sum_basis.proofs.SetRows.{set_bits}
+use Rattle.sum_basis.proofs.basis.Basis.is_within_reach.Goals as goal
+
+pub settle-requires-clause-bits : goal.settle-requires-clause-bits
+settle-requires-clause-bits c = set_bits c.args.rows.now.n c.args.rows.now.list c.write_set.new.row c.write_set.ensures
+
+pub is_within_after-requires-in-Entries-clause-new : goal.is_within_after-requires-in-Entries-clause-new
+is_within_after-requires-in-Entries-clause-new c =
+    let left = rw c.in-Entries.is at c.in_ok-settle.ensures.left in
+    subst (IsLeftOverOrNone c.self.inside.form) (sym c.deref.ensures.value) (inr (left.0, left.1.zeros))
+
+pub returns-in-Nothing : goal.returns-in-Nothing
+returns-in-Nothing c =
+    let form = c.self.inside.form in
+    let left = rw c.in-Nothing.is at c.in_ok-settle.ensures.left in
+    told_by form c.args.self.now c.write_set.new.row c.args.rows.now.n c.args.rows.now.list c.self.view_is c.write_set.ensures c.requires.n
+    _ [] c.args.reach c.args.shared.now.list (map (λ (s : Rows). s.list) c.args.apart.now)
+    (λ other grows. by_nothing form c.write_set.new.row other grows c.settle.ensures.form left) c.is_within_after.ensures
+
+pub returns-in-Large : goal.returns-in-Large
+returns-in-Large c =
+    let left = rw c.in-Large.is at c.in_ok-settle.ensures.left in
+    λ other grows.
+    absurd (never_large c.self.inside.form c.args.self.now c.write_set.new.row c.args.rows.now.n c.args.rows.now.list c.self.view_is c.write_set.ensures
+    c.requires.n left.1 other grows)
+
+pub returns-in-Entries : goal.returns-in-Entries
+returns-in-Entries c =
+    let form = c.self.inside.form in
+    let left = rw c.in-Entries.is at c.in_ok-settle.ensures.left in
+    let list = c.deref.result.now in
+    told_by form c.args.self.now c.write_set.new.row c.args.rows.now.n c.args.rows.now.list c.self.view_is c.write_set.ensures c.requires.n
+    _ list c.args.reach c.args.shared.now.list (map (λ (s : Rows). s.list) c.args.apart.now)
+    (λ other grows. by_list form c.write_set.new.row other grows list (subst (IsNew form.n) (sym c.deref.ensures.value) left.0)
+    (subst (λ l. IsNewRow form c.write_set.new.row (row_of form.n l)) (sym c.deref.ensures.value) left.1)) c.is_within_after-in-Entries.ensures
