@@ -25,7 +25,7 @@ from scipy.optimize import linprog
 sys.path.insert(0, os.path.join(os.path.dirname(os.path.abspath(__file__)), "..", "front"))
 
 from nearing.columns import Sums  # noqa: E402
-from nearing.ranges import Range, shown_by  # noqa: E402
+from nearing.ranges import Range, for_each, shown_by  # noqa: E402
 
 HIGHEST = 10**12  # what the format of the table's file allows, either way
 SOLVED, WITHOUT_END = 0, 3  # how linprog says that it is done
@@ -65,7 +65,7 @@ class Table:
     def free(self, known):
         """How many numbers `audit` calls free, and of how many of the first column its report shows another one within a range."""
         changes = [dict(line["direction"]) for line in self.run("audit", "") if "direction" in line]
-        shown = shown_by(Sums(self.numbers, changes[: len(self.numbers)]), known)
+        shown = shown_by(Sums(self.numbers, changes[: len(self.numbers)]), for_each(known, len(self.numbers)))
         return len(changes), sum(ends != (number, number) for ends, number in zip(shown, self.numbers))
 
 

@@ -1,18 +1,21 @@
 #!/usr/bin/python3
 """Says how far each number of a column is shown to be open within a range that people know. For the table's owner alone.
 
-    near.py REPORT TABLE COLUMN LOW HIGH [--share 10] [--search]
+    near.py REPORT TABLE COLUMN LOW HIGH [--ends FILE] [--share 10] [--search]
 
 REPORT is what auditor audit prints, TABLE the whole table.csv, COLUMN a secret column of it; LOW and HIGH are the least
-and the greatest number that people hold for possible, as the table keeps them, or none. Each change of the report
-alters no answer: it is added as often as all numbers stay in the range, so another table with the same answers has what
-is shown. Of a column of maxima a number may be anything up to the one that the report prints. This is whole numbers
-alone. Printed are the rows, counted from 0, of which nothing shows another number that differs by the share, in per
-cent.
+and the greatest number that people hold for possible, as the table keeps them, or none. If people know more of each
+row, such as its band, LOW and HIGH are names of columns with the end of each row: of TABLE, or of the CSV file that
+--ends names, which has the same rows. A cell there is a whole number, or none. Each change of the report alters no
+answer: it is added as often as all numbers stay in their ranges, so another table with the same answers has what is
+shown. Of a column of maxima a number may be anything up to the one that the report prints, and the high end is one for
+all rows. This is whole numbers alone. Printed are the rows, counted from 0, of which nothing shows another number that
+differs by the share, in per cent.
 
-With --search those rows are looked at again, by linear programs over all changes of the report together (Debian's
-python3-scipy). What these find is added up again in whole numbers, so it needs no trust; what they don't find may be
-there all the same.
+With --search those rows are looked at again. Changes with large numbers are made shorter first, each less as many times
+another one as leaves the smallest numbers; each is tried alone, and then all of them together, by linear programs
+(Debian's python3-scipy). What these find is added up again in whole numbers, so it needs no trust; what they don't find
+may be there all the same.
 
 The output follows from the secrets. So does what you leave out after reading it. Never publish either, and never put
 this where an asker's question, or the door, can start it. The report itself may be published.
@@ -24,8 +27,8 @@ import argparse
 import sys
 import time
 
-from nearing.columns import Maxima, read_column
-from nearing.ranges import Range, is_open, need_inside, shown_by
+from nearing.columns import Maxima, ends_of, read_column
+from nearing.ranges import Range, for_each, is_open, need_inside, shown_by
 from preparing.faults import Fault, counted, os_words
 
 EVERY = 5  # seconds between two lines on how far the search is
@@ -42,15 +45,23 @@ def arguments(words):
     for name in ("report", "table", "column"):
         parser.add_argument(name)
     for name in ("low", "high"):
-        parser.add_argument(name, type=end)
+        parser.add_argument(name)
+    parser.add_argument("--ends")
     parser.add_argument("--share", type=percent, default=10)
     parser.add_argument("--search", action="store_true")
     return parser.parse_args(words)
 
 
-def end(word):
-    """An end of the range: a whole number, or None."""
-    return None if word == "none" else int(word)
+def ends(word, chosen, rows):
+    """One end of each row's range: a whole number for all, None for all, or what a column of that name has."""
+    try:
+        return for_each(None if word == "none" else int(word), rows)
+    except ValueError:
+        pass
+    found = ends_of(chosen.ends or chosen.table, word)
+    if len(found) != rows:
+        raise Fault(f"{chosen.ends} has {counted(len(found), 'row')}, and {chosen.table} has {rows:,}")
+    return found
 
 
 def percent(word):
@@ -62,8 +73,8 @@ def percent(word):
 
 def look(chosen):
     """Prints what is shown, and says whether every number is open by the share."""
-    known = Range(chosen.low, chosen.high)
     column = read_column(chosen.report, chosen.table, chosen.column)
+    known = list(map(Range, *(ends(word, chosen, len(column.numbers)) for word in (chosen.low, chosen.high))))
     need_inside(column.numbers, known)
     shown = shown_by(column, known)
     near = near_rows(column, shown, chosen.share)
@@ -91,6 +102,7 @@ def search(column, known, shown, rows, share):
     except ImportError:
         raise Fault("--search needs scipy: apt-get install --no-install-recommends python3-scipy") from None
     found, told = Search(column, known), time.monotonic()
+    print(found.words())
     for count, row in enumerate(rows):
         if time.monotonic() - told > EVERY:
             told = time.monotonic()

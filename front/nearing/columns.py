@@ -59,15 +59,25 @@ def report_lines(path):
 
 def numbers_of(path, name):
     """The whole numbers of a column in a table."""
+    return cells_of(path, name, int, "whole numbers")
+
+
+def ends_of(path, name):
+    """The end of each row's range in a column of a table: a whole number, or None where the cell is none or empty."""
+    return cells_of(path, name, lambda cell: None if cell.strip() in ("", "none") else int(cell), "whole numbers, or none,")
+
+
+def cells_of(path, name, read, what):
+    """Each cell of a column in a table, as it is read."""
     csv.field_size_limit(LONGEST_CELL)
     try:
         with open(path, encoding="utf-8-sig", newline="") as file:
             header, *rows = [record for record in csv.reader(file) if record]
         if name not in header:
             raise Fault(f"{path} has no column {shown(name)}: there are {', '.join(map(shown, header[:40]))}")
-        return [int(row[header.index(name)]) for row in rows]
+        return [read(row[header.index(name)]) for row in rows]
     except (csv.Error, ValueError, IndexError):
-        raise Fault(f"{path} isn't a table with whole numbers in the column {shown(name)}") from None
+        raise Fault(f"{path} isn't a table with {what} in the column {shown(name)}") from None
 
 
 def change_of(line, row, rows, report_path, name):

@@ -25,23 +25,29 @@ class Range(NamedTuple):
         return None if end is None else abs(end - number)
 
 
+def for_each(known, rows):
+    """The same range for each of so many rows."""
+    return [known] * rows
+
+
 def need_inside(numbers, known):
-    """A Fault if a number isn't in the range that people are said to know."""
-    outside = [f"row {row} has {number:,}" for row, number in enumerate(numbers) if not known.has(number)]
+    """A Fault if a number isn't in the range that people are said to know of it."""
+    outside = [f"row {row} has {number:,}" for row, (number, own) in enumerate(zip(numbers, known)) if not own.has(number)]
     if outside:
         raise Fault(f"not all numbers are in this range, counting rows from 0 without the header:\n{listed(outside)}")
 
 
 def times(change, numbers, known):
-    """How often a change may be added to the numbers."""
-    fits = [(known.room(numbers[row], step), abs(step)) for row, step in change.items()]
+    """How often a change may be added to the numbers, each within its range."""
+    fits = [(known[row].room(numbers[row], step), abs(step)) for row, step in change.items()]
     return min((room // step for room, step in fits if room is not None), default=None)
 
 
 def shown_by(column, known):
-    """For each row the range in which its number is shown to be open: other tables with the same answers have both ends."""
+    """For each row the range in which its number is shown to be open: other tables with the same answers have both ends. `known` has each row's."""
     if isinstance(column, Maxima):
-        return [shown_of_maximum(number, highest, known) for number, highest in zip(column.numbers, column.highest)]
+        need_one_high_end(known)
+        return [shown_of_maximum(*one) for one in zip(column.numbers, column.highest, known)]
     return [shown_of_change(row, change, column.numbers, known) for row, change in enumerate(column.changes)]
 
 
@@ -51,6 +57,12 @@ def shown_of_change(row, change, numbers, known):
     up, down = times(change, numbers, known), times(taken_off, numbers, known)
     number, own = numbers[row], change[row]
     return Range(None if down is None else number - down * own, None if up is None else number + up * own)
+
+
+def need_one_high_end(known):
+    """A Fault if people know other high ends of different rows of a column of maxima: such an end may say whose an answer is."""
+    if len({own.high for own in known}) > 1:
+        raise Fault("of a column of maxima the high end has to be one for all rows: give a number, or none")
 
 
 def shown_of_maximum(number, highest, known):

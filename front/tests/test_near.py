@@ -97,6 +97,38 @@ class Shown(NearTest):
         self.assertEqual(self.near(0, 10**12)[1].count("take it for known"), 2)
         self.assertEqual(self.near(-large, large, "--share", 1000)[0], 0)
 
+    def ends(self, text):
+        """Writes a file with the ends of each row's range."""
+        (self.folder / "ends.csv").write_text(text)
+        return "--ends", self.folder / "ends.csv"
+
+    def test_each_row_may_have_a_range_of_its_own(self):
+        self.sums(SALARIES, CHANGES)
+        ends = self.ends("low,high\n40,140\n100,300\n0,none\n,400\nnone,650\n500,700\n")
+        # The first change can be added 0 times, since row 3 is at its high end, and taken off 60 times: row 0 may go down to 40, and row 1 up by
+        # 60. The second is added up to 40 times and taken off up to 60 times, in both cases as far as row 0 goes.
+        said = self.near("low", "high", *ends, "--share", 61)[1]
+        self.assertEqual(said.splitlines()[1:], [
+            "row 0: 100, shown only from 40 to 100", "row 1: 200, shown only from 200 to 260", "row 2: 300, shown only from 300 to 360",
+            "row 3: 400, shown only from 340 to 400", "row 4: 500, shown only from 460 to 560", "row 5: 600, shown only from 540 to 640"])
+        self.assertIn("row 0: 100, shown only from 40 to 100", self.near(0, "high", *ends, "--share", 300)[1].replace("from 0", "from 40"))
+
+    def test_ends_may_stand_in_the_table_itself(self):
+        self.sums([10, 10], [{0: 1, 1: -1}, {0: -1, 1: 1}])
+        self.table.write_text("id,v,band\n0,10,8\n1,10,3\n")
+        # Row 0 goes down by 2, and row 1 by 7.
+        said = self.near("band", "none", "--share", 100)[1]
+        self.assertIn("row 0: 10, shown only from 8 to 17", said)
+        self.assertIn("row 1: 10, shown only from 3 to 12", said)
+
+    def test_of_maxima_the_low_end_alone_may_be_each_row_s(self):
+        self.write([3, 9, 9], [{"column": "v", "high": [3, 9, 9]}])
+        said = self.near("low", 10, *self.ends("low,high\n3,9\n2,9\n9,10\n"))[1]
+        self.assertEqual(said.splitlines()[1:], [
+            "row 0: 3, and no other number is shown: take it for known", "row 2: 9, and no other number is shown: take it for known"])
+        self.assertEqual(self.near(0, "high", "--ends", self.folder / "ends.csv"), (
+            2, "near: of a column of maxima the high end has to be one for all rows: give a number, or none\n"))
+
     def test_a_maximum_may_be_anything_up_to_what_is_printed(self):
         self.write([3, 9, 9, 0, 4], [{"column": "v", "high": [9, 9, 9, 4, 0]}])
         # Of row 3 it is 4 up to which it may go. No set holds row 4, or 0 would be below its number.
@@ -129,15 +161,11 @@ class Searched(NearTest):
         status, said = self.near(0, 650, "--share", 26, "--search")
         self.assertEqual(status, 1, said)
         self.assertEqual(said.splitlines()[1:], [
-            "searched besides: 5 are shown to be open by 26 % or more", "row 5: 600, shown only from 450 to 650"])
+            "searched over 2 changes", "searched besides: 5 are shown to be open by 26 % or more", "row 5: 600, shown only from 450 to 650"])
         self.assertEqual(self.near(0, 650, "--share", 25, "--search")[0], 0)
 
     def test_counts_that_have_to_be_rounded_are_kept_away_from_the_ends(self):
-        # Twelve numbers, some of them 0, and five changes of small numbers: where the best counts are rounded some number is below 0.
-        draw = random.Random(5)
-        base = [{row: step for row in range(12) if (step := draw.choice([-3, -2, -1, 0, 0, 0, 1, 2, 3]))} for _ in range(5)]
-        first = [next(change for change in base if row in change) for row in range(12)]
-        numbers = [draw.choice([0, 0, draw.randrange(500, 2000)]) for _ in range(12)]
+        first, numbers = self.rounded()
         self.sums(numbers, [change if change[row] > 0 else turned(change) for row, change in enumerate(first)])
         status, said = self.near(0, "none", "--search")
         self.assertEqual(status, 0, said)
@@ -150,6 +178,35 @@ class Searched(NearTest):
             with self.subTest(counts), self.solver(counts):
                 said = self.near(0, 650, "--share", 26, "--search")[1]
                 self.assertIn("row 5: 600, shown only from 500 to 650", said)
+
+    def test_changes_with_large_numbers_are_made_shorter(self):
+        # Each alters row 2 by 2^40 or more, and both together, or one less the other, by 1.
+        large = 2**40
+        for first in ({0: 1, 2: -large}, {0: 1, 2: large}):
+            with self.subTest(first):
+                second = {1: 1, 2: large + 1}
+                self.sums([50, 60, 70], [first, second, second])
+                self.assertEqual(self.near(0, 1000)[1].count("take it for known"), 3)
+                status, said = self.near(0, 1000, "--search")
+                self.assertIn("searched over 2 changes, 2 of them made shorter, 1 of them tried alone", said)
+                self.assertEqual(status, 0, said)
+
+    def test_changes_beyond_the_ranges_dont_hinder_the_others(self):
+        first, numbers = self.rounded()
+        beyond = {row: (-1) ** row * (2**35 + 2 * row + 1) for row in range(12)} | {12: 2**50, 13: -(2**50)}
+        self.sums([*numbers, 5, 5], [change if change[row] > 0 else turned(change) for row, change in enumerate([*first, beyond, beyond])])
+        said = self.near(0, "none", "--search")[1]
+        self.assertIn("1 of them tried alone, since their numbers are beyond the ranges", said)
+        self.assertEqual([line.split(":")[0] for line in said.splitlines() if line.startswith("row")], ["row 12", "row 13"])
+        with mock.patch("nearing.searching.Search.may_fit", return_value=True):
+            self.assertGreater(self.near(0, "none", "--search")[1].count("\nrow "), 2)
+
+    def rounded(self):
+        """Twelve numbers, some of them 0, and changes of small numbers: where the best counts are rounded some number is below 0."""
+        draw = random.Random(5)
+        base = [{row: step for row in range(12) if (step := draw.choice([-3, -2, -1, 0, 0, 0, 1, 2, 3]))} for _ in range(5)]
+        first = [next(change for change in base if row in change) for row in range(12)]
+        return first, [draw.choice([0, 0, draw.randrange(500, 2000)]) for _ in range(12)]
 
     def test_a_solver_that_finds_nothing_leaves_what_was_shown(self):
         self.sums(SALARIES, CHANGES)
@@ -200,6 +257,16 @@ class Refused(NearTest):
         self.write([3, 9], [{"column": "v", "high": [9, 8]}])
         self.refused("isn't a whole report of the column 'v'")
 
+    def test_ends_that_arent_the_table_s_are_refused(self):
+        self.sums(SALARIES, CHANGES)
+        for text, due in (("low\n1\n", "ends.csv has 1 row, and "), ("high\n1\n", "has no column 'low': there are 'high'"),
+                          ("low\n" + "x\n" * 6, "isn't a table with whole numbers, or none, in the column 'low'"),
+                          ("low\n" + "101\n" * 6, "not all numbers are in this range, counting rows from 0 without the header:\nrow 0 has 100")):
+            with self.subTest(due):
+                (self.folder / "ends.csv").write_text(text)
+                self.refused(due, "low", "none", "--ends", self.folder / "ends.csv")
+        self.refused("has no column 'low': there are 'id', 'v'", "low", 650)
+
     def test_another_table_is_refused(self):
         self.sums(SALARIES, CHANGES)
         self.table.write_text("id,w\n0,1\n")
@@ -212,7 +279,7 @@ class Refused(NearTest):
         self.refused("No such file or directory")
 
     def test_wrong_arguments_end_with_status_2(self):
-        for words in ((0,), ("low", 5), (0, 650, "--share", 0), (0, 650, "--share", "ten"), (0, 650, "--publish")):
+        for words in ((0,), (0, 650, "--share", 0), (0, 650, "--share", "ten"), (0, 650, "--publish")):
             with self.subTest(words), self.assertRaises(SystemExit) as ended:
                 self.near(*words)
             self.assertEqual(ended.exception.code, 2)
