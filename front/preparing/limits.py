@@ -5,7 +5,7 @@
 
 from typing import NamedTuple
 
-STATED = ()
+STATED = ("width",)
 
 
 class Limit(NamedTuple):
