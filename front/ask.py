@@ -181,7 +181,7 @@ def short_words(there, cell):
 
 
 def say_columns(there):
-    """A line for each column: its name, what it is, its title and unit; and one for each total that is protected."""
+    """A line for each column: its name, what it is, its title and unit; one for each total that is protected; and over which rows all is."""
     for name, kind in there.columns.items():
         note = there.notes.get(name, {})
         title = note.get("title", name)
@@ -196,6 +196,8 @@ def say_columns(there):
         say(f"  {name:32} " + ", ".join(words + ([f"unit {note['unit']}"] if note.get("unit") else [])))
     for column, where in there.protected:
         say(f"  protected, so never answered: the total of {column} where {where}")
+    for where in there.only:
+        say(f"  every question is over the rows where {where}")
 
 
 def say(text, file=None):

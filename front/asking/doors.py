@@ -8,7 +8,7 @@ from clients.auditor import Door as Connection
 from clients.auditor import DoorFault, together
 
 from .questions import Question
-from .replies import Away, columns_of, line_of, notes_of, protected_of, reply_of, rows_of
+from .replies import Away, columns_of, line_of, notes_of, only_of, protected_of, reply_of, rows_of
 from .words import answer_of
 
 PATIENCE = 10                       # seconds for which a door that is busy or away is asked again
@@ -22,7 +22,7 @@ class Door:
         self.connection, self.name = connection, name
         self.base = urllib.parse.quote(name, safe="") + "/" if name else ""
         schema = self._send("GET", "schema.json")
-        self.columns, self.protected = columns_of(schema), protected_of(schema)
+        self.columns, self.protected, self.only = columns_of(schema), protected_of(schema), only_of(schema)
         self.notes = notes_of(sent(connection, "GET", self.base + "notes.json", otherwise="{}"))
 
     def _send(self, method, path, body=None):
@@ -33,7 +33,7 @@ class Door:
 
     def rows(self):
         """The public columns of each row."""
-        return rows_of(self._send("GET", "table.csv"), self.columns)
+        return rows_of(self._send("GET", "table.csv"), self.columns, self.only)
 
     def _post(self, path, question):
         return reply_of(self._send("POST", path, line_of(question)))
@@ -68,6 +68,7 @@ class Parts:
         self.doors = doors
         self.columns, self.notes = doors[0].columns, doors[0].notes
         self.protected = list(dict.fromkeys(total for door in doors for total in door.protected))
+        self.only = list(dict.fromkeys(where for door in doors for where in door.only))
         other = next((door.name for door in doors if door.columns != self.columns), None)
         if other:
             raise Away(f"{other} has other columns than {doors[0].name}: choose one of them by --table")

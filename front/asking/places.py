@@ -1,6 +1,6 @@
 """Where questions go: the program in a folder, or a front door by its address.
 
-Both have the schema's columns and protected totals, notes for people, the public rows, `ask`, `would`, `why` and `near`, and `parts`: itself, or
+Both have the schema's columns, protected totals and `only`, notes for people, the public rows, `ask`, `would`, `why` and `near`, and `parts`: itself, or
 the tables that it is made of, by name. A place that can't be asked raises Away with a sentence.
 """
 
@@ -14,7 +14,7 @@ from planning.nearness import near
 from preparing.conditions import Wrong
 
 from .doors import door
-from .replies import Away, columns_of, line_of, notes_of, protected_of, reply_of, rows_of
+from .replies import Away, columns_of, line_of, notes_of, only_of, protected_of, reply_of, rows_of
 from .words import ended_words
 
 MOST_NEAR = 50                      # questions near one that are looked at
@@ -26,7 +26,7 @@ class Folder:
     def __init__(self, path, program):
         self.path, self.program, self.child = pathlib.Path(path), program, None
         schema = self._text("schema.json")
-        self.columns, self.protected = columns_of(schema), protected_of(schema)
+        self.columns, self.protected, self.only = columns_of(schema), protected_of(schema), only_of(schema)
         self.notes = notes_of(self._text("public/notes.json", "notes.json", otherwise="{}"))
 
     def _text(self, *names, otherwise=None):
@@ -39,7 +39,7 @@ class Folder:
 
     def rows(self):
         """The public columns of each row; the secret ones of the table are passed over."""
-        return rows_of(self._text("public/table.csv", "table.csv"), self.columns)
+        return rows_of(self._text("public/table.csv", "table.csv"), self.columns, self.only)
 
     def ask(self, question):
         """The program's reply."""

@@ -4,6 +4,8 @@ import csv
 import io
 import json
 
+from preparing.conditions import asked_rows
+
 SECRET = ("sum", "max")
 NUMBERS = ("den", "num", "count", "sum", "max", "at")
 
@@ -40,6 +42,12 @@ def protected_of(text):
         raise Away('what is there isn\'t a schema: each entry of "protect" has the keys column and where') from None
 
 
+def only_of(text):
+    """The condition that the rows of every question satisfy, in a list, which is empty if there is none."""
+    only = json.loads(text).get("only")
+    return [only] if isinstance(only, str) else []
+
+
 def notes_of(text):
     """Titles, decimals and units by column, for people."""
     try:
@@ -49,12 +57,13 @@ def notes_of(text):
         raise Away("notes.json isn't one: it is an object with columns") from None
 
 
-def rows_of(text, columns):
-    """A dict for each row with its public values, those of numbers as whole numbers."""
+def rows_of(text, columns, only=()):
+    """A dict for each row that questions are over with its public values, those of numbers as whole numbers."""
     csv.field_size_limit(2**24)
     public = {name: kind for name, kind in columns.items() if kind not in SECRET}
     rows = csv.DictReader(io.StringIO(text, newline=""))
-    return [{name: int(row[name]) if kind == "number" else row[name] for name, kind in public.items()} for row in rows]
+    found = [{name: int(row[name]) if kind == "number" else row[name] for name, kind in public.items()} for row in rows]
+    return asked_rows({"only": where for where in only}, public, found)
 
 
 def line_of(question):

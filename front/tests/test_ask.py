@@ -18,6 +18,7 @@ from table_kit import AUDITOR, TableTest, needs_program, said_by
 
 import ask
 from asking.hints import hint, marked, mended
+from asking.places import place
 from asking.questions import Question, Unclear, parse
 from asking.words import condition_words, number_words
 
@@ -375,6 +376,16 @@ class OverAFolder(TableTest):
                 status, said = self.ask("count")
                 self.assertEqual(status, 1)
                 self.assertIn(words, said)
+
+    def test_groups_and_columns_are_of_the_rows_that_questions_are_over(self):
+        schema = {"columns": [{"name": "team", "is": "text"}, {"name": "current", "is": "number"}, {"name": "pay", "is": "sum"}]}
+        for only, due in ((None, 3), ("current = 1", 2), ("current", 3)):
+            (self.folder / "schema.json").write_text(json.dumps(schema if only is None else {**schema, "only": only}))
+            (self.folder / "table.csv").write_text("team,current,pay\nQA,1,5\nOPS,0,6\nDEV,1,7\n")
+            there = place(str(self.folder), AUDITOR)
+            self.assertEqual(len(there.rows()), due)
+            status, said = said_by(ask.main, [self.folder, "columns"])
+            self.assertEqual((status, f"  every question is over the rows where {only}\n" in said), (0, only is not None))
 
 
 class ListedDoor(http.server.BaseHTTPRequestHandler):
