@@ -437,6 +437,11 @@ class OverADoor(unittest.TestCase):
         ListedDoor.replies[:] = [reply if isinstance(reply, tuple) else (200, reply) for reply in replies]
         return said_by(ask.main, [self.address, *questions])
 
+    def test_an_answer_that_adds_nothing_new_is_said_beforehand(self):
+        status, said = self.ask(['{"verdict":"released","new":false}', '{"verdict":"released"}'], "would sum salary", "would avg salary")
+        self.assertEqual((status, said.splitlines()), (0, ["It would be answered now. It adds nothing new: the answer follows from earlier ones.",
+                                                           "It would be answered now."]))
+
     def test_questions_and_verdicts_go_where_they_belong(self):
         status, said = self.ask(
             ['{"sum":150}', '{"num":1,"den":3}', '{"verdict":"unsafe"}'],

@@ -436,6 +436,13 @@ class SeveralTables(PageCase):
         self.assertIn("answers given: 4, room for 131,068", self.browser.text("state"))
         self.assertIn("rows of one person are in two tables", self.browser.text("parts-note"))
 
+    def test_what_follows_from_earlier_answers_is_said_to_add_nothing_new(self):
+        new, old = {"verdict": "released"}, {"verdict": "released", "new": False}
+        self.open({"north": {"would": new, "count": {"count": 3}}, "south": {"would": old, "count": {"count": 3}}})
+        said = self.browser.ask("would").splitlines()
+        self.assertEqual([line for line in said if "adds nothing new" in line],
+                         ["south: It would be answered now. It adds nothing new: the answer follows from earlier ones."])
+
     def test_where_a_part_would_deny_none_is_asked(self):
         self.open({"north": {"would": {"verdict": "released"}, "count": {"count": 3}},
                    "south": {"would": {"verdict": "unsafe"}, "count": {"count": 3}}})
