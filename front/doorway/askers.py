@@ -21,7 +21,8 @@ from .lines import RELEASED
 NAME = re.compile(r"[A-Za-z0-9_][A-Za-z0-9_.@-]{0,63}")
 # What is counted: new answers in all, those of them that don't follow from earlier ones, and within a day new answers, verdicts with reasons,
 # and bytes of questions.
-LIMITS = {"records": "records of the history", "new": "answers that tell something new", "answers": "new answers of today", "verdicts": "verdicts of today", "bytes": "bytes of today"}
+LIMITS = {"records": "records of the history", "new": "answers that tell something new",
+          "answers": "new answers of today", "verdicts": "verdicts of today", "bytes": "bytes of today"}
 DAILY = ("answers", "verdicts", "bytes")
 LOOK = WRITE = 1                    # seconds after which the file is looked at again, and what was used is written
 LOGIN = {"WWW-Authenticate": 'Basic realm="auditor", charset="UTF-8"'}
