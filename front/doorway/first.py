@@ -12,8 +12,9 @@ import time
 from preparing.faults import listed
 
 from .askers import NOBODY
+from .faults import Turned
 from .files import write_whole
-from .lines import Turned, line_of
+from .lines import line_of
 
 NAME = "first.sha256"
 PAUSE = 0.5                         # seconds after which a program that is away is asked again

@@ -14,7 +14,7 @@ import tempfile
 from kit import FRONT
 
 AT_ONCE = 2
-PATIENCE = 300                      # seconds; a test that hangs has failed
+PATIENCE = 900                      # seconds; a test that hangs has failed
 
 # What is wrong, the file, what stands there, what is put in its place, and the test that refuses it.
 PLANTS = [

@@ -38,7 +38,7 @@ class Hints(DoorCase):
             for where, at, words, better in (
                     ("k == 4", 3, "= is written in place of ==.", "k = 4"), ("k > 7.5", 5, "k is kept in steps of 0.1: write 75.", None),
                     ("team = QA", 7, "stands in single quotes: 'QA'", None), ("kk > 1", 0, "did you mean k?", None),
-                    ("k >", 3, "ends too early", None)):
+                    ("k >", 3, "ends too early", None), ("k == 4 and kk = 1", 3, "= is written in place of ==.", None)):
                 said = await self.hint(session, where)
                 self.assertEqual((said["at"], said["write"]), (at, better), where)
                 self.assertIn(words, said["hint"])

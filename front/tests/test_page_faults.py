@@ -169,20 +169,25 @@ class Scripted(OneTable):
                 ({**one, "by": [[2, 1]]}, "sum", "age > 30", "The number of row 0 is record 2, less the answer asked for."),         # another column
                 ({**one, "by": [[9, 1]]}, "sum", "age > 30", "The number of row 0 is record 9, less the answer asked for.")):
             with self.subTest(words=words):
-                self.open("", {**more, "health": json.dumps(health)})
-                self.door.reply = lambda path, question, line=line: (200, json.dumps(
-                    {"count": rows[question["where"]]} if question["ask"] == "count" else {"verdict": "unsafe", **line} if path == "/why"
-                    else {"denied": "unsafe"}))
-                self.browser.run("document.querySelector(`#kinds input[value=${arguments[0]}]`).click()", kind)
-                self.browser.write(where)
-                self.browser.ask()
-                self.browser.click("#answer button")
-                self.browser.wait(lambda: self.browser.all("#answer details"))
-                self.assertIn(words, self.browser.text("answer"))
+                self.assertIn(words, self.explained(line, kind, where, rows, {**more, "health": json.dumps(health)}))
                 self.assertEqual(len(self.browser.all("#answer p a")), len(line.get("by", [0])) if "answered" in words or "group" in line else 0)
-        for other in ({"compacted": 1}, {"earlier": 2}):
-            self.open("", {**more, "health": json.dumps({**health, **other})})
-            self.assertIn("record 0, less the answer asked for", self.why(json.dumps({"verdict": "unsafe", **one})))
+        for other in ({"compacted": 1}, {"earlier": 2}, {"transcript": 2**30}, {"compacted": None}):
+            with self.subTest(other):
+                said = self.explained(one, "sum", "age > 30", rows, {**more, "health": json.dumps({**health, **other})})
+                self.assertIn("The number of row 0 is record 0, less the answer asked for.", said)
+
+    def explained(self, line, kind, where, rows, more):
+        """What is said of a denied question over a door that has these files, counts so many rows of each condition, and explains by a line."""
+        self.open("", more)
+        self.door.reply = lambda path, question: (200, json.dumps(
+            {"count": rows[question["where"]]} if question["ask"] == "count" else {"verdict": "unsafe", **line} if path == "/why"
+            else {"denied": "unsafe"}))
+        self.browser.run("document.querySelector(`#kinds input[value=${arguments[0]}]`).click()", kind)
+        self.browser.write(where)
+        self.browser.ask()
+        self.browser.click("#answer button")
+        self.browser.wait(lambda: self.browser.all("#answer details"))
+        return self.browser.text("answer")
 
     def test_what_is_near_is_said_whatever_comes(self):
         found = {"ask": "sum", "column": "pay", "where": "constructor in ('A', '<b>')"}
