@@ -103,7 +103,12 @@ fn answer(
     ensures { OnOk result ((last : List Answered) × Serves (base_of schema.now.columns index.now.public index.now.protected secret) [] (counted_lines lines.items) last (sent_of bench.old) (sent_of bench.new)) }
 {
     journal_form::laws::one_reading();
-    match Store::start(alloc, secret, Guard::new(Vec::new(alloc), MOST_WIDTH), bench) {
+    match Store::start(
+        alloc,
+        secret,
+        Guard::new(Vec::new(alloc), MOST_WIDTH),
+        bench,
+    ) {
         Ok(mut store) => answer_over(alloc, schema, index, &mut store, lines, bench),
         Err(fault) => match fault {
             StartFault::Failed | StartFault::NoMemory => Err(NoMemory),

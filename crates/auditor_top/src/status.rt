@@ -176,7 +176,11 @@ impl fmt::Display for Plain {
                 write!(f, "record {place} holds {kept}, table gives {now}")
             }
             Status::Illegal { place, group } => {
-                write!(f, "record {place} should not have been released{}", Blamed(*group))
+                write!(
+                    f,
+                    "record {place} should not have been released{}",
+                    Blamed(*group)
+                )
             }
             Status::Disagrees { line, due } => write!(f, "line {line} disagrees, due {due}"),
             Status::BadGroup { place } => write!(f, "schema: group {place} is bad"),
