@@ -1,14 +1,18 @@
-use Rattle.std.proofs.Common.{ℕ, List, [], Result, Ok, Err, OnOk, ap, sym, ◌∙◌, subst}
+use Rattle.std.proofs.Common.{◌≡◌, refl, ℕ, List, [], Result, Ok, Err, OnOk, ap, sym, ◌∙◌, subst}
 use Rattle.audit_types.specs.declared.records.Protected.{Protected}
 use Rattle.audit_types.specs.declared.records.Answered.{Answered}
 use Rattle.audit_types.specs.Limits.{most_width}
 use Rattle.audit_types.specs.History.{against_outsiders}
 use Rattle.table_load.specs.Cells.{SecretView}
-use Rattle.table_load.specs.Database.{base_of}
 use Rattle.bench_core.specs.BenchContents.{file_of, sent_of}
 use Rattle.audit_store.specs.Stores.{IsAsLeft}
 use Rattle.line_wire.specs.Lines.{counted_lines}
 use Rattle.audit_session.specs.Ends.{Serves}
+use Rattle.audit_store.specs.declared.starting.StartFault.{StartFault}
+use Rattle.audit_store.specs.declared.starting.StartFault.TheVariants.{NotMade, Damaged, OtherShape, Untrue, Illegal, Failed, NoMemory}
+use Rattle.audit_store.specs.Starting.{GivesUp}
+use Rattle.table_load.specs.Database.{base_of, secret_table}
+use Rattle.auditor_top.proofs.OneRunMore.{nothing_is_legal}
 use Rattle.auditor_top.proofs.drilling.answer.Goals as goal
 
 -- the lines were answered up to some history
@@ -46,3 +50,18 @@ returns-in-Ok c =
     c.in-Ok.ensures.store.0
     (subst (λ (before : List ℕ). OnOk result (Serves (base_of c.args.schema.now.columns c.args.index.now.public c.args.index.now.protected store.secret) store.history lines last before after))
     c.start.ensures.reads.sent c.answer_over.ensures)))
+
+-- a journal that stands for a legal history is refused only if a call failed, or memory ran out
+gave_up : (fault : StartFault) → (fault ≡ Failed → ⊥) → (fault ≡ NoMemory → ⊥) → GivesUp fault → ⊥
+gave_up NotMade failed memory gives = gives
+gave_up (Damaged at) failed memory gives = gives
+gave_up (OtherShape kept now) failed memory gives = gives
+gave_up (Untrue place kept now) failed memory gives = gives
+gave_up (Illegal place group) failed memory gives = gives
+gave_up Failed failed memory gives = failed refl
+gave_up NoMemory failed memory gives = memory refl
+
+pub unreachable-requires : goal.unreachable-requires
+unreachable-requires c =
+    let table = secret_table c.args.secret c.new-2.result in
+    gave_up c.in-Err.fault c.in_default.not-Failed c.in_default.not-NoMemory (c.in-Err.ensures.opens [] (tt {0}) c.requires.stands (nothing_is_legal table))

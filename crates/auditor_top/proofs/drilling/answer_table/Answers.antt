@@ -13,7 +13,7 @@ use Rattle.auditor_top.proofs.drilling.answer_table.Goals as goal
 
 -- of nothing nothing has a fault
 none_bad : (columns : List Column) (found : GuardPart) → IsFirstBad columns no_guards found → ⊥
-none_bad columns part.Only bad = bad (None, refl)
+none_bad columns part.Only bad = bad tt
 none_bad columns (part.Group place) bad = let inside : place < length {A = Group} [] = slice_get_within [] place bad.1.at bad.1.stands in omega (arith, inside)
 
 pub unreachable-requires : goal.unreachable-requires

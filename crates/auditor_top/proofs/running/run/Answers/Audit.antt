@@ -29,24 +29,24 @@ use Rattle.auditor_top.proofs.running.run.Given.{Over}
 use Rattle.auditor_top.proofs.running.run.Goals as goal
 
 -- the files are those of the table whose journal was opened
-abbrev seen : (g : Over) (c : goal.After-drop-schema-inside-in-Ok-Audit-2 g) → PublicView → Database
+abbrev seen : (g : Over) (c : goal.After-drop-schema-inside-in-Ok-Audit-3 g) → PublicView → Database
 seen g c public = base_of c.in-Ok-Audit.schema.columns public c.in-Ok-Audit.store.protected c.in-Ok-Audit.store.secret
 
-are : (g : Over) (c : goal.After-drop-schema-inside-in-Ok-Audit-2 g) → g.P.Source.told →
+are : (g : Over) (c : goal.After-drop-schema-inside-in-Ok-Audit-3 g) → g.P.Source.told →
     (public : PublicView) × AreSoundFilesOf (g.P.Source.left c.args.schema.now) (g.P.Source.left c.args.table.now) (seen g c public)
 are g c ptold = subst (IsReadyOver _ _) c.in-Ok-Audit.field-0-is (c.in-Ok-Audit.ensures.over ptold)
 
-opened : (g : Over) (c : goal.After-drop-schema-inside-in-Ok-Audit-2 g) → IsOpened g.B.Bench c.open.new.bench c.in-Ok-Audit.store
+opened : (g : Over) (c : goal.After-drop-schema-inside-in-Ok-Audit-3 g) → IsOpened g.B.Bench c.open.new.bench c.in-Ok-Audit.store
 opened g c = (subst (IsReady g.B.Bench c.open.new.bench) c.in-Ok-Audit.field-0-is c.in-Ok-Audit.ensures.ready).0
 
-reported_faults : (g : Over) (c : goal.After-drop-schema-inside-in-Ok-Audit-2 g) → FaultCause c.reported.result
+reported_faults : (g : Over) (c : goal.After-drop-schema-inside-in-Ok-Audit-3 g) → FaultCause c.reported.result
     (faults_of g.P.Source g.I.Source g.B.Bench (objects c.args.schema.now c.args.table.now c.args.input.now c.args.bench.now c.args.spare.now))
     (faults_of g.P.Source g.I.Source g.B.Bench (objects c.open.new.schema c.open.new.table c.args.input.now c.audit.new.bench c.args.spare.now))
 reported_faults g c =
     faults_so c.reported.result _ (faults_of g.P.Source g.I.Source g.B.Bench (objects c.args.schema.now c.args.table.now c.args.input.now c.args.bench.now c.args.spare.now)) _
     _ c.reported.ensures c.in-Ok-Audit.ensures.steady (report_faults c.audit.result _ _ c.audit.ensures.failed c.audit.ensures.steady)
 
-reporting : (g : Over) (c : goal.After-drop-schema-inside-in-Ok-Audit-2 g) →
+reporting : (g : Over) (c : goal.After-drop-schema-inside-in-Ok-Audit-3 g) →
     Auditing g.P.Source g.I.Source g.B.Bench c.reported.result (objects c.args.schema.now c.args.table.now c.args.input.now c.args.bench.now c.args.spare.now)
     (objects c.open.new.schema c.open.new.table c.args.input.now c.audit.new.bench c.args.spare.now)
 reporting g c =

@@ -34,17 +34,17 @@ use Rattle.auditor_top.proofs.running.run.Given.{Over}
 use Rattle.auditor_top.proofs.running.run.Goals as goal
 
 -- the files are those of the table whose journal was opened
-are : (g : Over) (c : goal.After-drop-schema-inside-in-Ok-Explain-2 g) → g.P.Source.told →
+are : (g : Over) (c : goal.After-drop-schema-inside-in-Ok-Explain-3 g) → g.P.Source.told →
     AreSoundFilesOf (g.P.Source.left c.args.schema.now) (g.P.Source.left c.args.table.now)
     (base_of c.in-Ok-Explain.schema.columns c.in-Ok-Explain.index.public c.in-Ok-Explain.index.protected c.in-Ok-Explain.store.secret)
 are g c ptold = subst (IsReadyOver _ _) c.in-Ok-Explain.field-0-is (c.in-Ok-Explain.ensures.over ptold)
 
-stands : (g : Over) (c : goal.After-drop-schema-inside-in-Ok-Explain-2 g) → g.B.Bench.told → IsAsLeft (g.B.Bench.file c.args.bench.now) c.in-Ok-Explain.store
+stands : (g : Over) (c : goal.After-drop-schema-inside-in-Ok-Explain-3 g) → g.B.Bench.told → IsAsLeft (g.B.Bench.file c.args.bench.now) c.in-Ok-Explain.store
 stands g c told =
     subst (λ (bytes : List ℕ). IsAsLeft bytes c.in-Ok-Explain.store) c.open.ensures.reads.file
     ((subst (IsReady g.B.Bench c.open.new.bench) c.in-Ok-Explain.field-0-is c.in-Ok-Explain.ensures.ready).0.left told)
 
-holds : (g : Over) (c : goal.After-drop-schema-inside-in-Ok-Explain-2 g) → g.B.Bench.told →
+holds : (g : Over) (c : goal.After-drop-schema-inside-in-Ok-Explain-3 g) → g.B.Bench.told →
     HoldsLegal (g.B.Bench.file c.args.bench.now) (secret_table c.in-Ok-Explain.store.secret c.in-Ok-Explain.index.protected)
 holds g c told =
     let store = c.in-Ok-Explain.store in
@@ -54,7 +54,7 @@ holds g c told =
       subst (λ (p : Protection). IsLegal (secret_table store.secret p) store.history) (sym ready.3) ready.0.is.legal,
     )
 
-explained_faults : (g : Over) (c : goal.After-drop-schema-inside-in-Ok-Explain-2 g) → FaultCause c.explained.result
+explained_faults : (g : Over) (c : goal.After-drop-schema-inside-in-Ok-Explain-3 g) → FaultCause c.explained.result
     (faults_of g.P.Source g.I.Source g.B.Bench (objects c.args.schema.now c.args.table.now c.args.input.now c.args.bench.now c.args.spare.now))
     (faults_of g.P.Source g.I.Source g.B.Bench (objects c.open.new.schema c.open.new.table c.explain.new.source c.explain.new.bench c.args.spare.now))
 explained_faults g c =
@@ -65,7 +65,7 @@ explained_faults g c =
     (session_faults (as_session ended) _ _ _ (λ is. does.input ((explain_says ended).input is)) (λ other. does.steady.0 (λ is. other (ap as_session is)))
     (λ is. does.bench ((explain_says ended).bench is)) (λ other. does.steady.1 (λ is. other (ap as_session is))))
 
-explaining : (g : Over) (c : goal.After-drop-schema-inside-in-Ok-Explain-2 g) →
+explaining : (g : Over) (c : goal.After-drop-schema-inside-in-Ok-Explain-3 g) →
     Explaining g.P.Source g.I.Source g.B.Bench c.explained.result (objects c.args.schema.now c.args.table.now c.args.input.now c.args.bench.now c.args.spare.now)
     (objects c.open.new.schema c.open.new.table c.explain.new.source c.explain.new.bench c.args.spare.now)
 explaining g c =

@@ -31,25 +31,25 @@ use Rattle.auditor_top.proofs.running.run.Given.{Over}
 use Rattle.auditor_top.proofs.running.run.Goals as goal
 
 -- the files are those of the table whose journal was opened
-abbrev seen : (g : Over) (c : goal.After-drop-schema-inside-in-Ok-Serve g) → Database
+abbrev seen : (g : Over) (c : goal.After-drop-schema-inside-in-Ok-Serve-2 g) → Database
 seen g c = base_of c.in-Ok-Serve.schema.columns c.in-Ok-Serve.index.public c.in-Ok-Serve.index.protected c.in-Ok-Serve.store.secret
 
-are : (g : Over) (c : goal.After-drop-schema-inside-in-Ok-Serve g) → g.P.Source.told →
+are : (g : Over) (c : goal.After-drop-schema-inside-in-Ok-Serve-2 g) → g.P.Source.told →
     AreSoundFilesOf (g.P.Source.left c.args.schema.now) (g.P.Source.left c.args.table.now) (seen g c)
 are g c ptold = subst (IsReadyOver _ _) c.in-Ok-Serve.field-0-is (c.in-Ok-Serve.ensures.over ptold)
 
-entries : (g : Over) (c : goal.After-drop-schema-inside-in-Ok-Serve g) → c.in-Ok-Serve.index.protected ≡ c.in-Ok-Serve.store.protected
+entries : (g : Over) (c : goal.After-drop-schema-inside-in-Ok-Serve-2 g) → c.in-Ok-Serve.index.protected ≡ c.in-Ok-Serve.store.protected
 entries g c = (subst (IsReady g.B.Bench c.open.new.bench) c.in-Ok-Serve.field-0-is c.in-Ok-Serve.ensures.ready).3
 
-opened : (g : Over) (c : goal.After-drop-schema-inside-in-Ok-Serve g) → IsOpened g.B.Bench c.open.new.bench c.in-Ok-Serve.store
+opened : (g : Over) (c : goal.After-drop-schema-inside-in-Ok-Serve-2 g) → IsOpened g.B.Bench c.open.new.bench c.in-Ok-Serve.store
 opened g c = (subst (IsReady g.B.Bench c.open.new.bench) c.in-Ok-Serve.field-0-is c.in-Ok-Serve.ensures.ready).0
 
-holds : (g : Over) (c : goal.After-drop-schema-inside-in-Ok-Serve g) → g.B.Bench.told → HoldsLegal (g.B.Bench.file c.args.bench.now) (table_in (seen g c))
+holds : (g : Over) (c : goal.After-drop-schema-inside-in-Ok-Serve-2 g) → g.B.Bench.told → HoldsLegal (g.B.Bench.file c.args.bench.now) (table_in (seen g c))
 holds g c told =
     subst (λ (p : Protection). HoldsLegal (g.B.Bench.file c.args.bench.now) (secret_table c.in-Ok-Serve.store.secret p)) (sym (entries g c))
     (holds_so g.B.Bench c.args.bench.now c.open.new.bench c.in-Ok-Serve.store (opened g c) c.open.ensures.reads.file told)
 
-served_faults : (g : Over) (c : goal.After-drop-schema-inside-in-Ok-Serve g) → FaultCause c.answered.result
+served_faults : (g : Over) (c : goal.After-drop-schema-inside-in-Ok-Serve-2 g) → FaultCause c.answered.result
     (faults_of g.P.Source g.I.Source g.B.Bench (objects c.args.schema.now c.args.table.now c.args.input.now c.args.bench.now c.args.spare.now))
     (faults_of g.P.Source g.I.Source g.B.Bench (objects c.open.new.schema c.open.new.table c.serve.new.source c.serve.new.bench c.args.spare.now))
 served_faults g c =
@@ -57,7 +57,7 @@ served_faults g c =
     _ c.answered.ensures c.in-Ok-Serve.ensures.steady
     (session_faults c.serve.result _ _ _ c.serve.ensures.input c.serve.ensures.steady c.serve.ensures.fault.failed c.serve.ensures.fault.steady)
 
-serving : (g : Over) (c : goal.After-drop-schema-inside-in-Ok-Serve g) →
+serving : (g : Over) (c : goal.After-drop-schema-inside-in-Ok-Serve-2 g) →
     Serving g.P.Source g.I.Source g.B.Bench c.in-Ok-Serve.batch c.answered.result (objects c.args.schema.now c.args.table.now c.args.input.now c.args.bench.now c.args.spare.now)
     (objects c.open.new.schema c.open.new.table c.serve.new.source c.serve.new.bench c.args.spare.now)
 serving g c =
@@ -100,7 +100,7 @@ serving g c =
           (c.serve.ensures.input_within itold) (c.serve.ensures.limit itold)) within;
     })
 
-served_input : (g : Over) (c : goal.After-drop-schema-inside-in-Ok-Serve g) → g.I.Source.told →
+served_input : (g : Over) (c : goal.After-drop-schema-inside-in-Ok-Serve-2 g) → g.I.Source.told →
     InputCause c.answered.result (g.I.Source.left c.args.input.now) (g.I.Source.left c.serve.new.source)
 served_input g c = λ itold.
     let text = g.I.Source.left c.args.input.now in

@@ -31,11 +31,11 @@ use Rattle.auditor_top.proofs.running.run.Given.{Over}
 use Rattle.auditor_top.proofs.running.run.Goals as goal
 
 -- the files are those of the public columns whose groups were made ready
-are : (g : Over) (c : goal.After-drop-schema-inside-in-Ok-Simulate-2 g) → g.P.Source.told →
+are : (g : Over) (c : goal.After-drop-schema-inside-in-Ok-Simulate-3 g) → g.P.Source.told →
     ArePublicFilesOf (g.P.Source.left c.args.schema.now) (g.P.Source.left c.args.table.now) c.in-Ok-Simulate.schema.columns c.in-Ok-Simulate.index
 are g c ptold = subst (IsReadyOver _ _) c.in-Ok-Simulate.field-0-is (c.in-Ok-Simulate.ensures.over ptold)
 
-judged_faults : (g : Over) (c : goal.After-drop-schema-inside-in-Ok-Simulate-2 g) → FaultCause c.judged.result
+judged_faults : (g : Over) (c : goal.After-drop-schema-inside-in-Ok-Simulate-3 g) → FaultCause c.judged.result
     (faults_of g.P.Source g.I.Source g.B.Bench (objects c.args.schema.now c.args.table.now c.args.input.now c.args.bench.now c.args.spare.now))
     (faults_of g.P.Source g.I.Source g.B.Bench (objects c.open.new.schema c.open.new.table c.simulate.new.source c.simulate.new.bench c.args.spare.now))
 judged_faults g c =
@@ -43,7 +43,7 @@ judged_faults g c =
     faults_so c.judged.result _ (faults_of g.P.Source g.I.Source g.B.Bench (objects c.args.schema.now c.args.table.now c.args.input.now c.args.bench.now c.args.spare.now)) _
     _ c.judged.ensures c.in-Ok-Simulate.ensures.steady (simulation_faults c.simulate.result _ _ _ does.input does.steady.0 does.bench does.steady.1)
 
-judging : (g : Over) (c : goal.After-drop-schema-inside-in-Ok-Simulate-2 g) →
+judging : (g : Over) (c : goal.After-drop-schema-inside-in-Ok-Simulate-3 g) →
     Simulating g.P.Source g.I.Source g.B.Bench c.judged.result (objects c.args.schema.now c.args.table.now c.args.input.now c.args.bench.now c.args.spare.now)
     (objects c.open.new.schema c.open.new.table c.simulate.new.source c.simulate.new.bench c.args.spare.now)
 judging g c =

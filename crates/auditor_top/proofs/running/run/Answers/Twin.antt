@@ -24,7 +24,7 @@ use Rattle.auditor_top.proofs.running.run.Answers.TwinServed.{takes_calls, both_
 use Rattle.auditor_top.proofs.running.run.Given.{Over}
 use Rattle.auditor_top.proofs.running.run.Goals as goal
 
-twin_faults_so : (g : Over) (c : goal.After-drop-schema-inside-in-Ok-start-2 g) → FaultCause c.twins_answered.result
+twin_faults_so : (g : Over) (c : goal.After-drop-schema-inside-in-Ok-start-3 g) → FaultCause c.twins_answered.result
     (faults_of g.P.Source g.I.Source g.B.Bench (objects c.args.schema.now c.args.table.now c.args.input.now c.args.bench.now c.args.spare.now))
     (faults_of g.P.Source g.I.Source g.B.Bench (objects c.open.new.schema c.open.new.table c.serve_twin.new.source c.serve_twin.new.bench c.serve_twin.new.spare))
 twin_faults_so g c =
@@ -39,16 +39,16 @@ twin_faults_so g c =
     (λ is. subst (λ (n : ℕ). Rose n (g.B.Bench.faults c.serve_twin.new.spare)) spare_same (does.spare_fault.failed is))
     (λ other. does.spare_fault.steady other ∙ spare_same))
 
-reads_so : (g : Over) (c : goal.After-drop-schema-inside-in-Ok-start-2 g) → g.I.Source.told →
+reads_so : (g : Over) (c : goal.After-drop-schema-inside-in-Ok-start-3 g) → g.I.Source.told →
     InputCause (twin_session_status c.serve_twin.result) (g.I.Source.left c.args.input.now) (g.I.Source.left c.serve_twin.new.source)
 reads_so g c itold =
     let does = c.serve_twin.ensures in
     twins_reads c.serve_twin.result _ _ (does.read itold) (does.within itold) (does.input_within itold) (does.limit itold)
 
-is_named : (g : Over) (c : goal.After-drop-schema-inside-in-Ok-start-2 g) → command_of (map string_bytes c.args.words.now.items) ≡ Some (command.Serve c.in-Ok-Twin.batch true)
+is_named : (g : Over) (c : goal.After-drop-schema-inside-in-Ok-start-3 g) → command_of (map string_bytes c.args.words.now.items) ≡ Some (command.Serve c.in-Ok-Twin.batch true)
 is_named g c = asked_for _ _ _ _ c.in-Ok.ensures.command c.in-Ok-Twin.field-0-is c.in-Ok-Twin.ensures.asked
 
-answering : (g : Over) (c : goal.After-drop-schema-inside-in-Ok-start-2 g) →
+answering : (g : Over) (c : goal.After-drop-schema-inside-in-Ok-start-3 g) →
     TwinServing g.P.Source g.I.Source g.B.Bench c.in-Ok-Twin.batch c.twins_answered.result (objects c.args.schema.now c.args.table.now c.args.input.now c.args.bench.now c.args.spare.now)
     (objects c.open.new.schema c.open.new.table c.serve_twin.new.source c.serve_twin.new.bench c.serve_twin.new.spare)
 answering g c =

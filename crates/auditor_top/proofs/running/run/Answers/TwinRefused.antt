@@ -32,26 +32,26 @@ use Rattle.auditor_top.proofs.running.run.Given.{Over}
 use Rattle.auditor_top.proofs.running.run.Goals as goal
 
 -- the files are those of the table whose groups were made ready
-abbrev seen : (g : Over) → goal.After-drop-schema-inside-in-Ok-Twin-2 g → Database
+abbrev seen : (g : Over) → goal.After-drop-schema-inside-in-Ok-Twin-3 g → Database
 seen g c = base_of c.in-Ok-Twin.schema.columns c.in-Ok-Twin.index.public c.in-Ok-Twin.protected c.in-Ok-Twin.secret
 
-are : (g : Over) (c : goal.After-drop-schema-inside-in-Ok-Twin-2 g) → g.P.Source.told → AreSoundFilesOf (g.P.Source.left c.args.schema.now) (g.P.Source.left c.args.table.now) (seen g c)
+are : (g : Over) (c : goal.After-drop-schema-inside-in-Ok-Twin-3 g) → g.P.Source.told → AreSoundFilesOf (g.P.Source.left c.args.schema.now) (g.P.Source.left c.args.table.now) (seen g c)
 are g c ptold =
     let ready = subst (IsReady g.B.Bench c.open.new.bench) c.in-Ok-Twin.field-0-is c.in-Ok-Twin.ensures.ready in
     subst (λ (l : Protection). AreSoundFilesOf (g.P.Source.left c.args.schema.now) (g.P.Source.left c.args.table.now)
     (base_of c.in-Ok-Twin.schema.columns c.in-Ok-Twin.index.public l c.in-Ok-Twin.secret)) ready.3
     (subst (IsReadyOver _ _) c.in-Ok-Twin.field-0-is (c.in-Ok-Twin.ensures.over ptold))
 
-is_seen : (g : Over) (c : goal.After-drop-schema-inside-in-Ok-Twin-2 g) → g.P.Source.told → (base : Database) →
+is_seen : (g : Over) (c : goal.After-drop-schema-inside-in-Ok-Twin-3 g) → g.P.Source.told → (base : Database) →
     AreSoundFilesOf (g.P.Source.left c.args.schema.now) (g.P.Source.left c.args.table.now) base → seen g c ≡ base
 is_seen g c ptold base sound = one_base c.groups_of_a_schema.ensures.entries _ _ (seen g c) base (are g c ptold) sound
 
 -- the bench wasn't called before
-unopened : (g : Over) (c : goal.After-drop-schema-inside-in-Ok-Twin-2 g) → c.open.new.bench ≡ c.args.bench.now
+unopened : (g : Over) (c : goal.After-drop-schema-inside-in-Ok-Twin-3 g) → c.open.new.bench ≡ c.args.bench.now
 unopened g c = c.open.ensures.unopened (ap opens_store (same_command _ _ _ c.in-Ok-Twin.field-0-is c.in-Ok-Twin.ensures.asked))
 
 -- so the journals were opened as they were given
-keep : (g : Over) (c : goal.After-drop-schema-inside-in-Ok-Twin-2 g) → g.P.Source.told → (base : Database) (main other whole : List Answered) →
+keep : (g : Over) (c : goal.After-drop-schema-inside-in-Ok-Twin-3 g) → g.P.Source.told → (base : Database) (main other whole : List Answered) →
     TwinsOver (g.P.Source.left c.args.schema.now) (g.P.Source.left c.args.table.now) (g.B.Bench.file c.args.bench.now) (g.B.Bench.file c.args.spare.now) base main other
     whole → KeepTogether (table_in (seen g c)) (g.B.Bench.file c.open.new.bench) (g.B.Bench.file c.args.spare.now) main other whole
 keep g c ptold base main other whole over =
@@ -59,16 +59,16 @@ keep g c ptold base main other whole over =
     (subst (λ (b : Database). KeepTogether (table_in b) (g.B.Bench.file c.args.bench.now) (g.B.Bench.file c.args.spare.now) main other whole)
     (sym (is_seen g c ptold base over.files)) over.together)
 
-own : (g : Over) (c : goal.After-drop-schema-inside-in-Ok-Twin-2 g) → IsOwn c.in-Err-start.fault
+own : (g : Over) (c : goal.After-drop-schema-inside-in-Ok-Twin-3 g) → IsOwn c.in-Err-start.fault
 own g c = own_fault c.in-Err-start.fault c.in-Err-start.ensures.own
 
-cause : (g : Over) (c : goal.After-drop-schema-inside-in-Ok-Twin-2 g) → g.B.Bench.told →
+cause : (g : Over) (c : goal.After-drop-schema-inside-in-Ok-Twin-3 g) → g.B.Bench.told →
     TwinCause c.in-Err-start.fault (g.B.Bench.file c.args.bench.now) (g.B.Bench.file c.args.spare.now) (table_in (seen g c))
 cause g c told =
     subst (λ b. TwinCause c.in-Err-start.fault (g.B.Bench.file b) (g.B.Bench.file c.args.spare.now) (table_in (seen g c))) (unopened g c)
     (c.in-Err-start.ensures.cause c.in-Err-start.fault told told refl)
 
-refused_faults : (g : Over) (c : goal.After-drop-schema-inside-in-Ok-Twin-2 g) → FaultCause c.from.result
+refused_faults : (g : Over) (c : goal.After-drop-schema-inside-in-Ok-Twin-3 g) → FaultCause c.from.result
     (faults_of g.P.Source g.I.Source g.B.Bench (objects c.args.schema.now c.args.table.now c.args.input.now c.args.bench.now c.args.spare.now))
     (faults_of g.P.Source g.I.Source g.B.Bench (objects c.open.new.schema c.open.new.table c.args.input.now c.start.new.bench c.start.new.spare))
 refused_faults g c =
@@ -78,17 +78,17 @@ refused_faults g c =
     (twin_faults c.in-Err-start.fault _ _ _ (own g c) does.fault.failed does.fault.steady does.spare_fault.failed does.spare_fault.steady)
 
 -- what is given: the files of a table, and two journals of it of which one begins the other
-abbrev IsGiven : (g : Over) → goal.After-drop-schema-inside-in-Ok-Twin-2 g → Database → List Answered → List Answered → List Answered → Type 0
+abbrev IsGiven : (g : Over) → goal.After-drop-schema-inside-in-Ok-Twin-3 g → Database → List Answered → List Answered → List Answered → Type 0
 IsGiven g c base main other whole =
     TwinsOver (g.P.Source.left c.args.schema.now) (g.P.Source.left c.args.table.now) (g.B.Bench.file c.args.bench.now) (g.B.Bench.file c.args.spare.now) base main other whole
 
-sent_same : (g : Over) (c : goal.After-drop-schema-inside-in-Ok-Twin-2 g) → g.B.Bench.sent c.start.new.bench ≡ g.B.Bench.sent c.args.bench.now
+sent_same : (g : Over) (c : goal.After-drop-schema-inside-in-Ok-Twin-3 g) → g.B.Bench.sent c.start.new.bench ≡ g.B.Bench.sent c.args.bench.now
 sent_same g c = c.in-Err-start.ensures.sent ∙ ap g.B.Bench.sent (unopened g c)
 
-quiet_opened : (g : Over) (c : goal.After-drop-schema-inside-in-Ok-Twin-2 g) → IsQuiet g.B.Bench c.args.bench.now → IsQuiet g.B.Bench c.open.new.bench
+quiet_opened : (g : Over) (c : goal.After-drop-schema-inside-in-Ok-Twin-3 g) → IsQuiet g.B.Bench c.args.bench.now → IsQuiet g.B.Bench c.open.new.bench
 quiet_opened g c quiet = subst (λ b. IsQuiet g.B.Bench b) (sym (unopened g c)) quiet
 
-catching : (g : Over) (c : goal.After-drop-schema-inside-in-Ok-Twin-2 g) → g.P.Source.told → g.B.Bench.told → IsQuiet g.B.Bench c.args.bench.now → (base : Database) (main other whole : List Answered) → IsGiven g c base main other whole →
+catching : (g : Over) (c : goal.After-drop-schema-inside-in-Ok-Twin-3 g) → g.P.Source.told → g.B.Bench.told → IsQuiet g.B.Bench c.args.bench.now → (base : Database) (main other whole : List Answered) → IsGiven g c base main other whole →
     LeavesOnly g.B.Bench c.args.bench.now c.start.new.bench (CatchesUp base.secret.shape main whole (g.B.Bench.sent c.args.bench.now))
 catching g c ptold told quiet base main other whole over =
     let later = c.start.new.bench in
@@ -97,18 +97,18 @@ catching g c ptold told quiet base main other whole over =
     (subst (λ b. LeavesOnly g.B.Bench b later (CatchesUp c.in-Ok-Twin.secret.shape main whole (g.B.Bench.sent b))) (unopened g c)
     (c.in-Err-start.ensures.main_moments main other whole told told (quiet_opened g c quiet) (keep g c ptold base main other whole over)))
 
-spare_catching : (g : Over) (c : goal.After-drop-schema-inside-in-Ok-Twin-2 g) → g.P.Source.told → g.B.Bench.told → IsQuiet g.B.Bench c.args.spare.now → (base : Database) (main other whole : List Answered) → IsGiven g c base main other whole →
+spare_catching : (g : Over) (c : goal.After-drop-schema-inside-in-Ok-Twin-3 g) → g.P.Source.told → g.B.Bench.told → IsQuiet g.B.Bench c.args.spare.now → (base : Database) (main other whole : List Answered) → IsGiven g c base main other whole →
     LeavesOnly g.B.Bench c.args.spare.now c.start.new.spare (CatchesUp base.secret.shape other whole (g.B.Bench.sent c.args.spare.now))
 spare_catching g c ptold told quiet base main other whole over =
     let spare = c.args.spare.now in
     subst (λ (b : Database). LeavesOnly g.B.Bench spare c.start.new.spare (CatchesUp b.secret.shape other whole (g.B.Bench.sent spare))) (is_seen g c ptold base over.files)
     (c.in-Err-start.ensures.spare_moments main other whole told told quiet (keep g c ptold base main other whole over))
 
-gave : (g : Over) (c : goal.After-drop-schema-inside-in-Ok-Twin-2 g) → g.P.Source.told → g.B.Bench.told → (base : Database) (main other whole : List Answered) → IsGiven g c base main other whole → TwinGivesUp c.in-Err-start.fault
+gave : (g : Over) (c : goal.After-drop-schema-inside-in-Ok-Twin-3 g) → g.P.Source.told → g.B.Bench.told → (base : Database) (main other whole : List Answered) → IsGiven g c base main other whole → TwinGivesUp c.in-Err-start.fault
 gave g c ptold told base main other whole over = c.in-Err-start.ensures.opens main other whole told told (keep g c ptold base main other whole over)
 
 -- if memory ran out both files still catch up
-still_caught : (g : Over) (c : goal.After-drop-schema-inside-in-Ok-Twin-2 g) → g.P.Source.told → g.B.Bench.told → (base : Database) (main other whole : List Answered) → IsGiven g c base main other whole →
+still_caught : (g : Over) (c : goal.After-drop-schema-inside-in-Ok-Twin-3 g) → g.P.Source.told → g.B.Bench.told → (base : Database) (main other whole : List Answered) → IsGiven g c base main other whole →
     c.in-Err-start.fault ≡ twin.NoMemory →
     BothCatchUp base main other whole (g.B.Bench.sent c.args.bench.now) (g.B.Bench.sent c.start.new.bench) (g.B.Bench.file c.start.new.bench) (g.B.Bench.file c.start.new.spare)
 still_caught g c ptold told base main other whole over is =
@@ -116,7 +116,7 @@ still_caught g c ptold told base main other whole over is =
     subst (λ (b : Database). BothCatchUp b main other whole (g.B.Bench.sent c.args.bench.now) (g.B.Bench.sent c.start.new.bench) (g.B.Bench.file c.start.new.bench)
     (g.B.Bench.file c.start.new.spare)) (is_seen g c ptold base over.files) (sent_same g c, found.0, found.1)
 
-both_left : (g : Over) (c : goal.After-drop-schema-inside-in-Ok-Twin-2 g) → g.P.Source.told → g.B.Bench.told → IsQuiet g.B.Bench c.args.bench.now → IsQuiet g.B.Bench c.args.spare.now →
+both_left : (g : Over) (c : goal.After-drop-schema-inside-in-Ok-Twin-3 g) → g.P.Source.told → g.B.Bench.told → IsQuiet g.B.Bench c.args.bench.now → IsQuiet g.B.Bench c.args.spare.now →
     (base : Database) (main other whole : List Answered) → IsGiven g c base main other whole → (image spare : List ℕ) →
     g.B.Bench.leaves c.start.new.bench image → g.B.Bench.leaves c.start.new.spare spare →
     BothCatchUp base main other whole (g.B.Bench.sent c.args.bench.now) (g.B.Bench.sent c.start.new.bench) image spare
@@ -131,7 +131,7 @@ both_left g c ptold told quiet spare_quiet base main other whole over image spar
 )
 
 -- the files don't keep together
-apart : (g : Over) (c : goal.After-drop-schema-inside-in-Ok-Twin-2 g) → g.P.Source.told → ((base : Database) (main other whole : List Answered) → IsGiven g c base main other whole → ⊥) →
+apart : (g : Over) (c : goal.After-drop-schema-inside-in-Ok-Twin-3 g) → g.P.Source.told → ((base : Database) (main other whole : List Answered) → IsGiven g c base main other whole → ⊥) →
     KeepApart (table_in (seen g c)) (g.B.Bench.file c.open.new.bench) (g.B.Bench.file c.args.spare.now)
 apart g c ptold none main other whole all =
     none (seen g c) main other whole (record {
@@ -139,16 +139,16 @@ apart g c ptold none main other whole all =
       together = subst (λ b. KeepTogether (table_in (seen g c)) (g.B.Bench.file b) (g.B.Bench.file c.args.spare.now) main other whole) (unopened g c) all;
     })
 
-untouched : (g : Over) (c : goal.After-drop-schema-inside-in-Ok-Twin-2 g) → g.B.Bench.told → IsQuiet g.B.Bench c.args.bench.now → KeepApart (table_in (seen g c)) (g.B.Bench.file c.open.new.bench) (g.B.Bench.file c.args.spare.now) →
+untouched : (g : Over) (c : goal.After-drop-schema-inside-in-Ok-Twin-3 g) → g.B.Bench.told → IsQuiet g.B.Bench c.args.bench.now → KeepApart (table_in (seen g c)) (g.B.Bench.file c.open.new.bench) (g.B.Bench.file c.args.spare.now) →
     LeavesOnly g.B.Bench c.args.bench.now c.start.new.bench (IsUntouched (g.B.Bench.file c.args.bench.now) (g.B.Bench.sent c.args.bench.now))
 untouched g c told quiet apart =
     subst (λ b. LeavesOnly g.B.Bench b c.start.new.bench (IsUntouched (g.B.Bench.file b) (g.B.Bench.sent b))) (unopened g c)
     (c.in-Err-start.ensures.untouched told told (quiet_opened g c quiet) apart)
 
-is_named : (g : Over) (c : goal.After-drop-schema-inside-in-Ok-Twin-2 g) → command_of (map string_bytes c.args.words.now.items) ≡ Some (command.Serve c.in-Ok-Twin.batch true)
+is_named : (g : Over) (c : goal.After-drop-schema-inside-in-Ok-Twin-3 g) → command_of (map string_bytes c.args.words.now.items) ≡ Some (command.Serve c.in-Ok-Twin.batch true)
 is_named g c = asked_for _ _ _ _ c.in-Ok.ensures.command c.in-Ok-Twin.field-0-is c.in-Ok-Twin.ensures.asked
 
-refusing : (g : Over) (c : goal.After-drop-schema-inside-in-Ok-Twin-2 g) →
+refusing : (g : Over) (c : goal.After-drop-schema-inside-in-Ok-Twin-3 g) →
     TwinServing g.P.Source g.I.Source g.B.Bench c.in-Ok-Twin.batch c.from.result (objects c.args.schema.now c.args.table.now c.args.input.now c.args.bench.now c.args.spare.now)
     (objects c.open.new.schema c.open.new.table c.args.input.now c.start.new.bench c.start.new.spare)
 refusing g c =
@@ -200,7 +200,7 @@ refusing g c =
     })
 
 -- over files of which the journal's isn't one of a legal history, nothing began
-nothing_began : (g : Over) (c : goal.After-drop-schema-inside-in-Ok-Twin-2 g) → g.P.Source.told → g.B.Bench.told → (asked : Command) → NamesCommand c.args.words.now.items asked → IsQuiet g.B.Bench c.args.bench.now →
+nothing_began : (g : Over) (c : goal.After-drop-schema-inside-in-Ok-Twin-3 g) → g.P.Source.told → g.B.Bench.told → (asked : Command) → NamesCommand c.args.words.now.items asked → IsQuiet g.B.Bench c.args.bench.now →
     ((base : Database) → AreSoundFilesOf (g.P.Source.left c.args.schema.now) (g.P.Source.left c.args.table.now) base → IsReadyFor asked (g.B.Bench.file c.args.bench.now) (table_in base) → ⊥) →
     LeavesOnly g.B.Bench c.args.bench.now c.start.new.bench (IsUntouched (g.B.Bench.file c.args.bench.now) (g.B.Bench.sent c.args.bench.now))
 nothing_began g c ptold told asked named quiet none =
