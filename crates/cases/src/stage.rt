@@ -19,7 +19,7 @@ pub struct Most {
 
 /// Those of a run that is made once: a verdict for each answer of a full history, and more.
 pub const ONCE: Most = Most {
-    sent: 2_097_152,
+    sent: 4_194_304,
     calls: 131_072,
 };
 
