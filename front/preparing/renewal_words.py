@@ -25,7 +25,7 @@ def say_renewal(renewal, folder, export, columns, later):
     say_protected(folder.schema.get("protect", []), totals)
     say_totals(totals, columns, [Part(now)])
     say_what_is_known(now, publics(columns), secrets(columns))
-    say_ranges(list(export.people.values()), [column for column in columns if column.kind in SECRET], export.places)
+    say_ranges(list(export.people.values()), [column for column in columns if column.kind in SECRET], export.places, folder.schema)
 
 
 def people_words(number):

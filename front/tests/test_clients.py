@@ -278,6 +278,11 @@ class AtOnce(OneOffice):
             self.assertEqual((int(rows), denied or total), (len(inside), denied or str(sum(inside))))
 
 
+def without_news(said):
+    """What was said, without the sentence that an answer follows from earlier ones: what others asked before decides that."""
+    return [line.removesuffix(" It adds nothing new: the answer follows from earlier ones.") for line in said]
+
+
 class SeveralTables(unittest.TestCase):
     """Two tables of one office, by site, behind one door."""
 
@@ -315,7 +320,7 @@ class SeveralTables(unittest.TestCase):
         self.assertEqual(status, 1)
         self.assertEqual([table.transcript() for table in self.all.tables], before)
         said, _, _ = typed(self.office.url, f"would sum salary where age = {single} or site != 'York'")
-        self.assertEqual(said, ["north: It would be answered now.", "york: It would not be answered."])
+        self.assertEqual(without_news(said), ["north: It would be answered now.", "york: It would not be answered."])
         why = self.all.why("sum", "salary", f"age = {single} or site != 'York'")
         self.assertEqual((why.table, why.line["row"]), ("york", [row.age for row in self.parts["york"]].index(single)))
         said, _, status = typed(self.office.url, f"why sum salary where age = {single} or site != 'York'")
@@ -332,7 +337,7 @@ class SeveralTables(unittest.TestCase):
         self.assertEqual(said[:3], ["200", f"{sum(row.salary for row in self.rows) / 100:.2f} EUR", f"{sum(balances) / 200:.3f}".rstrip("0")])
         self.assertEqual(said[3], f"{max(row.bonus for row in self.rows) / 100:.2f} EUR")
         self.assertEqual(said[4:7], [f"{site}: {sum(row.site == site for row in self.rows)}" for site in ("Hull", "Leeds", "York")])
-        self.assertEqual(said[7:10], ["refused: No row satisfies the condition.", "north: It would be answered now.", "york: It would be answered now."])
+        self.assertEqual(without_news(said[7:10]), ["refused: No row satisfies the condition.", "north: It would be answered now.", "york: It would be answered now."])
         self.assertEqual((said[10], faults, status), ("  age == 3", "", 1))
 
 

@@ -303,7 +303,8 @@ class Grown(DoorCase):
             # A difference between an old answer and a new one would be the new row's number.
             for high, due in ((500, "released"), (59, "released"), (60, "unsafe")):
                 line = line_of("sum", 0, high)
-                self.assertEqual((await ask(session, line, "/would")), (200, b'{"verdict":"%s"}\n' % due.encode()))
+                status, verdict = await ask(session, line, "/would")
+                self.assertEqual((status, json.loads(verdict)["verdict"]), (200, due))
                 _, reply = await self.ask(session, ("sum", 0, high), line)
                 self.assertEqual(b"denied" in reply, due == "unsafe")
             await self.asks(session, 40, 120)

@@ -43,7 +43,12 @@ fn send_report(
 ) -> Option<()>
     requires { secret.shape ≡ shape_of schema.now.columns secret.shape.rows }
 {
-    match Store::start(alloc, secret, Guard::new(Vec::new(alloc), MOST_WIDTH), bench) {
+    match Store::start(
+        alloc,
+        secret,
+        Guard::new(Vec::new(alloc), MOST_WIDTH),
+        bench,
+    ) {
         Ok(store) => audit(alloc, schema, &store, bench).ok(),
         Err(_) => None,
     }
