@@ -114,7 +114,8 @@ def read_export(path, choices, columns, title):
 
 def other_keys(schema):
     """What else the schema says, which stays as it is; and that questions are kept to those who are there."""
-    return {**only(), **{key: value for key, value in schema.items() if key not in ("columns", "protect")}}
+    others = {key: value for key, value in schema.items() if key not in ("columns", "protect")}
+    return others if "only" in others else {**others, **only()}
 
 
 # What is there.

@@ -421,7 +421,7 @@ class OverTheProgram(TableTest):
         self.assertEqual(self.ask("sum salary where dept = 'QA'"), ["300"])
         self.protect({"column": "salary", "where": "dept = 'QA'"})
         said, = self.ask("count")
-        self.assertTrue(said.startswith("auditor: record 0 should not have been released (the journal is of another table, or"), said)
+        self.assertTrue(said.startswith("auditor: record 0 should not have been released: group 0 (the journal is of another table, or"), said)
 
 
 if __name__ == "__main__":

@@ -229,7 +229,7 @@ class Written(TokenCase):
             await ask(session, line_of("sum", 0, 99))
         self.assertEqual(self.door.stop(), 0)
         found = {path.name for path in [*self.folder.path.iterdir(), *self.folder.public.iterdir()]} - {"door.sock", "tokens.json"}
-        self.assertEqual(found, {"answers.journal", "door.err", "public", "schema.json", "table.csv", "table.sha256", "transcript.jsonl",
+        self.assertEqual(found, {"answers.journal", "door.err", "period.1", "public", "schema.json", "table.csv", "table.sha256", "transcript.jsonl",
                                  "waiting.jsonl"})
 
     async def test_a_proxy_behind_a_socket_says_whose_question_it_is(self):
