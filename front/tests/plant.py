@@ -284,7 +284,7 @@ PLANTS = [
     ("a plan is asked at each start", "doorway/first.py", "        write_whole(self.mark, self.sum)\n", "", "test_first.First.test_it_is_asked_once"),
     ("few rows are asked first", "doorway/first.py", "return await self.handlers.ask(line, NOBODY)", "return await self.table.ask(line)",
      "test_first.First.test_what_isnt_a_question_is_said_and_the_rest_goes_on"),
-    ("a denied question is said to be near", "doorway/near.py", "            if verdict == RELEASED:\n", "            if verdict:\n",
+    ("a denied question is said to be near", "doorway/near.py", "            if verdict in (RELEASED, FOLLOWS):\n", "            if verdict:\n",
      "test_nearest.Near.test_each_denial_has_a_near_question_that_is_answered_and_nothing_is_kept"),
     ("what is far is said to be near", "planning/nearness.py", "key=lambda one: one.distance)", "key=lambda one: -one.distance)", "test_nearest.Parts"),
     ("few rows are near", "planning/nearness.py", "columns.are_enough(rows, max(fewest, 1))", "columns.are_enough(rows, 1)", "test_nearest.Parts"),
