@@ -26,7 +26,7 @@ use crate::status::Status;
 use answer_journal::{Journal, MakeFault};
 use audit_session::EndFault;
 use audit_store::{StartFault, Store};
-use audit_types::{Guard, MOST_ROWS, MOST_WIDTH, NoMemory, Shape};
+use audit_types::{Guard, MOST_REACH, MOST_WIDTH, NoMemory, Shape};
 use bench_core::{Bench, Failed, MemoryBench, Room, SteadySource};
 use drill_case::laws::lines_of_replies;
 use drill_case::{drill_lines, drill_schema, drill_table, summary, tally};
@@ -106,7 +106,7 @@ fn answer(
     match Store::start(
         alloc,
         secret,
-        Guard::new(Vec::new(alloc), MOST_WIDTH, MOST_ROWS),
+        Guard::new(Vec::new(alloc), MOST_WIDTH, MOST_REACH),
         bench,
     ) {
         Ok(mut store) => answer_over(alloc, schema, index, &mut store, lines, bench),

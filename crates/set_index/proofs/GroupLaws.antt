@@ -77,7 +77,8 @@ sound_only columns (Some text) public (t, short, is, asks) = (t, short, is)
 -- and they protect in one way
 one_way : OneMeaning → (columns : List Column) (public : PublicView) (guards : Guards) (a b : Protection) → Protects columns public guards a → Protects columns public guards b → a ≡ b
 one_way means columns public guards a b first second =
-    first.1 ∙ ap (λ entries. against_outsiders entries [] guards.width guards.reach) (one_list means columns public 0 guards.groups a.groups b.groups first.0 second.0) ∙ sym second.1
+    let entries = one_list means columns public 0 guards.groups a.groups b.groups first.0 second.0 in
+    first.1 ∙ ap (λ groups. against_outsiders groups [] guards.width guards.reach) entries ∙ sym second.1
 
 some_way : (columns : List Column) (public : PublicView) (guards : Guards) → AreSound columns guards →
     (asked : PublicView) × (protected : Protection) × (whole asked ≡ whole public) × Protects columns asked guards protected
@@ -147,4 +148,5 @@ entries_are_protected places columns public guards protected are is guarded prot
     let shape = shape_of columns public.rows in
     let fit = entries_fit places columns public 0 guards.groups protected.groups are protects.0 in
     let few : length protected.groups ≤ most_groups = omega (arith, fit.1, guarded.few) in
-    subst (IsPlainFor shape) (sym protects.1) (plain_fits shape protected.groups guards.width fit.0 few guarded.wide guarded.narrow)
+    let plain = plain_fits shape protected.groups guards.width guards.reach fit.0 few guarded.width.0 guarded.width.1 guarded.reach.0 guarded.reach.1 in
+    subst (IsPlainFor shape) (sym protects.1) plain

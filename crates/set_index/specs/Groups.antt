@@ -32,8 +32,8 @@ AsksOnly columns (Some text) public = (t : Tree) × (length text ≤ 8192) × Me
 
 -- what a schema guards of a table: each row, and the entries of its groups, by forms of its width and reach; and of which rows may be asked
 abbrev pub Protects : List Column → PublicView → Guards → Protection → Type 0
-Protects columns public guards protected =
-    AreEntries columns public 0 guards.groups protected.groups × (protected ≡ against_outsiders protected.groups [] guards.width guards.reach) × AsksOnly columns guards.only public
+Protects columns public guards protected = AreEntries columns public 0 guards.groups protected.groups
+    × (protected ≡ against_outsiders protected.groups [] guards.width guards.reach) × AsksOnly columns guards.only public
 
 -- a group has no fault
 abbrev pub HasNoFault : List Column → Group → Type 0
