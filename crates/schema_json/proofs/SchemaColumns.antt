@@ -25,8 +25,8 @@ or_none true b e = absurd (true≢false e)
 or_none false b e = (refl, e)
 
 -- columns of which some are public, and that pass the tests of their names and numbers, with a width and a reach that may be
-passed : (s schema : SchemaView) (good again many : Bool) → has_public s.columns ≡ true → AreBounds s.guards.width s.guards.reach → has_good_names s.columns ≡ good
-    → repeats s.columns ≡ again → (too_many s.columns || nat_lt most_groups (length s.guards.groups)) ≡ many
+passed : (s schema : SchemaView) (good again many : Bool) → has_public s.columns ≡ true → AreBounds s.guards.width s.guards.reach
+    → has_good_names s.columns ≡ good → repeats s.columns ≡ again → (too_many s.columns || nat_lt most_groups (length s.guards.groups)) ≡ many
     → (if not good then Err BadName else (if again then Err Repeated else (if many then Err TooMany else Ok s))) ≡ Ok schema → IsSchema schema
 passed s schema false again many public bounds names once within is = absurd (cc)
 passed s schema true true many public bounds names once within is = absurd (cc)
@@ -40,7 +40,8 @@ passed s schema true false false public bounds names once within is =
     })
 
 -- what a value lists, if some of the columns are public
-some_public : (cs : List Column) (g : Option Guards) (schema : SchemaView) (public : Bool) → ((guards : Guards) → g ≡ Some guards → AreBounds guards.width guards.reach) → has_public cs ≡ public →
+some_public : (cs : List Column) (g : Option Guards) (schema : SchemaView) (public : Bool) →
+    ((guards : Guards) → g ≡ Some guards → AreBounds guards.width guards.reach) → has_public cs ≡ public →
     checked (made_of (λ columns guards. record { columns = columns; guards = guards }) (if public then Some cs else None) g) ≡ Ok schema → IsSchema schema
 some_public cs g schema false bounds public is = absurd (cc)
 some_public cs None schema true bounds public is = absurd (cc)

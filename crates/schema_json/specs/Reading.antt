@@ -82,8 +82,7 @@ has_these_keys d = key_count d == 1 + has_key (codes "only") d + has_key (codes 
 -- what an object says is guarded: no condition unless it has the key `only`, no groups unless it has `protect`, the greatest width unless it
 -- has `width`, and the greatest reach unless it has `reach`
 unfoldable pub guards_of : Data → Option Guards
-guards_of d =
-    if has_these_keys d then made_of (λ (make : ℕ × ℕ → Guards) bounds. make bounds)
+guards_of d = if has_these_keys d then made_of (λ (make : ℕ × ℕ → Guards) bounds. make bounds)
     (made_of (λ only groups bounds. record { only = only; groups = groups; width = bounds.0; reach = bounds.1 })
     (key_or None (λ v. option_map Some (as_str v)) (codes "only") d) (key_or [] groups_in (codes "protect") d))
     (made_of (λ width reach. (width, reach)) (key_or most_width (number_within 1 most_width) (codes "width") d)
