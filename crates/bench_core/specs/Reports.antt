@@ -30,8 +30,8 @@ module _ {D : Type 0} (bench : Ghosts D) where
   }
 
   -- the one call failed, and that is reported
-  pub failed_call : {X E : Type 0} (old new : D) (e : E) (Answered : Type 0) → (let given : Result X E = Err e in HasCause (bench.faults old) (bench.faults new) given)
-      → bench.last_failed new ≡ true → Answered → TellsFault bench old new Answered
+  pub failed_call : {X E : Type 0} (old new : D) (e : E) (Answered : Type 0)
+      → (let given : Result X E = Err e in HasCause (bench.faults old) (bench.faults new) given) → bench.last_failed new ≡ true → Answered → TellsFault bench old new Answered
   failed_call old new e Answered cause last is = record {
     later = cause.later;
     failed = λ answered. cause.failed;
@@ -40,8 +40,8 @@ module _ {D : Type 0} (bench : Ghosts D) where
   }
 
   -- it didn't, and no failure is reported
-  pub done_call : {X E : Type 0} (old new : D) (x : X) (Answered : Type 0) → (let given : Result X E = Ok x in HasCause (bench.faults old) (bench.faults new) given)
-      → (Answered → ⊥) → TellsFault bench old new Answered
+  pub done_call : {X E : Type 0} (old new : D) (x : X) (Answered : Type 0)
+      → (let given : Result X E = Ok x in HasCause (bench.faults old) (bench.faults new) given) → (Answered → ⊥) → TellsFault bench old new Answered
   done_call old new x Answered cause none = record {
     later = cause.later;
     failed = λ answered. absurd (none answered);
@@ -50,7 +50,8 @@ module _ {D : Type 0} (bench : Ghosts D) where
   }
 
   -- a failure that is reported of one answer is reported of another that fails alike
-  pub told_as : (old new : D) (Told Answered : Type 0) → (Told → Answered) → (Answered → Told) → TellsFault bench old new Told → TellsFault bench old new Answered
+  pub told_as : (old new : D) (Told Answered : Type 0) → (Told → Answered) → (Answered → Told) → TellsFault bench old new Told
+      → TellsFault bench old new Answered
   told_as old new Told Answered to from tells = record {
     later = tells.later;
     failed = λ answered. tells.failed (from answered);
