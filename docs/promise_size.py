@@ -30,7 +30,7 @@ MOST = {
     "disclosure": 100,
     "decision": 110,
     "lines and conditions": 390,
-    "formats of files": 212,
+    "formats of files": 214,
     "journal and crash": 95,
     "lives": 288,
     "the promise": 1185,

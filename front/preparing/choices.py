@@ -52,7 +52,7 @@ SECRET_KEYS = NUMBER_KEYS + ("range",)
 
 def table_keys():
     """The keys of a file of choices, each with the type of its values: one for each limit among them."""
-    return TABLE_KEYS | dict.fromkeys(limits.STATED, int)
+    return TABLE_KEYS | dict.fromkeys(limits.LIMITS, int)
 
 
 def read(path):

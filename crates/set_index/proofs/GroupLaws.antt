@@ -77,14 +77,15 @@ sound_only columns (Some text) public (t, short, is, asks) = (t, short, is)
 -- and they protect in one way
 one_way : OneMeaning → (columns : List Column) (public : PublicView) (guards : Guards) (a b : Protection) → Protects columns public guards a → Protects columns public guards b → a ≡ b
 one_way means columns public guards a b first second =
-    first.1 ∙ ap (λ entries. against_outsiders entries [] guards.width) (one_list means columns public 0 guards.groups a.groups b.groups first.0 second.0) ∙ sym second.1
+    let entries = one_list means columns public 0 guards.groups a.groups b.groups first.0 second.0 in
+    first.1 ∙ ap (λ groups. against_outsiders groups [] guards.width guards.reach) entries ∙ sym second.1
 
 some_way : (columns : List Column) (public : PublicView) (guards : Guards) → AreSound columns guards →
     (asked : PublicView) × (protected : Protection) × (whole asked ≡ whole public) × Protects columns asked guards protected
 some_way columns public guards sound =
     let part = some_part columns guards.only public sound.only in
     let list = some_list columns part.0 0 guards.groups sound.groups in
-    (part.0, against_outsiders list.0 [] guards.width, part.1, (list.1, refl, part.2))
+    (part.0, against_outsiders list.0 [] guards.width guards.reach, part.1, (list.1, refl, part.2))
 
 -- what has a fault isn't sound
 bad_way : (columns : List Column) (guards : Guards) (bad : GuardPart) → IsFirstBad columns guards bad → ¬ (AreSound columns guards)
@@ -143,4 +144,5 @@ entries_are_protected places columns public guards protected are is guarded prot
     let shape = shape_of columns public.rows in
     let fit = entries_fit places columns public 0 guards.groups protected.groups are protects.0 in
     let few : length protected.groups ≤ most_groups = omega (arith, fit.1, guarded.few) in
-    subst (IsPlainFor shape) (sym protects.1) (plain_fits shape protected.groups guards.width fit.0 few guarded.wide guarded.narrow)
+    let plain = plain_fits shape protected.groups guards.width guards.reach fit.0 few guarded.width.0 guarded.width.1 guarded.reach.0 guarded.reach.1 in
+    subst (IsPlainFor shape) (sym protects.1) plain

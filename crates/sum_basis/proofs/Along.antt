@@ -15,11 +15,11 @@ use Rattle.audit_types.specs.Truth.{is_zero, number_at}
 use Rattle.audit_types.specs.Form.{pivot, pivot_entry, IsPrimitive, IsEchelon, StandsBefore}
 use Rattle.audit_types.specs.FormRows.{pivot_below, later_zero, zero_at_others, IsZeroAtOthers}
 use Rattle.audit_types.specs.Direction.{is_pivot}
-use Rattle.audit_types.specs.Reach.{extent, IsAlong}
+use Rattle.audit_types.specs.Reach.{extent}
 use Rattle.audit_types.specs.Numbers.{zero_from_test, not_zero_from_test, test_of_not_zero, positive_not_zero}
 use Rattle.audit_types.specs.Products.{neg-times, one-times, times-add, times_assoc, zero_product, product_not_zero}
 use Rattle.audit_types.specs.Totals.{total, total-agree, total-add, total-times, total-single, product}
-use Rattle.sum_basis.specs.Reach.{one_if, met}
+use Rattle.sum_basis.specs.Reach.{IsAlong, one_if, met}
 
 -- ---- totals
 
