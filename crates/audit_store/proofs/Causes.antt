@@ -1,11 +1,13 @@
 -- Why a store isn't started: one cause at most holds, and none of a legal history.
 use Rattle.std.proofs.Common.{◌≡◌, ℕ, ◌<◌, inl, inr, ◌⊎◌, List, refl, sym, ap, subst, ◌∙◌, arith, Result, Ok, Err}
-use Rattle.std.specs.Prelude.{ℤ, Option, take, IfErr, OnOk, slice_get}
+use Rattle.std.specs.Prelude.{ℤ, Bool, true, false, Option, take, IfErr, OnOk, slice_get}
 use Rattle.std.proofs.lemmas.Bool.{cases_lt}
+use Rattle.std.proofs.lemmas.Int.{ints}
 use Rattle.std.proofs.lemmas.Option.{same_Some}
 use Rattle.audit_types.specs.declared.shapes.Shape.{Shape}
 use Rattle.audit_types.specs.declared.records.Answered.{Answered}
 use Rattle.audit_types.specs.History.{Table, IsLegal}
+use Rattle.audit_types.specs.Minima.{as_it_stands}
 use Rattle.journal_form.specs.Journal.{StandsAt, BreaksAt}
 use Rattle.answer_journal.specs.declared.journal.BackFault.{BackFault}
 use Rattle.answer_journal.specs.declared.journal.BackFault.TheVariants as back
@@ -52,6 +54,11 @@ cause_in_file file shape history gate table (Untrue place kept now) stands cause
 cause_in_file file shape history gate table (Illegal place group) stands cause = (history, (gate, subst (λ s. StandsAt file s history gate) cause.0 stands), cause.1)
 cause_in_file file shape history gate table Failed stands cause = absurd cause
 cause_in_file file shape history gate table NoMemory stands cause = tt
+
+-- numbers that are told alike are the same
+pub same_stated : (least : Bool) (a b : ℤ) → as_it_stands least a ≡ as_it_stands least b → a ≡ b
+same_stated true a b same = omega (arith, ints, same)
+same_stated false a b same = same
 
 module _ (table : Table) (history : List Answered) where
   -- of two first untrue records neither stands before the other

@@ -1,10 +1,11 @@
 //! Opening the journal of a table.
-ghost use Rattle.std.specs.Prelude.{◌≡◌, ◌≤◌, ◌+◌, true, false, Ok, Err, List, length, All, IfOk, IfErr, OnOk, IsErrOf};
+ghost use Rattle.std.specs.Prelude.{◌≡◌, ◌<◌, ◌≤◌, ◌+◌, true, false, Ok, Err, List, length, All, IfOk, IfErr, OnOk, IsErrOf};
 ghost use Rattle.audit_types.specs.Limits.{most_records};
 ghost use Rattle.audit_types.specs.History.{Protection, FitsShape, IsPlainFor, IsLegal, IsPossibleHistory, IsDecisionAfter, setting_of};
 ghost use Rattle.audit_types.specs.declared.records.Answered.{Answered};
 ghost use Rattle.audit_types.specs.declared.records.Verdict.TheVariants.{Released};
 ghost use Rattle.audit_types.specs.Minima.{as_it_stands};
+ghost use Rattle.audit_types.specs.Shapes.{columns, is_least};
 ghost use Rattle.bench_core.specs.Calls.{OnlyReads, TellsFault};
 ghost use Rattle.journal_form.specs.Journal.{StandsAt, StandsFor};
 ghost use Rattle.audit_store.specs.declared.starting.StartFault.{StartFault};
@@ -67,6 +68,20 @@ fn as_it_stands(least: bool, number: i64) -> i128
     }
 }
 
+// What is told of a record for which the table gives another answer.
+fn untrue(secret: &Secret, place: u32, answered: &Answered, now: i64) -> StartFault
+    requires { answered.now.column < columns secret.now.shape }
+    ensures { result ≡ StartFault.Untrue place (as_it_stands (is_least secret.now.shape answered.now.column) answered.now.answer)
+        (as_it_stands (is_least secret.now.shape answered.now.column) now) }
+{
+    let least = secret.shape().is_least(answered.column);
+    StartFault::Untrue {
+        place,
+        kept: as_it_stands(least, answered.answer),
+        now: as_it_stands(least, now),
+    }
+}
+
 // Looks for the first record whose answer isn't the true one.
 fn test_truth(secret: &Secret, list: &[Answered]) -> Result<(), StartFault>
     requires fit { All (λ r. FitsShape secret.now.shape r.column r.rows) list.now }
@@ -77,12 +92,7 @@ fn test_truth(secret: &Secret, list: &[Answered]) -> Result<(), StartFault>
     for (place, answered) in list.iter().enumerate() {
         let now = secret.truth(answered.column, &answered.rows);
         if now != answered.answer {
-            let least = secret.shape().is_least(answered.column);
-            return Err(StartFault::Untrue {
-                place: place as u32,
-                kept: as_it_stands(least, answered.answer),
-                now: as_it_stands(least, now),
-            });
+            return Err(untrue(secret, place as u32, answered, now));
         }
     }
     Ok(())
