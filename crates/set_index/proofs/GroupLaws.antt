@@ -3,13 +3,13 @@ use Rattle.std.proofs.Common.{◌+◌, ◌≡◌, ℕ, suc, ◌≤◌, List, [],
 use Rattle.std.specs.Prelude.{option_and_then, slice_get, All}
 use Rattle.std.proofs.lemmas.List.{length-append}
 use Rattle.std.proofs.lemmas.List.Elements.{All-append, All-nil, All-cons}
+use Rattle.std.proofs.lemmas.Option.{same_Some}
 use Rattle.audit_types.specs.Rows.{AreRows}
 use Rattle.audit_types.specs.RowLaws.{AreRows-rows_that}
 use Rattle.audit_types.specs.Limits.{most_groups}
 use Rattle.audit_types.specs.PlainLaws.{plain_fits}
 use Rattle.audit_types.specs.History.{Protection, IsProtected, IsPlainFor, FitsShape, against_outsiders, entry_of}
 use Rattle.audit_types.specs.declared.records.Protected.{Protected}
-use Rattle.audit_types.specs.declared.shapes.Kind.{Kind}
 use Rattle.audit_types.specs.declared.shapes.Kind.TheVariants as kind
 use Rattle.schema_json.specs.Columns.{Column, Group, Guards, AreColumns, place_of, role_at, secret_place}
 use Rattle.schema_json.specs.SecretShape.{IsSecretOf, PlacesAreColumns, shape_of}
