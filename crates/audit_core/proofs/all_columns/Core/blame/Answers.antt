@@ -1,8 +1,7 @@
-use Rattle.std.proofs.Common.{rules, ◌≡◌, ◌<◌, ◌+◌, ℕ, true, [], ◌∷◌, length, Some, refl, sym, ap, subst, ◌∙◌, arith, inl, inr}
-use Rattle.std.specs.Prelude.{IsTrue, slice_get}
+use Rattle.std.proofs.Common.{rules, ◌≡◌, [], ◌∷◌, length, Some, refl, sym, ap, subst, ◌∙◌, arith, inl, inr}
+use Rattle.std.specs.Prelude.{slice_get}
 use Rattle.std.proofs.lemmas.Bool.{cases_lt}
 use Rattle.std.proofs.lemmas.Option.{same_Some, slice_get_read, slice_get_within}
-use Rattle.audit_types.specs.declared.records.Protected.{Protected}
 use Rattle.audit_core.specs.Audited.{Audited}
 use Rattle.audit_core.specs.Blame.{IsReleasedWith}
 use Rattle.audit_core.proofs.Blamed.{released_with_all}
@@ -40,5 +39,5 @@ pub unreachable-requires : goal.unreachable-requires
 unreachable-requires c =
     let none : IsReleasedWith c.args.self.now.setting c.args.self.now.history c.args.asked.now [] = search rules in
     let groups = c.groups-group-items.ensures.is ∙ ap (λ (a : Audited). a.setting.protected.groups) c.self.view_is in
-    c.requires.denied (released_with_all c.args.self.now.setting c.args.self.now.history c.args.asked.now none
+    c.requires.denied (released_with_all c.args.self.now.setting c.args.self.now.history c.args.asked.now c.sets_have_one_form.ensures none
     (λ i p here. c.loop-group.invariant i p (omega (arith, slice_get_within c.args.self.now.setting.protected.groups i p here, ap length groups, c.loop-group-test.false)) here))

@@ -1,8 +1,4 @@
-use Rattle.std.proofs.Common.{◌≡◌, [], List, map, ap, sym, subst, ◌∙◌}
-use Rattle.std.specs.Prelude.{IfOk}
-use Rattle.audit_types.specs.Rows.{Rows}
-use Rattle.audit_types.specs.Column.{IsPossible, with_groups}
-use Rattle.audit_types.specs.Judgement.{IsDecision}
+use Rattle.std.proofs.Common.{◌≡◌, [], ap, ◌∙◌}
 use Rattle.audit_core.specs.declared.column.Column.{Column}
 use Rattle.audit_core.specs.Columns.{known_in}
 use Rattle.audit_core.proofs.column.Column.probe_with.Goals as goal

@@ -1,8 +1,5 @@
-use Rattle.std.proofs.Common.{rules, map, ap, subst}
-use Rattle.std.specs.Prelude.{IfOk}
+use Rattle.std.proofs.Common.{map}
 use Rattle.audit_types.specs.Rows.{Rows}
-use Rattle.audit_types.specs.Column.{Known, IsPossible, with_groups}
-use Rattle.audit_types.specs.Judgement.{IsDecision}
 use Rattle.audit_core.proofs.SeenColumns.{decided_with}
 use Rattle.audit_core.proofs.guarded.GuardedSums.probe_with.Goals as goal
 

@@ -24,9 +24,9 @@ returns-in-Some c =
     let sets = map (λ (s : Rows). s.list) c.args.apart.now in
     let is = rw c.in-Some.is at c.held_for.ensures in
     subst (λ (s : Echelon). IfOk c.is_within_held.result (λ within. (new : Echelon) → GrowsTo s (set_row s.n c.args.rows.now.list) new →
-        IsTrue within ↔ ReachesAll s.n c.args.reach c.args.shared.now.list sets new.rows)) c.self.view_is
+    IsTrue within ↔ ReachesAll s.n c.args.reach c.args.shared.now.list sets new.rows)) c.self.view_is
     (subst (λ (r : Rows). IfOk c.is_within_held.result (λ within. (new : Echelon) → GrowsTo form (set_row form.n r.list) new →
-        IsTrue within ↔ ReachesAll form.n c.args.reach c.args.shared.now.list sets new.rows)) is.1 c.is_within_held.ensures)
+    IsTrue within ↔ ReachesAll form.n c.args.reach c.args.shared.now.list sets new.rows)) is.1 c.is_within_held.ensures)
 
 pub returns-in-Nothing : goal.returns-in-Nothing
 returns-in-Nothing c =
