@@ -1,7 +1,6 @@
 -- The cells of a file's records, and the table that bytes mean.
 use Rattle.std.specs.Prelude.{◌≡◌, ◌<◌, ℕ, ◌+◌, ℤ, pos, neg_ℤ, Bool, true, false, cond, Option, Some, None, List, [], ◌∷◌, length, map, drop, slice_index_or, unwrap_or, Result}
 use Rattle.audit_types.specs.History.{Secrets}
-use Rattle.audit_types.specs.Minima.{negated}
 use Rattle.schema_json.specs.Columns.{Column, is_secret}
 use Rattle.schema_json.specs.SecretShape.{shape_of}
 use Rattle.schema_json.specs.declared.roles.Role.{Role}
@@ -62,14 +61,13 @@ cells_from which k (c ∷ columns) rows = cells_of c.role k rows ∷ cells_from 
 
 -- the numbers of a column as they are kept: those of a column of minima negated
 abbrev pub kept_as : Role → List ℤ → List ℤ
-kept_as Min w = negated w
+kept_as Min w = map neg_ℤ w
 kept_as role w = w
 
 -- the numbers of the secret columns as they are kept, if all columns stand in the file from column k on
 abbrev pub secrets_from : ℕ → List Column → List Fields → Secrets
 secrets_from k [] rows = []
-secrets_from k (c ∷ columns) rows =
-    cond (is_secret c.role) (kept_as c.role (number_column k rows) ∷ secrets_from (k + 1) columns rows) (secrets_from (k + 1) columns rows)
+secrets_from k (c ∷ columns) rows = cond (is_secret c.role) (kept_as c.role (number_column k rows) ∷ secrets_from (k + 1) columns rows) (secrets_from (k + 1) columns rows)
 
 -- the records after the header
 abbrev pub data_of : List ℕ → List Fields
