@@ -1,21 +1,17 @@
 -- Numbers and their negations.
-use Rattle.std.proofs.Common.{◌≡◌, ℕ, zero, suc, ℤ, pos, negsuc, List, [], ◌∷◌, map, refl, sym, ◌∙◌, ap, arith}
+use Rattle.std.proofs.Common.{◌≡◌, ℕ, zero, suc, ℤ, List, [], ◌∷◌, map, refl, sym, ◌∙◌, ap, arith}
 use Rattle.std.specs.Prelude.{neg_ℤ}
 use Rattle.std.specs.List.{fold, AllByRecursion}
 use Rattle.std.specs.Int.{int_min, int_max}
+use Rattle.std.proofs.Math.IntN.{neg_ℤ-neg_ℤ}
 use Rattle.std.proofs.lemmas.Int.{ints, int_max_is, int_min_is}
 use Rattle.audit_types.specs.Truth.{number_at, greatest_over}
 use Rattle.audit_types.specs.Laws.{GreatestIsBoundAndReached}
 use Rattle.audit_types.specs.Minima.{least_over, negated, LeastByGreatest, LeastIsBoundAndReached, TwinsNegated}
 
-neg_neg : (z : ℤ) → neg_ℤ (neg_ℤ z) ≡ z
-neg_neg (pos zero) = refl
-neg_neg (pos (suc n)) = refl
-neg_neg (negsuc n) = refl
-
 negated_twice : (w : List ℤ) → negated (negated w) ≡ w
 negated_twice [] = refl
-negated_twice (z ∷ w) = ap (λ y. y ∷ negated (negated w)) (neg_neg z) ∙ ap (λ ys. z ∷ ys) (negated_twice w)
+negated_twice (z ∷ w) = ap (λ y. y ∷ negated (negated w)) (neg_ℤ-neg_ℤ z) ∙ ap (λ ys. z ∷ ys) (negated_twice w)
 
 number_negated : (w : List ℤ) (r : ℕ) → number_at (negated w) r ≡ neg_ℤ (number_at w r)
 number_negated [] r = refl
@@ -42,7 +38,7 @@ negated_least w (r ∷ rows) =
     ∙ ap (λ zs. fold int_max (number_at (negated w) r) zs) (sym (numbers_negated w rows))
 
 pub least_by_greatest : LeastByGreatest
-least_by_greatest w rows = sym (neg_neg (least_over w rows)) ∙ ap neg_ℤ (negated_least w rows)
+least_by_greatest w rows = sym (neg_ℤ-neg_ℤ (least_over w rows)) ∙ ap neg_ℤ (negated_least w rows)
 
 pub bound_and_reached : GreatestIsBoundAndReached → LeastIsBoundAndReached
 bound_and_reached greatest w rows some =
@@ -63,5 +59,5 @@ same_minima w twin (rows ∷ sets) same = (
 pub twins_negated : TwinsNegated
 twins_negated w twin sets row same differ = (
   same_minima w twin sets same,
-  λ is. differ (sym (neg_neg (number_at twin row)) ∙ ap neg_ℤ (sym (number_negated twin row)) ∙ ap neg_ℤ is ∙ sym (number_negated w row)),
+  λ is. differ (sym (neg_ℤ-neg_ℤ (number_at twin row)) ∙ ap neg_ℤ (sym (number_negated twin row)) ∙ ap neg_ℤ is ∙ sym (number_negated w row)),
 )

@@ -14,10 +14,6 @@ kind_of_byte b = cond (b == 1) Sum Max
 abbrev pub is_least : Shape → ℕ → Bool
 is_least shape column = slice_index shape.kinds column == 3
 
--- a byte that names a kind
-abbrev pub IsKind : ℕ → Type 0
-IsKind b = (0 < b) × (b ≤ 3)
-
 -- the number of secret columns
 abbrev pub columns : Shape → ℕ
 columns shape = count_by (λ b. nat_lt 0 b) shape.kinds
@@ -29,7 +25,11 @@ kind_at shape column = kind_of_byte (slice_index shape.kinds column)
 -- a byte that names a kind for each column, and bytes 0 after them
 abbrev pub AreKinds : List ℕ → Type 0
 AreKinds [] = Unit {0}
-AreKinds (b ∷ bytes) = (IsKind b × AreKinds bytes) ⊎ ((b ≡ 0) × AllByRecursion (λ x. x ≡ 0) bytes)
+AreKinds (b ∷ bytes) = (((0 < b) × (b ≤ 3)) × AreKinds bytes) ⊎ ((b ≡ 0) × AllByRecursion (λ x. x ≡ 0) bytes)
+
+-- a byte that names a kind
+abbrev pub IsKind : ℕ → Type 0
+IsKind b = (0 < b) × (b ≤ 3)
 
 -- 1 to 1,024 rows, and kinds
 pub record IsShape (shape : Shape) : Type 0 where
