@@ -144,7 +144,7 @@ fn send_totals<B: Bench>(
 ) -> Result<(), AuditFault>
     ensures { SendsLinesOn B.Bench (audit_of schema.now.columns store.now) (totals ∷ []) bench.old bench.new result }
 {
-    let shape = store.secret().shape();
+    let shape = store.shape();
     write_totals(line, store.history().len(), shape.columns(), shape.rows)?;
     send_line(bench, line)
 }
