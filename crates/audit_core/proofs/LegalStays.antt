@@ -12,13 +12,14 @@ use Rattle.audit_types.specs.Shapes.{kind_at}
 use Rattle.audit_types.specs.Judgement.{IsDecision}
 use Rattle.audit_types.specs.History.{Table, IsProtected, IsLegal, IsLegalRecord, answers_of, groups_of, known_of, setting_of, list_of}
 use Rattle.audit_types.specs.ListLaws.{all_by_place, all-take}
-use Rattle.sum_basis.specs.Laws.{NarrowOrWide}
+use Rattle.sum_basis.specs.Laws.{SetsHaveOneForm}
 use Rattle.audit_types.specs.RowLaws.{AscendsFrom-wider, has-rows_that}
 use Rattle.audit_types.specs.Widening.{over, wider, widened, protection_among, first_rows}
 use Rattle.audit_types.specs.WideningLaws.{length-widened, record_of_widened, take-widened, answers_of-widened}
 use Rattle.audit_core.specs.WideningLaws.{LegalStays}
 use Rattle.audit_core.proofs.OwnAnswers.{all_answers}
-use Rattle.audit_core.proofs.MoreRows.{same_truth, grown, IsOldOrNew, released_stays}
+use Rattle.audit_core.proofs.MoreRows.{same_truth, grown, IsOldOrNew}
+use Rattle.audit_core.proofs.DecisionsStay.{released_stays}
 use Rattle.audit_core.proofs.FirstGroups.{old_or_new}
 
 -- ---- the first rows of a table
@@ -29,7 +30,7 @@ list_of-first (suc m) [] column = refl
 list_of-first m (w ∷ lists) zero = refl
 list_of-first m (w ∷ lists) (suc column) = list_of-first m lists column
 
-module _ (law : NarrowOrWide) (longer : Table) (fit : All (IsProtected longer.setting.shape) longer.setting.protected.groups) (outside : longer.setting.protected.own ≡ 0) (m : ℕ) (le : m ≤ longer.setting.shape.rows)
+module _ (law : SetsHaveOneForm) (longer : Table) (fit : All (IsProtected longer.setting.shape) longer.setting.protected.groups) (outside : longer.setting.protected.own ≡ 0) (reach : 0 < longer.setting.protected.reach) (m : ℕ) (le : m ≤ longer.setting.shape.rows)
     (history : List Answered) (legal : IsLegal (first_rows m longer) history) where
   -- what the first records tell of a column over the first rows
   abbrev known_before : ℕ → ℕ → Known
@@ -64,6 +65,7 @@ module _ (law : NarrowOrWide) (longer : Table) (fit : All (IsProtected longer.se
         several = longer.setting.protected.several;
         own = longer.setting.protected.own;
         width = longer.setting.protected.width;
+        reach = longer.setting.protected.reach;
       }) (answers_of-widened longer.setting.shape.rows column (take i history))
 
   legal_record : (i : ℕ) (r : Answered) → slice_get history i ≡ Some r →
@@ -83,7 +85,7 @@ module _ (law : NarrowOrWide) (longer : Table) (fit : All (IsProtected longer.se
             ∙ same_truth (take m (list_of longer.secrets r.column)) (list_of longer.secrets r.column) m
             (λ q lt. get_or-take m (list_of longer.secrets r.column) q _ lt) (kind_at longer.setting.shape r.column) r.rows.list are;
         released = subst (λ known. IsDecision known r.rows.list Released) (sym (same_known i r.column))
-            (released_stays law (known_before i r.column) r.rows.list longer.setting.shape.rows (sets_before i r.column, are) le
+            (released_stays law (known_before i r.column) r.rows.list longer.setting.shape.rows (sets_before i r.column, are) le reach
             longer.setting.protected.shared longer.setting.protected.several (groups_of r.column longer.setting.protected.groups) share_alike (groups_before i r.column) outside
             old.released);
       }
@@ -98,6 +100,6 @@ module _ (law : NarrowOrWide) (longer : Table) (fit : All (IsProtected longer.se
         (sym (take-widened longer.setting.shape.rows i history)) (legal_record i found.0 found.1));
   }
 
-pub legal_stays : NarrowOrWide → LegalStays
+pub legal_stays : SetsHaveOneForm → LegalStays
 legal_stays law table longer history fit outside extends legal =
-    legal_over_all law longer fit.0 outside table.setting.shape.rows (omega (arith, extends.0)) history (subst (λ (t : Table). IsLegal t history) extends.1 legal)
+    legal_over_all law longer fit.0 outside (omega (arith, fit.6)) table.setting.shape.rows (omega (arith, extends.0)) history (subst (λ (t : Table). IsLegal t history) extends.1 legal)

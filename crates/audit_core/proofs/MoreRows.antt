@@ -1,4 +1,4 @@
--- No answer tells of a row that came later: over more rows a question is as dangerous, and decided, as before.
+-- No answer tells of a row that came later: over more rows a question is as dangerous as before.
 use Rattle.std.proofs.Common.{◌≡◌, ◌≢◌, ◌↔◌, ◌⊎◌, ℕ, true, ◌+◌, ◌-◌, ◌<◌, ◌≤◌, ℤ, pos, List, [], ◌∷◌, map, length, take, replicate, refl, sym, ap, ◌∙◌, subst, arith, inl, inr, length-append, length-take}
 use Rattle.std.specs.Prelude.{◌+ℤ◌, slice_set, Contains}
 use Rattle.std.specs.List.{AllByRecursion, fold}
@@ -8,24 +8,18 @@ use Rattle.std.proofs.lemmas.Bool.{cases_lt, true≢false}
 use Rattle.std.proofs.lemmas.List.{get_or-take, get_or-set_same, get_or-set_other, length-set, length-replicate}
 use Rattle.audit_types.specs.declared.shapes.Kind.{Kind}
 use Rattle.audit_types.specs.declared.shapes.Kind.TheVariants.{Sum, Max}
-use Rattle.audit_types.specs.declared.records.Verdict.{Verdict}
-use Rattle.audit_types.specs.declared.records.Verdict.TheVariants.{Released, DeniedUnsafe, DeniedWide}
 use Rattle.audit_types.specs.Rows.{AreRows, AscendsFrom, has_row}
 use Rattle.audit_types.specs.RowLaws.{none_above}
 use Rattle.audit_types.specs.Truth.{number_at, sum_over, truth}
 use Rattle.audit_types.specs.Column.{Answer, Known, Agrees, IsGuarded, number, total, Discloses, IsDangerous, AreSameAt, guarding, with_askers}
-use Rattle.audit_types.specs.Form.{HasNarrowForm, HasWideForm}
-use Rattle.audit_types.specs.Judgement.{IsWideFor, IsWithinWidthFor, IsDecision, sets_with}
-use Rattle.audit_types.specs.ListLaws.{all-append, all-map}
-use Rattle.sum_basis.specs.Laws.{NarrowOrWide}
-use Rattle.audit_core.specs.WideningLaws.{over_rows, AreSetsOf, AreGroupsOf, WidthStays, DangerStays, DecisionStays}
-use Rattle.audit_core.proofs.PaddedForms.{padded, number_at-padded, narrow_stays, wide_stays}
+use Rattle.audit_core.specs.WideningLaws.{over_rows, AreSetsOf, AreGroupsOf, DangerStays}
+use Rattle.audit_core.proofs.PaddedForms.{padded, number_at-padded}
 use Rattle.audit_core.proofs.GroupTotals.{sum_with}
 
 -- ---- the truth over a set reads no number but those of its rows
 
 module _ (w v : List ℤ) (m : ℕ) (same : (r : ℕ) → r < m → number_at w r ≡ number_at v r) where
-  same_sum : (low : ℕ) (rows : List ℕ) → AscendsFrom low m rows → sum_over w rows ≡ sum_over v rows
+  pub same_sum : (low : ℕ) (rows : List ℕ) → AscendsFrom low m rows → sum_over w rows ≡ sum_over v rows
   same_sum low [] are = refl
   same_sum low (r ∷ rows) are = ap (λ z. z +ℤ sum_over w rows) (same r are.1) ∙ ap (λ z. number_at v r +ℤ z) (same_sum (r + 1) rows are.2)
 
@@ -79,7 +73,7 @@ pub record HasNewRow (m n : ℕ) (group : List ℕ) : Type 0 where
 abbrev pub IsOldOrNew : Known → ℕ → List ℕ → Type 0
 IsOldOrNew known n group = (AreRows known.n group × Contains known.groups group) ⊎ HasNewRow known.n n group
 
-total_of_new : (m n : ℕ) (group : List ℕ) → HasNewRow m n group → ReadsNew m n (λ w. sum_over w group)
+pub total_of_new : (m n : ℕ) (group : List ℕ) → HasNewRow m n group → ReadsNew m n (λ w. sum_over w group)
 total_of_new m n group has = record {
   row = has.row;
   new = has.new;
@@ -90,7 +84,7 @@ total_of_new m n group has = record {
   changes = λ w inside same. let more = sum_with w has.row 0 n group inside has.are has.there in omega (arith, ints, more, same);
 }
 
-number_of_new : (m n row : ℕ) → m ≤ row → row < n → ReadsNew m n (λ w. number_at w row)
+pub number_of_new : (m n row : ℕ) → m ≤ row → row < n → ReadsNew m n (λ w. number_at w row)
 number_of_new m n row new below = record {
   row = row;
   new = new;
@@ -214,64 +208,5 @@ module _ (known : Known) (rows : List ℕ) (n : ℕ) (are : AreSetsOf known rows
     danger_was known.shared known.several known.groups (λ row lt. refl) (λ group there. inl (subst (AreRows known.n) there.2 (groups_are there.0 group there.1), there)) outside,
   )
 
--- ---- the decision
-
-module _ (law : NarrowOrWide) (known : Known) (rows : List ℕ) (n : ℕ) (are : AreSetsOf known rows) (le : known.n ≤ n) where
-  all_sets : AllByRecursion (AreRows known.n) (sets_with known rows)
-  all_sets = all-append (AreRows known.n) (map (λ (a : Answer). a.rows) known.answers) (rows ∷ [])
-      (all-map (λ (a : Answer). a.rows) (AreRows known.n) known.answers are.0) (are.1, tt)
-
-  size : known.n + (n - known.n) ≡ n
-  size = omega (arith, le)
-
-  narrow_longer : HasNarrowForm known.width known.n (sets_with known rows) → HasNarrowForm known.width n (sets_with known rows)
-  narrow_longer has = subst (λ k. HasNarrowForm known.width k (sets_with known rows)) size (narrow_stays known.width known.n (n - known.n) (sets_with known rows) all_sets has)
-
-  wide_longer : HasWideForm known.width known.n (sets_with known rows) → HasWideForm known.width n (sets_with known rows)
-  wide_longer has = subst (λ k. HasWideForm known.width k (sets_with known rows)) size (wide_stays known.width known.n (n - known.n) (sets_with known rows) all_sets has)
-
-  module _ (shared several : List ℕ) (groups : List (List ℕ)) where
-    wide_for : (kind : Kind) → IsWideFor kind known rows ↔ IsWideFor kind (grown n shared several groups known) rows
-    wide_for Sum = (
-      wide_longer,
-      λ has. elim (law known.width known.n (sets_with known rows)).0 [
-        | inl narrow ↦ absurd ((law known.width n (sets_with known rows)).1 (narrow_longer narrow) has)
-        | inr wide ↦ wide
-      ],
-    )
-    wide_for Max = (λ h. h, λ h. h)
-
-    within_for : (kind : Kind) → IsWithinWidthFor kind known rows ↔ IsWithinWidthFor kind (grown n shared several groups known) rows
-    within_for Sum = (
-      narrow_longer,
-      λ has. elim (law known.width known.n (sets_with known rows)).0 [
-        | inl narrow ↦ narrow
-        | inr wide ↦ absurd ((law known.width n (sets_with known rows)).1 has (wide_longer wide))
-      ],
-    )
-    within_for Max = (λ h. h, λ h. h)
-
-    -- what was released is released over more rows, if each group with old rows alone was protected
-    pub released_stays : ShareAlike known shared → ((group : List ℕ) → Contains groups group → IsOldOrNew known n group) → known.own ≡ 0 → IsDecision known rows Released →
-        IsDecision (grown n shared several groups known) rows Released
-    released_stays alike each outside d = ((within_for known.kind).0 d.0, λ bad. d.1 (danger_was known rows n are le shared several groups alike each outside bad))
-
-  pub decided : AreGroupsOf known → known.own ≡ 0 → (verdict : Verdict) → IsDecision known rows verdict ↔ IsDecision (over_rows n known) rows verdict
-  decided groups_are outside DeniedWide = wide_for known.shared known.several known.groups known.kind
-  decided groups_are outside DeniedUnsafe = (
-    λ d. ((within_for known.shared known.several known.groups known.kind).0 d.0, (danger known rows n are le groups_are outside).0 d.1),
-    λ d. ((within_for known.shared known.several known.groups known.kind).1 d.0, (danger known rows n are le groups_are outside).1 d.1),
-  )
-  decided groups_are outside Released = (
-    λ d. ((within_for known.shared known.several known.groups known.kind).0 d.0, λ bad. d.1 ((danger known rows n are le groups_are outside).1 bad)),
-    λ d. ((within_for known.shared known.several known.groups known.kind).1 d.0, λ bad. d.1 ((danger known rows n are le groups_are outside).0 bad)),
-  )
-
-pub width_stays : NarrowOrWide → WidthStays
-width_stays law known rows n are le = wide_for law known rows n are le known.shared known.several known.groups known.kind
-
 pub danger_stays : DangerStays
 danger_stays known rows n are groups_are outside le = danger known rows n are le groups_are outside
-
-pub decision_stays : NarrowOrWide → DecisionStays
-decision_stays law known rows n verdict are groups_are outside le = decided law known rows n are le groups_are outside verdict

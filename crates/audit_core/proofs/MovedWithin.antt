@@ -1,17 +1,15 @@
 -- Numbers that lie far enough inside of their ranges stay in them if they are moved some times along a small direction, one way or the other.
-use Rattle.std.proofs.Common.{◌≡◌, ◌≢◌, ℕ, zero, suc, ◌+◌, ◌*◌, ◌<◌, ◌≤◌, Bool, true, false, ◌==◌, ℤ, pos, negsuc, List, [], ◌∷◌, get_or, refl, sym, ap, ◌∙◌, subst, arith, inl, inr}
-use Rattle.std.specs.Prelude.{◌+ℤ◌, ◌-ℤ◌, ◌*ℤ◌, neg_ℤ, ◌≤ℤ◌, unsigned_abs, not}
+use Rattle.std.proofs.Common.{◌≡◌, ◌≢◌, ℕ, zero, suc, ◌+◌, ◌*◌, ◌<◌, ◌≤◌, Bool, true, false, ℤ, pos, negsuc, List, get_or, refl, sym, ap, ◌∙◌, subst, arith}
+use Rattle.std.specs.Prelude.{◌+ℤ◌, ◌-ℤ◌, ◌*ℤ◌, neg_ℤ, ◌≤ℤ◌, unsigned_abs}
 use Rattle.std.specs.Int.{◌∣◌}
 use Rattle.std.specs.List.{AllByRecursion, range_with_len}
-use Rattle.std.proofs.lemmas.Bool.{or_cases, eqb-true, true≢false}
 use Rattle.std.proofs.lemmas.Int.{ints, unsigned_abs-mul}
 use Rattle.std.proofs.lemmas.List.FromFn.{length-range_with_len, get_or-range_with_len}
 use Rattle.std.proofs.Math.IntN.{*ℤ_comm, *ℤ-zero, pos-*ℤ-pos}
 use Rattle.std.proofs.Math.Nat.{mul-le-mul_left, dvd-mul_right, le-mul_of_pos_right}
-use Rattle.audit_types.specs.Rows.{has_row, rows_that}
-use Rattle.audit_types.specs.RowLaws.{has-rows_that}
 use Rattle.audit_types.specs.Truth.{is_zero, number_at, sum_over}
-use Rattle.audit_types.specs.Numbers.{size_negated, zero_from_test}
+use Rattle.audit_types.specs.Numbers.{size_negated, zero_from_test, not_zero_from_test}
+use Rattle.audit_types.specs.Extents.{places_from, at_places}
 use Rattle.audit_types.specs.Products.{neg-times}
 use Rattle.audit_types.specs.PrimitiveLines.{times, number_at-times}
 use Rattle.audit_types.specs.ListLaws.{all-get_or}
@@ -35,14 +33,6 @@ module _ (P : ℕ → Type 0) where
   each_row n r all below =
       let is : get_or (range_with_len 0 n) r 0 ≡ r = get_or-range_with_len 0 n r 0 below ∙ omega arith in
       subst P is (all-get_or P (range_with_len 0 n) r 0 all (omega (arith, length-range_with_len 0 n)))
-
-  -- what holds of all rows of a list holds of each
-  pub row_of_list : (rows : List ℕ) (r : ℕ) → AllByRecursion P rows → has_row rows r ≡ true → P r
-  row_of_list [] r all there = absurd (true≢false (sym there))
-  row_of_list (x ∷ rows) r all there = elim (or_cases (x == r) (has_row rows r) there) [
-    | inl here ↦ subst P (eqb-true x r here) all.0
-    | inr later ↦ row_of_list rows r all.1 later
-  ]
 
 -- ---- how often a direction is taken
 
@@ -70,11 +60,7 @@ stays : (low high x change : ℤ) (far : ℕ) → unsigned_abs change ≤ far �
     ((low +ℤ pos 0) ≤ℤ (x +ℤ change)) × (((x +ℤ change) +ℤ pos 0) ≤ℤ high)
 stays low high x change far size inside = let first = inside.0 in let last = inside.1 in (omega (arith, ints), omega (arith, ints))
 
--- the rows that a direction changes
-abbrev pub changed : ℕ → List ℤ → List ℕ
-changed n d = rows_that (λ r. not (is_zero (number_at d r))) n
-
-module _ (n width k : ℕ) (w d : List ℤ) (often : ℤ) (small : IsSmallFor width d) (size : unsigned_abs often ≡ k) where
+module _ (n width reach k : ℕ) (w d : List ℤ) (often : ℤ) (small : IsSmallFor width reach d) (size : unsigned_abs often ≡ k) where
   abbrev pub moved : List ℤ
   moved = moved_by (times often d) w
 
@@ -84,7 +70,7 @@ module _ (n width k : ℕ) (w d : List ℤ) (often : ℤ) (small : IsSmallFor wi
   size_of_change : (r : ℕ) → unsigned_abs (often *ℤ number_at d r) ≡ k * unsigned_abs (number_at d r)
   size_of_change r = unsigned_abs-mul often (number_at d r) ∙ ap (λ s. s * unsigned_abs (number_at d r)) size
 
-  module _ (low high : ℕ → ℤ) (inside : AreInside low high 0 w (range_with_len 0 n)) (far : AreInside low high (k * (width * width)) w (changed n d)) where
+  module _ (low high : ℕ → ℤ) (inside : AreInside low high 0 w (range_with_len 0 n)) (far : AreInside low high (k * (width * width)) w (places_from 0 d)) where
     stays_at : (r : ℕ) → r < n → (b : Bool) → is_zero (number_at d r) ≡ b →
         ((low r +ℤ pos 0) ≤ℤ (number_at w r +ℤ often *ℤ number_at d r)) × (((number_at w r +ℤ often *ℤ number_at d r) +ℤ pos 0) ≤ℤ high r)
     stays_at r below true none =
@@ -92,8 +78,9 @@ module _ (n width k : ℕ) (w d : List ℤ) (often : ℤ) (small : IsSmallFor wi
         stays (low r) (high r) (number_at w r) (often *ℤ number_at d r) 0 (omega (arith, ap unsigned_abs still)) (each_row _ n r inside below)
     stays_at r below false some =
         stays (low r) (high r) (number_at w r) (often *ℤ number_at d r) (k * (width * width))
-        (let most = mul-le-mul_left k (small r) in let is = size_of_change r in omega arith)
-        (row_of_list _ (changed n d) r far (has-rows_that (λ q. not (is_zero (number_at d q))) n r below ∙ ap not some))
+        (let most = mul-le-mul_left k (small.size r) in let is = size_of_change r in omega arith)
+        (let P : ℕ → Type 0 = λ q. ((low q +ℤ pos (k * (width * width))) ≤ℤ number_at w q) × ((number_at w q +ℤ pos (k * (width * width))) ≤ℤ high q) in
+        subst P (omega arith) (at_places P 0 d far r (not_zero_from_test (number_at d r) some)))
 
     pub near : AreNear low high k w (range_with_len 0 n) moved
     near = (

@@ -19,20 +19,22 @@ use Rattle.audit_types.specs.Shapes.{columns}
 use Rattle.audit_types.specs.Truth.{truth, number_at, sum_over}
 use Rattle.audit_types.specs.Column.{Known, Answer, Agrees, IsGuarded, number, total, IsWellFormed, known_sum}
 use Rattle.audit_types.specs.Direction.{IsDirection}
-use Rattle.audit_types.specs.Form.{HasNarrowForm}
+use Rattle.audit_types.specs.Form.{Reduced}
+use Rattle.audit_types.specs.Extents.{places_from, length-places_from}
+use Rattle.audit_types.specs.Reach.{IsWithinBounds}
 use Rattle.audit_types.specs.History.{Table, AreSecrets, AreProtected, IsLegal, answers_of, known_of, list_of}
 use Rattle.audit_types.specs.ListLaws.{all-map}
 use Rattle.audit_types.specs.Numbers.{size_negated}
 use Rattle.audit_types.specs.PrimitiveLines.{times}
-use Rattle.sum_audit.specs.Laws.{IsSmallFor, SpannedOrMovedBySmall, FixedTotalsBySpan}
+use Rattle.sum_audit.specs.Laws.{IsSmallFor, IsNearFor, SpannedOrMovedBySmall, FixedTotalsBySpan}
 use Rattle.sum_audit.specs.Shifts.{moved_by, length-moved_by, moved_gives, zero_sums_times}
 use Rattle.max_audit.specs.Laws.{LoneOrAny}
 use Rattle.audit_core.specs.Ranges.{AreInside, AreNear, StaysOpen}
 use Rattle.audit_core.specs.Laws.{HasNumbers, LegalStaysOpen}
 use Rattle.audit_core.proofs.Twins.{ColumnLaws, group_rows, agree, agree_with, well_formed, other_here}
 use Rattle.audit_core.proofs.FreeNumbers.{no_lone_row}
-use Rattle.audit_core.proofs.NarrowFronts.{legal_is_narrow}
-use Rattle.audit_core.proofs.MovedWithin.{all_rows, each_row, raises, lowers, changed, near, sum_moved}
+use Rattle.audit_core.proofs.NarrowFronts.{legal_is_within_bounds}
+use Rattle.audit_core.proofs.MovedWithin.{all_rows, each_row, raises, lowers, near, sum_moved}
 
 -- the answers of a column, by its kind
 by_kind : (kind other : Kind) → kind ≡ other → (w : List ℤ) (answers : List Answer) → AllByRecursion (λ a. truth kind w a.rows ≡ a.value) answers →
@@ -80,17 +82,32 @@ module _ (laws : ColumnLaws) (small : SpannedOrMovedBySmall) (fixed : FixedTotal
     as_sum : (w : List ℤ) → Agrees known w → Agrees (known_sum known.n known.answers) w
     as_sum w gives = record { one_each = gives.one_each; same = by_kind known.kind Sum sums w known.answers gives.same }
 
-    narrow : HasNarrowForm known.width known.n sets
-    narrow = subst (λ h. HasNarrowForm known.width known.n (map (λ a. a.rows) (answers_of column h))) (take_all (length history) history (omega arith))
-        (legal_is_narrow table history column (length history) protected legal sums (omega arith))
+    -- the form of all its sets
+    bounded : (form : List (List ℤ)) × Reduced known.n sets form × IsWithinBounds known sets form
+    bounded = subst (λ h. (form : List (List ℤ)) × Reduced known.n (map (λ a. a.rows) (answers_of column h)) form × IsWithinBounds known (map (λ a. a.rows) (answers_of column h)) form)
+        (take_all (length history) history (omega arith)) (legal_is_within_bounds table history column (length history) protected legal sums (omega arith))
 
     module _ {value : List ℤ → ℤ} (guarded : IsGuarded known [] value) where
       whole : IsTotalOf known.n value
       whole = total_of known (group_rows laws table secrets protected column) guarded
 
+      -- its total is within reach as it is
+      near_total : IsNearFor known.n sets bounded.0 known.reach (λ w. sum_over w whole.set)
+      near_total c =
+          let near = bounded.2.near value guarded
+          (record { direction = c.direction; still = c.still; column = c.column; only = c.only; near = c.near; changed = λ e. c.changed (sym (whole.is c.direction) ∙ e) }) in
+          record {
+            direction = near.direction;
+            still = near.still;
+            column = near.column;
+            only = near.only;
+            near = near.near;
+            changed = λ e. near.changed (whole.is near.direction ∙ e);
+          }
+
       -- a small direction changes it
-      moves : (d : List ℤ) × IsDirection known.n sets d × IsSmallFor known.width d × (sum_over d whole.set ≢ pos 0)
-      moves = elim (small known.width known.n sets whole.set are_rows whole.rows narrow) [
+      moves : (d : List ℤ) × IsDirection known.n sets d × IsSmallFor known.width known.reach d × (sum_over d whole.set ≢ pos 0)
+      moves = elim (small known.width known.reach known.n sets bounded.0 whole.set are_rows whole.rows bounded.1 bounded.2.narrow near_total) [
         | inr found ↦ found
         | inl span ↦
             let other = other_here laws table secrets protected history legal column below [] (tt, omega arith, tt) guarded in
@@ -99,7 +116,7 @@ module _ (laws : ColumnLaws) (small : SpannedOrMovedBySmall) (fixed : FixedTotal
       ]
 
       module _ (low high : ℕ → ℤ) (k : ℕ) (inside : AreInside low high 0 own (range_with_len 0 known.n))
-          (far : AreInside low high (k * (known.width * known.width)) own (changed known.n moves.0)) where
+          (far : AreInside low high (k * (known.width * known.width)) own (places_from 0 moves.0)) where
         up : (often : ℤ) × (unsigned_abs often ≡ k) × (pos k ≤ℤ (often *ℤ sum_over moves.0 whole.set))
         up = raises k (sum_over moves.0 whole.set) moves.3
 
@@ -115,21 +132,21 @@ module _ (laws : ColumnLaws) (small : SpannedOrMovedBySmall) (fixed : FixedTotal
         higher : HasNumbers table history column (λ v. AreNear low high k own (range_with_len 0 known.n) v × ((value own +ℤ pos k) ≤ℤ value v))
         higher =
             let often = up.0 in
-            let sum = sum_moved known.n known.width k own moves.0 often moves.2 up.1 whole.set in
+            let sum = sum_moved known.n known.width known.reach k own moves.0 often moves.2 up.1 whole.set in
             let more = up.2 in
             let before = whole.is own in
             let after = whole.is (moved_by (times often moves.0) own) in
-            may_have _ (moved_by (times often moves.0) own) (gives often) (near known.n known.width k own moves.0 often moves.2 up.1 low high inside far, omega (arith, ints))
+            may_have _ (moved_by (times often moves.0) own) (gives often) (near known.n known.width known.reach k own moves.0 often moves.2 up.1 low high inside far, omega (arith, ints))
 
         lower : HasNumbers table history column (λ v. AreNear low high k own (range_with_len 0 known.n) v × ((value v +ℤ pos k) ≤ℤ value own))
         lower =
             let often = neg_ℤ up.0 in
             let size = size_negated up.0 ∙ up.1 in
-            let sum = sum_moved known.n known.width k own moves.0 often moves.2 size whole.set in
+            let sum = sum_moved known.n known.width known.reach k own moves.0 often moves.2 size whole.set in
             let less = lowers k up.0 (sum_over moves.0 whole.set) up.2 in
             let before = whole.is own in
             let after = whole.is (moved_by (times often moves.0) own) in
-            may_have _ (moved_by (times often moves.0) own) (gives often) (near known.n known.width k own moves.0 often moves.2 size low high inside far, omega (arith, ints))
+            may_have _ (moved_by (times often moves.0) own) (gives often) (near known.n known.width known.reach k own moves.0 often moves.2 size low high inside far, omega (arith, ints))
 
   -- ---- maxima
 
@@ -162,7 +179,8 @@ module _ (laws : ColumnLaws) (small : SpannedOrMovedBySmall) (fixed : FixedTotal
   open_here : StaysOpen (HasNumbers table history column) known own
   open_here = record {
     sums = λ value guarded sums. (
-      changed known.n (moves sums guarded).0,
+      places_from 0 (moves sums guarded).0,
+      (let near = (moves sums guarded).2.near in let all = length-places_from 0 (moves sums guarded).0 in omega arith),
       λ low high k inside far. (higher sums guarded low high k inside far, lower sums guarded low high k inside far),
     );
     maxima = λ row low high x row_below alone maxima inside x_above x_under x_below. anything maxima row low high x row_below alone inside x_above x_under x_below;

@@ -85,4 +85,6 @@ protection_among-fit shape m protected fit = (
   ],
   fit.4,
   fit.5,
+  fit.6,
+  fit.7,
 )

@@ -9,6 +9,6 @@ pub stays_open_by : (May Might : (List ℤ → Type 0) → Type 0) → ((Is : Li
 stays_open_by May Might also known w open_by = record {
   sums = λ value guarded sums.
       let found = open_by.sums value guarded sums in
-      (found.0, λ low high k inside far. let both = found.1 low high k inside far in (also _ both.0, also _ both.1));
+      (found.0, found.1, λ low high k inside far. let both = found.2 low high k inside far in (also _ both.0, also _ both.1));
   maxima = λ row low high x below alone maxima inside above under answers. also _ (open_by.maxima row low high x below alone maxima inside above under answers);
 }

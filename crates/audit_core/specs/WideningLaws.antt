@@ -1,5 +1,5 @@
 -- The laws of growing tables: what was decided stays decided.
-use Rattle.std.specs.Prelude.{◌≡◌, ◌↔◌, ℕ, ◌≤◌, List, All}
+use Rattle.std.specs.Prelude.{◌≡◌, ◌↔◌, ℕ, ◌<◌, ◌≤◌, List, All}
 use Rattle.std.specs.List.{AllByRecursion}
 use Rattle.audit_types.specs.declared.records.Answered.{Answered}
 use Rattle.audit_types.specs.declared.records.Verdict.{Verdict}
@@ -21,9 +21,11 @@ AreSetsOf known rows = AllByRecursion (λ a. AreRows known.n a.rows) known.answe
 abbrev pub AreGroupsOf : Known → Type 0
 AreGroupsOf known = All (AreRows known.n) known.groups
 
--- over more rows a question is as wide as before
+-- over more rows a question is as wide as before: a new row is within reach by itself
 abbrev pub WidthStays : Type 0
-WidthStays = (known : Known) (rows : List ℕ) (n : ℕ) → AreSetsOf known rows → known.n ≤ n → IsWide known rows ↔ IsWide (over_rows n known) rows
+WidthStays =
+    (known : Known) (rows : List ℕ) (n : ℕ) → AreSetsOf known rows → AreGroupsOf known → 0 < known.reach → known.n ≤ n →
+    IsWide known rows ↔ IsWide (over_rows n known) rows
 
 -- and as dangerous for those outside, since no set and no group tells of a new row
 abbrev pub DangerStays : Type 0
@@ -34,7 +36,7 @@ DangerStays =
 -- so it is decided as before
 abbrev pub DecisionStays : Type 0
 DecisionStays =
-    (known : Known) (rows : List ℕ) (n : ℕ) (verdict : Verdict) → AreSetsOf known rows → AreGroupsOf known → known.own ≡ 0 → known.n ≤ n →
+    (known : Known) (rows : List ℕ) (n : ℕ) (verdict : Verdict) → AreSetsOf known rows → AreGroupsOf known → 0 < known.reach → known.own ≡ 0 → known.n ≤ n →
     IsDecision known rows verdict ↔ IsDecision (over_rows n known) rows verdict
 
 -- and if no asker is in the table, what was legal for it is legal for each that extends it, with groups that fit: a group with a new row has a total that

@@ -1,6 +1,6 @@
 -- Records, histories, what a history tells of one column, and which histories are legal and disclose nothing that is guarded.
 use Rattle.std.specs.Prelude.{◌≡◌, ◌≢◌, ℕ, ◌<◌, ◌≤◌, ℤ, ◌==◌, false, List, [], ◌∷◌, map, length, take, slice_get, Some, All}
-use Rattle.audit_types.specs.Limits.{most_records, most_groups, most_width}
+use Rattle.audit_types.specs.Limits.{most_rows, most_records, most_groups, most_width}
 use Rattle.std.specs.List.{filter, slice_index_or, AllByRecursion}
 use Rattle.audit_types.specs.declared.shapes.Kind.TheVariants.{Sum}
 use Rattle.audit_types.specs.declared.shapes.Shape.{Shape}
@@ -39,17 +39,18 @@ abbrev pub groups_of : ℕ → List Protected → List (List ℕ)
 groups_of column protected = map (λ p. p.rows.list) (filter (λ p. p.column == column) protected)
 
 -- what is guarded, and how: the protected groups, the rows that need no guard, those that stand for several people, of how many rows one
--- asker may know the numbers, and how wide a reduced form may be
+-- asker may know the numbers, how wide a reduced form may be, and of how many rows a change that leaves every sum may have to be
 pub record Protection : Type 0 where
   pub groups : List Protected
   pub shared : List ℕ
   pub several : List ℕ
   pub own : ℕ
   pub width : ℕ
+  pub reach : ℕ
 
 -- what is guarded if no asker is in the table
-abbrev pub against_outsiders : List Protected → List ℕ → ℕ → Protection
-against_outsiders groups shared width = record { groups = groups; shared = shared; several = shared; own = 0; width = width }
+abbrev pub against_outsiders : List Protected → List ℕ → ℕ → ℕ → Protection
+against_outsiders groups shared width reach = record { groups = groups; shared = shared; several = shared; own = 0; width = width; reach = reach }
 
 -- what a decision may read of a table, beside what was answered
 pub record Setting : Type 0 where
@@ -64,16 +65,17 @@ setting_of shape protected = record { shape = shape; protected = protected }
 abbrev pub IsProtected : Shape → Protected → Type 0
 IsProtected shape p = FitsShape shape p.column p.rows × (kind_at shape p.column ≡ Sum)
 
--- protection that fits: at most 64 groups, an asker knows at most one number, her own, a row of one person is guarded, and a width from 1 to
--- 2 ^ 56
+-- protection that fits: at most 64 groups, an asker knows at most one number, her own, a row of one person is guarded, a width from 1 to
+-- 2 ^ 56, and a reach from 2 to the most rows of a table
 abbrev pub AreProtected : Shape → Protection → Type 0
 AreProtected shape protected =
     All (IsProtected shape) protected.groups × (length protected.groups ≤ most_groups) × (protected.own ≤ 1)
     × ((row : ℕ) → has_row protected.several row ≡ false → has_row protected.shared row ≡ false) × (0 < protected.width) × (protected.width ≤ most_width)
+    × (1 < protected.reach) × (protected.reach ≤ most_rows)
 
 -- plain protection: each row is guarded, and no asker is in the table
 abbrev pub IsPlain : Protection → Type 0
-IsPlain protected = protected ≡ against_outsiders protected.groups [] protected.width
+IsPlain protected = protected ≡ against_outsiders protected.groups [] protected.width protected.reach
 
 -- plain protection that fits
 abbrev pub IsPlainFor : Shape → Protection → Type 0
@@ -90,6 +92,7 @@ known_of setting history column = record {
   several = setting.protected.several;
   own = setting.protected.own;
   width = setting.protected.width;
+  reach = setting.protected.reach;
 }
 
 -- the lists of the secret columns
@@ -132,7 +135,7 @@ IsJudgementAfter setting history column rows verdict = IsJudgement (known_of set
 pub record IsLegalRecord (table : Table) (history : List Answered) (r : Answered) : Type 0 where
   pub fits : FitsShape table.setting.shape r.column r.rows
   pub true_answer : r.answer ≡ truth (kind_at table.setting.shape r.column) (list_of table.secrets r.column) r.rows.list
-  pub released : IsDecisionAfter table.setting history r.column r.rows.list Released
+  pub released : IsDecision (known_of table.setting history r.column) r.rows.list Released
 
 -- at most 65,536 records, each of which may follow those before it
 pub record IsLegal (table : Table) (history : List Answered) : Type 0 where

@@ -54,9 +54,9 @@ abbrev pub shared_of : List ℕ → List ℕ
 shared_of counts = lines_above 1 counts
 
 -- what is guarded over lines: one of several people is no asker's own, and needs no guard if it has one person more than an asker may know
-abbrev pub protection_over : List Protected → List ℕ → ℕ → ℕ → Protection
-protection_over groups counts own width =
-    record { groups = groups; shared = lines_above (1 + own) counts; several = lines_above 1 counts; own = own; width = width }
+abbrev pub protection_over : List Protected → List ℕ → ℕ → ℕ → ℕ → Protection
+protection_over groups counts own width reach =
+    record { groups = groups; shared = lines_above (1 + own) counts; several = lines_above 1 counts; own = own; width = width; reach = reach }
 
 -- other people may be behind the lines, of whom this one has another number
 pub record HasOtherPeople (table : Table) (history : List Answered) (counts : List ℕ) (everyone : List People) (column line person : ℕ) : Type 0 where

@@ -3,7 +3,7 @@ use Rattle.std.specs.Prelude.{◌≡◌, ◌≢◌, ◌↔◌, ℕ, ◌+◌, ◌
 use Rattle.std.specs.List.{AllByRecursion}
 use Rattle.audit_types.specs.declared.shapes.Kind.{Kind}
 use Rattle.audit_types.specs.declared.records.Answered.{Answered}
-use Rattle.audit_types.specs.Limits.{most_width}
+use Rattle.audit_types.specs.Limits.{most_width, most_rows}
 use Rattle.audit_types.specs.Rows.{AreRows, has_row}
 use Rattle.audit_types.specs.Truth.{number_at, truth}
 use Rattle.audit_types.specs.Column.{Known, Answer, IsDangerous}
@@ -36,7 +36,18 @@ UndisclosedHidesPeople =
 
 -- what is known of a column over lines with so many people, of which no group is protected
 abbrev pub known_over : Kind → List ℕ → List Answer → Known
-known_over kind counts answers = record { kind = kind; n = length counts; answers = answers; groups = []; shared = shared_of counts; several = shared_of counts; own = 0; width = most_width }
+known_over kind counts answers =
+    record {
+      kind = kind;
+      n = length counts;
+      answers = answers;
+      groups = [];
+      shared = shared_of counts;
+      several = shared_of counts;
+      own = 0;
+      width = most_width;
+      reach = most_rows;
+    }
 
 -- so many people, of whom all the answers over lines are told
 pub record AgreeOver (kind : Kind) (counts : List ℕ) (answers : List Answer) (people : People) : Type 0 where

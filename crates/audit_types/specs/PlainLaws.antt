@@ -3,7 +3,7 @@ use Rattle.std.proofs.Common.{◌≡◌, ◌≢◌, ℕ, ◌<◌, ◌≤◌, tru
 use Rattle.std.specs.Prelude.{◌↔◌, All, Contains}
 use Rattle.audit_types.specs.declared.shapes.Shape.{Shape}
 use Rattle.audit_types.specs.declared.records.Protected.{Protected}
-use Rattle.audit_types.specs.Limits.{most_groups, most_width}
+use Rattle.audit_types.specs.Limits.{most_rows, most_groups, most_width}
 use Rattle.audit_types.specs.Rows.{has_row}
 use Rattle.audit_types.specs.RowLaws.{rows_that_none, has_first}
 use Rattle.audit_types.specs.Form.{set_row, InSpan}
@@ -14,14 +14,15 @@ use Rattle.audit_types.specs.History.{Protection, IsProtected, IsPlain, IsPlainF
 use Rattle.audit_types.specs.Widening.{protection_among, groups_among}
 
 -- groups that fit are plain protection that fits
-pub plain_fits : (shape : Shape) (groups : List Protected) (width : ℕ) → All (IsProtected shape) groups → length groups ≤ most_groups →
-    0 < width → width ≤ most_width → IsPlainFor shape (against_outsiders groups [] width)
-plain_fits shape groups width all few some narrow = ((all, few, omega arith, λ row alone. alone, some, narrow), refl)
+pub plain_fits : (shape : Shape) (groups : List Protected) (width reach : ℕ) → All (IsProtected shape) groups → length groups ≤ most_groups →
+    0 < width → width ≤ most_width → 1 < reach → reach ≤ most_rows → IsPlainFor shape (against_outsiders groups [] width reach)
+plain_fits shape groups width reach all few some narrow two near = ((all, few, omega arith, λ row alone. alone, some, narrow, two, near), refl)
 
 -- plain protection is plain among the first rows
 pub plain_among : (n : ℕ) (protected : Protection) → IsPlain protected → IsPlain (protection_among n protected)
 plain_among n protected plain =
-    ap (protection_among n) plain ∙ ap (λ shared. against_outsiders (groups_among n protected.groups) shared protected.width) (rows_that_none (has_row []) n (λ r l. refl))
+    ap (protection_among n) plain
+    ∙ ap (λ shared. against_outsiders (groups_among n protected.groups) shared protected.width protected.reach) (rows_that_none (has_row []) n (λ r l. refl))
 
 -- who may know the number of no row knows none
 pub nobody : (own : List ℕ) → length own ≤ 0 → own ≡ []

@@ -60,6 +60,20 @@ total-single f (suc n) p l h = elim (cases_eq p n) [
 abbrev pub product : List ℤ → (ℕ → ℤ) → ℕ → ℤ
 product row x n = total (λ j. number_at row j *ℤ x j) n
 
+-- the products of a combination
+pub product-combined_with : (row : List ℤ) (a : ℤ) (f : ℕ → ℤ) (b : ℤ) (g : ℕ → ℤ) (n : ℕ) →
+    product row (λ i. a *ℤ f i +ℤ b *ℤ g i) n ≡ a *ℤ product row f n +ℤ b *ℤ product row g n
+product-combined_with row a f b g n =
+    total-agree (λ i. number_at row i *ℤ (a *ℤ f i +ℤ b *ℤ g i)) (λ i. a *ℤ (number_at row i *ℤ f i) +ℤ b *ℤ (number_at row i *ℤ g i)) n
+    (λ i l. times-add (number_at row i) (a *ℤ f i) (b *ℤ g i) ∙ ap (λ z. z +ℤ number_at row i *ℤ (b *ℤ g i)) (turn (number_at row i) a (f i))
+    ∙ ap (λ z. a *ℤ (number_at row i *ℤ f i) +ℤ z) (turn (number_at row i) b (g i)))
+    ∙ total-add (λ i. a *ℤ (number_at row i *ℤ f i)) (λ i. b *ℤ (number_at row i *ℤ g i)) n
+    ∙ ap (λ z. z +ℤ total (λ i. b *ℤ (number_at row i *ℤ g i)) n) (total-times a (λ i. number_at row i *ℤ f i) n)
+    ∙ ap (λ z. a *ℤ product row f n +ℤ z) (total-times b (λ i. number_at row i *ℤ g i) n)
+  where
+    turn : (r c x : ℤ) → r *ℤ (c *ℤ x) ≡ c *ℤ (r *ℤ x)
+    turn r c x = sym (times_assoc r c x) ∙ ap (λ z. z *ℤ x) (*ℤ_comm r c) ∙ times_assoc c r x
+
 -- one or zero times a number
 chosen : (b : Bool) (x : ℤ) → cond b (pos 1) (pos 0) *ℤ x ≡ cond b x (pos 0)
 chosen true x = omega (arith, ints)

@@ -7,11 +7,13 @@ use crate::records::Protected;
 use std::alloc::Global;
 use std::marker::Model;
 
-/// What is guarded of a table: the number of each row, and the totals of the protected groups; and how wide a reduced form may be.
+/// What is guarded of a table: the number of each row, and the totals of the protected groups; how wide a reduced form may be, and of how
+/// many rows a change that leaves every sum may have to be.
 #[derive(Drop)]
 pub struct Guard {
     groups: Vec<Protected>,
     width: u64,
+    reach: u16,
 }
 
 impl Model for Guard {
@@ -20,15 +22,19 @@ impl Model for Guard {
 
     ghost Value = { Protection };
 
-    ghost view = { λ g. against_outsiders g.groups.items [] g.width };
+    ghost view = { λ g. against_outsiders g.groups.items [] g.width g.reach };
 }
 
 impl Guard {
-    /// The guard of each row and of these groups, by forms of at most this width.
-    pub fn new(groups: Vec<Protected>, width: u64) -> Guard
-        ensures { result ≡ against_outsiders groups.items [] width }
+    /// The guard of each row and of these groups, by forms of at most this width and this reach.
+    pub fn new(groups: Vec<Protected>, width: u64, reach: u16) -> Guard
+        ensures { result ≡ against_outsiders groups.items [] width reach }
     {
-        Guard { groups, width }
+        Guard {
+            groups,
+            width,
+            reach,
+        }
     }
 
     /// The groups whose totals are protected, in order.
@@ -47,6 +53,14 @@ impl Guard {
         self.width
     }
 
+    /// How many rows a change may need that leaves every sum as it is, and along which something guarded changes.
+    pub fn reach(&self) -> u16
+        ensures is { result ≡ self.now.reach }
+        ensures plain { IsPlain self.now }
+    {
+        self.reach
+    }
+
     /// The same guard once more.
     pub fn copy(&self, alloc: Global) -> Result<Guard, NoMemory>
         ensures { IfOk result (λ guard. guard ≡ self.now) }
@@ -54,6 +68,7 @@ impl Guard {
         Ok(Guard {
             groups: self.groups.to_vec(alloc)?,
             width: self.width,
+            reach: self.reach,
         })
     }
 }

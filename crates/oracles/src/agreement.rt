@@ -2,7 +2,7 @@
 ghost use Rattle.std.specs.Prelude.{◌≡◌, ◌↔◌, [], length, IsTrue};
 ghost use Rattle.audit_types.specs.Column.{Agrees};
 ghost use Rattle.audit_types.specs.History.{answers_of};
-ghost use Rattle.audit_types.specs.Limits.{most_width};
+ghost use Rattle.audit_types.specs.Limits.{most_rows, most_width};
 ghost use Rattle.oracles.specs.Ranges.{AreInRange, AreOver};
 
 use crate::truths::truth;
@@ -12,7 +12,7 @@ use audit_types::{Answered, Kind};
 pub fn agrees(kind: Kind, numbers: &[i64], history: &[Answered], column: u8) -> bool
     requires in_range { AreInRange numbers.now }
     requires over { AreOver (length numbers.now) history.now }
-    ensures { IsTrue result ↔ Agrees (record { kind = kind; n = length numbers.now; answers = answers_of column history.now; groups = []; shared = []; several = []; own = 0; width = most_width }) numbers.now }
+    ensures { IsTrue result ↔ Agrees (record { kind = kind; n = length numbers.now; answers = answers_of column history.now; groups = []; shared = []; several = []; own = 0; width = most_width; reach = most_rows }) numbers.now }
 {
     for record in history {
         if record.column == column && truth(kind, numbers, &record.rows) != record.answer {

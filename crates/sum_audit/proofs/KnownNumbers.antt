@@ -13,7 +13,7 @@ use Rattle.audit_types.specs.Rows.{AreRows, has_row}
 use Rattle.audit_types.specs.Truth.{number_at, sum_over}
 use Rattle.audit_types.specs.Form.{set_row, combined, InSpan, Reduced}
 use Rattle.audit_types.specs.Direction.{IsDirection, IsPinned, IsPinnedFor}
-use Rattle.audit_types.specs.Column.{Known, Answer, AreOwn, known_sum, guarding, unguarded, with_width, with_askers}
+use Rattle.audit_types.specs.Column.{Known, Answer, AreOwn, known_sum, guarding, unguarded, with_bounds, with_askers}
 use Rattle.audit_types.specs.Judgement.{PinSomeNumber}
 use Rattle.audit_types.specs.ListLaws.{all-push, all-front}
 use Rattle.audit_types.specs.Products.{one-times, neg-times, zero_product, zero_factor}
@@ -232,7 +232,7 @@ tied_below n rows p q lengths tied = elim (cases_lt p n) [
       (*ℤ_comm (number_at tied.row p) (pos tied.spanned.multiple) ∙ tied.spanned.is p ∙ none) (omega (arith, ints))))
 ]
 
-module _ (law : TiesByForm) (n width : ℕ) (answers : List Answer) (sets : List (List ℕ)) (form : List (List ℤ)) (are : AllByRecursion (AreRows n) sets) (reduced : Reduced n sets form) where
+module _ (law : TiesByForm) (n width reach : ℕ) (answers : List Answer) (sets : List (List ℕ)) (form : List (List ℤ)) (are : AllByRecursion (AreRows n) sets) (reduced : Reduced n sets form) where
   shown_by : (i q : ℕ) → i < n → q ≢ i → IsStillFor n sets q i → ShowsTie form
   shown_by i q below apart fixed =
       (law n form reduced.primitive reduced.echelon).0 (i, q, apart, tied_in_form n sets form i q reduced (tied_by_still n sets q i are below apart fixed))
@@ -245,7 +245,7 @@ module _ (law : TiesByForm) (n width : ℕ) (answers : List Answer) (sets : List
   pinned_shows (q ∷ r ∷ own) few i pin = absurd (omega arith)
 
   -- a tie pins its column
-  tie_pins : TieSome form → PinSomeNumber (with_width (with_askers (known_sum n answers) [] 1) width) sets
+  tie_pins : TieSome form → PinSomeNumber (with_bounds (with_askers (known_sum n answers) [] 1) width reach) sets
   tie_pins (p, q, apart, tied) =
       let below = tied_below n form p q (lengths_of_form n form reduced.primitive) tied in
       let back : Ties (map (set_row n) sets) p q = record {
@@ -276,14 +276,14 @@ module _ (law : TiesByForm) (n width : ℕ) (answers : List Answer) (sets : List
         }
       ]
 
-  pins_by_ties_here : PinSomeNumber (with_width (with_askers (known_sum n answers) [] 1) width) sets ↔ ShowsTie form
+  pins_by_ties_here : PinSomeNumber (with_bounds (with_askers (known_sum n answers) [] 1) width reach) sets ↔ ShowsTie form
   pins_by_ties_here = (
     (λ found. pinned_shows found.own found.are_own.1 found.row found.pinned),
     (λ shows. tie_pins ((law n form reduced.primitive reduced.echelon).1 shows)),
   )
 
 pub pins_by_ties : TiesByForm → PinsByTies
-pins_by_ties law n width answers sets form are reduced = pins_by_ties_here law n width answers sets form are reduced
+pins_by_ties law n width reach answers sets form are reduced = pins_by_ties_here law n width reach answers sets form are reduced
 
 -- ---- lines of several people
 
@@ -291,10 +291,10 @@ pins_by_ties law n width answers sets form are reduced = pins_by_ties_here law n
 pinned_alone : (n : ℕ) (sets : List (List ℕ)) (i : ℕ) → IsPinnedFor n sets [] i → IsPinned n sets i
 pinned_alone n sets i pin = record { below = pin.below; still = λ d direction. pin.still d direction tt }
 
-module _ (law : TiesByFormBut) (n width : ℕ) (answers : List Answer) (shared several : List ℕ) (groups : List (List ℕ)) (sets : List (List ℕ)) (form : List (List ℤ))
+module _ (law : TiesByFormBut) (n width reach : ℕ) (answers : List Answer) (shared several : List ℕ) (groups : List (List ℕ)) (sets : List (List ℕ)) (form : List (List ℤ))
     (one_alone : (r : ℕ) → has_row several r ≡ false → has_row shared r ≡ false) (are : AllByRecursion (AreRows n) sets) (reduced : Reduced n sets form) where
   abbrev known : Known
-  known = with_width (with_askers (guarding (known_sum n answers) shared groups) several 1) width
+  known = with_bounds (with_askers (guarding (known_sum n answers) shared groups) several 1) width reach
 
   unit_from : (i : ℕ) → IsPinned n sets i → has_row shared i ≡ false → HasOwnUnit (record { n = n; width = width; rows = form }) shared
   unit_from i pin alone = (i, (pin.below, (pinned_by_form n sets form i are reduced pin.below).0 pin), alone)
@@ -357,4 +357,4 @@ module _ (law : TiesByFormBut) (n width : ℕ) (answers : List Answer) (shared s
   )
 
 pub pins_by_ties_but : TiesByFormBut → PinsByTiesBut
-pins_by_ties_but law n width answers shared several groups sets form one_alone are reduced = pins_but_here law n width answers shared several groups sets form one_alone are reduced
+pins_by_ties_but law n width reach answers shared several groups sets form one_alone are reduced = pins_but_here law n width reach answers shared several groups sets form one_alone are reduced

@@ -1,6 +1,7 @@
 pub mod Measuring
 pub mod SpannedOrMoved
 pub mod PinnedRows
+pub mod Reached
 pub mod SmallDirections
 pub mod DangerousByPins
 pub mod Verdicts

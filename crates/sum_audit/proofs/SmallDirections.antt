@@ -8,7 +8,7 @@ use Rattle.std.proofs.Common.{◌≡◌, ◌≢◌, ℕ, zero, suc, ◌*◌, ◌
 use Rattle.std.specs.Prelude.{◌+ℤ◌, ◌*ℤ◌, neg_ℤ, ◌<ℤ◌, unsigned_abs}
 use Rattle.std.specs.Int.{◌∣◌}
 use Rattle.std.specs.List.{AllByRecursion, range_with_len}
-use Rattle.std.proofs.lemmas.Bool.{cases_lt, eq-eqb, eqb-true}
+use Rattle.std.proofs.lemmas.Bool.{cases_eq, cases_lt, eq-eqb, eqb-true}
 use Rattle.std.proofs.lemmas.Int.{ints, unsigned_abs-mul}
 use Rattle.std.proofs.lemmas.List.{get_or_past}
 use Rattle.std.proofs.lemmas.List.FromFn.{length-map-range_with_len, get_or-map-range_with_len}
@@ -16,17 +16,20 @@ use Rattle.std.proofs.Math.IntN.{*ℤ_comm, zero-*ℤ, *ℤ-zero, pos-*ℤ-pos}
 use Rattle.std.proofs.Math.Nat.{div-mul_cancel, div-le_self, mul-le-mul, dvd-mul_right, dvd-mul_left_of_dvd, mul-pos, pos_of_dvd_of_pos}
 use Rattle.audit_types.specs.Rows.{AreRows}
 use Rattle.audit_types.specs.Truth.{number_at, sum_over}
-use Rattle.audit_types.specs.Form.{set_row, combined, InSpan, pivot, pivot_entry, pivot_entries, IsPrimitive, IsEchelon, StandsBefore, IsLeastCommonMultiple, HasNarrowForm}
+use Rattle.audit_types.specs.Form.{set_row, combined, InSpan, pivot, pivot_entry, pivot_entries, IsPrimitive, IsEchelon, StandsBefore, IsLeastCommonMultiple, Reduced, IsNarrow}
 use Rattle.audit_types.specs.Direction.{IsDirection, is_pivot}
+use Rattle.audit_types.specs.Extents.{extent_less, extent_within, sum_over_zeros, sum_over_times, zero_by_free}
+use Rattle.audit_types.specs.Reach.{Changes}
 use Rattle.audit_types.specs.FormRows.{lengths_of_form, at_pivot, later_zero, zero_later}
 use Rattle.audit_types.specs.ListLaws.{all-weaker}
 use Rattle.audit_types.specs.Numbers.{size_negated, size_positive}
-use Rattle.audit_types.specs.Products.{times_assoc, neg-times}
+use Rattle.audit_types.specs.Products.{times_assoc, neg-times, zero_product}
 use Rattle.audit_types.specs.RowNumbers.{length-set_row}
-use Rattle.audit_types.specs.Totals.{total, total-agree, total-add, total-single, product, product-set_row, products_in_span, sums_from_products}
+use Rattle.audit_types.specs.Totals.{total, total-agree, total-add, total-single, product, product-combined_with, product-set_row, products_in_span, sums_from_products}
 use Rattle.sum_basis.specs.Spans.{combined_zero, span_trans}
 use Rattle.sum_audit.specs.Pivots.{no_pivot, pivots_below}
 use Rattle.sum_audit.specs.Laws.{IsSmallFor, SpannedOrMovedBySmall, PinnedOrMovedBySmall}
+use Rattle.sum_audit.proofs.Reached.{products_are_zero, is_free, some_there}
 use Rattle.sum_audit.proofs.PinnedRows.{pinned_by_unit_row}
 use Rattle.sum_audit.proofs.SpannedOrMoved.{columns}
 
@@ -40,6 +43,9 @@ at_number : {width : ℕ} (xs : List ℤ) → AllByRecursion (λ x. unsigned_abs
 at_number [] h j = omega arith
 at_number (x ∷ xs) h zero = h.0
 at_number (x ∷ xs) h (suc j) = at_number xs h.1 j
+
+equal_if_no_difference : (a x b y : ℤ) → a *ℤ x +ℤ neg_ℤ b *ℤ y ≡ pos 0 → a *ℤ x ≡ b *ℤ y
+equal_if_no_difference a x b y e = let minus = neg-times b y in omega (arith, ints)
 
 -- ---- the direction of a free column
 
@@ -63,6 +69,13 @@ module _ (m : ℕ) (q : List ℤ → ℤ) where
   entry_elsewhere (row ∷ rows) j r other apart =
       by_test (r == pivot row) (neg_ℤ (number_at row j *ℤ q row)) (entry_of rows j r) (pos 0) (λ e. absurd (apart.0 (eqb-true r (pivot row) e)))
       (λ e. entry_elsewhere rows j r other apart.1)
+
+  -- at column j, which is no pivot, it is the multiple
+  entry_there : (rows : List (List ℤ)) (j : ℕ) → AllByRecursion (λ row. j ≢ pivot row) rows → entry_of rows j j ≡ pos m
+  entry_there [] j apart = ap (λ b. cond b (pos m) (pos 0)) (eq-eqb j j refl)
+  entry_there (row ∷ rows) j apart =
+      by_test (j == pivot row) (neg_ℤ (number_at row j *ℤ q row)) (entry_of rows j j) (pos m) (λ e. absurd (apart.0 (eqb-true j (pivot row) e)))
+      (λ e. entry_there rows j apart.1)
 
   -- the pivot of a row isn't that of a later one
   pivots_apart : (row : List ℤ) (rows : List (List ℤ)) → AllByRecursion (StandsBefore row) rows → AllByRecursion (λ later. pivot row ≢ pivot later) rows
@@ -211,18 +224,15 @@ common_positive n m rows primitive is = pos_of_dvd_of_pos (is.least (product_of 
 
 -- ---- the form of some sets
 
-module _ (width n : ℕ) (sets : List (List ℕ)) (are : AllByRecursion (AreRows n) sets) (narrow : HasNarrowForm width n sets) where
-  abbrev form : List (List ℤ)
-  form = narrow.form
-
+module _ (width n : ℕ) (sets : List (List ℕ)) (are : AllByRecursion (AreRows n) sets) (form : List (List ℤ)) (reduced : Reduced n sets form) (narrow : IsNarrow width form) where
   abbrev m : ℕ
-  m = narrow.narrow.common
+  m = narrow.common
 
   positive : 0 < m
-  positive = common_positive n m form narrow.reduced.primitive narrow.narrow.common_is
+  positive = common_positive n m form reduced.primitive narrow.common_is
 
   goes : Goes m (quotient m) form
-  goes = quotients n m form narrow.reduced.primitive narrow.narrow.common_is.multiple
+  goes = quotients n m form reduced.primitive narrow.common_is.multiple
 
   -- the direction of a column
   abbrev along : ℕ → List ℤ
@@ -231,12 +241,19 @@ module _ (width n : ℕ) (sets : List (List ℕ)) (are : AllByRecursion (AreRows
   number_along : (j r : ℕ) → r < n → number_at (along j) r ≡ entry_of m (quotient m) form j r
   number_along j r l = get_or-map-range_with_len (entry_of m (quotient m) form j) 0 n r r (pos 0) l (omega arith)
 
-  small : (j : ℕ) → IsSmallFor width (along j)
+  small : (j r : ℕ) → unsigned_abs (number_at (along j) r) ≤ width * width
   small j r = elim (cases_lt r n) [
     | inl l ↦ subst (λ z. unsigned_abs z ≤ width * width) (sym (number_along j r l))
-        (size_of_entry m (quotient m) width narrow.narrow.common_small positive form j narrow.narrow.entries (small_quotients m width form narrow.narrow.common_small) r)
+        (size_of_entry m (quotient m) width narrow.common_small positive form j narrow.entries (small_quotients m width form narrow.common_small) r)
     | inr past ↦ subst (λ z. unsigned_abs z ≤ width * width)
         (sym (get_or_past (along j) r (pos 0) (let all = length-map-range_with_len (entry_of m (quotient m) form j) 0 n in omega arith))) (omega arith)
+  ]
+
+  -- at the other free columns it is 0
+  only : (j i : ℕ) → is_pivot form i ≡ false → i ≢ j → number_at (along j) i ≡ pos 0
+  only j i free other = elim (cases_lt i n) [
+    | inl below ↦ number_along j i below ∙ entry_elsewhere m (quotient m) form j i other (no_pivot form i free)
+    | inr past ↦ get_or_past (along j) i (pos 0) (let all = length-map-range_with_len (entry_of m (quotient m) form j) 0 n in omega arith)
   ]
 
   module _ (j : ℕ) (below : j < n) (free : is_pivot form j ≡ false) where
@@ -244,7 +261,7 @@ module _ (width n : ℕ) (sets : List (List ℕ)) (are : AllByRecursion (AreRows
     product_along : (row : List ℤ) → product row (number_at (along j)) n +ℤ combined (taken m (quotient m) (number_at row) form) form j ≡ pos m *ℤ number_at row j
     product_along row =
         let read = total-agree (λ r. number_at row r *ℤ number_at (along j) r) (λ r. number_at row r *ℤ entry_of m (quotient m) form j r) n (λ r l. ap (λ z. number_at row r *ℤ z) (number_along j r l)) in
-        let whole = product_of_entries m (quotient m) n j below (number_at row) form narrow.reduced.echelon (pivots_below n form narrow.reduced.primitive) (no_pivot form j free) in
+        let whole = product_of_entries m (quotient m) n j below (number_at row) form reduced.echelon (pivots_below n form reduced.primitive) (no_pivot form j free) in
         omega (arith, ints)
 
     orthogonal : (rows : List (List ℤ)) → AllByRecursion (λ row. combined (taken m (quotient m) (number_at row) form) form j ≡ pos m *ℤ number_at row j) rows →
@@ -257,7 +274,7 @@ module _ (width n : ℕ) (sets : List (List ℕ)) (are : AllByRecursion (AreRows
       one_each = length-map-range_with_len (entry_of m (quotient m) form j) 0 n;
       zero_sums =
           sums_from_products n (along j) sets are (products_in_span n (number_at (along j)) form (map (set_row n) sets)
-          (orthogonal form (takes_itself m (quotient m) form j narrow.reduced.echelon goes)) narrow.reduced.spans);
+          (orthogonal form (takes_itself m (quotient m) form j reduced.echelon goes)) reduced.spans);
     }
 
   module _ (u : List ℕ) (rows : AreRows n u) where
@@ -270,7 +287,7 @@ module _ (width n : ℕ) (sets : List (List ℕ)) (are : AllByRecursion (AreRows
         pos m *ℤ number_at (set_row n u) j ≡ combined (taken m (quotient m) (number_at (set_row n u)) form) form j
     taken_at none j true there =
         sym (at_pivot (λ k. combined (taken m (quotient m) (number_at (set_row n u)) form) form k ≡ pos m *ℤ number_at (set_row n u) k) form j
-        (at_pivots m (quotient m) (number_at (set_row n u)) form narrow.reduced.echelon goes) there)
+        (at_pivots m (quotient m) (number_at (set_row n u)) form reduced.echelon goes) there)
     taken_at none j false free = elim (cases_lt j n) [
       | inl below ↦
           let whole = product_along j below free (set_row n u) in
@@ -278,7 +295,7 @@ module _ (width n : ℕ) (sets : List (List ℕ)) (are : AllByRecursion (AreRows
           let still = ap (λ b. cond b (pos 0) (sum_over (along j) u)) (sym free) ∙ none j below in
           omega (arith, ints)
       | inr past ↦
-          let zeros = combined_zero (taken m (quotient m) (number_at (set_row n u)) form) form j (past_all form (lengths_of_form n form narrow.reduced.primitive) past) in
+          let zeros = combined_zero (taken m (quotient m) (number_at (set_row n u)) form) form j (past_all form (lengths_of_form n form reduced.primitive) past) in
           let here = ap (λ z. pos m *ℤ z) (get_or_past (set_row n u) j (pos 0) (let all = length-set_row n u in omega arith)) ∙ *ℤ-zero (pos m) in
           omega (arith, ints)
     ]
@@ -288,7 +305,7 @@ module _ (width n : ℕ) (sets : List (List ℕ)) (are : AllByRecursion (AreRows
         past_all (row ∷ some) lengths past = (get_or_past row j (pos 0) (let all = lengths.0 in omega arith), past_all some lengths.1 past)
 
     spanned : ((j : ℕ) → j < n → moved_at j ≡ pos 0) → InSpan (map (set_row n) sets) (set_row n u)
-    spanned none = span_trans (map (set_row n) sets) form (set_row n u) narrow.reduced.within (record {
+    spanned none = span_trans (map (set_row n) sets) form (set_row n u) reduced.within (record {
       multiple = m;
       positive = positive;
       coefficients = taken m (quotient m) (number_at (set_row n u)) form;
@@ -299,18 +316,121 @@ module _ (width n : ℕ) (sets : List (List ℕ)) (are : AllByRecursion (AreRows
     moves j true e differs = absurd (differs refl)
     moves j false e differs = (e, differs)
 
-    spanned_or_moved_here : InSpan (map (set_row n) sets) (set_row n u) ⊎ ((d : List ℤ) × IsDirection n sets d × IsSmallFor width d × (sum_over d u ≢ pos 0))
-    spanned_or_moved_here = elim (columns n moved_at) [
+    -- some direction of a free column moves it
+    changes_here : (j : ℕ) → j < n → is_pivot form j ≡ false → sum_over (along j) u ≢ pos 0 → Changes n sets form n (λ w. sum_over w u)
+    changes_here j below free moved = record {
+      direction = along j;
+      still = is_direction j below free;
+      column = j;
+      only = only j;
+      near = let least = extent_within (along j) in let all = length-map-range_with_len (entry_of m (quotient m) form j) 0 n in omega arith;
+      changed = moved;
+    }
+
+    spanned_or_changes : InSpan (map (set_row n) sets) (set_row n u) ⊎ Changes n sets form n (λ w. sum_over w u)
+    spanned_or_changes = elim (columns n moved_at) [
       | inl none ↦ inl (spanned none)
-      | inr (j, below, differs) ↦ let found = moves j (is_pivot form j) refl differs in inr (along j, is_direction j below found.0, small j, found.1)
+      | inr (j, below, differs) ↦ let found = moves j (is_pivot form j) refl differs in inr (changes_here j below found.0 found.1)
     ]
 
+  -- ---- another direction of the same free column
+
+  module _ (reach : ℕ) (value : List ℤ → ℤ) (none : (d : List ℤ) → ((i : ℕ) → number_at d i ≡ pos 0) → value d ≡ pos 0)
+      (times : (a b : ℤ) (d e : List ℤ) → ((i : ℕ) → a *ℤ number_at e i ≡ b *ℤ number_at d i) → a *ℤ value e ≡ b *ℤ value d) (c : Changes n sets form reach value) where
+    free_there : is_pivot form c.column ≡ false
+    free_there = is_free n sets form are reduced reach value none c
+
+    below_there : c.column < n
+    below_there = elim (cases_lt c.column n) [
+      | inl below ↦ below
+      | inr past ↦ absurd (some_there n sets form are reduced reach value none c
+          (get_or_past c.direction c.column (pos 0) (let all = c.still.one_each in omega arith)))
+    ]
+
+    abbrev a : ℤ
+    a = number_at c.direction c.column
+
+    abbrev e : List ℤ
+    e = along c.column
+
+    there : number_at e c.column ≡ pos m
+    there = number_along c.column c.column below_there ∙ entry_there m (quotient m) form c.column (no_pivot form c.column free_there)
+
+    -- it is a multiple of the direction that changes the value: their difference is 0 at all free columns
+    abbrev difference : ℕ → ℤ
+    difference i = a *ℤ number_at e i +ℤ neg_ℤ (pos m) *ℤ number_at c.direction i
+
+    products_of_both : (rows : List (List ℤ)) → AllByRecursion (λ row. product row (number_at e) n ≡ pos 0) rows →
+        AllByRecursion (λ row. product row (number_at c.direction) n ≡ pos 0) rows → AllByRecursion (λ row. product row difference n ≡ pos 0) rows
+    products_of_both [] first second = tt
+    products_of_both (row ∷ rows) first second = (
+      product-combined_with row a (number_at e) (neg_ℤ (pos m)) (number_at c.direction) n
+          ∙ ap (λ z. a *ℤ z +ℤ neg_ℤ (pos m) *ℤ product row (number_at c.direction) n) first.0 ∙ ap (λ z. a *ℤ pos 0 +ℤ neg_ℤ (pos m) *ℤ z) second.0
+          ∙ ap (λ z. z +ℤ neg_ℤ (pos m) *ℤ pos 0) (*ℤ-zero a) ∙ ap (λ z. pos 0 +ℤ z) (*ℤ-zero (neg_ℤ (pos m))),
+      products_of_both rows first.1 second.1,
+    )
+
+    free_difference : (i : ℕ) → is_pivot form i ≡ false → difference i ≡ pos 0
+    free_difference i free = elim (cases_eq i c.column) [
+      | inl same ↦
+          let here = ap (λ z. a *ℤ z) (ap (number_at e) same ∙ there) in
+          let other = ap (λ k. neg_ℤ (pos m) *ℤ number_at c.direction k) same ∙ neg-times (pos m) a in
+          let turned = *ℤ_comm a (pos m) in
+          omega (arith, ints)
+      | inr other ↦
+          ap (λ z. a *ℤ z +ℤ neg_ℤ (pos m) *ℤ number_at c.direction i) (only c.column i free other) ∙ ap (λ z. a *ℤ pos 0 +ℤ neg_ℤ (pos m) *ℤ z) (c.only i free other)
+          ∙ ap (λ z. z +ℤ neg_ℤ (pos m) *ℤ pos 0) (*ℤ-zero a) ∙ ap (λ z. pos 0 +ℤ z) (*ℤ-zero (neg_ℤ (pos m)))
+    ]
+
+    no_difference : (i : ℕ) → difference i ≡ pos 0
+    no_difference i = elim (cases_lt i n) [
+      | inl below ↦ zero_by_free n form difference (λ k l free. free_difference k free) reduced.primitive reduced.echelon
+          (products_of_both form (products_are_zero n sets form are reduced e (is_direction c.column below_there free_there))
+          (products_are_zero n sets form are reduced c.direction c.still)) i below
+      | inr past ↦
+          ap (λ z. a *ℤ z +ℤ neg_ℤ (pos m) *ℤ number_at c.direction i)
+          (get_or_past e i (pos 0) (let all = length-map-range_with_len (entry_of m (quotient m) form c.column) 0 n in omega arith))
+          ∙ ap (λ z. a *ℤ pos 0 +ℤ neg_ℤ (pos m) *ℤ z) (get_or_past c.direction i (pos 0) (let all = c.still.one_each in omega arith))
+          ∙ ap (λ z. z +ℤ neg_ℤ (pos m) *ℤ pos 0) (*ℤ-zero a) ∙ ap (λ z. pos 0 +ℤ z) (*ℤ-zero (neg_ℤ (pos m)))
+    ]
+
+    differs_nowhere : (i : ℕ) → a *ℤ number_at e i ≡ pos m *ℤ number_at c.direction i
+    differs_nowhere i = equal_if_no_difference a (number_at e i) (pos m) (number_at c.direction i) (no_difference i)
+
+    -- so it changes the value too, at no more rows
+    small_change : (d : List ℤ) × IsDirection n sets d × IsSmallFor width reach d × (value d ≢ pos 0)
+    small_change = (
+      e,
+      is_direction c.column below_there free_there,
+      record {
+        size = small c.column;
+        near =
+            let less = extent_less c.direction e (λ i zero. zero_product a (number_at e i) (differs_nowhere i ∙ ap (λ z. pos m *ℤ z) zero ∙ *ℤ-zero (pos m))
+            (some_there n sets form are reduced reach value none c)) in
+            let near = c.near in omega arith;
+      },
+      λ still. c.changed (zero_product (pos m) (value c.direction) (sym (times a (pos m) c.direction e differs_nowhere) ∙ ap (λ z. a *ℤ z) still ∙ *ℤ-zero a)
+          (λ nothing. let some = positive in omega (arith, ints))),
+    )
+
 pub spanned_or_moved_by_small : SpannedOrMovedBySmall
-spanned_or_moved_by_small width n sets u are rows narrow = spanned_or_moved_here width n sets are narrow u rows
+spanned_or_moved_by_small width reach n sets form u are rows reduced narrow near = elim (spanned_or_changes width n sets are form reduced narrow u rows) [
+  | inl span ↦ inl span
+  | inr changes ↦ inr (small_change width n sets are form reduced narrow reach (λ w. sum_over w u) (λ d none. sum_over_zeros d u none)
+      (λ a b d e same. sum_over_times a b d e u same) (near changes))
+]
 
 -- so a row that isn't pinned has such a direction
 pub pinned_or_moved_by_small : PinnedOrMovedBySmall
-pinned_or_moved_by_small width n sets i are below narrow = elim (spanned_or_moved_by_small width n sets (i ∷ []) are (omega arith, below, tt) narrow) [
-  | inl span ↦ inl ((pinned_by_unit_row n sets i are below).1 span)
-  | inr (d, direction, small, changes) ↦ inr (d, direction, small, λ e. changes (omega (arith, ints)))
-]
+pinned_or_moved_by_small width reach n sets form i are below reduced narrow near =
+    elim (spanned_or_changes width n sets are form reduced narrow (i ∷ []) (omega arith, below, tt)) [
+      | inl span ↦ inl ((pinned_by_unit_row n sets i are below).1 span)
+      | inr c ↦ inr (small_change width n sets are form reduced narrow reach (λ w. number_at w i) (λ d none. none i) (λ a b d e same. same i) (near (record {
+        direction = c.direction;
+        still = c.still;
+        column = c.column;
+        only = c.only;
+        near = c.near;
+        changed = λ e. c.changed (omega (arith, ints));
+      })))
+    ]

@@ -17,10 +17,11 @@ answer_of a = record { rows = a.rows.list; value = a.answer }
 abbrev pub answers_of : List AnsweredSum → List Answer
 answers_of pairs = map answer_of pairs
 
--- what is true of the fields of every column of sums: the sets are over its rows, and the basis is their reduced form
-pub record IsSumColumn (n : ℕ) (basis : Echelon) (pairs : List AnsweredSum) : Type 0 where
+-- what is true of the fields of every column of sums: the sets are over its rows, the basis is their reduced form, and the reach isn't 0
+pub record IsSumColumn (n reach : ℕ) (basis : Echelon) (pairs : List AnsweredSum) : Type 0 where
   pub some : 0 < n
   pub at_most : n ≤ most_rows
+  pub some_reach : 0 < reach
   pub same_n : basis.n ≡ n
   pub are_rows : AllByRecursion (AreRows n) (sets_of (answers_of pairs))
   pub form : Reduced n (sets_of (answers_of pairs)) basis.rows

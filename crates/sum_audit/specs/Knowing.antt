@@ -3,7 +3,7 @@ use Rattle.std.specs.Prelude.{◌≡◌, ◌≢◌, ◌↔◌, ◌⊎◌, ℕ, �
 use Rattle.std.specs.List.{AllByRecursion}
 use Rattle.audit_types.specs.Rows.{AreRows, has_row}
 use Rattle.audit_types.specs.Truth.{number_at}
-use Rattle.audit_types.specs.Column.{Answer, Agrees, known_sum, guarding, with_width, with_askers}
+use Rattle.audit_types.specs.Column.{Answer, Agrees, known_sum, guarding, with_bounds, with_askers}
 use Rattle.audit_types.specs.Form.{set_row, Reduced}
 use Rattle.audit_types.specs.Direction.{IsDirection}
 use Rattle.audit_types.specs.Judgement.{PinSomeNumber}
@@ -50,14 +50,14 @@ OpenByForm =
 -- if each row stands for one person, the sets pin some row for an asker who knows one number, or none, exactly if their form shows a tie
 abbrev pub PinsByTies : Type 0
 PinsByTies =
-    (n width : ℕ) (answers : List Answer) (sets : List (List ℕ)) (form : List (List ℤ)) → AllByRecursion (AreRows n) sets → Reduced n sets form →
-    PinSomeNumber (with_width (with_askers (known_sum n answers) [] 1) width) sets ↔ ShowsTie form
+    (n width reach : ℕ) (answers : List Answer) (sets : List (List ℕ)) (form : List (List ℤ)) → AllByRecursion (AreRows n) sets → Reduced n sets form →
+    PinSomeNumber (with_bounds (with_askers (known_sum n answers) [] 1) width reach) sets ↔ ShowsTie form
 
 -- over lines they pin a number that is guarded from some asker exactly if the unit row of a row that isn't shared lies in the span of their
 -- form, or the form shows a tie of two rows of one person each
 abbrev pub PinsByTiesBut : Type 0
 PinsByTiesBut =
-    (n width : ℕ) (answers : List Answer) (shared several : List ℕ) (groups : List (List ℕ)) (sets : List (List ℕ)) (form : List (List ℤ)) →
+    (n width reach : ℕ) (answers : List Answer) (shared several : List ℕ) (groups : List (List ℕ)) (sets : List (List ℕ)) (form : List (List ℤ)) →
     ((r : ℕ) → has_row several r ≡ false → has_row shared r ≡ false) → AllByRecursion (AreRows n) sets → Reduced n sets form →
-    PinSomeNumber (with_width (with_askers (guarding (known_sum n answers) shared groups) several 1) width) sets
+    PinSomeNumber (with_bounds (with_askers (guarding (known_sum n answers) shared groups) several 1) width reach) sets
     ↔ (HasOwnUnit (record { n = n; width = width; rows = form }) shared ⊎ ShowsTieBut several form)

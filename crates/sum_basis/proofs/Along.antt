@@ -15,11 +15,11 @@ use Rattle.audit_types.specs.Truth.{is_zero, number_at}
 use Rattle.audit_types.specs.Form.{pivot, pivot_entry, IsPrimitive, IsEchelon, StandsBefore}
 use Rattle.audit_types.specs.FormRows.{pivot_below, later_zero, zero_at_others, IsZeroAtOthers}
 use Rattle.audit_types.specs.Direction.{is_pivot}
-use Rattle.audit_types.specs.Reach.{extent, IsAlong}
+use Rattle.audit_types.specs.Reach.{extent}
 use Rattle.audit_types.specs.Numbers.{zero_from_test, not_zero_from_test, test_of_not_zero, positive_not_zero}
-use Rattle.audit_types.specs.Products.{neg-times, one-times, times-add, times_assoc, zero_product, product_not_zero}
-use Rattle.audit_types.specs.Totals.{total, total-agree, total-add, total-times, total-single, product}
-use Rattle.sum_basis.specs.Reach.{one_if, met}
+use Rattle.audit_types.specs.Products.{neg-times, one-times, zero_product, product_not_zero}
+use Rattle.audit_types.specs.Totals.{total, total-agree, total-add, total-single, product, product-combined_with}
+use Rattle.sum_basis.specs.Reach.{IsAlong, one_if, met}
 
 -- ---- totals
 
@@ -224,20 +224,6 @@ product-spike row n p l =
     total-single (λ i. number_at row i *ℤ spike p i) n p l
     (λ i m other. ap (λ b. number_at row i *ℤ cond b (pos 1) (pos 0)) (ne_eqb p i (λ e. other (sym e))) ∙ *ℤ-zero (number_at row i))
     ∙ ap (λ b. number_at row p *ℤ cond b (pos 1) (pos 0)) (eq-eqb p p refl) ∙ *ℤ_comm (number_at row p) (pos 1) ∙ one-times (number_at row p)
-
--- the products of a combination
-product-combined_with : (row : List ℤ) (a : ℤ) (f : ℕ → ℤ) (b : ℤ) (g : ℕ → ℤ) (n : ℕ) →
-    product row (λ i. a *ℤ f i +ℤ b *ℤ g i) n ≡ a *ℤ product row f n +ℤ b *ℤ product row g n
-product-combined_with row a f b g n =
-    total-agree (λ i. number_at row i *ℤ (a *ℤ f i +ℤ b *ℤ g i)) (λ i. a *ℤ (number_at row i *ℤ f i) +ℤ b *ℤ (number_at row i *ℤ g i)) n
-    (λ i l. times-add (number_at row i) (a *ℤ f i) (b *ℤ g i) ∙ ap (λ z. z +ℤ number_at row i *ℤ (b *ℤ g i)) (turn (number_at row i) a (f i))
-    ∙ ap (λ z. a *ℤ (number_at row i *ℤ f i) +ℤ z) (turn (number_at row i) b (g i)))
-    ∙ total-add (λ i. a *ℤ (number_at row i *ℤ f i)) (λ i. b *ℤ (number_at row i *ℤ g i)) n
-    ∙ ap (λ z. z +ℤ total (λ i. b *ℤ (number_at row i *ℤ g i)) n) (total-times a (λ i. number_at row i *ℤ f i) n)
-    ∙ ap (λ z. a *ℤ product row f n +ℤ z) (total-times b (λ i. number_at row i *ℤ g i) n)
-  where
-    turn : (r c x : ℤ) → r *ℤ (c *ℤ x) ≡ c *ℤ (r *ℤ x)
-    turn r c x = sym (times_assoc r c x) ∙ ap (λ z. z *ℤ x) (*ℤ_comm r c) ∙ times_assoc c r x
 
 -- what is orthogonal to the rows after a row, and 0 at its pivot, is made orthogonal to it too by what it has at its pivot
 abbrev along_from : ℕ → List (List ℤ) → ℕ → ℕ → ℤ

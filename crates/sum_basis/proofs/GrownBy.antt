@@ -7,7 +7,7 @@ use Rattle.audit_types.specs.Truth.{number_at, sum_over}
 use Rattle.sum_basis.specs.Basis.{Echelon}
 use Rattle.sum_basis.specs.Elimination.{IsSmallForm}
 use Rattle.sum_basis.specs.Growth.{GrowsTo, GrowsWide, IsNewRow}
-use Rattle.sum_basis.specs.Reach.{IsGrownBy, IsReached, IsWithin}
+use Rattle.sum_basis.specs.Reach.{IsGrownBy, IsReached, ReachesAll}
 use Rattle.sum_basis.specs.Sparse.{row_of, IsNew}
 use Rattle.sum_basis.specs.declared.sparse.FreeEntry.{FreeEntry}
 use Rattle.sum_basis.proofs.Exactness.{other_row}
@@ -32,7 +32,7 @@ module _ (form : Echelon) (v : List ℤ) (new : Echelon) (grows : GrowsTo form v
   not_wide wide = wide.2 (subst (IsNarrow _) (forms_are_unique form.n (form.rows ++ v ∷ []) new.rows wide.0 grows.reduced wide.1) grows.narrow)
 
 -- no direction has more than n rows
-pub within_all : (n reach : ℕ) (shared : List ℕ) (sets : List (List ℕ)) (form : List (List ℤ)) → n ≤ reach → IsWithin n reach shared sets form
+pub within_all : (n reach : ℕ) (shared : List ℕ) (sets : List (List ℕ)) (form : List (List ℤ)) → n ≤ reach → ReachesAll n reach shared sets form
 within_all n reach shared sets form long = record { numbers = λ i l own. further (λ w. number_at w i); totals = λ set one. further (λ w. sum_over w set) }
   where
     further : (value : List ℤ → ℤ) → IsReached n reach form value
@@ -51,13 +51,13 @@ module _ (form seen : Echelon) (row : List ℤ) (m : ℕ) (list : List ℕ) (vie
 
   pub told_by : {E : Type 0} (r : Result Bool E) (new : List FreeEntry) (reach : ℕ) (shared : List ℕ) (sets : List (List ℕ)) →
       ((other : Echelon) → GrowsTo form row other → IsGrownBy form new other.rows) →
-      IfOk r (λ within. (grown : List (List ℤ)) → IsGrownBy form new grown → IsTrue within ↔ IsWithin form.n reach shared sets grown) →
-      IfOk r (λ within. (other : Echelon) → GrowsTo seen (set_row seen.n list) other → IsTrue within ↔ IsWithin seen.n reach shared sets other.rows)
+      IfOk r (λ within. (grown : List (List ℤ)) → IsGrownBy form new grown → IsTrue within ↔ ReachesAll form.n reach shared sets grown) →
+      IfOk r (λ within. (other : Echelon) → GrowsTo seen (set_row seen.n list) other → IsTrue within ↔ ReachesAll seen.n reach shared sets other.rows)
   told_by r new reach shared sets grown told =
-      subst (λ (s : Echelon). IfOk r (λ within. (other : Echelon) → GrowsTo s (set_row s.n list) other → IsTrue within ↔ IsWithin s.n reach shared sets other.rows)) view
-      (subst (λ (v : List ℤ). IfOk r (λ within. (other : Echelon) → GrowsTo form v other → IsTrue within ↔ IsWithin form.n reach shared sets other.rows)) row_is
-      (IfOk-weaker r (λ within. (g : List (List ℤ)) → IsGrownBy form new g → IsTrue within ↔ IsWithin form.n reach shared sets g)
-      (λ within. (other : Echelon) → GrowsTo form row other → IsTrue within ↔ IsWithin form.n reach shared sets other.rows)
+      subst (λ (s : Echelon). IfOk r (λ within. (other : Echelon) → GrowsTo s (set_row s.n list) other → IsTrue within ↔ ReachesAll s.n reach shared sets other.rows)) view
+      (subst (λ (v : List ℤ). IfOk r (λ within. (other : Echelon) → GrowsTo form v other → IsTrue within ↔ ReachesAll form.n reach shared sets other.rows)) row_is
+      (IfOk-weaker r (λ within. (g : List (List ℤ)) → IsGrownBy form new g → IsTrue within ↔ ReachesAll form.n reach shared sets g)
+      (λ within. (other : Echelon) → GrowsTo form row other → IsTrue within ↔ ReachesAll form.n reach shared sets other.rows)
       (λ within h other grows. h other.rows (grown other grows)) told))
 
   pub never_large : GrowsWide form row → (other : Echelon) → ¬ (GrowsTo seen (set_row seen.n list) other)

@@ -5,7 +5,7 @@ use Rattle.std.specs.List.{AllByRecursion}
 use Rattle.std.proofs.lemmas.Bool.{cases_lt}
 use Rattle.audit_types.specs.Form.{IsReducedForm, IsNarrow, HasNarrowForm, HasWideForm, set_row, pivot_entries}
 use Rattle.audit_types.specs.RowNumbers.{lengths_of_sets}
-use Rattle.sum_basis.specs.Laws.{NarrowOrWide}
+use Rattle.sum_basis.specs.Laws.{NarrowOrWide, SetsHaveOneForm}
 use Rattle.sum_basis.proofs.FormsAreUnique.{forms_are_unique, leads_from}
 use Rattle.sum_basis.proofs.EveryRowSpaceHasAForm.{every_row_space_has_a_form}
 use Rattle.sum_basis.proofs.LeastMultiples.{least_exists, least_unique, entries_positive}
@@ -52,3 +52,9 @@ narrow_or_wide width n sets = (
   one_of_them width n sets,
   λ narrow wide. wide.wide (subst (IsNarrow width) (forms_are_unique n (map (set_row n) sets) narrow.form wide.form narrow.reduced wide.reduced) narrow.narrow),
 )
+
+-- there is one form, and no other
+pub sets_have_one_form : SetsHaveOneForm
+sets_have_one_form n sets =
+    let form = every_row_space_has_a_form n (map (set_row n) sets) (lengths_of_sets n sets) in
+    (form.0, form.1, λ other reduced. forms_are_unique n (map (set_row n) sets) other form.0 reduced form.1)

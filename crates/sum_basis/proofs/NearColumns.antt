@@ -7,8 +7,7 @@ use Rattle.std.proofs.lemmas.List.Sums.{count_by-le-length}
 use Rattle.audit_types.specs.Truth.{is_zero}
 use Rattle.audit_types.specs.Form.{IsPrimitive, IsEchelon}
 use Rattle.audit_types.specs.Direction.{is_pivot}
-use Rattle.audit_types.specs.Reach.{IsAlong, Changes}
-use Rattle.sum_basis.specs.Reach.{IsReached, IsNear, met}
+use Rattle.sum_basis.specs.Reach.{IsAlong, Changes, IsReached, IsNear, met}
 use Rattle.sum_basis.proofs.Along.{direction_of, extent_is, column_below}
 
 -- a row that isn't 0 at the free columns along whose directions the value changes

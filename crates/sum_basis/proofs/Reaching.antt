@@ -13,7 +13,7 @@ use Rattle.audit_types.specs.PrimitiveLines.{times}
 use Rattle.audit_types.specs.Direction.{is_pivot}
 use Rattle.audit_types.specs.Numbers.{zero_or_not}
 use Rattle.sum_basis.specs.Basis.{IsFreeList}
-use Rattle.sum_basis.specs.Reach.{IsReached, IsWithin, IsNear, AreCounts, one_if, met, without_new, count_with, rest_at}
+use Rattle.sum_basis.specs.Reach.{IsReached, ReachesAll, IsNear, AreCounts, one_if, met, without_new, count_with, rest_at}
 use Rattle.sum_basis.specs.Elimination.{IsRemainder}
 use Rattle.sum_basis.specs.Sparse.{entry_at, IsListed}
 use Rattle.sum_basis.specs.declared.sparse.FreeEntry.{FreeEntry}
@@ -132,7 +132,7 @@ module _ (n : ℕ) (old : List (List ℤ)) (new : List FreeEntry) (grown : List 
   spike_near i small = λ j some. (i, λ none. (let one = sym (ap (λ b. cond b (pos 1) (pos 0)) (eq-eqb i i refl)) ∙ none in omega (arith, ints)), small)
 
   -- each column that isn't shared has a count below the reach, if the numbers are reached
-  pub columns_near : (shared : List ℕ) (sets : List (List ℕ)) → 0 < reach → IsWithin n reach shared sets grown →
+  pub columns_near : (shared : List ℕ) (sets : List (List ℕ)) → 0 < reach → ReachesAll n reach shared sets grown →
       (j : ℕ) → j < n → has_row shared j ≡ false → get_or counts j 0 < reach
   columns_near shared sets some within j l own = go (is_pivot grown j) refl
     where
@@ -159,7 +159,7 @@ module _ (n : ℕ) (old : List (List ℤ)) (new : List FreeEntry) (grown : List 
   pub all_within : (shared : List ℕ) (sets : List Rows) → ((j : ℕ) → j < n → has_row shared j ≡ false → get_or counts j 0 < reach) →
       (has_row shared (get_or new 0 (record { place = 0; value = pos 0 })).place ≡ false → IsNear counts reach (rest_at new)) →
       ((k : ℕ) → k < length old → has_row shared (pivot (get_or old k [])) ≡ false → IsReached n reach grown (λ w. number_at w (pivot (get_or old k [])))) →
-      All (λ (s : Rows). IsReached n reach grown (λ w. sum_over w s.list)) sets → IsWithin n reach shared (map (λ (s : Rows). s.list) sets) grown
+      All (λ (s : Rows). IsReached n reach grown (λ w. sum_over w s.list)) sets → ReachesAll n reach shared (map (λ (s : Rows). s.list) sets) grown
   all_within shared sets columns at_new rows totals = record {
     numbers = λ i l own. go i l own (is_pivot grown i) refl;
     totals = λ set found.
@@ -191,7 +191,7 @@ module _ (n : ℕ) (old : List (List ℤ)) (new : List FreeEntry) (grown : List 
       ]
 
   -- and back: what the new list needs
-  pub new_near : (shared : List ℕ) (sets : List (List ℕ)) → IsWithin n reach shared sets grown →
+  pub new_near : (shared : List ℕ) (sets : List (List ℕ)) → ReachesAll n reach shared sets grown →
       has_row shared (get_or new 0 (record { place = 0; value = pos 0 })).place ≡ false → IsNear counts reach (rest_at new)
   new_near shared sets within = go new g
     where

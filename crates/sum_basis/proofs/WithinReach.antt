@@ -11,7 +11,6 @@ use Rattle.audit_types.specs.Truth.{number_at, sum_over}
 use Rattle.audit_types.specs.Form.{set_row, InSpan, pivot, IsPrimitive, IsEchelon, IsReducedForm}
 use Rattle.audit_types.specs.FormRows.{at_pivot, zero_at_others, IsZeroAtOthers}
 use Rattle.audit_types.specs.Direction.{is_pivot}
-use Rattle.audit_types.specs.Reach.{IsAlong}
 use Rattle.audit_types.specs.ListLaws.{all-push, all-front}
 use Rattle.audit_types.specs.Numbers.{zero_or_not}
 use Rattle.audit_types.specs.Products.{add-times, times_assoc, neg-times, zero_product}
@@ -20,7 +19,7 @@ use Rattle.sum_basis.specs.Basis.{Echelon, IsFreeList}
 use Rattle.sum_basis.specs.Combination.{combine}
 use Rattle.sum_basis.specs.CombinedRows.{number_at-combine}
 use Rattle.sum_basis.specs.Elimination.{IsSmallForm, IsZeroAtPivots}
-use Rattle.sum_basis.specs.Reach.{IsLeftOverOrNone, IsGrownBy, one_if, met, without_new, count_with, rest_at}
+use Rattle.sum_basis.specs.Reach.{IsAlong, IsLeftOverOrNone, IsGrownBy, one_if, met, without_new, count_with, rest_at}
 use Rattle.sum_basis.specs.Sparse.{entry_at, row_of, IsListed}
 use Rattle.sum_basis.specs.Ties.{IsRowOf}
 use Rattle.sum_basis.specs.declared.sparse.FreeEntry.{FreeEntry}

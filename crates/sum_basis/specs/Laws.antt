@@ -19,6 +19,10 @@ SpanKeepsForm = (n : ℕ) (rows form : List (List ℤ)) (row : List ℤ) → IsR
 abbrev pub OneMoreSet : Type 0
 OneMoreSet = (n : ℕ) (sets : List (List ℕ)) (rows : List ℕ) (form new : List (List ℤ)) → Reduced n sets form → IsReducedForm n (form ++ set_row n rows ∷ []) new → Reduced n (sets ++ rows ∷ []) new
 
+-- so sets have one reduced form
+abbrev pub SetsHaveOneForm : Type 0
+SetsHaveOneForm = (n : ℕ) (sets : List (List ℕ)) → (form : List (List ℤ)) × Reduced n sets form × ((other : List (List ℤ)) → Reduced n sets other → other ≡ form)
+
 -- the form of any sets is narrow or wide, and not both
 abbrev pub NarrowOrWide : Type 0
 NarrowOrWide = (width n : ℕ) (sets : List (List ℕ)) → (HasNarrowForm width n sets ⊎ HasWideForm width n sets) × (HasNarrowForm width n sets → HasWideForm width n sets → ⊥)

@@ -5,18 +5,35 @@ use Rattle.audit_types.specs.Rows.{has_row}
 use Rattle.audit_types.specs.Truth.{is_zero, number_at, sum_over}
 use Rattle.audit_types.specs.Form.{IsPrimitive, IsEchelon, IsReducedForm}
 use Rattle.audit_types.specs.Direction.{is_pivot}
-use Rattle.audit_types.specs.Reach.{IsAlong, Changes}
+use Rattle.audit_types.specs.Reach.{extent}
+use Rattle.audit_types.specs.Totals.{product}
 use Rattle.sum_basis.specs.Basis.{Echelon}
 use Rattle.sum_basis.specs.Growth.{IsLeftOver}
 use Rattle.sum_basis.specs.Sparse.{entry_at, row_of, IsListed}
 use Rattle.sum_basis.specs.declared.sparse.FreeEntry.{FreeEntry}
+
+-- a direction of the free column j: n numbers whose product with each row of the form is 0, not 0 at j, and 0 at the other free columns
+pub record IsAlong (n : ℕ) (form : List (List ℤ)) (j : ℕ) (d : List ℤ) : Type 0 where
+  pub one_each : length d ≡ n
+  pub zeros : AllByRecursion (λ row. product row (number_at d) n ≡ pos 0) form
+  pub free : is_pivot form j ≡ false
+  pub some : number_at d j ≢ pos 0
+  pub only : (i : ℕ) → is_pivot form i ≡ false → i ≢ j → number_at d i ≡ pos 0
+
+-- a direction of some free column, of at most so many rows, along which the value changes
+pub record Changes (n : ℕ) (form : List (List ℤ)) (most : ℕ) (value : List ℤ → ℤ) : Type 0 where
+  pub column : ℕ
+  pub direction : List ℤ
+  pub along : IsAlong n form column direction
+  pub near : extent direction ≤ most
+  pub changed : value direction ≢ pos 0
 
 -- if the value changes along a direction of some free column, it does so along one of at most `reach` rows
 abbrev pub IsReached : ℕ → ℕ → List (List ℤ) → (List ℤ → ℤ) → Type 0
 IsReached n reach form value = Changes n form n value → Changes n form reach value
 
 -- so it is with the number of each row that isn't shared, and with the total of each of these sets
-pub record IsWithin (n reach : ℕ) (shared : List ℕ) (sets : List (List ℕ)) (form : List (List ℤ)) : Type 0 where
+pub record ReachesAll (n reach : ℕ) (shared : List ℕ) (sets : List (List ℕ)) (form : List (List ℤ)) : Type 0 where
   pub numbers : (i : ℕ) → i < n → has_row shared i ≡ false → IsReached n reach form (λ w. number_at w i)
   pub totals : (set : List ℕ) → Contains sets set → IsReached n reach form (λ w. sum_over w set)
 

@@ -1,5 +1,5 @@
 //! The laws of reduced forms. Each function computes nothing: its contract is the law.
-ghost use Rattle.sum_basis.specs.Laws.{EveryRowSpaceHasAForm, FormsAreUnique, SpanKeepsForm, OneMoreSet, NarrowOrWide};
+ghost use Rattle.sum_basis.specs.Laws.{EveryRowSpaceHasAForm, FormsAreUnique, SetsHaveOneForm, SpanKeepsForm, OneMoreSet, NarrowOrWide};
 ghost use Rattle.sum_basis.specs.Ties.{TiesByForm, TiesByFormBut};
 ghost use Rattle.sum_basis.specs.Points.{TiesAreInLine};
 ghost use Rattle.sum_basis.specs.Reach.{FreeColumnsHaveDirections};
@@ -12,6 +12,11 @@ pub fn every_row_space_has_a_form()
 /// A list of rows has no two reduced forms.
 pub fn forms_are_unique()
     ensures { FormsAreUnique }
+{}
+
+/// Sets have one reduced form.
+pub fn sets_have_one_form()
+    ensures { SetsHaveOneForm }
 {}
 
 /// A row in the span leaves the form as it is.

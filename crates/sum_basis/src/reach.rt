@@ -10,7 +10,7 @@ ghost use Rattle.audit_types.specs.Form.{pivot};
 ghost use Rattle.audit_types.specs.Direction.{is_pivot};
 ghost use Rattle.audit_types.specs.Truth.{sum_over};
 ghost use Rattle.sum_basis.specs.Elimination.{IsZeroAtPivots};
-ghost use Rattle.sum_basis.specs.Reach.{IsNear, IsReached, IsWithin, IsLeftOverOrNone, IsGrownBy, AreSmallEntries, AreCounts, one_if, without_new, count_with, times_of, rest_at};
+ghost use Rattle.sum_basis.specs.Reach.{IsNear, IsReached, IsLeftOverOrNone, ReachesAll, IsGrownBy, AreSmallEntries, AreCounts, one_if, without_new, count_with, times_of, rest_at};
 ghost use Rattle.sum_basis.specs.Sparse.{entry_at, row_of, IsListed, IsNew};
 
 use crate::cleared_list::value_at;
@@ -342,7 +342,7 @@ fn is_within(
     requires same_n { All (λ s. s.n ≡ form.now.n) sets.now }
     requires new { IsLeftOverOrNone form.now new.now }
     requires room { form.now.n ≤ vec_capacity room.old }
-    ensures { (grown : List (List ℤ)) → IsGrownBy form.now new.now grown → IsTrue result ↔ IsWithin form.now.n reach shared.now.list (map (λ s. s.list) sets.now) grown }
+    ensures { (grown : List (List ℤ)) → IsGrownBy form.now new.now grown → IsTrue result ↔ ReachesAll form.now.n reach shared.now.list (map (λ s. s.list) sets.now) grown }
 {
     // What every form is: its rows are a form.
     let _ = form.columns();
@@ -379,7 +379,7 @@ pub(crate) fn is_within_after(
     requires shared { shared.now.n ≡ form.now.n }
     requires same_n { All (λ s. s.n ≡ form.now.n) sets.now }
     requires new { IsLeftOverOrNone form.now new.now }
-    ensures { IfOk result (λ within. (grown : List (List ℤ)) → IsGrownBy form.now new.now grown → IsTrue within ↔ IsWithin form.now.n reach shared.now.list (map (λ s. s.list) sets.now) grown) }
+    ensures { IfOk result (λ within. (grown : List (List ℤ)) → IsGrownBy form.now new.now grown → IsTrue within ↔ ReachesAll form.now.n reach shared.now.list (map (λ s. s.list) sets.now) grown) }
 {
     let columns = form.columns() as usize;
     let mut zeros = [0; 1024];
