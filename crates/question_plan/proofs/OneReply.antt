@@ -1,6 +1,7 @@
 -- The replies that are due to one line over tables that differ in their secrets alone.
 use Rattle.std.proofs.Common.{◌≡◌, ℕ, ℤ, pos, ◌<◌, List, length, Some, refl, sym, ◌∙◌, ap, subst, arith, inl, inr, ◌⊎◌, ⊎_elim}
-use Rattle.std.specs.Prelude.{◌*ℤ◌}
+use Rattle.std.specs.Prelude.{◌*ℤ◌, neg_ℤ}
+use Rattle.std.proofs.lemmas.Int.{ints}
 use Rattle.audit_types.specs.declared.shapes.Kind.{Kind}
 use Rattle.audit_types.specs.declared.shapes.Shape.{Shape}
 use Rattle.audit_types.specs.declared.shapes.Kind.TheVariants as kind
@@ -21,7 +22,7 @@ use Rattle.table_load.specs.Database.{Database, base_of, secret_table, table_in}
 use Rattle.line_wire.specs.Lines.{CountedLine}
 use Rattle.line_wire.specs.Reply.{reply_bytes}
 use Rattle.line_wire.specs.declared.question.Take.{Take}
-use Rattle.line_wire.specs.declared.question.Take.TheVariants.{Sum, Avg, Max}
+use Rattle.line_wire.specs.declared.question.Take.TheVariants.{Sum, Avg, Max, Min}
 use Rattle.line_wire.specs.declared.reply.Reply.{Reply}
 use Rattle.line_wire.specs.declared.reply.Reply.TheVariants as reply
 use Rattle.question_plan.specs.declared.planning.Plan.{Plan}
@@ -39,6 +40,7 @@ one_telling : (take : Take) (size : ℕ) (answer : ℤ) (a b : Reply) → 0 < si
 one_telling Sum size answer a b some first second = first ∙ sym second
 one_telling Avg size answer a b some first second = one_mean answer size a b some first second
 one_telling Max size answer a b some first second = first ∙ sym second
+one_telling Min size answer a b some first second = first ∙ sym second
 
 pub decided_once : NarrowOrWide → OneDecisionIsMade
 decided_once forms setting history column rows v w first second = one_decision forms (known_of setting history column) rows v w first second
@@ -55,6 +57,10 @@ told_once Avg size a b told first second =
     let den : first.1 ≡ second.1 = cc in
     cancel_ℤ a b first.1 first.2.some (sym first.2.same ∙ ap (λ (z : ℤ). z *ℤ pos size) num ∙ second.2.same ∙ ap (λ (d : ℕ). b *ℤ pos d) (sym den))
 told_once Max size a b told first second = let both : reply.Max a ≡ reply.Max b = sym first ∙ second in cc
+told_once Min size a b told first second =
+    let both : reply.Min (neg_ℤ a) ≡ reply.Min (neg_ℤ b) = sym first ∙ second in
+    let negated : neg_ℤ a ≡ neg_ℤ b = cc in
+    omega (arith, ints, negated)
 
 -- two replies that tell one denial, or that the history is full
 one_denial : (take : Take) (asked : Asked) (size : ℕ) (v : Verdict) (a b : Reply) → TellsOutcome take size (Denied v) a → TellsOutcome take size (Denied v) b →
