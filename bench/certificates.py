@@ -7,7 +7,8 @@ Works in the folder that it is called in. A round draws a small table, has the p
 in the end than in the beginning in some rounds, and then explain a hundred others. The plain program has to print the same lines, byte
 for byte, demo/check_certificate.py has to take them, and the journal has to stay. Then one number of each certificate is changed by 1.
 If the script takes that too, another way has to find it true: for a sum, both sides are equal over some tables of large random numbers;
-for a maximum, the greatest list that is possible gives all answers, and of the named set its row alone reaches the answer. The exit status is
+for a maximum or a minimum, the greatest or the least list that is possible gives all answers, and of the named set its row alone reaches the
+answer. The exit status is
 1 if something differs, or if a change is taken that isn't true."""
 import copy
 import json
@@ -53,7 +54,8 @@ def is_total(journal, target, asked, line, draw):
 def is_lone(journal, column, asked, line):
     """Whether some list gives all answers, and in each that does the row has the answer of the set that is named."""
     pairs = {place: (record.answer, record.rows) for place, record in enumerate(journal.records) if record.column == column}
-    pairs["asked"] = line["answer"], asked
+    # A record of a minimum has it negated.
+    pairs["asked"] = -line["answer"] if "low" in line else line["answer"], asked
     rows = range(journal.rows)
     bounds = {row: min((answer for answer, chosen in pairs.values() if row in chosen), default=None) for row in rows}
     reached = {place: {row for row in chosen if bounds[row] == answer} for place, (answer, chosen) in pairs.items()}
@@ -62,7 +64,7 @@ def is_lone(journal, column, asked, line):
 
 def is_true(facts, journal, question, line, draw):
     column, asked = facts.question(question)
-    if "high" in line:
+    if "answer" in line:
         return is_lone(journal, column, asked, line)
     target = {line["row"]} if "row" in line else facts.groups[line["group"]][1]
     return is_total(journal, target, asked, line, draw)
@@ -72,7 +74,8 @@ def numbers(line):
     """Each number of a certificate, as what holds it and its key or place there."""
     yield from ((line, key) for key, value in line.items() if isinstance(value, int))
     yield from ((term, place) for term in line.get("by", []) for place in range(2))
-    yield from ((line["high"], place) for place in range(len(line.get("high", []))))
+    for word in line.keys() & {"high", "low"}:
+        yield from ((line[word], place) for place in range(len(line[word])))
 
 
 def with_a_change(line, draw):

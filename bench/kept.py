@@ -6,7 +6,8 @@
 Works in the folder that it is called in. A round draws a small table, and has the program answer random questions over it, over more
 rows in the end than in the beginning in some rounds. `compact` then has to write, byte for byte, the journal of the records that
 those before them don't imply, as this page works them out: a sum is implied if its row is in the span of the rows before it, by fractions;
-a maximum, if no row of its set may have more, and an earlier answer of this number has all its extreme rows in the set. Over few rows
+a maximum, if no row of its set may have more, and an earlier answer of this number has all its extreme rows in the set; a minimum as
+the maximum of negated numbers, as which its record has it. Over few rows
 that is compared with the definition itself: every list of numbers that gives the answers before gives this one. Then both journals are asked
 10,000 random questions, a hundred at a time over fresh copies, and have to reply alike, byte for byte. So do their reports, but for the
 number of records. The exit status is 1 if something differs."""
@@ -20,8 +21,8 @@ import sys
 from dataclasses import dataclass
 from fractions import Fraction
 
-SUM, MAX = 1, 2
-KINDS = {SUM: "sum", MAX: "max"}
+SUM, MAX, MIN = 1, 2, 3
+KINDS = {SUM: "sum", MAX: "max", MIN: "min"}
 ASKED = 10_000
 AT_ONCE = 100
 # Over so few rows every list of numbers is tried.
@@ -167,7 +168,7 @@ class Draw:
     def __init__(self, seed):
         self.draw = random.Random(seed)
         self.rows = self.draw.choice([3, 4, 4, 6, 8, 9, 12, 16, 20, 24])
-        self.kinds = [self.draw.choice([SUM, MAX]) for _ in range(self.draw.randint(1, 3))]
+        self.kinds = [self.draw.choice([SUM, MAX, MIN]) for _ in range(self.draw.randint(1, 3))]
         self.most = self.draw.choice([2, 5, 1000])
         self.cells = []
 
@@ -206,7 +207,7 @@ class Draw:
         lines = []
         for _ in range(count):
             place = self.draw.randrange(len(self.kinds))
-            ask = self.draw.choice(["sum", "avg", "sum"]) if self.kinds[place] == SUM else "max"
+            ask = self.draw.choice(["sum", "avg", "sum"]) if self.kinds[place] == SUM else KINDS[self.kinds[place]]
             lines.append(json.dumps({"ask": ask, "column": f"s{place}", "where": self.condition()}))
         return "".join(line + "\n" for line in lines)
 

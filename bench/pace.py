@@ -1,12 +1,12 @@
 #!/usr/bin/env python3
 """Times the built program beside the plain one on the same workloads. bench/pace.sh builds the plain one and calls this.
 
-    pace.py AUDITOR PLAIN [--rounds 3] [--only 1024-intervals-max] [--opening]
+    pace.py AUDITOR PLAIN [--rounds 3] [--only 1024-intervals-max] [--opening] [KEY=VALUE ..]
 
 Runs both in turn in the folder that it is called in, and prints for each workload the least processor time of each, the
 auditor's peak of memory, and the ratio of the two times: 1 is as fast as the plain program, 2 twice as fast. With --opening
-it times a run without questions over the journal that the workload left, which decides each record again. The exit status
-is 1 if replies differ."""
+it times a run without questions over the journal that the workload left, which decides each record again. KEY=VALUE are
+further keys of the schema. The exit status is 1 if replies differ."""
 import argparse
 import json
 import os
@@ -61,18 +61,18 @@ def protected(rows, count):
     return [{"column": "v", "where": f"k >= {low} and k < {low + rows // 20}"} for low in lows]
 
 
-def write_schema(columns, groups):
-    meant = {"columns": columns, "protect": groups} if groups else {"columns": columns}
+def write_schema(columns, groups, keys):
+    guarded = {"protect": groups} if groups else {}
     with open("schema.json", "w") as schema:
-        json.dump(meant, schema)
+        json.dump({"columns": columns, **guarded, **keys}, schema)
 
 
-def write_table(rows, groups):
+def write_table(rows, groups, keys):
     draw = random.Random(29)
     halves = [f"h{k}" for k in range(12)]
     roles = {"k": "number", "g": "number", **dict.fromkeys(halves, "number"), "v": "sum", "m": "max"}
     columns = [{"name": name, "is": role} for name, role in roles.items()]
-    write_schema(columns, protected(rows, groups))
+    write_schema(columns, protected(rows, groups), keys)
     with open("table.csv", "w") as table:
         print(*roles, sep=",", file=table)
         for row in range(rows):
@@ -118,7 +118,9 @@ def main():
     words.add_argument("--rounds", type=int, default=3)
     words.add_argument("--only", default="")
     words.add_argument("--opening", action="store_true")
-    given = words.parse_args()
+    words.add_argument("keys", nargs="*", metavar="KEY=VALUE")
+    given = words.parse_intermixed_args()
+    keys = {key: json.loads(value) for key, value in (word.split("=", 1) for word in given.keys)}
     programs = {"auditor": given.auditor, "plain": given.plain}
     print(f"{'workload':32} {'auditor s':>10} {'plain s':>9} {'ratio':>7} {'MiB':>6}")
     ratios, all_equal = [], True
@@ -127,7 +129,7 @@ def main():
             name = f"{rows}-{sets}-{ask}" + (f"-{groups}-protected" if groups else "")
             if given.only not in name:
                 continue
-            write_table(rows, groups)
+            write_table(rows, groups, keys)
             write_questions(sets, ask, rows, count)
             best, equal = compare(programs, given.rounds, given.opening)
             (auditor, peak), (plain, _) = best["auditor"], best["plain"]

@@ -2,7 +2,7 @@
 # Times the built program on sixteen workloads beside the plain, unproved program of bench/plain, and prints the ratio of
 # their times. Build the program first: demo/run.sh does. The plain one is built here, with cargo.
 #
-#   bench/pace.sh [--rounds 3] [--only 1024-intervals-max] [--opening]
+#   bench/pace.sh [--rounds 3] [--only 1024-intervals-max] [--opening] [KEY=VALUE ..]     such as width=4 reach=50
 # A sync is free in a folder that is kept in memory.
 [ -d /dev/shm ] && export TMPDIR=/dev/shm
 . "$(dirname "$0")/setup.sh"

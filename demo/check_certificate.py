@@ -8,7 +8,7 @@ Run it in the folder of schema.json, table.csv and answers.journal, with the que
 It reads the files by FORMATS.md, of table.csv the public columns alone, and finds the rows of each condition itself. For a
 sum it counts the named records' sets and the asked set, each as often as the line says: every row of what would be given away
 has to come to `times`, and every other row to 0. For a maximum the printed list has to give each record's answer and the new
-one, and all rows but one of the named set have to lie in sets with a lower answer. It says how many records and lines were
+one, and all rows but one of the named set have to lie in sets with a lower answer, for a minimum in sets with a greater one. It says how many records and lines were
 checked, or which file or line is wrong and why, and ends with 0 or 1.
 
 A yes shows of each denial with a certificate that an answer could have given away this number, or this protected total. It
@@ -21,7 +21,7 @@ import operator
 import re
 import sys
 
-from check_report import KINDS, Wrong, are_whole, need, number_of_rows, records, secret_columns
+from check_report import BOUNDS, KINDS, Wrong, are_whole, need, number_of_rows, records, secret_columns, stated
 
 LARGEST = 2**112
 MOST_TERMS = 1024
@@ -181,10 +181,10 @@ class Facts:
             ask, name, where = asked["ask"], asked["column"], asked["where"]
         except (LookupError, RecursionError, TypeError, ValueError):
             raise Wrong("its question asks about no secret column") from None
-        need(ask in ("sum", "avg", "max"), "its question asks about no secret column")
+        need(ask in ("sum", "avg", *BOUNDS), "its question asks about no secret column")
         chosen = self.chosen(where)
         need(chosen, "its question is over no row")
-        return self.place(name, "max" if ask == "max" else "sum"), chosen
+        return self.place(name, ask if ask in BOUNDS else "sum"), chosen
 
     def record(self, place, column):
         """The answer and the rows of the record at a place of the history, which has to be one of the column."""
@@ -210,7 +210,7 @@ def given_away(facts, column, line):
 
 
 def check_sum(facts, column, asked, line):
-    need(facts.columns[column][1] == "sum", "a certificate for sums, and the column is one of maxima")
+    need(facts.columns[column][1] == "sum", "a certificate for sums, and the column is another one")
     target = given_away(facts, column, line)
     times, terms = line["times"], line["by"]
     need(isinstance(terms, list) and len(terms) <= MOST_TERMS, f"it has no list of at most {MOST_TERMS} terms")
@@ -227,24 +227,31 @@ def check_sum(facts, column, asked, line):
         need(total == due, f"the sets come to {total} in row {row}, and not to {due}")
 
 
-def check_max(facts, column, asked, line):
-    need(facts.columns[column][1] == "max", "a certificate for maxima, and the column is one of sums")
-    answer, row, high = line["answer"], line["row"], line["high"]
+def check_bounds(facts, column, asked, line):
+    kind = facts.columns[column][1]
+    word, extreme = BOUNDS.get(kind, (None, None))
+    need(word in line, "a certificate for maxima or minima, and the column is another one")
+    answer, row, numbers = line["answer"], line["row"], line[word]
     need(are_whole([answer]) and is_place(row, range(facts.rows)), "it has no whole answer, or names no row")
-    need(are_whole(high) and len(high) == facts.rows, "it has no list with a whole number for each row")
-    answers = [(value, chosen) for of, value, chosen in facts.records if of == column] + [(answer, asked)]
+    need(are_whole(numbers) and len(numbers) == facts.rows, "it has no list with a whole number for each row")
+    answers = [(stated(kind, kept), chosen) for of, kept, chosen in facts.records if of == column] + [(answer, asked)]
     for value, chosen in answers:
-        need(max(high[place] for place in chosen) == value, f"its list doesn't give the answer {value}")
-    value, chosen = (answer, asked) if line["pair"] == "asked" else facts.record(line["pair"], column)
+        need(extreme(numbers[place] for place in chosen) == value, f"its list doesn't give the answer {value}")
+    value, chosen = (answer, asked)
+    if line["pair"] != "asked":
+        kept, chosen = facts.record(line["pair"], column)
+        value = stated(kind, kept)
     need(row in chosen, "its row isn't in the set that it names")
-    lower = set().union(*(rows for other, rows in answers if other < value))
-    need(lower.issuperset(set(chosen) - {row}), f"another row than {row} could have the {value}")
+    # In a set with a lower maximum, or a greater minimum, no row has the number.
+    without = set().union(*(rows for other, rows in answers if other != value and extreme(other, value) == value))
+    need(without.issuperset(set(chosen) - {row}), f"another row than {row} could have the {value}")
 
 
 FORMS = {
     frozenset(("verdict", "row", "times", "by", "asked")): check_sum,
     frozenset(("verdict", "group", "times", "by", "asked")): check_sum,
-    frozenset(("verdict", "answer", "row", "pair", "high")): check_max,
+    frozenset(("verdict", "answer", "row", "pair", "high")): check_bounds,
+    frozenset(("verdict", "answer", "row", "pair", "low")): check_bounds,
 }
 
 

@@ -4,7 +4,8 @@
 Run it in the folder of schema.json, table.csv and answers.journal:  auditor audit | python3 check_report.py
 It reads the journal by FORMATS.md. For each row of a column of sums it adds up the printed change over the set of each
 record: every total has to be 0, and the change has to move the row. For a column of maxima the printed list, and the
-list with any one row less by 1, have to give each record's answer. It says how many records and lines were checked, or which
+list with any one row less by 1, have to give each record's answer; for one of minima the list, and the list with any one row
+more by 1. It says how many records and lines were checked, or which
 file or line is wrong and why, and ends with 0 or 1.
 """
 
@@ -12,7 +13,9 @@ import csv
 import json
 import sys
 
-KINDS = {"sum": 1, "max": 2}
+KINDS = {"sum": 1, "max": 2, "min": 3}
+# The word before a list of numbers, and what an answer is of the numbers of its rows.
+BOUNDS = {"max": ("high", max), "min": ("low", min)}
 
 
 class Wrong(Exception):
@@ -117,14 +120,20 @@ def check_direction(line, row, rows, sets):
         need(sum(change[place] for place in chosen) == 0, "the change alters an answer")
 
 
-def check_highest(line, rows, answers):
-    high = line.get("high")
-    need(are_whole(high) and len(high) == rows, "no list with a whole number for each row")
-    for chosen, answer in answers:
-        greatest = max(high[place] for place in chosen)
-        need(greatest == answer, "the list gives another answer")
-        # One row less by 1 keeps the answer as long as another row of the set has it too.
-        need(sum(high[place] == answer for place in chosen) > 1, "an answer rests on one row")
+def stated(kind, answer):
+    """The answer that a record of a column keeps, as the table has it: a minimum is kept negated."""
+    return -answer if kind == "min" else answer
+
+
+def check_bounds(line, kind, rows, answers):
+    word, extreme = BOUNDS[kind]
+    numbers = line.get(word)
+    need(are_whole(numbers) and len(numbers) == rows, "no list with a whole number for each row")
+    for chosen, kept in answers:
+        answer = stated(kind, kept)
+        need(extreme(numbers[place] for place in chosen) == answer, "the list gives another answer")
+        # One row less by 1, or more by 1, keeps the answer as long as another row of the set has it too.
+        need(sum(numbers[place] == answer for place in chosen) > 1, "an answer rests on one row")
 
 
 def check_line(line, column, row, rows, answers):
@@ -134,7 +143,7 @@ def check_line(line, column, row, rows, answers):
     if kind == "sum":
         check_direction(line, row, rows, [chosen for chosen, _ in answers])
     else:
-        check_highest(line, rows, answers)
+        check_bounds(line, kind, rows, answers)
 
 
 def main():

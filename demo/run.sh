@@ -93,7 +93,7 @@ echo "with that denial made an answer: $(cat complaint)" >&2
 
 # With the group in the schema the total that was answered above isn't any more, over a journal of its own.
 mkdir ../protected && cd ../protected && cp "$demo/table.csv" . || exit 1
-sed "\$s/.*/],\"width\":4,\"protect\":[{\"column\":\"salary\",\"where\":\"team = 'Support, Leeds'\"}]}/" "$demo/schema.json" >schema.json || exit 1
+sed "\$s/.*/],\"width\":4,\"reach\":50,\"protect\":[{\"column\":\"salary\",\"where\":\"team = 'Support, Leeds'\"}]}/" "$demo/schema.json" >schema.json || exit 1
 "$program" init || { echo "demo: auditor init ended with status $?, with a protected total" >&2; exit 1; }
 grep -a "'Support, Leeds'" "$demo/questions.jsonl" | "$program" serve >denied.jsonl || { echo "demo: auditor serve ended with status $?, with a protected total" >&2; exit 1; }
 [ "$(cat denied.jsonl)" = '{"denied":"unsafe"}' ] || { echo "demo: a protected total was answered: $(cat denied.jsonl)" >&2; exit 1; }

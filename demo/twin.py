@@ -5,7 +5,8 @@ bytes to the same questions.
     demo/twin.py PROGRAM        the program, as bin/auditor of a package
 
 The report of `auditor audit` says which other tables there are: of a column of sums a change that alters no answer, of a column of
-maxima a list of highest numbers, any one of which may be less by 1. For each number of the table such a table is written, the demo's
+maxima a list of highest numbers, any one of which may be less by 1, and of a column of minima one of lowest numbers, any one of
+which may be more by 1. For each number of the table such a table is written, the demo's
 questions are asked of it over a fresh journal and then explained, and what is sent is compared byte for byte. Ends with 0 if all are the
 same. It shows it of these tables and questions; the proof says it of all.
 """
@@ -61,11 +62,11 @@ def twins_of_sums(line, numbers):
     yield line["row"], [number + changes.get(row, 0) for row, number in enumerate(numbers)]
 
 
-def twins_of_maxima(line, numbers):
-    """For each row highest numbers that give every answer, with another number in that row."""
-    high = line["high"]
+def twins_of_bounds(line, numbers):
+    """For each row highest or lowest numbers that give every answer, with another number in that row."""
+    bounds, step = (line["high"], -1) if "high" in line else (line["low"], 1)
     for row, number in enumerate(numbers):
-        yield row, high if high[row] != number else [most - (place == row) for place, most in enumerate(high)]
+        yield row, bounds if bounds[row] != number else [bound + step * (place == row) for place, bound in enumerate(bounds)]
 
 
 def main():
@@ -81,7 +82,7 @@ def main():
         for line in report[:-1]:
             column = line["column"]
             numbers = [int(row[names.index(column)]) for row in rows]
-            twins = twins_of_sums(line, numbers) if "direction" in line else twins_of_maxima(line, numbers)
+            twins = twins_of_sums(line, numbers) if "direction" in line else twins_of_bounds(line, numbers)
             for row, other in twins:
                 if other[row] == numbers[row]:
                     sys.exit(f"twin: {column} of row {row} is the same number in the other table")

@@ -29,8 +29,8 @@ CRATES = {
 MOST = {
     "disclosure": 103,
     "decision": 110,
-    "lines and conditions": 390,
-    "formats of files": 212,
+    "lines and conditions": 393,
+    "formats of files": 219,
     "journal and crash": 95,
     "lives": 288,
     "the promise": 1190,

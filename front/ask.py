@@ -9,7 +9,7 @@
     AUDITOR_TOKEN=.. ask.py ADDRESS ..      sends a token
 
     count where age >= 41                   how many rows
-    sum salary where team = 'Design'        a total, exactly; avg for an average, max for the greatest
+    sum salary where team = 'Design'        a total, exactly; avg for an average, max or min for the greatest or the least
     totals salary by team                   a total for each team, a question each; avg salary by team, count by team
     totals salary by team, site             a table with all totals over it; what isn't answered is ////
     csv totals salary by team, site         the same as CSV
@@ -187,7 +187,7 @@ def say_columns(there):
         title = note.get("title", name)
         words = [
             (
-                f"secret, to be asked for {'sum and avg' if kind == 'sum' else 'max'}"
+                f"secret, to be asked for {'sum and avg' if kind == 'sum' else kind}"
                 if kind in SECRET
                 else f"public {kind}"
             )

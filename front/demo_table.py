@@ -16,7 +16,7 @@ PUBLIC = 4
 # Team, people, and the monthly pay from which on it goes.
 TEAMS = [("Support", 64, 2900), ("Sales, North", 52, 3400), ("Sales, South", 47, 3300), ("Engineering", 41, 4700),
          ("Bob's workshop", 22, 3100), ("Legal", 9, 5200), ("Board", 5, 9000)]
-WIDTH = 4
+LIMITS = {"width": 4, "reach": 50}
 PROTECT = [{"column": "salary", "where": "team = 'Board'"}]
 NOTES = {"title": "Staff of an office that doesn't exist", "columns": {
     "salary": {"title": "monthly salary", "decimals": 2, "unit": "EUR"},
@@ -42,7 +42,7 @@ def write(folder):
     """The two folders that the door wants: the whole table, and in `public` what anybody may see."""
     rows = people()
     (folder / "public").mkdir(parents=True)
-    schema = json.dumps({"columns": [{"name": name, "is": kind} for name, kind in COLUMNS.items()], "width": WIDTH, "protect": PROTECT})
+    schema = json.dumps({"columns": [{"name": name, "is": kind} for name, kind in COLUMNS.items()], **LIMITS, "protect": PROTECT})
     for place, width in ((folder, len(COLUMNS)), (folder / "public", PUBLIC)):
         (place / "schema.json").write_text(schema)
         with open(place / "table.csv", "w", newline="") as file:

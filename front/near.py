@@ -27,7 +27,7 @@ import argparse
 import sys
 import time
 
-from nearing.columns import Maxima, ends_of, read_column
+from nearing.columns import Sums, ends_of, read_column
 from nearing.ranges import Range, for_each, is_open, need_inside, shown_by
 from preparing.faults import Fault, counted, os_words
 
@@ -82,7 +82,7 @@ def look(chosen):
         f"{chosen.column}: {counted(len(shown), 'number')}, of which {len(shown) - len(near):,} are shown to be open by"
         f" {chosen.share} % or more by the report's lines alone"
     )
-    if chosen.search and near and not isinstance(column, Maxima):
+    if chosen.search and near and isinstance(column, Sums):
         search(column, known, shown, near, chosen.share)
         near = near_rows(column, shown, chosen.share)
         print(f"searched besides: {len(shown) - len(near):,} are shown to be open by {chosen.share} % or more")

@@ -9,7 +9,7 @@ JSON may have a "weight".
 
 On standard output are the questions that would be answered, in an order in which they are, a line each: ask exactly these, in this order,
 and first; door.py --first does. What is left out is said on standard error. No secret is read, and nothing is asked: it is auditor
-simulate that decides, and what it decides on sums doesn't depend on answers. What it decides on maxima does, so they stand last.
+simulate that decides, and what it decides on sums doesn't depend on answers. What it decides on maxima and minima does, so they stand last.
 
 The status is 0, or 1 if a line wasn't a question, if it was interrupted, or if there is no plan; 2 if the arguments are wrong.
 """
@@ -84,8 +84,8 @@ def say_plan(plan, settings):
         say(f"left out:\n{listed([left_words(plan, question, settings.fewest) for question in plan.left])}")
     if settings.merge and plan.left:
         say(f"{len(plan.instead):,} of {len(plan.left):,} have another in their place: {counted(len(plan.added), 'question')} more")
-    if plan.maxima:
-        say(f"{counted(len(plan.maxima), 'question')} on maxima stand last: whether one is answered depends on the answers before it")
+    if plan.extremes:
+        say(f"{counted(len(plan.extremes), 'question')} on maxima or minima stand last: whether one is answered depends on the answers before it")
 
 
 def left_words(plan, question, fewest):

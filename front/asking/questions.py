@@ -16,10 +16,12 @@ ASKS = {
     "max": "max",
     "maximum": "max",
     "greatest": "max",
+    "min": "min",
+    "minimum": "min",
+    "least": "min",
 }
 FIRST = ("would", "why", "near", "csv")
-LEAST = ("min", "minimum", "least", "median")
-SECRET = {"sum": ("sum", "avg"), "max": ("max",)}
+SECRET = {"sum": ("sum", "avg"), "max": ("max",), "min": ("min",)}
 
 
 class Unclear(Exception):
@@ -89,8 +91,8 @@ def split_by(words):
 
 def ask_named(word):
     """What a word asks for; another one is Unclear, with the nearest that is known."""
-    if word in LEAST:
-        raise Unclear(f"{word} can't be asked: there are count, sum, avg and max")
+    if word == "median":
+        raise Unclear(f"{word} can't be asked: there are count, sum, avg, max and min")
     if word not in ASKS:
         near = difflib.get_close_matches(word, ASKS, 1)
         raise Unclear(

@@ -6,8 +6,8 @@ import json
 
 from preparing.conditions import asked_rows
 
-SECRET = ("sum", "max")
-NUMBERS = ("den", "num", "count", "sum", "max", "at")
+SECRET = ("sum", "max", "min")
+NUMBERS = ("den", "num", "count", "sum", "max", "min", "at")
 
 
 class Away(Exception):

@@ -41,7 +41,7 @@ def answer_of(reply):
     """The number of a reply, an average divided, or None if it isn't an answer."""
     if "num" in reply:
         return fractions.Fraction(reply["num"], reply["den"])
-    return next((reply[key] for key in ("count", "sum", "max") if key in reply), None)
+    return next((reply[key] for key in ("count", "sum", "max", "min") if key in reply), None)
 
 
 def reply_words(question, reply, kinds, notes, protected=()):
@@ -101,7 +101,7 @@ def why_words(line, target, note):
         return WORDS["why"].get(line["verdict"], json.dumps(line))
     if "proof" in line:
         return WORDS["why"]["proof"]
-    return max_words(line, lambda number: number_words(number, note)) if "high" in line else sum_words(line, target)
+    return max_words(line, lambda number: number_words(number, note)) if "answer" in line else sum_words(line, target)
 
 
 def near_words(said):

@@ -70,7 +70,7 @@ auditor_ask <- function(url, ask, column = NULL, where = "all") {
   }
   if (!is.null(reply$denied)) return(structure(NA_real_, denied = reply$denied))
   if (!is.null(reply$num)) return(reply$num / reply$den)
-  known <- intersect(c("count", "sum", "max"), names(reply))
+  known <- intersect(c("count", "sum", "max", "min"), names(reply))
   if (length(known) != 1) stop("what came isn't the reply of a door", call. = FALSE)
   as.numeric(reply[[known]])
 }
@@ -95,6 +95,7 @@ auditor_count <- function(url, where = "all") auditor_ask(url, "count", where = 
 auditor_sum <- function(url, column, where = "all", steps = FALSE) auditor_number(url, "sum", column, where, steps)
 auditor_mean <- function(url, column, where = "all", steps = FALSE) auditor_number(url, "avg", column, where, steps)
 auditor_max <- function(url, column, where = "all", steps = FALSE) auditor_number(url, "max", column, where, steps)
+auditor_min <- function(url, column, where = "all", steps = FALSE) auditor_number(url, "min", column, where, steps)
 
 # What auditor explain says of a question, as a list: verdict, and of a denial as unsafe a certificate, or proof = "wide". Nothing is asked.
 # Numbers of more than 15 digits come as text. The line itself is attr(x, "line"), for demo/check_certificate.py.

@@ -235,11 +235,11 @@ def sum_words(line, target):
 
 
 def max_words(line, value):
-    """A certificate for maxima: with which answer one row alone could have a number. `value` writes a number of the column."""
-    answer, row = value(line["answer"]), line["row"]
+    """A certificate for maxima or minima: with which answer one row alone could have a number. `value` writes a number of the column."""
+    answer, row, bounds = value(line["answer"]), line["row"], line["low" if "low" in line else "high"]
     if line["pair"] == "asked":
         return f"were the answer {answer}, row {row} would be the only one that can have it"
-    return f"were the answer {answer}, row {row} would be the only one of record {line['pair']} that can have the {value(line['high'][row])}"
+    return f"were the answer {answer}, row {row} would be the only one of record {line['pair']} that can have the {value(bounds[row])}"
 
 
 def rows_words(rows, more, fewer):
@@ -266,6 +266,10 @@ class Asker:
     def max(self, column, where="all", steps=False):
         """The greatest number, or Denied."""
         return self.number("max", column, where, steps)
+
+    def min(self, column, where="all", steps=False):
+        """The least number, or Denied."""
+        return self.number("min", column, where, steps)
 
     def number(self, kind, column, where="all", steps=False):
         """An answer in the column's unit, or in its steps, as the program says it."""
@@ -487,8 +491,8 @@ def together(kind, answers):
     for answer, _ in answers:
         if isinstance(answer, Denied):
             return answer
-    if kind == "max":
-        return max(answer for answer, _ in answers)
+    if kind in ("max", "min"):
+        return (max if kind == "max" else min)(answer for answer, _ in answers)
     if kind == "avg":
         return sum(answer * rows for answer, rows in answers) / sum(rows for _, rows in answers)
     return sum(answer for answer, _ in answers)

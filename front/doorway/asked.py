@@ -19,7 +19,7 @@ from preparing.conditions import Reader, Wrong, asked_rows
 from .growth import rows_of
 from .lines import read_question
 
-KINDS = ("sum", "avg", "max")
+KINDS = ("sum", "avg", "max", "min")
 KEYS = {"ask", "column", "where", "user"}
 KEY = 16                            # bytes of the sum that a key is
 REMEMBERED = 1024                   # lines of which it is remembered what they ask

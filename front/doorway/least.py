@@ -8,7 +8,7 @@ import json
 from .faults import Turned
 from .lines import read_question
 
-SECRET = ("sum", "avg", "max")
+SECRET = ("sum", "avg", "max", "min")
 KEPT = 4096                         # conditions whose number of rows is remembered
 
 

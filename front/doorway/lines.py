@@ -11,9 +11,9 @@ from .faults import Turned
 LONGEST = 8192                      # bytes of a line, as the program has it
 HISTORY = 65_536                    # records that a journal holds
 
-RELEASED = (b'{"sum"', b'{"num"', b'{"max"')
+RELEASED = (b'{"sum"', b'{"num"', b'{"max"', b'{"min"')
 DECIDED = RELEASED + (b'{"denied"',)
-DECISION = re.compile(rb'\{"(?:sum|max)":-?\d+\}|\{"num":-?\d+,"den":\d+\}|\{"denied":"(?:unsafe|wide)"\}')
+DECISION = re.compile(rb'\{"(?:sum|max|min)":-?\d+\}|\{"num":-?\d+,"den":\d+\}|\{"denied":"(?:unsafe|wide)"\}')
 UNDECIDED = re.compile(rb'\{"count":\d+\}|\{"refused":"[a-z]+"(?:,"at":\d+)?\}')
 
 # Which questions a reply may belong to. A refusal may belong to any.
@@ -22,7 +22,8 @@ ASKED_OF = {
     b'{"sum"': ("sum",),
     b'{"num"': ("avg",),
     b'{"max"': ("max",),
-    b'{"denied"': ("sum", "avg", "max"),
+    b'{"min"': ("min",),
+    b'{"denied"': ("sum", "avg", "max", "min"),
 }
 
 

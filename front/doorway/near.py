@@ -17,7 +17,7 @@ from .runs import Ended, cause_of
 from .simulation import DENIALS, FOLLOWS, RELEASED
 
 MOST = 200                          # questions that are looked at
-ASKS = ("sum", "avg", "max")
+ASKS = ("sum", "avg", "max", "min")
 WITHHELD = b'{"verdict":"withheld"}'    # what the door itself doesn't hand on
 
 

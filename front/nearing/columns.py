@@ -26,8 +26,16 @@ class Maxima:
     highest: list
 
 
+@dataclasses.dataclass(frozen=True)
+class Minima:
+    """A column of minima: its numbers, and for each row the one that the report prints, which no answer lets it fall below."""
+
+    numbers: list
+    lowest: list
+
+
 def read_column(report_path, table_path, name):
-    """The column of this name, as Sums or Maxima."""
+    """The column of this name, as Sums, Maxima or Minima."""
     numbers = numbers_of(table_path, name)
     lines = [line for line in report_lines(report_path) if line.get("column") == name]
     highs = [line["high"] for line in lines if "high" in line]
@@ -35,6 +43,11 @@ def read_column(report_path, table_path, name):
         need(len(lines) == 1 and are_numbers(highs[0], len(numbers)), report_path, name)
         need(all(number <= highest or highest == 0 for number, highest in zip(numbers, highs[0])), report_path, name)
         return Maxima(numbers, highs[0])
+    lows = [line["low"] for line in lines if "low" in line]
+    if lows:
+        need(len(lines) == 1 and are_numbers(lows[0], len(numbers)), report_path, name)
+        need(all(number >= lowest or lowest == 0 for number, lowest in zip(numbers, lows[0])), report_path, name)
+        return Minima(numbers, lows[0])
     need(len(lines) == len(numbers), report_path, name)
     return Sums(numbers, [change_of(line, row, len(numbers), report_path, name) for row, line in enumerate(lines)])
 

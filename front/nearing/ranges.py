@@ -7,7 +7,7 @@ from typing import NamedTuple
 
 from preparing.faults import Fault, listed
 
-from .columns import Maxima
+from .columns import Maxima, Minima
 
 
 class Range(NamedTuple):
@@ -48,6 +48,9 @@ def shown_by(column, known):
     if isinstance(column, Maxima):
         need_one_high_end(known)
         return [shown_of_maximum(*one) for one in zip(column.numbers, column.highest, known)]
+    if isinstance(column, Minima):
+        need_one_low_end(known)
+        return [shown_of_minimum(*one) for one in zip(column.numbers, column.lowest, known)]
     return [shown_of_change(row, change, column.numbers, known) for row, change in enumerate(column.changes)]
 
 
@@ -65,9 +68,20 @@ def need_one_high_end(known):
         raise Fault("of a column of maxima the high end has to be one for all rows: give a number, or none")
 
 
+def need_one_low_end(known):
+    """The same of the low ends of a column of minima."""
+    if len({own.low for own in known}) > 1:
+        raise Fault("of a column of minima the low end has to be one for all rows: give a number, or none")
+
+
 def shown_of_maximum(number, highest, known):
     """Any number of the range up to the one that is printed. A row that no set holds is printed as 0."""
     return known if highest == 0 < number else Range(known.low, highest)
+
+
+def shown_of_minimum(number, lowest, known):
+    """Any number of the range from the one that is printed on. A row that no set holds is printed as 0."""
+    return known if number < 0 == lowest else Range(lowest, known.high)
 
 
 def distance(number, shown):

@@ -1,6 +1,8 @@
 // What all of the page goes by.
 
-const KINDS = {count: "Number of rows", sum: "Total", avg: "Average", max: "Greatest"};
+const KINDS = {count: "Number of rows", sum: "Total", avg: "Average", max: "Greatest", min: "Least"};
+// What may be asked of a secret column.
+const ASKS = {sum: ["sum", "avg"], max: ["max"], min: ["min"]};
 const COMPARISONS = {
   text: {"=": "is", "!=": "is not", in: "is one of"},
   number: {"=": "=", "!=": "≠", "<": "<", "<=": "≤", ">": ">", ">=": "≥", between: "between"},

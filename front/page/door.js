@@ -42,7 +42,7 @@ async function askTable(table, question, signal) {
 
 // What a reply says.
 function outcomeOf(reply) {
-  for (const key of ["count", "sum", "max"]) if (key in reply) return answered(reply[key], 1);
+  for (const key of ["count", "sum", "max", "min"]) if (key in reply) return answered(reply[key], 1);
   if ("num" in reply) return answered(reply.num, reply.den);
   if ("denied" in reply) return denied(reply.denied);
   if ("refused" in reply) return {state: "refused", reason: reply.refused, at: reply.at, sentence: sentence("refused", reply.refused)};
@@ -98,14 +98,15 @@ async function askParts(question, parts, signal) {
   for (const part of parts) part.outcome = await askTable(part.table, question, signal);
 }
 
-// Totals and counts add up, an average is weighed by the rows, the greatest is that of the greatest part. If a part isn't
+// Totals and counts add up, an average is weighed by the rows, the greatest is that of the greatest part, the least that of the least. If a part isn't
 // answered the whole isn't.
 function together(question, parts) {
   const missing = parts.find(part => part.outcome.state !== "answered" && part.outcome !== unasked);
   if (missing) return missing.outcome;
   const add = numbers => numbers.reduce((sum, number) => sum + number, 0n);
-  if (question.ask === "max") {
-    return answered(parts.map(part => part.outcome.numerator).reduce((one, other) => one > other ? one : other), 1);
+  if (question.ask === "max" || question.ask === "min") {
+    const first = (one, other) => question.ask === "max" ? one > other : one < other;
+    return answered(parts.map(part => part.outcome.numerator).reduce((one, other) => first(one, other) ? one : other), 1);
   }
   if (question.ask === "avg") {
     const totals = parts.map(part => part.outcome.numerator * part.rows / part.outcome.denominator);

@@ -28,7 +28,7 @@ async function showState() {
 }
 
 function fillKinds() {
-  const can = Object.keys(KINDS).filter(kind => kind === "count" || secrets().some(column => column.is === (kind === "max" ? "max" : "sum")));
+  const can = Object.keys(KINDS).filter(kind => kind === "count" || secrets().some(column => ASKS[column.is].includes(kind)));
   byId("kinds").replaceChildren(...can.map(kind => {
     const label = element("label"), radio = element("input", "", {type: "radio", name: "kind", value: kind});
     radio.checked = kind === (can.includes("sum") ? "sum" : can.at(-1));
@@ -41,16 +41,15 @@ function fillKinds() {
 
 function fillColumns() {
   const kind = document.querySelector("#kinds input:checked").value, before = byId("column").value;
-  const fitting = secrets().filter(column => column.is === (kind === "max" ? "max" : "sum"));
+  const fitting = secrets().filter(column => ASKS[column.is].includes(kind));
   byId("column").replaceChildren(...fitting.map(column => option(titleOf(column.name), column.name)));
   if (fitting.some(column => column.name === before)) byId("column").value = before;
   byId("of").hidden = kind === "count";
 }
 
 function fillChart() {
-  const kinds = {sum: ["sum", "avg"], max: ["max"]};
   const choice = (kind, name) => option(`${KINDS[kind]} of ${titleOf(name)}`, `${kind} ${name}`);
-  const choices = secrets().flatMap(column => kinds[column.is].map(kind => choice(kind, column.name)));
+  const choices = secrets().flatMap(column => ASKS[column.is].map(kind => choice(kind, column.name)));
   byId("chart-kind").replaceChildren(...choices, option(KINDS.count, "count"));
   byId("by").replaceChildren(...publics().map(column => option(titleOf(column.name), column.name)));
   fillSecond();
@@ -78,6 +77,7 @@ function totalsOf(name) {
 function holdsOf(column) {
   if (column.is === "sum") return totalsOf(column.name);
   if (column.is === "max") return "the greatest number";
+  if (column.is === "min") return "the least number";
   if (column.is === "number") {
     const numbers = numbersOf(column.name);
     return `${showValue(numbers[0], column.name)} to ${showValue(numbers.at(-1), column.name)}`;

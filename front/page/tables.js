@@ -15,7 +15,7 @@ class Table {
     this.rows = records(text.replace(/^\uFEFF/, "")).slice(1);
     this.notes = notes ? parsed("notes.json", notes) : {};
     this.publics = this.columns.filter(column => column.is === "text" || column.is === "number");
-    this.secrets = this.columns.filter(column => column.is === "sum" || column.is === "max");
+    this.secrets = this.columns.filter(column => ["sum", "max", "min"].includes(column.is));
   }
 
   async file(name, mayBeMissing = false) {

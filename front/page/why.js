@@ -77,8 +77,8 @@ async function whyWords(table, asked, line) {
   if ("proof" in line) return [sentence("why", line.proof === "wide" ? "proof" : line.proof)];
   const target = "group" in line ? `the protected total where ${await protectedAt(table, line.group)}` : "";
   const records = await recordsOf(table, asked, line);
-  if (records) return "high" in line ? maxParts(line, asked, records, table) : sumParts(line, asked, records, table, target);
-  if ("high" in line) return [`${maxWords(line, asked.column)}. ${describeRow(line.row, table)}.`];
+  if (records) return "answer" in line ? maxParts(line, asked, records, table) : sumParts(line, asked, records, table, target);
+  if ("answer" in line) return [`${maxWords(line, asked.column)}. ${describeRow(line.row, table)}.`];
   if ("row" in line) return [`${sumWords(line, `the number of row ${line.row}`)}. ${describeRow(line.row, table)}.`];
   return [sumWords(line, target) + "."];
 }
@@ -87,15 +87,15 @@ async function whyWords(table, asked, line) {
 // answer, unless the journal was compacted, the table renewed, or somebody asked beside the door: so columns, kinds and for sums the rows
 // have to fit.
 async function recordsOf(table, asked, line) {
-  const places = "high" in line ? [line.pair].filter(place => place !== "asked") : line.by.map(([place]) => place);
+  const places = "answer" in line ? [line.pair].filter(place => place !== "asked") : line.by.map(([place]) => place);
   if (places.length > MOST_CHECKED) return null;
   try {
     const health = await (await fetchFrom(table.base + "health")).json();
     if (health.compacted !== 0 || health.earlier > 0 || !(health.transcript <= MOST_TRANSCRIPT)) return null;
-    const answers = places.length ? await answersOf(table) : [], kinds = "high" in line ? ["max"] : ["sum", "avg"];
+    const answers = places.length ? await answersOf(table) : [], kinds = "high" in line ? ["max"] : "low" in line ? ["min"] : ["sum", "avg"];
     const records = new Map(places.map(place => [place, answers[place]]));
     const fits = [...records.values()].every(one => one && one.asked.column === asked.column && kinds.includes(one.asked.ask));
-    return fits && ("high" in line || await addsUp(table, asked, line, records)) ? records : null;
+    return fits && ("answer" in line || await addsUp(table, asked, line, records)) ? records : null;
   } catch {
     return null;
   }
@@ -142,11 +142,11 @@ function joined(terms) {
   });
 }
 
-// A certificate for maxima: with which answer one person alone could have a number.
+// A certificate for maxima or minima: with which answer one person alone could have a number.
 function maxParts(line, asked, records, table) {
   const start = `Were this answer ${showValue(line.answer, asked.column)}, one person alone `, end = `: ${cellsOf(line.row, table)}.`;
   if (line.pair === "asked") return [start + "could have it" + end];
-  return [start + "of ", recordLink(records.get(line.pair), table), ` could have the ${showValue(line.high[line.row], asked.column)}` + end];
+  return [start + "of ", recordLink(records.get(line.pair), table), ` could have the ${showValue((line.high || line.low)[line.row], asked.column)}` + end];
 }
 
 // The condition of a protected total by its place. Those of no row have none; a count makes no record.
@@ -183,9 +183,9 @@ function sumWords(line, target) {
   return said[0].toUpperCase() + said.slice(1);
 }
 
-// A certificate for maxima: with which answer one row alone could have a number.
+// A certificate for maxima or minima: with which answer one row alone could have a number.
 function maxWords(line, column) {
   const answer = `Were the answer ${showValue(line.answer, column)}, row ${line.row} would be the only one `;
   if (line.pair === "asked") return answer + "that can have it";
-  return answer + `of record ${line.pair} that can have the ${showValue(line.high[line.row], column)}`;
+  return answer + `of record ${line.pair} that can have the ${showValue((line.high || line.low)[line.row], column)}`;
 }

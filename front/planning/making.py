@@ -7,6 +7,7 @@ import time
 from .merging import Merging
 from .search import Search
 
+EXTREMES = ("max", "min")           # what is asked of which depends on answers
 EVERY = 2                           # seconds between two words on how far it is
 
 
@@ -25,13 +26,13 @@ class Progress:
 @dataclasses.dataclass
 class Plan:
     """`kept` are the questions that are answered in their order, `added` those in the place of others, `counts` make no record,
-    `maxima` depend on answers; `left` is left out, `few` of it for the least size, and `instead` has what stands in its place."""
+    `extremes`, maxima and minima, depend on answers; `left` is left out, `few` of it for the least size, and `instead` has what stands in its place."""
 
     kept: list = dataclasses.field(default_factory=list)
     left: list = dataclasses.field(default_factory=list)
     added: list = dataclasses.field(default_factory=list)
     counts: list = dataclasses.field(default_factory=list)
-    maxima: list = dataclasses.field(default_factory=list)
+    extremes: list = dataclasses.field(default_factory=list)
     few: set = dataclasses.field(default_factory=set)
     instead: dict = dataclasses.field(default_factory=dict)
     tries: int = 0
@@ -40,7 +41,7 @@ class Plan:
     @property
     def questions(self):
         """All that is to be asked, in its order."""
-        return [*self.kept, *self.added, *self.counts, *self.maxima]
+        return [*self.kept, *self.added, *self.counts, *self.extremes]
 
     @property
     def share(self):
@@ -53,7 +54,7 @@ def make(simulate, questions, columns, settings, say):
     """The plan of some questions; after an interruption the best so far."""
     progress, plan = Progress(say), Plan()
     plan.counts = [question for question in questions if question.ask == "count"]
-    plan.maxima = sorted((question for question in questions if question.ask == "max"), key=lambda one: -one.weight)
+    plan.extremes = sorted((question for question in questions if question.ask in EXTREMES), key=lambda one: -one.weight)
     sums = [question for question in questions if question.ask in ("sum", "avg")]
     plan.few = {question for question in sums if not columns.are_enough(question.rows, settings.fewest)}
     many = [question for question in sums if question not in plan.few]
@@ -107,13 +108,13 @@ def percent(share):
 def report_lines(plan):
     """The report of a plan: a line of JSON for each wanted question, and one of the whole."""
     left = set(plan.left)
-    for question in sorted([*plan.kept, *plan.left, *plan.counts, *plan.maxima], key=lambda one: one.number):
+    for question in sorted([*plan.kept, *plan.left, *plan.counts, *plan.extremes], key=lambda one: one.number):
         line = {"line": question.number, **json.loads(question.line), "rows": question.people, "weight": question.weight}
-        line["answered"] = None if question.ask == "max" else question not in left
+        line["answered"] = None if question.ask in EXTREMES else question not in left
         found = plan.instead.get(question)
         if found:
             line["instead"] = {"where": found.near.where, "rows": found.near.rows.bit_count(), "more": found.near.more}
         yield json.dumps(line, ensure_ascii=False)
-    yield json.dumps({"wanted": len(plan.kept) + len(plan.left) + len(plan.counts) + len(plan.maxima), "answered": len(plan.kept) + len(plan.counts),
-                      "instead": len(plan.added), "maxima": len(plan.maxima), "share": round(plan.share, 6), "orders": plan.tries,
+    yield json.dumps({"wanted": len(plan.kept) + len(plan.left) + len(plan.counts) + len(plan.extremes), "answered": len(plan.kept) + len(plan.counts),
+                      "instead": len(plan.added), "maxima": len(plan.extremes), "share": round(plan.share, 6), "orders": plan.tries,
                       "whole": plan.whole}, ensure_ascii=False)

@@ -19,7 +19,7 @@ from .columns import line_of, within
 MOST = 20_000                       # questions of a plan
 LONGEST = 8192                      # bytes of a line, as the program has it
 KEYS = {"ask", "column", "where", "user", "weight"}
-ASKS = ("count", "sum", "avg", "max")
+ASKS = ("count", "sum", "avg", "max", "min")
 TABLE = re.compile(r"by\s+(?P<by>\w+(?:\s*,\s*\w+)*)\s+of\s+(?P<ask>\w+)(?:\s+(?!with\b)(?P<column>\w+))?(?P<margins>\s+with\s+margins)?",
                    re.IGNORECASE)
 

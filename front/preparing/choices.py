@@ -19,7 +19,7 @@ OPEN = "?"
 FACTOR = re.compile("_x10+$")
 MOST_DECIMALS = 12
 TOO_FINE = "A secret number is never rounded: round it in the file itself, and say so to those who ask, or leave the column out"
-SECRET, PUBLIC = ("sum", "max"), ("text", "number")
+SECRET, PUBLIC = ("sum", "max", "min"), ("text", "number")
 KINDS = PUBLIC + SECRET + ("leave out",)
 MISSING = {"drop the row": KINDS, "keep": ("text",), "mark": ("number",)}
 ROUNDINGS = ("no", "down", "nearest")
@@ -52,7 +52,7 @@ SECRET_KEYS = NUMBER_KEYS + ("range",)
 
 def table_keys():
     """The keys of a file of choices, each with the type of its values: one for each limit among them."""
-    return TABLE_KEYS | dict.fromkeys(limits.STATED, int)
+    return TABLE_KEYS | dict.fromkeys(limits.LIMITS, int)
 
 
 def read(path):

@@ -1,11 +1,9 @@
 """The limits that a schema states of its columns of sums, so that numbers stay open within a range that people know: a width, and a reach.
 
-`STATED` names those that are written. The program has to know each of them: an older one takes the schema for a faulty one.
+The program has to know each of them: an older one takes the schema for a faulty one.
 """
 
 from typing import NamedTuple
-
-STATED = ("width",)
 
 
 class Limit(NamedTuple):
@@ -31,35 +29,35 @@ LIMITS = {
         2,
         1024,
         "a sum is denied if somebody's number would then be open only by a change that alters more people's than that. Of tables that"
-        " were tried it takes a report none of 100 totals besides what the width takes, and conditions by chance 3 to 9",
+        " were tried it takes a report at most one total of 184 besides what the width takes, conditions by chance 3 to 9 of 100, and"
+        " drill-downs and intervals none",
     ),
 }
 
 
 def fill_in(choices):
     """Puts the usual number wherever a file of choices doesn't say which."""
-    for key in STATED:
-        choices.setdefault(key, LIMITS[key].usual)
+    for key, limit in LIMITS.items():
+        choices.setdefault(key, limit.usual)
 
 
 def limit_faults(choices):
     """A sentence for each limit that can't be followed."""
     return [
-        f"\"{key}\" can't be {choices[key]}: it is {LIMITS[key].least:,} to {LIMITS[key].most:,}, or null for no such limit"
-        for key in STATED
-        if choices[key] is not None and not LIMITS[key].least <= choices[key] <= LIMITS[key].most
+        f"\"{key}\" can't be {choices[key]}: it is {limit.least:,} to {limit.most:,}, or null for no such limit"
+        for key, limit in LIMITS.items()
+        if choices[key] is not None and not limit.least <= choices[key] <= limit.most
     ]
 
 
 def stated(choices):
     """The limits that the schema states, by key."""
-    return {key: choices[key] for key in STATED if choices[key] is not None}
+    return {key: choices[key] for key in LIMITS if choices[key] is not None}
 
 
 def say_choice():
     """What the limits are unless others are chosen, and how that is done."""
-    for key in STATED:
-        limit = LIMITS[key]
+    for key, limit in LIMITS.items():
         print(f'"{key}" is {limit.usual} unless you choose another {key}, from {limit.least} on, or {key}=none: {limit.words}.')
 
 

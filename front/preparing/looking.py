@@ -192,7 +192,7 @@ def say_next(out, choices):
         f"A column is one of: {', '.join(choosing.KINDS)}. text and number are public: anyone who asks can learn every"
         " cell."
     )
-    print("sum and max are secret whole numbers, to be asked for totals and averages, or for the greatest.")
+    print("sum, max and min are secret whole numbers, to be asked for totals and averages, for the greatest, or for the least.")
     print(
         '"missing" is one of: drop the row; keep (text, as it stands); mark (number: 0, and a column of 0 and 1 beside'
         " it)."

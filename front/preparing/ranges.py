@@ -13,6 +13,8 @@ from .faults import Fault, counted, first_numbers, listed, shown
 WORDS = "LOW to HIGH, as 0 to none, each a number or none; or none, if people know no range"
 NUMBER = FORMS["1234.5"]
 NEAR, FAR = 10, 20
+# For a column of maxima or minima: the end of a range that its answers may be, its word, and what such an answer is.
+EXTREMES = {"max": ("low", "lowest", "maximum"), "min": ("high", "highest", "minimum")}
 
 
 def read_range(text):
@@ -69,10 +71,10 @@ def need_ranges(rows, secret, places):
 def say_ranges(rows, secret, places, limits):
     """Points out what a range gives away by the limits of the schema, whoever stands near an end of one, and the far largest of a column."""
     known_ones = [found for found in with_ranges(rows, secret) if found[2] != Range(None, None)]
-    say_known([column.name for column, _, _ in known_ones if column.kind == "max" or "width" not in limits])
+    say_known([column.name for column, _, _ in known_ones if column.kind != "sum" or "width" not in limits])
     for column, numbers, known in known_ones:
-        if column.kind == "max":
-            say_lowest(column.name, numbers, known, places)
+        if column.kind in EXTREMES:
+            say_at_end(column, numbers, known, places)
         elif "width" in limits:
             say_kept_open(column.name, numbers, known, limits["width"])
             say_held_down(column.name, numbers, known, places, limits)
@@ -139,14 +141,15 @@ def least_room(number, known):
     return min(room for room in (known.room(number, 1), known.room(number, -1)) if room is not None)
 
 
-def say_lowest(name, numbers, known, places):
-    """Points out whoever has the lowest number of the range in a column of maxima."""
-    lowest = [place for place, number in zip(places, numbers) if number == known.low]
-    if lowest:
+def say_at_end(column, numbers, known, places):
+    """Points out whoever has the lowest number of the range in a column of maxima, or the highest in one of minima."""
+    end, word, answer = EXTREMES[column.kind]
+    at_end = [place for place, number in zip(places, numbers) if number == getattr(known, end)]
+    if at_end:
         print(
-            f"CAREFUL: {counted(len(lowest), 'number')} of {name} {'is' if len(lowest) == 1 else 'are'} the lowest that"
-            f" people hold for possible. A maximum that is this number says of everybody in its group that it is theirs."
-            f" Leave these rows out. {rows_words(lowest)}"
+            f"CAREFUL: {counted(len(at_end), 'number')} of {column.name} {'is' if len(at_end) == 1 else 'are'} the {word} that"
+            f" people hold for possible. A {answer} that is this number says of everybody in its group that it is theirs."
+            f" Leave these rows out. {rows_words(at_end)}"
         )
 
 

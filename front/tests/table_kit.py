@@ -19,7 +19,7 @@ import prepare  # noqa: E402
 from preparing import limits  # noqa: E402
 
 # Choices for a table without limits, and for one without ranges and totals besides.
-WITHOUT_LIMITS = tuple(f"{key}=none" for key in limits.STATED)
+WITHOUT_LIMITS = tuple(f"{key}=none" for key in limits.LIMITS)
 PLAIN = ("protect=none", "range=none", *WITHOUT_LIMITS)
 AUDITOR = os.environ.get("AUDITOR") or shutil.which("auditor")
 needs_program = unittest.skipUnless(AUDITOR, "AUDITOR names no program")

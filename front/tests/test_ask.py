@@ -93,7 +93,7 @@ class Lines(unittest.TestCase):
 
     def test_lines_that_are_no_question_get_a_sentence(self):
         for text, words in (
-            ("min salary", "min can't be asked"),
+            ("median salary", "median can't be asked"),
             ("summ salary", "did you mean sum?"),
             ("sum", "write it as: sum COLUMN"),
             ("count salary", "a count has no column"),

@@ -10,22 +10,18 @@ from unittest import mock
 
 from table_kit import TableTest
 
-from preparing import limits  # noqa: E402
-
 TEXT = "team,pay\n" + "".join(f"t{row % 3},{pay}\n" for row, pay in enumerate([1000, 1100, 1210, 1300, 1405, 1500, 1610]))
 CHOSEN = ("protect=none", "team=text", "pay=sum")
 
 
 class WithLimits(TableTest):
-    """A test in which prepare.py writes these limits into schemas."""
-
-    keys = ("width", "reach")
+    """A test in which prepare.py finds no program."""
 
     def setUp(self):
         super().setUp()
-        for patch in (mock.patch.object(limits, "STATED", self.keys), mock.patch.dict(os.environ, {"PATH": ""})):
-            patch.start()
-            self.addCleanup(patch.stop)
+        patch = mock.patch.dict(os.environ, {"PATH": ""})
+        patch.start()
+        self.addCleanup(patch.stop)
         os.environ.pop("AUDITOR", None)
 
     def written(self, *words):
@@ -53,6 +49,15 @@ class Both(WithLimits):
         self.assertEqual(list(schema), ["columns"])
         self.assertNotIn("a sum is denied if", said)
 
+    def test_each_may_be_left_out_alone(self):
+        for key, other in (("width", "reach"), ("reach", "width")):
+            with self.subTest(key):
+                self.choices.unlink(missing_ok=True)
+                self.out = self.folder / f"without-{key}"
+                said, schema = self.written("range=none", f"{key}=none")
+                self.assertEqual(list(schema), ["columns", other])
+                self.assertEqual([word for word in ("\nwidth 4: ", "\nreach 50: ") if word in said], [f"\n{other} {schema[other]}: "])
+
     def test_look_says_what_they_are_and_cost(self):
         said = self.look(TEXT)[1]
         self.assertIn('"width" is 4 unless you choose another width, from 1 on, or width=none: a sum is denied if', said)
@@ -77,12 +82,12 @@ class Both(WithLimits):
     def test_choices_of_an_earlier_look_get_the_usual_limits(self):
         self.look(TEXT)
         choices = self.chosen()
-        for key in self.keys:
-            del choices[key]
+        del choices["width"], choices["reach"]
         self.choices.write_text(json.dumps(choices))
         self.choose(*CHOSEN, "range=none")
         self.assertEqual(self.make()[0], 0)
-        self.assertEqual(json.loads((self.out / "schema.json").read_text())["width"], 4)
+        schema = json.loads((self.out / "schema.json").read_text())
+        self.assertEqual((schema["width"], schema["reach"]), (4, 50))
 
     def test_an_older_program_may_not_know_them(self):
         program = self.folder / "auditor"
@@ -95,16 +100,6 @@ class Both(WithLimits):
         self.assertEqual(status, 1)
         self.assertIn("This auditor may be older than a width or a reach: choose width=none or reach=none, or take a newer one", said)
         self.assertFalse(self.out.exists())
-
-
-class WidthAlone(WithLimits):
-    keys = ("width",)
-
-    def test_a_reach_isnt_a_choice_if_none_is_written(self):
-        said, schema = self.written("range=none")
-        self.assertEqual(list(schema), ["columns", "width"])
-        self.assertNotIn("reach", said)
-        self.assertIn("no column is called 'reach'", self.choose("reach=50")[1])
 
 
 class HeldDown(WithLimits):

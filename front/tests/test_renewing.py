@@ -243,11 +243,11 @@ class Renewing(RenewingTest):
 
     def test_what_else_the_schema_says_stays(self):
         path = self.out / "schema.json"
-        path.write_text(json.dumps({**json.loads(path.read_text()), "width": 4, "only": "current = 1 and age < 99"}))
+        path.write_text(json.dumps({**json.loads(path.read_text()), "width": 4, "reach": 50, "only": "current = 1 and age < 99"}))
         self.choose("protect=salary where team = 'QA'")
         said = self.renew(OCTOBER)
         schema = json.loads((self.new / "schema.json").read_text())
-        self.assertEqual((schema["width"], schema["only"]), (4, "current = 1 and age < 99"))
+        self.assertEqual((schema["width"], schema["reach"], schema["only"]), (4, 50, "current = 1 and age < 99"))
         self.assertEqual(schema["protect"], [{"column": "salary", "where": "team = 'QA'"}])
         self.assertIn("CAREFUL: the total of salary where team = 'QA' is protected from now on: if answers have fixed it", said)
         self.choose("protect=none")

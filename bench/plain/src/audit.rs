@@ -1,4 +1,5 @@
-//! The report: for each number of a column of sums a change that alters no answer, and for a column of maxima a number for each row.
+//! The report: for each number of a column of sums a change that alters no answer, and for a column of maxima or minima
+//! a number for each row.
 
 use crate::divide::{gcd128, gcd64};
 use crate::journal::Record;
@@ -6,6 +7,7 @@ use crate::lone::Lone;
 use crate::row_set::RowSet;
 use crate::rows::{wide, Row};
 use crate::serve::{stream, Auditor, Part};
+use crate::table::{Column, Role};
 use std::io::Write;
 
 /// The change of the least free column that alters row `i`, a number for each row: it raises row `i`, and has no common divisor.
@@ -57,18 +59,24 @@ fn sum_lines(name: &str, form: &[Row], rows: u16) -> String {
     (0..rows).map(line).collect()
 }
 
-fn max_line(name: &str, records: &[Record], column: u8, rows: u16) -> String {
+/// The line of a column of maxima, or of minima, which are maxima of the negated numbers.
+fn bounds_line(column: &Column, records: &[Record], place: u8, rows: u16) -> String {
+    let (word, sign) = match column.role {
+        Role::Min => ("low", -1),
+        _ => ("high", 1),
+    };
     let own = (0..)
         .zip(records)
-        .filter(|(_, record)| record.column == column);
+        .filter(|(_, record)| record.column == place);
     let answers: Vec<(u32, i64, &RowSet)> = own
         .map(|(place, record)| (place, record.answer, &record.rows))
         .collect();
-    let high: Vec<String> = Lone::new(rows, &answers)
+    let bounds: Vec<String> = Lone::new(rows, &answers)
         .highest()
-        .map(|high| high.to_string())
+        .map(|high| (sign * high).to_string())
         .collect();
-    format!("{{\"column\":\"{name}\",\"high\":[{}]}}\n", high.join(","))
+    let (name, bounds) = (&column.name, bounds.join(","));
+    format!("{{\"column\":\"{name}\",\"{word}\":[{bounds}]}}\n")
 }
 
 /// Prints the report of the journal's history, which stays.
@@ -83,7 +91,7 @@ pub fn audit() {
     for ((place, part), column) in (0..).zip(&auditor.parts).zip(names) {
         let lines = match part {
             Part::Sums(sums) => sum_lines(&column.name, sums.form().rows(), rows),
-            Part::Maxima(_) => max_line(&column.name, &records, place, rows),
+            Part::Maxima(_) => bounds_line(column, &records, place, rows),
         };
         output.write_all(lines.as_bytes()).unwrap();
     }

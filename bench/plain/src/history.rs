@@ -13,7 +13,7 @@ pub enum Fault {
     NotMade,
     Damaged(usize),
     OtherTable { kept: u16, now: u16 },
-    Untrue { place: usize, kept: i64, now: i64 },
+    Untrue { place: usize, kept: i128, now: i128 },
     Illegal(usize),
 }
 
@@ -72,7 +72,11 @@ pub fn read(bytes: &[u8], rows: u16, roles: &[Role], secrets: &[Secret]) -> Resu
         record.rows.n = rows;
         let now = secrets[usize::from(record.column)].truth(&record.rows);
         if now != record.answer {
-            let kept = record.answer;
+            let sign = match roles[usize::from(record.column)] {
+                Role::Min => -1,
+                _ => 1,
+            };
+            let (kept, now) = (sign * i128::from(record.answer), sign * i128::from(now));
             return Err(Fault::Untrue { place, kept, now });
         }
     }
@@ -112,7 +116,7 @@ impl Reader<'_> {
         let n = u16::from_be_bytes([bytes[9], bytes[10]]);
         let columns = bytes[11];
         let is_kind = |at: usize| match at < 12 + usize::from(columns) {
-            true => matches!(bytes[at], 1 | 2),
+            true => matches!(bytes[at], 1..=3),
             false => bytes[at] == 0,
         };
         if bytes[9] > 4 {

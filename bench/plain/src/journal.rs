@@ -71,7 +71,11 @@ pub fn header(n: u16, secrets: &[Role]) -> Vec<u8> {
     let mut header = NAME.to_vec();
     header.extend(n.to_be_bytes());
     header.push(secrets.len() as u8);
-    let kind = |role: &Role| if *role == Role::Sum { 1 } else { 2 };
+    let kind = |role: &Role| match role {
+        Role::Sum => 1,
+        Role::Min => 3,
+        _ => 2,
+    };
     header.extend(secrets.iter().map(kind));
     header.resize(HEADER, 0);
     header

@@ -7,7 +7,8 @@ use Rattle.answer_journal.specs.Append.{Appending, Writing, appended}
 use Rattle.answer_journal.specs.Moments.{IsShort, IsShut, IsUnmadeOrOpened}
 
 -- an image that has the bytes in their place has them behind an open gate, or isn't made
-placed : (behind before image sent : List ℕ) → 0 < length behind → sent ≡ before → take (length behind) (drop 1 image) ≡ behind → IsUnmadeOrOpened behind before image sent
+placed : (behind before image sent : List ℕ) → 0 < length behind → sent ≡ before → take (length behind) (drop 1 image) ≡ behind →
+    IsUnmadeOrOpened behind before image sent
 placed behind before image sent some same is =
     elim (cases_eq (get_or image 0 0) 1) [
       | inr still ↦ (same, inl (λ made. still made.1))

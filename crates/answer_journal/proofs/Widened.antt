@@ -31,7 +31,8 @@ module _ (n : ℕ) where
   step (suc i) (x ∷ list) d lt = ap (λ l. wider n x ∷ l) (step i list d (omega (arith, lt)))
 
   -- and then it is over n rows too
-  pub one_more : (i : ℕ) (list now : List Answered) (d : Answered) → i < length list → now ≡ partly i list → set now i (wider n (get_or now i d)) ≡ partly (i + 1) list
+  pub one_more : (i : ℕ) (list now : List Answered) (d : Answered) → i < length list → now ≡ partly i list → set now i (wider n (get_or now i d))
+      ≡ partly (i + 1) list
   one_more i list now d lt is =
       ap (λ l. set l i (wider n (get_or l i d))) is ∙ ap (λ r. set (partly i list) i (wider n r)) (next_is i list d lt) ∙ step i list d lt
       ∙ ap (λ k. partly k list) (sym (add-one i))

@@ -36,7 +36,7 @@ whole_groups shape (p ∷ protected) fit =
 
 whole_protection : (shape : Shape) (protected : Protection) → IsPlainFor shape protected → protection_among shape.rows protected ≡ protected
 whole_protection shape protected fit =
-    plain_among shape.rows protected fit.1 ∙ ap (λ groups. against_outsiders groups [] protected.width) (whole_groups shape protected.groups fit.0.0) ∙ sym fit.1
+    plain_among shape.rows protected fit.1 ∙ ap (λ groups. against_outsiders groups [] protected.width protected.reach) (whole_groups shape protected.groups fit.0.0) ∙ sym fit.1
 
 pub whole_table : (table : Table) → AreSecrets table.setting.shape table.secrets → IsPlainFor table.setting.shape table.setting.protected →
     first_rows table.setting.shape.rows table ≡ table

@@ -1,11 +1,13 @@
 -- Why a store isn't started: one cause at most holds, and none of a legal history.
 use Rattle.std.proofs.Common.{◌≡◌, ℕ, ◌<◌, inl, inr, ◌⊎◌, List, refl, sym, ap, subst, ◌∙◌, arith, Result, Ok, Err}
-use Rattle.std.specs.Prelude.{ℤ, Option, take, IfErr, OnOk, slice_get}
+use Rattle.std.specs.Prelude.{ℤ, Bool, true, false, Option, take, IfErr, OnOk, slice_get}
 use Rattle.std.proofs.lemmas.Bool.{cases_lt}
+use Rattle.std.proofs.lemmas.Int.{ints}
 use Rattle.std.proofs.lemmas.Option.{same_Some}
 use Rattle.audit_types.specs.declared.shapes.Shape.{Shape}
 use Rattle.audit_types.specs.declared.records.Answered.{Answered}
 use Rattle.audit_types.specs.History.{Table, IsLegal}
+use Rattle.audit_types.specs.Minima.{as_it_stands}
 use Rattle.journal_form.specs.Journal.{StandsAt, BreaksAt}
 use Rattle.answer_journal.specs.declared.journal.BackFault.{BackFault}
 use Rattle.answer_journal.specs.declared.journal.BackFault.TheVariants as back
@@ -13,10 +15,10 @@ use Rattle.answer_journal.specs.Faults.{GaveUp, IsDueOrGaveUp}
 use Rattle.answer_journal.specs.Moments.{IsMade}
 use Rattle.audit_store.specs.declared.starting.StartFault.{StartFault}
 use Rattle.audit_store.specs.declared.starting.StartFault.TheVariants.{NotMade, Damaged, OtherShape, Untrue, Illegal, Failed, NoMemory}
-use Rattle.audit_core.specs.Blame.{Blames}
+use Rattle.audit_core.specs.Blame.{Blames, IsReleasedWith, asked_in}
 use Rattle.audit_core.specs.OneBlame.{one_blame}
 use Rattle.audit_core.specs.Outcomes.{true_answer}
-use Rattle.audit_store.specs.Starting.{IsFirstUntrue, IsFirstIllegal, asked_in, StartCause, HistoryCause, GivesUp, RefusedUnlessFailed, StartsUnlessFailed, start_fault}
+use Rattle.audit_store.specs.Starting.{IsFirstUntrue, stated_answer, IsFirstIllegal, StartCause, HistoryCause, GivesUp, RefusedUnlessFailed, StartsUnlessFailed, start_fault}
 
 -- what a reading of the journal gives up with
 pub gave_up : (fault : BackFault) → GaveUp fault → GivesUp (start_fault fault)
@@ -53,10 +55,15 @@ cause_in_file file shape history gate table (Illegal place group) stands cause =
 cause_in_file file shape history gate table Failed stands cause = absurd cause
 cause_in_file file shape history gate table NoMemory stands cause = tt
 
+-- numbers that are told alike are the same
+pub same_stated : (least : Bool) (a b : ℤ) → as_it_stands least a ≡ as_it_stands least b → a ≡ b
+same_stated true a b same = omega (arith, ints, same)
+same_stated false a b same = same
+
 module _ (table : Table) (history : List Answered) where
   -- of two first untrue records neither stands before the other
   untrue_not_before : (a b : ℕ) (kept now other due : ℤ) → IsFirstUntrue table history a kept now → IsFirstUntrue table history b other due → a < b → ⊥
-  untrue_not_before a b kept now other due p q lt = p.differ (p.kept_is ∙ q.before a p.at lt p.stands ∙ sym p.now_is)
+  untrue_not_before a b kept now other due p q lt = p.differ (p.kept_is ∙ ap (stated_answer table p.at) (q.before a p.at lt p.stands) ∙ sym p.now_is)
 
   pub untrue_once : (a b : ℕ) (kept now other due : ℤ) → IsFirstUntrue table history a kept now → IsFirstUntrue table history b other due →
       Untrue b other due ≡ Untrue a kept now
@@ -66,8 +73,8 @@ module _ (table : Table) (history : List Answered) where
         | inr le ↦ elim (cases_lt b a) [ inl lt ↦ absurd (untrue_not_before b a other due kept now q p lt) | inr from ↦ omega arith ]
       ] in
       let same : q.at ≡ p.at = same_Some q.at p.at (sym q.stands ∙ ap (slice_get history) place ∙ p.stands) in
-      let kept_same : other ≡ kept = q.kept_is ∙ ap (λ (r : Answered). r.answer) same ∙ sym p.kept_is in
-      let now_same : due ≡ now = q.now_is ∙ ap (λ (r : Answered). true_answer table r.column r.rows) same ∙ sym p.now_is in
+      let kept_same : other ≡ kept = q.kept_is ∙ ap (λ (r : Answered). stated_answer table r r.answer) same ∙ sym p.kept_is in
+      let now_same : due ≡ now = q.now_is ∙ ap (λ (r : Answered). stated_answer table r (true_answer table r.column r.rows)) same ∙ sym p.now_is in
       ap (λ k. Untrue k other due) place ∙ ap (λ k. Untrue a k due) kept_same ∙ ap (λ k. Untrue a kept k) now_same
 
   illegal_not_before : (a b : ℕ) (g h : Option ℕ) → IsFirstIllegal table history a g → IsFirstIllegal table history b h → a < b → ⊥
@@ -83,12 +90,12 @@ module _ (table : Table) (history : List Answered) where
               let same : q.at ≡ p.at = same_Some q.at p.at (sym q.stands ∙ ap (slice_get history) place ∙ p.stands) in
               let blamed : Blames table.setting (take a history) (asked_in p.at) h =
               subst (λ r. Blames table.setting (take a history) (asked_in r) h) same (subst (λ k. Blames table.setting (take k history) (asked_in q.at) h) place q.blamed) in
-              ap (λ k. Illegal k h) place ∙ ap (λ k. Illegal a k) (one_blame table.setting (take a history) (asked_in p.at) h g blamed p.blamed)
+              ap (λ k. Illegal k h) place ∙ ap (λ k. Illegal a k) (one_blame table.setting.protected.groups (IsReleasedWith table.setting (take a history) (asked_in p.at)) h g blamed p.blamed)
         ]
       ]
 
   pub untrue_or_illegal : (a b : ℕ) (g : Option ℕ) (kept now : ℤ) → IsFirstUntrue table history a kept now → IsFirstIllegal table history b g → ⊥
-  untrue_or_illegal a b g kept now p q = p.differ (p.kept_is ∙ q.all_true a p.at p.stands ∙ sym p.now_is)
+  untrue_or_illegal a b g kept now p q = p.differ (p.kept_is ∙ ap (stated_answer table p.at) (q.all_true a p.at p.stands) ∙ sym p.now_is)
 
 module _ (shape : Shape) (history : List Answered) (table : Table) where
   other_shape : (kept now : Shape) → HistoryCause (OtherShape kept now) shape history table → shape ≡ table.setting.shape → ⊥
@@ -123,7 +130,7 @@ module _ (shape : Shape) (history : List Answered) (table : Table) where
   legal_has_no_cause (Damaged at) same legal cause = absurd cause
   legal_has_no_cause (OtherShape kept now) same legal cause = other_shape kept now cause same
   legal_has_no_cause (Untrue place kept now) same legal cause =
-      let first = cause.1 in first.differ (first.kept_is ∙ (legal.each place first.at first.stands).true_answer ∙ sym first.now_is)
+      let first = cause.1 in first.differ (first.kept_is ∙ ap (stated_answer table first.at) (legal.each place first.at first.stands).true_answer ∙ sym first.now_is)
   legal_has_no_cause (Illegal place group) same legal cause = let first = cause.1 in first.denied (legal.each place first.at first.stands).released
   legal_has_no_cause Failed same legal cause = absurd cause
   legal_has_no_cause NoMemory same legal cause = tt

@@ -12,7 +12,7 @@ use Rattle.answer_journal.specs.Faults.{GaveUp, IsDueOrGaveUp}
 use Rattle.answer_journal.specs.Moments.{IsMade}
 use Rattle.audit_store.specs.declared.growing.GrowFault.{GrowFault}
 use Rattle.audit_store.specs.declared.growing.GrowFault.TheVariants.{NotMade, Damaged, OtherShape, NothingNew, Untrue, Illegal, Failed, NoMemory}
-use Rattle.audit_store.specs.Starting.{IsFirstUntrue, IsFirstIllegal, start_fault}
+use Rattle.audit_store.specs.Starting.{IsFirstUntrue, stated_answer, IsFirstIllegal, start_fault}
 use Rattle.audit_store.specs.Growing.{CantGrow, CanGrow, GrowCause, GrowHistoryCause, GrowsFrom, IsFewer, GivesUpGrowing, NotGrownUnlessFailed, grow_fault}
 use Rattle.audit_store.proofs.Causes.{untrue_once, illegal_once, untrue_or_illegal}
 
@@ -134,7 +134,9 @@ module _ (shape : Shape) (history : List Answered) (table : Table) where
   grows_has_no_cause (OtherShape kept now) grows cause = absurd (cant_and_fewer kept cause.0 (cant kept now cause.1 cause.2) grows.fewer)
   grows_has_no_cause (NothingNew rows) grows cause = absurd (same_and_fewer cause.0 grows.fewer)
   grows_has_no_cause (Untrue place kept now) grows cause =
-      let first = cause.1 in absurd (first.differ (first.kept_is ∙ (grows.legal.each place first.at first.stands).true_answer ∙ sym first.now_is))
+      let first = cause.1 in
+      let is_true = (grows.legal.each place first.at first.stands).true_answer in
+      absurd (first.differ (first.kept_is ∙ ap (stated_answer table first.at) is_true ∙ sym first.now_is))
   grows_has_no_cause (Illegal place group) grows cause = let first = cause.1 in absurd (first.denied (grows.legal.each place first.at first.stands).released)
   grows_has_no_cause Failed grows cause = absurd cause
   grows_has_no_cause NoMemory grows cause = tt

@@ -23,8 +23,8 @@ pub enum GrowFault {
     OtherShape { kept: Shape, now: Shape },
     /// The journal has the table's rows.
     NothingNew { rows: u16 },
-    /// The first record, from 0, whose answer isn't the true one over the table's rows.
-    Untrue { place: u32, kept: i64, now: i64 },
+    /// The first record, from 0, whose answer isn't the true one over the table's rows, and both as the table has them.
+    Untrue { place: u32, kept: i128, now: i128 },
     /// All answers are true. The first record, from 0, whose question was not to be released, and the place in the schema of the first
     /// protected group that alone keeps it from being, if it would be released with no group protected.
     Illegal { place: u32, group: Option<u8> },

@@ -1,9 +1,11 @@
 //! Opening the journal of a table.
-ghost use Rattle.std.specs.Prelude.{◌≡◌, ◌≤◌, ◌+◌, true, false, Ok, Err, List, length, All, IfOk, IfErr, OnOk, IsErrOf};
+ghost use Rattle.std.specs.Prelude.{◌≡◌, ◌<◌, ◌≤◌, ◌+◌, true, false, Ok, Err, List, length, All, IfOk, IfErr, OnOk, IsErrOf};
 ghost use Rattle.audit_types.specs.Limits.{most_records};
-ghost use Rattle.audit_types.specs.History.{Protection, FitsShape, IsPlainFor, IsLegal, IsPossibleHistory, IsDecisionAfter, setting_of};
+ghost use Rattle.audit_types.specs.History.{Protection, FitsShape, IsPlainFor, IsLegal, IsPossibleHistory, IsDecisionAfter, IsJudgementAfter, setting_of};
 ghost use Rattle.audit_types.specs.declared.records.Answered.{Answered};
 ghost use Rattle.audit_types.specs.declared.records.Verdict.TheVariants.{Released};
+ghost use Rattle.audit_types.specs.Minima.{as_it_stands};
+ghost use Rattle.audit_types.specs.Shapes.{columns, is_least};
 ghost use Rattle.bench_core.specs.Calls.{OnlyReads, TellsFault};
 ghost use Rattle.journal_form.specs.Journal.{StandsAt, StandsFor};
 ghost use Rattle.audit_store.specs.declared.starting.StartFault.{StartFault};
@@ -32,8 +34,8 @@ pub enum StartFault {
     Damaged { at: u64 },
     /// The journal is that of a table of another shape.
     OtherShape { kept: Shape, now: Shape },
-    /// The first record, from 0, whose answer isn't the true one.
-    Untrue { place: u32, kept: i64, now: i64 },
+    /// The first record, from 0, whose answer isn't the true one, and both as the table has them.
+    Untrue { place: u32, kept: i128, now: i128 },
     /// All answers are true. The first record, from 0, whose question was not to be released, and the place in the schema of the first
     /// protected group that alone keeps it from being, if it would be released with no group protected.
     Illegal { place: u32, group: Option<u8> },
@@ -55,6 +57,31 @@ impl From<BackFault> for StartFault {
     }
 }
 
+// A number that was kept as the table has it.
+fn as_it_stands(least: bool, number: i64) -> i128
+    ensures { result ≡ as_it_stands least number }
+{
+    if least {
+        -i128::from(number)
+    } else {
+        i128::from(number)
+    }
+}
+
+// What is told of a record for which the table gives another answer.
+fn untrue(secret: &Secret, place: u32, answered: &Answered, now: i64) -> StartFault
+    requires { answered.now.column < columns secret.now.shape }
+    ensures { result ≡ StartFault.Untrue place (as_it_stands (is_least secret.now.shape answered.now.column) answered.now.answer)
+        (as_it_stands (is_least secret.now.shape answered.now.column) now) }
+{
+    let least = secret.shape().is_least(answered.column);
+    StartFault::Untrue {
+        place,
+        kept: as_it_stands(least, answered.answer),
+        now: as_it_stands(least, now),
+    }
+}
+
 // Looks for the first record whose answer isn't the true one.
 fn test_truth(secret: &Secret, list: &[Answered]) -> Result<(), StartFault>
     requires fit { All (λ r. FitsShape secret.now.shape r.column r.rows) list.now }
@@ -65,11 +92,7 @@ fn test_truth(secret: &Secret, list: &[Answered]) -> Result<(), StartFault>
     for (place, answered) in list.iter().enumerate() {
         let now = secret.truth(answered.column, &answered.rows);
         if now != answered.answer {
-            return Err(StartFault::Untrue {
-                place: place as u32,
-                kept: answered.answer,
-                now,
-            });
+            return Err(untrue(secret, place as u32, answered, now));
         }
     }
     Ok(())
@@ -81,6 +104,7 @@ fn is_released(core: &mut Core, answered: &Answered) -> Result<bool, NoMemory>
     requires possible { IsPossibleHistory core.old.setting core.old.history }
     ensures yes { result ≡ Ok true → IsDecisionAfter core.old.setting core.old.history answered.now.column answered.now.rows.list Released }
     ensures no { result ≡ Ok false → ¬ (IsDecisionAfter core.old.setting core.old.history answered.now.column answered.now.rows.list Released) }
+    ensures judged { result ≡ Ok false → ¬ (IsJudgementAfter core.old.setting core.old.history answered.now.column answered.now.rows.list Released) }
     ensures same { core.new ≡ core.old }
 {
     narrow_or_wide();
@@ -99,7 +123,7 @@ fn is_released(core: &mut Core, answered: &Answered) -> Result<bool, NoMemory>
 fn illegal(core: &Core, place: u32, answered: &Answered) -> StartFault
     requires fits { FitsShape core.now.setting.shape answered.now.column answered.now.rows }
     requires possible { IsPossibleHistory core.now.setting core.now.history }
-    requires denied { ¬ (IsDecisionAfter core.now.setting core.now.history answered.now.column answered.now.rows.list Released) }
+    requires denied { ¬ (IsJudgementAfter core.now.setting core.now.history answered.now.column answered.now.rows.list Released) }
     ensures { TellsIllegal core.now place answered.now result }
 {
     let asked = Asked {

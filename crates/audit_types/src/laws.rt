@@ -1,5 +1,6 @@
 //! Laws that show the definitions right. Each function computes nothing: its contract is the law.
 ghost use Rattle.audit_types.specs.Laws.{SameSetInAnyOrder, SameTruthInAnyOrder, GreatestIsBoundAndReached};
+ghost use Rattle.audit_types.specs.Minima.{LeastByGreatest, LeastIsBoundAndReached, TwinsNegated};
 ghost use Rattle.audit_types.specs.Laws.{TrueAnswersKeepAgreement, SomeAnswerStaysPossible, LegalIsPossible};
 ghost use Rattle.audit_types.specs.PeopleLaws.{TruthIsOverPeople, PeopleAreCounted, UndisclosedHidesPeople, DangerIsThatOfPeople};
 ghost use Rattle.audit_types.specs.Laws.{OneRowIsDangerous, OtherColumnsTellNothing, OwnAnswersDecide, OneCanonicalDirection};
@@ -14,6 +15,17 @@ pub fn rows_in_any_order()
 pub fn greatest()
     ensures { GreatestIsBoundAndReached }
 {}
+
+/// The least number over a set is the greatest of the negated ones, negated; no number of the set is below it, and one of its rows
+/// has it. Numbers that give the same maxima as the negated ones, and differ from them in a row, give the same minima when they are
+/// negated themselves, and differ in that row.
+pub fn minima()
+    ensures greatest { LeastByGreatest }
+    ensures least { LeastIsBoundAndReached }
+    ensures twins { TwinsNegated }
+{
+    greatest();
+}
 
 /// A question that is answered truly leaves a possible history, so a legal history is possible.
 pub fn true_answers()

@@ -2,7 +2,7 @@
 ghost use Rattle.std.specs.Prelude.{◌≡◌, ◌≢◌, ◌≤◌, ◌+◌, [], List, ℕ, true, Some, length, take, IfOk, OnOk};
 ghost use Rattle.audit_types.specs.Shapes.{IsShape};
 ghost use Rattle.audit_types.specs.declared.records.Answered.{Answered};
-ghost use Rattle.audit_types.specs.Limits.{most_width};
+ghost use Rattle.audit_types.specs.Limits.{most_rows, most_width};
 ghost use Rattle.audit_types.specs.History.{Table as Guarded, against_outsiders};
 ghost use Rattle.schema_json.specs.Columns.{no_guards};
 ghost use Rattle.schema_json.specs.SecretShape.{shape_of};
@@ -26,7 +26,7 @@ use crate::status::Status;
 use answer_journal::{Journal, MakeFault};
 use audit_session::EndFault;
 use audit_store::{StartFault, Store};
-use audit_types::{Guard, MOST_WIDTH, NoMemory, Shape};
+use audit_types::{Guard, MOST_REACH, MOST_WIDTH, NoMemory, Shape};
 use bench_core::{Bench, Failed, MemoryBench, Room, SteadySource};
 use drill_case::laws::lines_of_replies;
 use drill_case::{drill_lines, drill_schema, drill_table, summary, tally};
@@ -96,7 +96,7 @@ fn answer(
     bench: &mut MemoryBench,
 ) -> Result<(), NoMemory>
     requires fits { FitsSchema schema.now.columns index.now.public }
-    requires none { index.now.protected ≡ against_outsiders [] [] most_width }
+    requires none { index.now.protected ≡ against_outsiders [] [] most_width most_rows }
     requires shape { secret.shape ≡ shape_of schema.now.columns index.now.public.rows }
     requires stands { StandsFor (file_of bench.old) secret.shape [] }
     requires short { length lines.items ≤ 60000 }
@@ -106,7 +106,7 @@ fn answer(
     match Store::start(
         alloc,
         secret,
-        Guard::new(Vec::new(alloc), MOST_WIDTH),
+        Guard::new(Vec::new(alloc), MOST_WIDTH, MOST_REACH),
         bench,
     ) {
         Ok(mut store) => answer_over(alloc, schema, index, &mut store, lines, bench),
@@ -128,7 +128,7 @@ fn answer_lines(
 ) -> Result<(), NoMemory>
     requires columns { schema.now.columns ≡ drill_columns }
     requires public { index.now.public ≡ drill_public number }
-    requires none { index.now.protected ≡ against_outsiders [] [] most_width }
+    requires none { index.now.protected ≡ against_outsiders [] [] most_width most_rows }
     requires secret { secret ≡ drill_secret number }
     requires fits { FitsSchema schema.now.columns index.now.public }
     requires empty { file_of bench.old ≡ [] }

@@ -44,7 +44,7 @@ pub enum Status {
     /// The journal has the table's rows, so it can't grow.
     NothingNew { rows: u16 },
     /// The first record, from 0, whose answer isn't what the table gives.
-    Untrue { place: u32, kept: i64, now: i64 },
+    Untrue { place: u32, kept: i128, now: i128 },
     /// The first record, from 0, that should not have been released.
     Illegal { place: u32, group: Option<u8> },
     /// The input has more than 2^30 bytes.

@@ -24,23 +24,23 @@ use Rattle.certificate_lines.specs.Laws.{CanBeExplained}
 module _ (proofs : CanonicalProofsAreOne) (plans : OnePlanIsMade) (fits : AskedQuestionsFit) (decisions : OneDecisionIsMade) where
   module _ (setting : Setting) (history : List Answered) (fit : IsPlainFor setting.shape setting.protected) (legal : IsLegalIn setting history) where
     -- a denial has one certificate
-    one_certificate : (asked : Asked) → FitsShape setting.shape asked.column asked.rows → IsDecisionAfter setting history asked.column asked.rows.list DeniedUnsafe
-        → (a b : List ℕ) → IsCertificate setting history asked a → IsCertificate setting history asked b → a ≡ b
-    one_certificate asked question denied a b (inl first) (inl second) =
+    one_certificate : (take : Take) (asked : Asked) → FitsShape setting.shape asked.column asked.rows → IsDecisionAfter setting history asked.column asked.rows.list DeniedUnsafe
+        → (a b : List ℕ) → IsCertificate setting history take asked a → IsCertificate setting history take asked b → a ≡ b
+    one_certificate take asked question denied a b (inl first) (inl second) =
         first.line_is
-        ∙ ap (λ (p : Proof). proof_line p) (proofs setting history asked first.proof second.proof fit legal question denied first.canonical second.canonical)
+        ∙ ap (λ (p : Proof). proof_line take p) (proofs setting history asked first.proof second.proof fit legal question denied first.canonical second.canonical)
         ∙ sym second.line_is
-    one_certificate asked question denied a b (inl first) (inr second) = absurd (first.narrow second.0)
-    one_certificate asked question denied a b (inr first) (inl second) = absurd (second.narrow first.0)
-    one_certificate asked question denied a b (inr first) (inr second) = first.1 ∙ sym second.1
+    one_certificate take asked question denied a b (inl first) (inr second) = absurd (first.narrow second.0)
+    one_certificate take asked question denied a b (inr first) (inl second) = absurd (second.narrow first.0)
+    one_certificate take asked question denied a b (inr first) (inr second) = first.1 ∙ sym second.1
 
     -- a verdict has one line
-    one_for : (asked : Asked) (verdict : Verdict) → FitsShape setting.shape asked.column asked.rows
+    one_for : (take : Take) (asked : Asked) (verdict : Verdict) → FitsShape setting.shape asked.column asked.rows
         → IsDecisionAfter setting history asked.column asked.rows.list verdict
-        → (a b : List ℕ) → IsLineFor setting history asked verdict a → IsLineFor setting history asked verdict b → a ≡ b
-    one_for asked Released question decided a b first second = first ∙ sym second
-    one_for asked DeniedUnsafe question decided a b first second = one_certificate asked question decided a b first second
-    one_for asked DeniedWide question decided a b first second = first ∙ sym second
+        → (a b : List ℕ) → IsLineFor setting history take asked verdict a → IsLineFor setting history take asked verdict b → a ≡ b
+    one_for take asked Released question decided a b first second = first ∙ sym second
+    one_for take asked DeniedUnsafe question decided a b first second = one_certificate take asked question decided a b first second
+    one_for take asked DeniedWide question decided a b first second = first ∙ sym second
 
     -- a plan has one line
     one_of : (plan : Plan) → ((take : Take) (asked : Asked) → plan ≡ Ask take asked → FitsShape setting.shape asked.column asked.rows)
@@ -51,8 +51,8 @@ module _ (proofs : CanonicalProofsAreOne) (plans : OnePlanIsMade) (fits : AskedQ
     one_of (Ask take asked) question a b (inr first) (inl second) = absurd (omega (arith, second.0, first.room))
     one_of (Ask take asked) question a b (inr first) (inr second) =
         let same : second.verdict ≡ first.verdict = decisions setting history asked.column asked.rows.list second.verdict first.verdict second.decided first.decided in
-        one_for asked first.verdict (question take asked refl) first.decided a b first.line_for
-        (subst (λ (v : Verdict). IsLineFor setting history asked v b) same second.line_for)
+        one_for take asked first.verdict (question take asked refl) first.decided a b first.line_for
+        (subst (λ (v : Verdict). IsLineFor setting history take asked v b) same second.line_for)
 
   module _ (columns : List Column) (index : IndexView) (history : List Answered) (can : CanBeExplained columns index history) where
     abbrev setting_is : Setting

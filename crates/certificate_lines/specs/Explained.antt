@@ -15,6 +15,7 @@ use Rattle.schema_json.specs.Columns.{Column}
 use Rattle.schema_json.specs.SecretShape.{shape_of}
 use Rattle.set_index.specs.Indexed.{IndexView}
 use Rattle.line_wire.specs.Lines.{CountedLine}
+use Rattle.line_wire.specs.declared.question.Take.{Take}
 use Rattle.line_wire.specs.declared.reply.Reply.TheVariants as reply
 use Rattle.question_plan.specs.declared.due.Due.TheVariants as due
 use Rattle.question_plan.specs.declared.planning.Plan.{Plan}
@@ -24,34 +25,34 @@ use Rattle.question_plan.specs.Replies.{IsPlan}
 use Rattle.certificate_lines.specs.Texts.{proof_line, wide_line}
 
 -- the line shows the canonical proof of the denial, which isn't too wide
-pub record ShowsProof (setting : Setting) (history : List Answered) (asked : Asked) (line : List ℕ) : Type 0 where
+pub record ShowsProof (setting : Setting) (history : List Answered) (take : Take) (asked : Asked) (line : List ℕ) : Type 0 where
   pub proof : Proof
   pub canonical : IsCanonical setting history asked proof
   pub narrow : ¬ (IsTooWide setting history asked)
-  pub line_is : line ≡ proof_line proof
+  pub line_is : line ≡ proof_line take proof
 
 -- the certificate of a denial as unsafe: such a line, or the one that says that its proof is too wide
-abbrev pub IsCertificate : Setting → List Answered → Asked → List ℕ → Type 0
-IsCertificate setting history asked line = ShowsProof setting history asked line ⊎ (IsTooWide setting history asked × (line ≡ wide_line))
+abbrev pub IsCertificate : Setting → List Answered → Take → Asked → List ℕ → Type 0
+IsCertificate setting history take asked line = ShowsProof setting history take asked line ⊎ (IsTooWide setting history asked × (line ≡ wide_line))
 
 -- the line for a verdict on a question: if that is unsafe, its certificate
-abbrev pub IsLineFor : Setting → List Answered → Asked → Verdict → List ℕ → Type 0
-IsLineFor setting history asked Released line = line ≡ verdict_bytes due.Released
-IsLineFor setting history asked DeniedUnsafe line = IsCertificate setting history asked line
-IsLineFor setting history asked DeniedWide line = line ≡ verdict_bytes due.Wide
+abbrev pub IsLineFor : Setting → List Answered → Take → Asked → Verdict → List ℕ → Type 0
+IsLineFor setting history take asked Released line = line ≡ verdict_bytes due.Released
+IsLineFor setting history take asked DeniedUnsafe line = IsCertificate setting history take asked line
+IsLineFor setting history take asked DeniedWide line = line ≡ verdict_bytes due.Wide
 
 -- after a history that has room, the line for the decision on a question
-pub record IsDecided (setting : Setting) (history : List Answered) (asked : Asked) (line : List ℕ) : Type 0 where
+pub record IsDecided (setting : Setting) (history : List Answered) (take : Take) (asked : Asked) (line : List ℕ) : Type 0 where
   pub room : length history < most_records
   pub verdict : Verdict
   pub decided : IsDecisionAfter setting history asked.column asked.rows.list verdict
-  pub line_for : IsLineFor setting history asked verdict line
+  pub line_for : IsLineFor setting history take asked verdict line
 
 -- the line for a plan: the verdict of its reply, or what its question comes to
 abbrev pub IsLineOf : Setting → List Answered → Plan → List ℕ → Type 0
 IsLineOf setting history (Ready answer) line = line ≡ verdict_bytes (due_of_reply answer)
 IsLineOf setting history (Ask take asked) line =
-    ((most_records ≤ length history) × (line ≡ verdict_bytes (due_of_reply reply.Full))) ⊎ IsDecided setting history asked line
+    ((most_records ≤ length history) × (line ≡ verdict_bytes (due_of_reply reply.Full))) ⊎ IsDecided setting history take asked line
 
 -- the line that is sent for a counted line
 pub record IsExplained (columns : List Column) (index : IndexView) (history : List Answered) (asked : CountedLine) (line : List ℕ) : Type 0 where

@@ -1,7 +1,9 @@
 -- The lines that show why a question is denied.
-use Rattle.std.specs.Prelude.{ℕ, ℤ, List, ◌++◌, map, codes, decimal, Option, Some, None}
+use Rattle.std.specs.Prelude.{ℕ, ℤ, Bool, true, false, List, ◌++◌, map, codes, decimal, Option, Some, None}
 use Rattle.std.specs.Fmt.{signed_decimal}
-use Rattle.line_wire.specs.CommaLists.{with_commas, at_place}
+use Rattle.line_wire.specs.CommaLists.{with_commas, at_place, stated, bounds}
+use Rattle.line_wire.specs.declared.question.Take.{Take}
+use Rattle.line_wire.specs.declared.question.Take.TheVariants as take
 use Rattle.denial_proof.specs.declared.proof_parts.Target.{Target}
 use Rattle.denial_proof.specs.declared.proof_parts.Target.TheVariants.{Row, Group}
 use Rattle.denial_proof.specs.declared.proof_parts.Term.{Term}
@@ -28,16 +30,23 @@ sum_line target times terms asked =
     codes "{\"verdict\":\"unsafe\"," ++ target_text target ++ codes ",\"times\":" ++ signed_decimal times ++ codes ",\"by\":[" ++ with_commas (map term_text terms)
     ++ codes "],\"asked\":" ++ signed_decimal asked ++ codes "}\n"
 
--- the line of a maximum
-abbrev pub max_line : ℤ → ℕ → Option ℕ → List ℤ → List ℕ
-max_line answer row pair high =
-    codes "{\"verdict\":\"unsafe\",\"answer\":" ++ signed_decimal answer ++ codes ",\"row\":" ++ decimal row ++ codes ",\"pair\":" ++ pair_text pair
-    ++ codes ",\"high\":[" ++ with_commas (map signed_decimal high) ++ codes "]}\n"
+-- the line of a maximum, or of a minimum, whose numbers are kept negated
+abbrev pub bound_line : Bool → ℤ → ℕ → Option ℕ → List ℤ → List ℕ
+bound_line least answer row pair high =
+    codes "{\"verdict\":\"unsafe\",\"answer\":" ++ stated least answer ++ codes ",\"row\":" ++ decimal row ++ codes ",\"pair\":" ++ pair_text pair
+    ++ codes "," ++ bounds least high ++ codes "}\n"
 
--- the line with a proof
-abbrev pub proof_line : Proof → List ℕ
-proof_line (Sum target times terms asked) = sum_line target times terms asked
-proof_line (Max answer row pair high) = max_line answer row pair high
+-- whether the numbers are kept negated of which this is taken
+abbrev pub is_least : Take → Bool
+is_least take.Sum = false
+is_least take.Avg = false
+is_least take.Max = false
+is_least take.Min = true
+
+-- the line with a proof of a denial of what is taken
+abbrev pub proof_line : Take → Proof → List ℕ
+proof_line take (Sum target times terms asked) = sum_line target times terms asked
+proof_line take (Max answer row pair high) = bound_line (is_least take) answer row pair high
 
 -- the line without one
 abbrev pub wide_line : List ℕ

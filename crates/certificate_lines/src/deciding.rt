@@ -13,7 +13,7 @@ use audit_core::Core;
 use audit_types::laws::true_answers;
 use audit_types::{Asked, NoMemory, Verdict};
 use denial_proof::ProveFault;
-use line_wire::Reply;
+use line_wire::{Reply, Take};
 use question_plan::{Due, Plan, due_of_reply, is_full, verdict_line};
 use std::alloc::Global;
 
@@ -21,6 +21,7 @@ use std::alloc::Global;
 fn write_certificate(
     alloc: Global,
     core: &Core,
+    take: Take,
     asked: &Asked,
     provers: &mut Provers,
     line: &mut Vec<u8>,
@@ -29,11 +30,11 @@ fn write_certificate(
     requires question { FitsShape core.now.setting.shape asked.now.column asked.now.rows }
     requires denied { IsDecisionAfter core.now.setting core.now.history asked.now.column asked.now.rows.list DeniedUnsafe }
     requires provers { AreProversOf core.now.setting core.now.history provers.old }
-    ensures line { OnOk result (IsCertificate core.now.setting core.now.history asked.now line.new.items) }
+    ensures line { OnOk result (IsCertificate core.now.setting core.now.history take asked.now line.new.items) }
     ensures provers { AreProversOf core.now.setting core.now.history provers.new }
 {
     match provers.prove(alloc, core, asked) {
-        Ok(proof) => Ok(write_proof(line, &proof)?),
+        Ok(proof) => Ok(write_proof(line, take, &proof)?),
         Err(ProveFault::Wide) => Ok(write_words(
             line,
             b"{\"verdict\":\"unsafe\",\"proof\":\"wide\"}\n",
@@ -46,6 +47,7 @@ fn write_certificate(
 fn write_verdict(
     alloc: Global,
     core: &Core,
+    take: Take,
     asked: &Asked,
     verdict: Verdict,
     provers: &mut Provers,
@@ -55,12 +57,12 @@ fn write_verdict(
     requires question { FitsShape core.now.setting.shape asked.now.column asked.now.rows }
     requires decided { IsDecisionAfter core.now.setting core.now.history asked.now.column asked.now.rows.list verdict }
     requires provers { AreProversOf core.now.setting core.now.history provers.old }
-    ensures line { OnOk result (IsLineFor core.now.setting core.now.history asked.now verdict line.new.items) }
+    ensures line { OnOk result (IsLineFor core.now.setting core.now.history take asked.now verdict line.new.items) }
     ensures provers { AreProversOf core.now.setting core.now.history provers.new }
 {
     match verdict {
         Verdict::Released => Ok(write_words(line, verdict_line(Due::Released))?),
-        Verdict::DeniedUnsafe => write_certificate(alloc, core, asked, provers, line),
+        Verdict::DeniedUnsafe => write_certificate(alloc, core, take, asked, provers, line),
         Verdict::DeniedWide => Ok(write_words(line, verdict_line(Due::Wide))?),
     }
 }
@@ -85,9 +87,9 @@ pub(crate) fn write_line(
         Plan::Ask { .. } if is_full(core) => {
             Ok(write_words(line, verdict_line(due_of_reply(&Reply::Full)))?)
         }
-        Plan::Ask { asked, .. } => {
+        Plan::Ask { take, asked } => {
             let verdict = core.decide(asked)?;
-            write_verdict(alloc, core, asked, verdict, provers, line)
+            write_verdict(alloc, core, *take, asked, verdict, provers, line)
         }
     }
 }

@@ -4,7 +4,7 @@ ghost use Rattle.line_wire.specs.CommaLists.{with_commas};
 ghost use Rattle.certificate_lines.specs.Texts as spec;
 
 use denial_proof::{Proof, Target, Term};
-use line_wire::{put_at_place, put_number, put_numbers};
+use line_wire::{Take, put_at_place, put_bounds, put_number, put_stated};
 use std::alloc::AllocError;
 
 /// Writes words, in place of what the buffer held.
@@ -66,28 +66,40 @@ fn write_sum(
     line.extend_from_slice(b"}\n")
 }
 
-// Writes the line of a maximum, in place of what the buffer held.
-fn write_max(
+// Whether the numbers are kept negated of which this is taken.
+fn is_least(take: Take) -> bool
+    ensures { result ≡ spec.is_least take }
+{
+    matches!(take, Take::Min)
+}
+
+// Writes the line of a maximum or of a minimum, in place of what the buffer held.
+fn write_bounds(
     line: &mut Vec<u8>,
+    least: bool,
     answer: i128,
     row: u16,
     pair: Option<u32>,
     high: &[i128],
 ) -> Result<(), AllocError>
-    ensures { OnOk result (line.new.items ≡ spec.max_line answer row pair high.now) }
+    ensures { OnOk result (line.new.items ≡ spec.bound_line least answer row pair high.now) }
 {
     write_words(line, b"{\"verdict\":\"unsafe\",")?;
-    put_number(line, b"\"answer\":", answer)?;
+    put_stated(line, b"\"answer\":", least, answer)?;
     put_number(line, b",\"row\":", row)?;
     put_pair(line, pair)?;
-    line.extend_from_slice(b",\"high\":[")?;
-    put_numbers(line, high)?;
-    line.extend_from_slice(b"]}\n")
+    line.extend_from_slice(b",")?;
+    put_bounds(line, least, high)?;
+    line.extend_from_slice(b"}\n")
 }
 
-/// Writes the line with a proof, in place of what the buffer held.
-pub(crate) fn write_proof(line: &mut Vec<u8>, proof: &Proof) -> Result<(), AllocError>
-    ensures { OnOk result (line.new.items ≡ spec.proof_line proof.now) }
+/// Writes the line with a proof of a denial of what is taken, in place of what the buffer held.
+pub(crate) fn write_proof(
+    line: &mut Vec<u8>,
+    take: Take,
+    proof: &Proof,
+) -> Result<(), AllocError>
+    ensures { OnOk result (line.new.items ≡ spec.proof_line take proof.now) }
 {
     match proof {
         Proof::Sum {
@@ -101,6 +113,6 @@ pub(crate) fn write_proof(line: &mut Vec<u8>, proof: &Proof) -> Result<(), Alloc
             row,
             pair,
             high,
-        } => write_max(line, *answer, *row, *pair, &high.list),
+        } => write_bounds(line, is_least(take), *answer, *row, *pair, &high.list),
     }
 }

@@ -7,7 +7,7 @@ use Rattle.std.proofs.lemmas.List.Folds.{list_all-append}
 use Rattle.line_wire.specs.Lines.{is_feed}
 use Rattle.line_wire.specs.Reply.{reply_bytes, numbered, average}
 use Rattle.line_wire.specs.declared.reply.Reply.{Reply}
-use Rattle.line_wire.specs.declared.reply.Reply.TheVariants.{Count, Sum, Avg, Max, Unsafe, Wide, Line, Long, Column, Kind, Condition, Empty, Full}
+use Rattle.line_wire.specs.declared.reply.Reply.TheVariants.{Count, Sum, Avg, Max, Min, Unsafe, Wide, Line, Long, Column, Kind, Condition, Empty, Full}
 use Rattle.drill_case.specs.Tallies.{lines_in, IsReplyText}
 
 -- no line feed stands in it
@@ -77,6 +77,7 @@ reply_line (Count count) = number_line (codes "{\"count\":") (decimal count) ref
 reply_line (Sum sum) = number_line (codes "{\"sum\":") (signed_decimal sum) refl (omega arith) (feedless-signed_decimal sum)
 reply_line (Avg num den) = average_line num den
 reply_line (Max max) = number_line (codes "{\"max\":") (signed_decimal max) refl (omega arith) (feedless-signed_decimal max)
+reply_line (Min min) = number_line (codes "{\"min\":") (signed_decimal min) refl (omega arith) (feedless-signed_decimal min)
 reply_line Unsafe = word_line (codes "{\"denied\":\"unsafe\"}") refl (omega arith)
 reply_line Wide = word_line (codes "{\"denied\":\"wide\"}") refl (omega arith)
 reply_line Line = word_line (codes "{\"refused\":\"line\"}") refl (omega arith)

@@ -17,6 +17,7 @@ kind_of (reply.Count count) = Other
 kind_of (reply.Sum sum) = Released
 kind_of (reply.Avg num den) = Released
 kind_of (reply.Max max) = Released
+kind_of (reply.Min min) = Released
 kind_of reply.Unsafe = DeniedUnsafe
 kind_of reply.Wide = DeniedWide
 kind_of reply.Line = Other

@@ -7,7 +7,7 @@ use line_wire::{Reply, read_reply};
 /// What a line that was sent says.
 #[derive(Clone, Copy)]
 pub(crate) enum ReplyKind {
-    /// A sum, an average or a maximum.
+    /// A sum, an average, a maximum or a minimum.
     Released,
     /// That an answer would give a secret away.
     DeniedUnsafe,
@@ -22,7 +22,7 @@ fn kind_of_reply(reply: &Reply) -> ReplyKind
     ensures { result ≡ kind_of reply.now }
 {
     match reply {
-        Reply::Sum(_) | Reply::Avg { .. } | Reply::Max(_) => ReplyKind::Released,
+        Reply::Sum(_) | Reply::Avg { .. } | Reply::Max(_) | Reply::Min(_) => ReplyKind::Released,
         Reply::Unsafe => ReplyKind::DeniedUnsafe,
         Reply::Wide => ReplyKind::DeniedWide,
         _ => ReplyKind::Other,

@@ -1,8 +1,7 @@
 -- The texts of a report's lines.
-use Rattle.std.specs.Prelude.{ℕ, ◌+◌, ℤ, List, [], ◌∷◌, ◌++◌, map, if◌then◌else◌, codes, decimal}
-use Rattle.std.specs.Fmt.{signed_decimal}
+use Rattle.std.specs.Prelude.{ℕ, ◌+◌, ℤ, List, [], ◌∷◌, ◌++◌, Bool, if◌then◌else◌, codes, decimal}
 use Rattle.audit_types.specs.Truth.{is_zero}
-use Rattle.line_wire.specs.CommaLists.{with_commas, at_place}
+use Rattle.line_wire.specs.CommaLists.{with_commas, at_place, bounds}
 
 -- the numbers from this row on that aren't 0, each after its row
 abbrev pub moved_rows : ℕ → List ℤ → List (List ℕ)
@@ -13,9 +12,9 @@ moved_rows row (x ∷ xs) = if is_zero x then moved_rows (row + 1) xs else at_pl
 unfoldable pub direction_line : List ℕ → ℕ → List ℤ → List ℕ
 direction_line name row d = codes "{\"column\":\"" ++ name ++ codes "\",\"row\":" ++ decimal row ++ codes ",\"direction\":[" ++ with_commas (moved_rows 0 d) ++ codes "]}\n"
 
--- the line on a column of maxima
-unfoldable pub high_line : List ℕ → List ℤ → List ℕ
-high_line name high = codes "{\"column\":\"" ++ name ++ codes "\",\"high\":[" ++ with_commas (map signed_decimal high) ++ codes "]}\n"
+-- the line on a column of maxima, or one of minima, whose numbers are kept negated
+unfoldable pub bound_line : Bool → List ℕ → List ℤ → List ℕ
+bound_line least name numbers = codes "{\"column\":\"" ++ name ++ codes "\"," ++ bounds least numbers ++ codes "}\n"
 
 -- the last line
 unfoldable pub total_line : ℕ → ℕ → ℕ → List ℕ

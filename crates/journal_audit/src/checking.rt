@@ -8,9 +8,9 @@ ghost use Rattle.audit_types.specs.History.{answers_of, FitsShape};
 ghost use Rattle.max_audit.specs.Witnesses.{highest};
 ghost use Rattle.sum_audit.specs.Sets.{sets_of};
 ghost use Rattle.witness_check.specs.Directions.{lists_of};
-ghost use Rattle.journal_audit.specs.Texts.{direction_line, high_line};
+ghost use Rattle.journal_audit.specs.Texts.{bound_line, direction_line};
 
-use crate::texts::{write_direction, write_high};
+use crate::texts::{write_bounds, write_direction};
 use audit_types::{Answered, NoMemory, RowSet};
 use max_audit::MaxColumn;
 use std::alloc::{AllocError, Global};
@@ -79,12 +79,13 @@ fn check_row(
     Ok(())
 }
 
-/// Writes the line on a column of maxima: the list with each row at its upper bound. For each row the pair of it and the list
-/// with that row less by 1 was checked.
+/// Writes the line on a column of maxima, or on one of minima if `least` says so: the list with each row at its upper bound. For
+/// each row the pair of it and the list with that row less by 1 was checked. The numbers of a column of minima are kept negated.
 pub fn write_column(
     alloc: Global,
     line: &mut Vec<u8>,
     name: &str,
+    least: bool,
     column: u8,
     list: &[Answered],
     maxima: &MaxColumn,
@@ -94,12 +95,12 @@ pub fn write_column(
     requires free { IsLeastLone maxima.now.answers None }
     requires answers { maxima.now.answers ≡ answers_of column list.now }
     requires same_n { AllByRecursion (λ r. r.rows.n ≡ maxima.now.n) list.now }
-    ensures { OnOk result (line.new.items ≡ high_line name.now (highest maxima.now.n maxima.now.answers)) }
+    ensures { OnOk result (line.new.items ≡ bound_line least name.now (highest maxima.now.n maxima.now.answers)) }
 {
     for row in 0..maxima.bounds().n() {
         check_row(alloc, column, list, maxima, row)?;
     }
     let pair = max_witness(alloc, maxima, 0)?;
-    write_high(line, name, &pair.hi)?;
+    write_bounds(line, name, least, &pair.hi)?;
     Ok(())
 }

@@ -3,7 +3,7 @@ ghost use Rattle.std.specs.Prelude.{◌≡◌, ◌++◌, codes, OnOk};
 ghost use Rattle.line_wire.specs.CommaLists.{with_commas};
 ghost use Rattle.journal_audit.specs.Texts as spec;
 
-use line_wire::{put_at_place, put_number, put_numbers};
+use line_wire::{put_at_place, put_bounds, put_number};
 use std::alloc::AllocError;
 
 // Appends the numbers that aren't 0, each after its row.
@@ -46,15 +46,20 @@ pub fn write_direction(
     line.extend_from_slice(b"]}\n")
 }
 
-/// Writes the line on a column of maxima, in place of what the buffer held.
-#[tactic(auto, unfolding(crate::specs::Texts::high_line))]
-pub fn write_high(line: &mut Vec<u8>, name: &str, high: &[i128]) -> Result<(), AllocError>
-    ensures { OnOk result (line.new.items ≡ spec.high_line name.now high.now) }
+/// Writes the line on a column of maxima, or on one of minima, in place of what the buffer held.
+#[tactic(auto, unfolding(crate::specs::Texts::bound_line))]
+pub fn write_bounds(
+    line: &mut Vec<u8>,
+    name: &str,
+    least: bool,
+    numbers: &[i128],
+) -> Result<(), AllocError>
+    ensures { OnOk result (line.new.items ≡ spec.bound_line least name.now numbers.now) }
 {
     begin_line(line, name)?;
-    line.extend_from_slice(b"\",\"high\":[")?;
-    put_numbers(line, high)?;
-    line.extend_from_slice(b"]}\n")
+    line.extend_from_slice(b"\",")?;
+    put_bounds(line, least, numbers)?;
+    line.extend_from_slice(b"}\n")
 }
 
 /// Writes the last line, in place of what the buffer held.

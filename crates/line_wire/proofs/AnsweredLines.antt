@@ -29,6 +29,7 @@ taken_is : (columns : List Column) (k : Take) (name text : List ℕ) (c : ℕ) (
 taken_is columns take.Sum name text c t (request.Sum d p) is found = (found ∙ ap Some (sym is.0), is.1)
 taken_is columns take.Avg name text c t (request.Avg d p) is found = (found ∙ ap Some (sym is.0), is.1)
 taken_is columns take.Max name text c t (request.Max d p) is found = (found ∙ ap Some (sym is.0), is.1)
+taken_is columns take.Min name text c t (request.Min d p) is found = (found ∙ ap Some (sym is.0), is.1)
 taken_is columns k name text c t r is found = absurd is
 
 -- what is read of a count's condition answers it
@@ -67,6 +68,8 @@ taken_can columns take.Avg c p (request.Avg d q) is has fit =
     (subst (λ n. HasSecret columns n (kind_for take.Avg)) (sym is.0) has, ap (fits columns) is.1 ∙ fit)
 taken_can columns take.Max c p (request.Max d q) is has fit =
     (subst (λ n. HasSecret columns n (kind_for take.Max)) (sym is.0) has, ap (fits columns) is.1 ∙ fit)
+taken_can columns take.Min c p (request.Min d q) is has fit =
+    (subst (λ n. HasSecret columns n (kind_for take.Min)) (sym is.0) has, ap (fits columns) is.1 ∙ fit)
 taken_can columns k c p r is has fit = absurd is
 
 -- a column that isn't found names no byte

@@ -3,7 +3,7 @@ use Rattle.std.proofs.Common.{◌≡◌, ℕ, ℤ, List, [], ◌∷◌, Option, 
 use Rattle.std.specs.List.{All}
 use Rattle.line_wire.specs.Reply.{IsReply}
 use Rattle.line_wire.specs.declared.reply.Reply.{Reply}
-use Rattle.line_wire.specs.declared.reply.Reply.TheVariants.{Count, Sum, Avg, Max, Unsafe, Wide, Line, Long, Column, Kind, Condition, Empty, Full}
+use Rattle.line_wire.specs.declared.reply.Reply.TheVariants.{Count, Sum, Avg, Max, Min, Unsafe, Wide, Line, Long, Column, Kind, Condition, Empty, Full}
 use Rattle.line_wire.proofs.OneReply.{one_reply}
 
 -- the replies that are one word
@@ -14,6 +14,7 @@ words = Unsafe ∷ Wide ∷ Line ∷ Long ∷ Column ∷ Kind ∷ Empty ∷ Full
 pub record IsNoOther (line : List ℕ) : Type 0 where
   pub sum : (sum : ℤ) → IsReply line (Sum sum) → ⊥
   pub max : (max : ℤ) → IsReply line (Max max) → ⊥
+  pub min : (min : ℤ) → IsReply line (Min min) → ⊥
   pub word : All (λ reply. IsReply line reply → ⊥) words
   pub count : (count : ℕ) → IsReply line (Count count) → ⊥
   pub average : (num : ℤ) (den : ℕ) → IsReply line (Avg num den) → ⊥
@@ -24,6 +25,7 @@ no_reply line (Count count) none last = none.count count
 no_reply line (Sum sum) none last = none.sum sum
 no_reply line (Avg num den) none last = none.average num den
 no_reply line (Max max) none last = none.max max
+no_reply line (Min min) none last = none.min min
 no_reply line Unsafe none last = none.word 0 Unsafe (omega arith)
 no_reply line Wide none last = none.word 1 Wide (omega arith)
 no_reply line Line none last = none.word 2 Line (omega arith)

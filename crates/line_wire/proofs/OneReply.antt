@@ -5,7 +5,7 @@ use Rattle.std.proofs.lemmas.Fmt.{decimal_injective, signed_decimal_injective}
 use Rattle.std.proofs.lemmas.List.{append_cancel_left, append_cancel_right}
 use Rattle.line_wire.specs.Reply.{IsReply, IsInRange, reply_bytes, numbered, average}
 use Rattle.line_wire.specs.declared.reply.Reply.{Reply}
-use Rattle.line_wire.specs.declared.reply.Reply.TheVariants.{Count, Sum, Avg, Max, Unsafe, Wide, Line, Long, Column, Kind, Condition, Empty, Full}
+use Rattle.line_wire.specs.declared.reply.Reply.TheVariants.{Count, Sum, Avg, Max, Min, Unsafe, Wide, Line, Long, Column, Kind, Condition, Empty, Full}
 use Rattle.line_wire.proofs.ReplyParts.{mag_below}
 use Rattle.line_wire.proofs.Commas.{front_of, rest_of, average_parts, commaless-front_of, same_parts}
 
@@ -13,17 +13,18 @@ use Rattle.line_wire.proofs.Commas.{front_of, rest_of, average_parts, commaless-
 same_number : (front a b : List ℕ) → numbered front a ≡ numbered front b → a ≡ b
 same_number front a b is = append_cancel_left front a b (append_cancel_right (front ++ a) (front ++ b) (codes "}\n") is)
 
--- which reply bytes are: the third one tells it, or the first ones of a denial's or a refusal's word
+-- which reply bytes are: the third and the fourth one tell it, or the first ones of a denial's or a refusal's word
 abbrev mark : List ℕ → ℕ
 mark bytes =
     if slice_index bytes 2 == 100 then slice_index bytes 11 else
-    (if slice_index bytes 2 == 114 then slice_index bytes 12 * 256 + slice_index bytes 13 else slice_index bytes 2)
+    (if slice_index bytes 2 == 114 then slice_index bytes 12 * 256 + slice_index bytes 13 else slice_index bytes 2 + slice_index bytes 3)
 
 abbrev mark_of : Reply → ℕ
-mark_of (Count a) = 99
-mark_of (Sum a) = 115
-mark_of (Avg a da) = 110
-mark_of (Max a) = 109
+mark_of (Count a) = 210
+mark_of (Sum a) = 232
+mark_of (Avg a da) = 227
+mark_of (Max a) = 206
+mark_of (Min a) = 214
 mark_of Unsafe = 117
 mark_of Wide = 119
 mark_of Line = 27753
@@ -39,6 +40,7 @@ mark-reply_bytes (Count a) = refl
 mark-reply_bytes (Sum a) = refl
 mark-reply_bytes (Avg a da) = refl
 mark-reply_bytes (Max a) = refl
+mark-reply_bytes (Min a) = refl
 mark-reply_bytes Unsafe = refl
 mark-reply_bytes Wide = refl
 mark-reply_bytes Line = refl
@@ -79,6 +81,11 @@ by_mark (Max a) (Max b) _ low high is =
     (signed_decimal_injective a b (mag_below a (omega (arith, low))) (mag_below b (omega (arith, high)))
     (same_number (codes "{\"max\":") (signed_decimal a) (signed_decimal b) is))
 by_mark (Max a) s marks _ _ _ = absurd (omega arith)
+by_mark (Min a) (Min b) _ low high is =
+    ap Min
+    (signed_decimal_injective a b (mag_below a (omega (arith, low))) (mag_below b (omega (arith, high)))
+    (same_number (codes "{\"min\":") (signed_decimal a) (signed_decimal b) is))
+by_mark (Min a) s marks _ _ _ = absurd (omega arith)
 by_mark Unsafe Unsafe _ _ _ _ = refl
 by_mark Unsafe s marks _ _ _ = absurd (omega arith)
 by_mark Wide Wide _ _ _ _ = refl

@@ -10,7 +10,7 @@ use Rattle.line_wire.specs.Requests.{role_fault, role_of, secret_of, column_faul
 use Rattle.line_wire.specs.declared.question.Take.{Take}
 use Rattle.line_wire.specs.declared.question.Take.TheVariants as take
 use Rattle.line_wire.specs.declared.request.Request.{Request}
-use Rattle.line_wire.specs.declared.request.Request.TheVariants.{Sum, Avg, Max}
+use Rattle.line_wire.specs.declared.request.Request.TheVariants.{Sum, Avg, Max, Min}
 use Rattle.line_wire.specs.declared.request.LineFault.{LineFault}
 use Rattle.line_wire.specs.declared.request.LineFault.TheVariants as fault
 
@@ -55,6 +55,7 @@ abbrev pub IsTaken : Take → ℕ → Tree → Request → Type 0
 IsTaken take.Sum c t (Sum d p) = (d ≡ c) × (tree_of p ≡ t)
 IsTaken take.Avg c t (Avg d p) = (d ≡ c) × (tree_of p ≡ t)
 IsTaken take.Max c t (Max d p) = (d ≡ c) × (tree_of p ≡ t)
+IsTaken take.Min c t (Min d p) = (d ≡ c) × (tree_of p ≡ t)
 IsTaken k c t request = ⊥
 
 -- a question is this request

@@ -1,7 +1,8 @@
 -- Texts with commas between them, and what they are with one text more.
-use Rattle.std.proofs.Common.{◌≡◌, ℕ, ℤ, Bool, true, false, if◌then◌else◌, List, [], ◌∷◌, ◌++◌, codes, decimal, refl, sym, ap, ◌∙◌, append_assoc}
+use Rattle.std.proofs.Common.{◌≡◌, ℕ, ℤ, Bool, true, false, if◌then◌else◌, List, [], ◌∷◌, ◌++◌, map, codes, decimal, refl, sym, ap, ◌∙◌, append_assoc}
 use Rattle.std.specs.Fmt.{signed_decimal}
 use Rattle.std.specs.List.{join_with_byte}
+use Rattle.audit_types.specs.Minima.{as_it_stands}
 
 -- texts with commas between them
 abbrev pub with_commas : List (List ℕ) → List ℕ
@@ -14,6 +15,18 @@ comma_unless first = if first then [] else codes ","
 -- a number after the place that it is of
 abbrev pub at_place : ℕ → ℤ → List ℕ
 at_place place x = codes "[" ++ decimal place ++ codes "," ++ signed_decimal x ++ codes "]"
+
+-- a number that was kept as the table has it, in decimal
+abbrev pub stated : Bool → ℤ → List ℕ
+stated least x = signed_decimal (as_it_stands least x)
+
+-- what stands before the bounds of a column
+abbrev pub bounds_front : Bool → List ℕ
+bounds_front least = if least then codes "\"low\":[" else codes "\"high\":["
+
+-- the bounds of a column: what none of a column of maxima is above, and of one of minima, whose numbers are kept negated, is below
+abbrev pub bounds : Bool → List ℤ → List ℕ
+bounds least numbers = bounds_front least ++ with_commas (map (stated least) numbers) ++ codes "]"
 
 -- whether there is no text
 abbrev pub is_none : List (List ℕ) → Bool

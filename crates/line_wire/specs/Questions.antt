@@ -9,7 +9,7 @@ use Rattle.schema_json.specs.declared.roles.Role.TheVariants as role
 use Rattle.line_wire.specs.declared.question.Ask.{Ask}
 use Rattle.line_wire.specs.declared.question.Ask.TheVariants.{Count, Of}
 use Rattle.line_wire.specs.declared.question.Take.{Take}
-use Rattle.line_wire.specs.declared.question.Take.TheVariants.{Sum, Avg, Max}
+use Rattle.line_wire.specs.declared.question.Take.TheVariants.{Sum, Avg, Max, Min}
 
 -- a question as its line writes it: a count over a condition, or what is taken of a column over one
 pub data Written : Type 0 where
@@ -23,7 +23,7 @@ text_of (taken take column text) = text
 
 -- what a word asks for
 abbrev pub ask_of : List ℕ → Option Ask
-ask_of word = if bytes_eq word (codes "count") then Some Count else (if bytes_eq word (codes "sum") then Some (Of Sum) else (if bytes_eq word (codes "avg") then Some (Of Avg) else (if bytes_eq word (codes "max") then Some (Of Max) else None)))
+ask_of word = if bytes_eq word (codes "count") then Some Count else (if bytes_eq word (codes "sum") then Some (Of Sum) else (if bytes_eq word (codes "avg") then Some (Of Avg) else (if bytes_eq word (codes "max") then Some (Of Max) else (if bytes_eq word (codes "min") then Some (Of Min) else None))))
 
 -- one of the four keys
 abbrev pub is_key : List ℕ → Bool
@@ -70,4 +70,5 @@ abbrev pub wants : Take → Role → Bool
 wants Sum role.Sum = true
 wants Avg role.Sum = true
 wants Max role.Max = true
+wants Min role.Min = true
 wants take role = false

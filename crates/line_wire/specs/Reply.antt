@@ -4,7 +4,7 @@ use Rattle.std.specs.Fmt.{signed_decimal}
 use Rattle.std.specs.Int.{IsGcd}
 use Rattle.audit_types.specs.Limits.{most_rows, most_number, most_answer}
 use Rattle.line_wire.specs.declared.reply.Reply.{Reply}
-use Rattle.line_wire.specs.declared.reply.Reply.TheVariants.{Count, Sum, Avg, Max, Unsafe, Wide, Line, Long, Column, Kind, Condition, Empty, Full}
+use Rattle.line_wire.specs.declared.reply.Reply.TheVariants.{Count, Sum, Avg, Max, Min, Unsafe, Wide, Line, Long, Column, Kind, Condition, Empty, Full}
 
 -- a number after what names it
 abbrev pub numbered : List ℕ → List ℕ → List ℕ
@@ -28,6 +28,7 @@ reply_bytes (Count count) = numbered (codes "{\"count\":") (decimal count)
 reply_bytes (Sum sum) = numbered (codes "{\"sum\":") (signed_decimal sum)
 reply_bytes (Avg num den) = average num den
 reply_bytes (Max max) = numbered (codes "{\"max\":") (signed_decimal max)
+reply_bytes (Min min) = numbered (codes "{\"min\":") (signed_decimal min)
 reply_bytes Unsafe = denied (codes "unsafe")
 reply_bytes Wide = denied (codes "wide")
 reply_bytes Line = refused (codes "line")
@@ -52,6 +53,7 @@ IsInRange (Count count) = count ≤ most_rows
 IsInRange (Sum sum) = unsigned_abs sum ≤ most_answer
 IsInRange (Avg num den) = IsAverage num den
 IsInRange (Max max) = unsigned_abs max ≤ most_number
+IsInRange (Min min) = unsigned_abs min ≤ most_number
 IsInRange Unsafe = Unit {0}
 IsInRange Wide = Unit {0}
 IsInRange Line = Unit {0}

@@ -11,7 +11,7 @@ use Rattle.line_wire.specs.Questions.{Written, counted, taken, text_of, wants}
 use Rattle.line_wire.specs.declared.question.Take.{Take}
 use Rattle.line_wire.specs.declared.question.Take.TheVariants as take
 use Rattle.line_wire.specs.declared.request.Request.{Request}
-use Rattle.line_wire.specs.declared.request.Request.TheVariants.{Count, Sum, Avg, Max}
+use Rattle.line_wire.specs.declared.request.Request.TheVariants.{Count, Sum, Avg, Max, Min}
 use Rattle.line_wire.specs.declared.request.LineFault.{LineFault}
 use Rattle.line_wire.specs.declared.request.LineFault.TheVariants as fault
 
@@ -42,6 +42,7 @@ IsRequest columns (counted text) t (Count p) = tree_of p ≡ t
 IsRequest columns (taken take.Sum name text) t (Sum c p) = (secret_of columns name ≡ Some c) × (tree_of p ≡ t)
 IsRequest columns (taken take.Avg name text) t (Avg c p) = (secret_of columns name ≡ Some c) × (tree_of p ≡ t)
 IsRequest columns (taken take.Max name text) t (Max c p) = (secret_of columns name ≡ Some c) × (tree_of p ≡ t)
+IsRequest columns (taken take.Min name text) t (Min c p) = (secret_of columns name ≡ Some c) × (tree_of p ≡ t)
 IsRequest columns question t request = ⊥
 
 -- a question that may be written means a request
@@ -85,11 +86,12 @@ Reads columns w t (Err fault.NoMemory) = Unit {0}
 
 -- ---- what can be asked
 
--- columns of this kind answer what is taken of them
+-- columns of this kind answer what is taken of them; a minimum is the maximum of the negated numbers
 abbrev pub kind_for : Take → Kind
 kind_for take.Sum = kind.Sum
 kind_for take.Avg = kind.Sum
 kind_for take.Max = kind.Max
+kind_for take.Min = kind.Max
 
 -- the request can be asked of each table over the schema: the column that it names is there and answers what is taken of
 -- it, and the condition fits
@@ -98,6 +100,7 @@ CanBeAsked columns (Count p) = fits columns (tree_of p) ≡ true
 CanBeAsked columns (Sum c p) = HasSecret columns c (kind_for take.Sum) × (fits columns (tree_of p) ≡ true)
 CanBeAsked columns (Avg c p) = HasSecret columns c (kind_for take.Avg) × (fits columns (tree_of p) ≡ true)
 CanBeAsked columns (Max c p) = HasSecret columns c (kind_for take.Max) × (fits columns (tree_of p) ≡ true)
+CanBeAsked columns (Min c p) = HasSecret columns c (kind_for take.Min) × (fits columns (tree_of p) ≡ true)
 
 -- the byte that a refusal names is at most this one
 abbrev pub IsWithin : ℕ → LineFault → Type 0

@@ -17,6 +17,7 @@ pub enum Take {
     Sum,
     Avg,
     Max,
+    Min,
 }
 
 #[derive(Clone, Copy, Drop)]
@@ -46,6 +47,7 @@ pub(crate) fn ask_of(word: &str) -> Option<Ask>
         "sum" => Some(Ask::Of(Take::Sum)),
         "avg" => Some(Ask::Of(Take::Avg)),
         "max" => Some(Ask::Of(Take::Max)),
+        "min" => Some(Ask::Of(Take::Min)),
         _ => None,
     }
 }
@@ -58,6 +60,7 @@ pub(crate) fn wants(take: Take, role: Role) -> bool
         Take::Sum => matches!(role, Role::Sum),
         Take::Avg => matches!(role, Role::Sum),
         Take::Max => matches!(role, Role::Max),
+        Take::Min => matches!(role, Role::Min),
     }
 }
 

@@ -48,6 +48,7 @@ pub(crate) fn is_in_range(reply: &Reply) -> bool
         Reply::Sum(sum) => sum.unsigned_abs() <= MOST_SUM,
         Reply::Avg { num, den } => is_average(*num, *den),
         Reply::Max(max) => max.unsigned_abs() <= MOST_SIZE,
+        Reply::Min(min) => min.unsigned_abs() <= MOST_SIZE,
         Reply::Condition { at } => *at <= MOST_BYTES,
         Reply::Unsafe => true,
         Reply::Wide => true,

@@ -80,6 +80,7 @@ fn taking(take: Take, column: u8, pred: Pred) -> Request
         Take::Sum => Request::Sum { column, pred },
         Take::Avg => Request::Avg { column, pred },
         Take::Max => Request::Max { column, pred },
+        Take::Min => Request::Min { column, pred },
     }
 }
 

@@ -16,6 +16,8 @@ pub enum Reply {
     Avg { num: i64, den: u16 },
     /// Their maximum.
     Max(i64),
+    /// Their minimum.
+    Min(i64),
     /// The answer would give a secret away.
     Unsafe,
     /// The answer would need numbers that are too wide to decide over.
@@ -101,6 +103,7 @@ pub fn write_reply(reply: &Reply, out: &mut [u8; 64]) -> usize
         Reply::Sum(sum) => write_number(out, b"{\"sum\":", *sum),
         Reply::Avg { num, den } => write_average(out, *num, *den),
         Reply::Max(max) => write_number(out, b"{\"max\":", *max),
+        Reply::Min(min) => write_number(out, b"{\"min\":", *min),
         Reply::Unsafe => write_denial(out, b"unsafe"),
         Reply::Wide => write_denial(out, b"wide"),
         Reply::Line => write_refusal(out, b"line"),

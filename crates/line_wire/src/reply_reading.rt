@@ -135,6 +135,14 @@ fn read_max(line: &[u8]) -> Option<Reply>
     confirmed(line, Reply::Max(max))
 }
 
+fn read_min(line: &[u8]) -> Option<Reply>
+    ensures found { IfSome result (IsReply line.now) }
+    ensures none { IfNone result ((min : ℤ) → IsReply line.now (Reply.Min min) → ⊥) }
+{
+    let min = number_between(line, b"{\"min\":", b"}")?;
+    confirmed(line, Reply::Min(min))
+}
+
 fn read_condition(line: &[u8]) -> Option<Reply>
     ensures found { IfSome result (IsReply line.now) }
     ensures none { IfNone result ((at : ℕ) → IsReply line.now (Reply.Condition at) → ⊥) }
@@ -155,6 +163,9 @@ pub fn read_reply(line: &[u8]) -> Option<Reply>
         return Some(reply);
     }
     if let Some(reply) = read_max(line) {
+        return Some(reply);
+    }
+    if let Some(reply) = read_min(line) {
         return Some(reply);
     }
     if let Some(reply) = read_word(line, &WORDS) {

@@ -9,6 +9,7 @@ pub enum Request {
     Sum { column: u8, pred: Pred },
     Avg { column: u8, pred: Pred },
     Max { column: u8, pred: Pred },
+    Min { column: u8, pred: Pred },
 }
 
 /// Why a line is refused.

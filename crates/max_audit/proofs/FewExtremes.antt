@@ -122,12 +122,14 @@ module _ (n : ℕ) (answers : List Answer) (rows : List ℕ) (well : IsWellForme
         }
 
     -- of two extreme rows one who is below the answer knows the other
-    from_two : (a : Answer) → IsOneOf a (with_asked answers rows x) → (r s : ℕ) → extremes (with_asked answers rows x) a ≡ r ∷ s ∷ [] → IsDangerousFor (known_max n answers) rows
+    from_two : (a : Answer) → IsOneOf a (with_asked answers rows x) → (r s : ℕ) → extremes (with_asked answers rows x) a ≡ r ∷ s ∷ [] →
+        IsDangerousFor (known_max n answers) rows
     from_two a one r s only =
         let here : has_row (extremes (with_asked answers rows x) a) r ≡ true = ap (λ l. has_row l r) only ∙ has_first r (s ∷ []) in
         let too : has_row (extremes (with_asked answers rows x) a) s ≡ true = ap (λ l. has_row l s) only ∙ has_later r s (s ∷ []) (has_first s []) in
         let order : r < s = two_ascend (subst (AscendsFrom 0 n) only
-        (filter-ascends 0 n (λ q. is_bound (upper_bound (with_asked answers rows x) q) a.value) a.rows (all_at (λ b. AreRows n b.rows) (with_asked answers rows x) a (still_well x).are_rows one))) in
+        (filter-ascends 0 n (λ q. is_bound (upper_bound (with_asked answers rows x) q) a.value) a.rows
+            (all_at (λ b. AreRows n b.rows) (with_asked answers rows x) a (still_well x).are_rows one))) in
         let below_s = row_of a one s too in
         elim (lone_or_lowered n (with_asked answers rows x) s (still_well x) possible below_s) [
           | inl lone ↦ from_lone s lone
@@ -167,7 +169,8 @@ module _ (n : ℕ) (answers : List Answer) (rows : List ℕ) (well : IsWellForme
 
     from_few : HasFewExtremes 2 (with_asked answers rows x) → IsDangerousFor (known_max n answers) rows
     from_few (a, one, few) =
-        elim (one_or_two (extremes (with_asked answers rows x) a) (all_at (λ b. 0 < length (extremes (with_asked answers rows x) b)) (with_asked answers rows x) a possible one) few) [
+        elim (one_or_two (extremes (with_asked answers rows x) a)
+            (all_at (λ b. 0 < length (extremes (with_asked answers rows x) b)) (with_asked answers rows x) a possible one) few) [
           | inl (r, only) ↦ from_lone r (a, one, only)
           | inr (r, s, only) ↦ from_two a one r s only
         ]
@@ -208,9 +211,11 @@ module _ (most : ℕ) (answers : List Answer) (rows : List ℕ) where
     -- few extreme rows of the new answer are the highest
     highest_from : length (extremes (with_asked answers rows x) (asked answers rows x)) ≤ most → HasFewHighest most (upper_bound answers) rows
     highest_from few =
-        let hit = some_row (extremes (with_asked answers rows x) (asked answers rows x)) (still (asked answers rows x) (one_of_last answers (asked answers rows x))) in
+        let hit = some_row (extremes (with_asked answers rows x) (asked answers rows x))
+                (still (asked answers rows x) (one_of_last answers (asked answers rows x))) in
         let own = has_asked answers rows x hit.0 hit.1 in
-        let grows = filter_grows (λ q. not (is_below_bound (upper_bound answers q) (upper_bound answers hit.0))) (λ q. is_bound (upper_bound (with_asked answers rows x) q) x) rows
+        let grows = filter_grows (λ q. not (is_below_bound (upper_bound answers q) (upper_bound answers hit.0)))
+                (λ q. is_bound (upper_bound (with_asked answers rows x) q) x) rows
         (λ q there high. (filter-has (λ s. is_bound (upper_bound (with_asked answers rows x) s) x) rows q
         (asked_has answers rows x q there (at_least_too x (upper_bound answers q) (upper_bound answers hit.0) own.1 (not_true _ high)))).1) in
         (hit.0, own.0, omega (arith, grows, few))
@@ -224,7 +229,8 @@ module _ (most : ℕ) (answers : List Answer) (rows : List ℕ) where
           a,
           record {
             one = one;
-            some_left = λ none. let now = still a (one_of_front answers (asked answers rows x) a one) in let short = ap length (lost ∙ none) in absurd (omega arith);
+            some_left = λ none. let now = still a (one_of_front answers (asked answers rows x) a one) in let short = ap length (lost ∙ none) in
+                absurd (omega arith);
             few_left = subst (λ l. length l ≤ most) lost few;
             lower = λ b among none. by_lt_z x b.value
                 (λ above. let now = still b (one_of_front answers (asked answers rows x) b among) in
@@ -248,11 +254,13 @@ module _ (most : ℕ) (answers : List Answer) (rows : List ℕ) where
       few_stays : HasFewExtremes most answers → LeavesFew most (known_max n answers) rows x
       few_stays (a, one, few) = record {
         possible = top_possible n answers [] rows are some consistent x top;
-        few = (a, one_of_front answers (asked answers rows x) a one, subst (λ l. length l ≤ most) (sym (top_keeps n answers [] rows are some consistent x top a one)) few);
+        few = (a, one_of_front answers (asked answers rows x) a one, subst (λ l. length l ≤ most)
+            (sym (top_keeps n answers [] rows are some consistent x top a one)) few);
       }
 
       -- a row at least the greatest answer isn't below another row
-      not_below_top : (r q : ℕ) → has_row rows r ≡ true → has_row rows q ≡ true → (o p : Option ℤ) → upper_bound answers q ≡ o → upper_bound answers r ≡ p → IsAtLeast x o →
+      not_below_top : (r q : ℕ) → has_row rows r ≡ true → has_row rows q ≡ true → (o p : Option ℤ) → upper_bound answers q ≡ o → upper_bound answers r ≡ p →
+          IsAtLeast x o →
           is_below_bound o p ≡ false
       not_below_top r q r_there q_there None p e f high = refl
       not_below_top r q r_there q_there (Some b) None e f high = let less = top.free r q b f r_there q_there e in absurd (omega (arith, ints))
@@ -265,7 +273,8 @@ module _ (most : ℕ) (answers : List Answer) (rows : List ℕ) where
 
       few_highest : HasFewHighest most (upper_bound answers) rows → LeavesFew most (known_max n answers) rows x
       few_highest (r, there, few) =
-          let grows = filter_grows (λ q. is_bound (upper_bound (with_asked answers rows x) q) x) (λ q. not (is_below_bound (upper_bound answers q) (upper_bound answers r))) rows
+          let grows = filter_grows (λ q. is_bound (upper_bound (with_asked answers rows x) q) x)
+                  (λ q. not (is_below_bound (upper_bound answers q) (upper_bound answers r))) rows
           (λ q q_there reaches.
           let parts = has_asked answers rows x q (has_filter_of q q_there reaches) in
           ap not (not_below_top r q there q_there (upper_bound answers q) (upper_bound answers r) refl refl parts.1)) in
@@ -307,10 +316,12 @@ module _ (most : ℕ) (answers : List Answer) (rows : List ℕ) where
             possible = all-push (λ a. 0 < length (extremes (with_asked answers rows x) a)) answers (asked answers rows x)
                 (all_from (λ a. 0 < length (extremes (with_asked answers rows x) a)) answers still_some)
                 (not_empty (extremes (with_asked answers rows x) (asked answers rows x)) e (asked_has answers rows x e in_set high_row));
-            few = (p, one_of_front answers (asked answers rows x) p held.one, subst (λ l. length l ≤ most) (sym (higher_loses answers rows x p held.one less)) held.few_left);
+            few = (p, one_of_front answers (asked answers rows x) p held.one, subst (λ l. length l ≤ most)
+                (sym (higher_loses answers rows x p held.one less)) held.few_left);
           }
 
-    from_cause : HasFewExtremes most answers ⊎ (HasFewHighest most (upper_bound answers) rows ⊎ ((p : Answer) × IsNearlyHeld most (extremes answers) answers rows p)) →
+    from_cause : HasFewExtremes most answers ⊎
+        (HasFewHighest most (upper_bound answers) rows ⊎ ((p : Answer) × IsNearlyHeld most (extremes answers) answers rows p)) →
         (x : ℤ) × LeavesFew most (known_max n answers) rows x
     from_cause (inl few) = let top = top_of answers [] rows some in (top.0, few_stays top.0 top.1 few)
     from_cause (inr (inl highest)) = let top = top_of answers [] rows some in (top.0, few_highest top.0 top.1 highest)
@@ -343,7 +354,8 @@ module _ (n : ℕ) (answers : List Answer) (rows : List ℕ) where
   alike_out w v alike = record { agrees = record { one_each = alike.agrees.one_each; same = alike.agrees.same }; same = alike.same }
 
   -- what is disclosed is a number of another row
-  known_by : {value : List ℤ → ℤ} (w : List ℤ) → Agrees (known_max n answers) w → (own : List ℕ) → length own ≤ 1 → IsGuarded inside own value → Discloses inside own rows w value →
+  known_by : {value : List ℤ → ℤ} (w : List ℤ) → Agrees (known_max n answers) w → (own : List ℕ) → length own ≤ 1 → IsGuarded inside own value →
+      Discloses inside own rows w value →
       IsDangerousFor (known_max n answers) rows
   known_by w agrees [] few (number row below other guarded) discloses = record {
     w = w;
@@ -367,7 +379,8 @@ module _ (n : ℕ) (answers : List Answer) (rows : List ℕ) where
   known_by w agrees own few (total group row one within other) discloses = let k = one.1 in absurd (omega arith)
 
   to_one : IsDangerous inside rows → IsDangerousFor (known_max n answers) rows
-  to_one danger = known_by danger.w (record { one_each = danger.agrees.one_each; same = danger.agrees.same }) danger.own danger.are_own.1 danger.guarded danger.disclosed
+  to_one danger = known_by danger.w (record { one_each = danger.agrees.one_each; same = danger.agrees.same }) danger.own danger.are_own.1 danger.guarded
+      danger.disclosed
 
   from_one : IsDangerousFor (known_max n answers) rows → IsDangerous inside rows
   from_one danger = elim (cases_lt danger.q n) [
@@ -389,7 +402,8 @@ module _ (n : ℕ) (answers : List Answer) (rows : List ℕ) where
       guarded = number danger.i danger.below refl refl;
       disclosed = λ v alike same.
           danger.disclosed v (alike_out danger.w v alike)
-          (get_or_past v danger.q (pos 0) (let all = alike.agrees.one_each in omega arith) ∙ sym (get_or_past danger.w danger.q (pos 0) (let all = danger.agrees.one_each in omega arith)));
+          (get_or_past v danger.q (pos 0) (let all = alike.agrees.one_each in omega arith)
+              ∙ sym (get_or_past danger.w danger.q (pos 0) (let all = danger.agrees.one_each in omega arith)));
     }
   ]
 

@@ -34,7 +34,8 @@ module _ (n : ℕ) (answers : List Answer) (shared several : List ℕ) (q i : �
   one_person r (inl is_i) = ap (has_row several) is_i ∙ i_one
   one_person r (inr is_q) = ap (has_row several) is_q ∙ q_one
 
-  few_among : (rows : List ℕ) → AscendsFrom 0 n rows → has_row rows i ≡ true → ((r : ℕ) → has_row rows r ≡ true → (r ≡ i) ⊎ (r ≡ q)) → AreFewPeople shared several rows
+  few_among : (rows : List ℕ) → AscendsFrom 0 n rows → has_row rows i ≡ true → ((r : ℕ) → has_row rows r ≡ true → (r ≡ i) ⊎ (r ≡ q)) →
+      AreFewPeople shared several rows
   few_among [] ascends there only = absurd (true≢false (sym there))
   few_among (r ∷ []) ascends there only = inl (r, refl, ap (has_row shared) (only_one r i there) ∙ alone)
   few_among (r ∷ s ∷ []) ascends there only =
@@ -46,7 +47,8 @@ module _ (n : ℕ) (answers : List Answer) (shared several : List ℕ) (q i : �
     scarce.answer,
     scarce.one,
     few_among (extremes answers scarce.answer)
-        (filter-ascends 0 n (λ r. is_bound (upper_bound answers r) scarce.answer.value) scarce.answer.rows (all_at (λ b. AreRows n b.rows) answers scarce.answer well.are_rows scarce.one))
+        (filter-ascends 0 n (λ r. is_bound (upper_bound answers r) scarce.answer.value) scarce.answer.rows
+            (all_at (λ b. AreRows n b.rows) answers scarce.answer well.are_rows scarce.one))
         scarce.extreme scarce.only,
   )
 
@@ -78,7 +80,8 @@ module _ (n : ℕ) (answers : List Answer) (shared several rows : List ℕ) (wel
     same = all-push (λ a. greatest_over w a.rows ≡ a.value) answers (asked answers rows (greatest_over w rows)) agrees.same refl;
   }
 
-  leaves_by : {value : List ℤ → ℤ} (w : List ℤ) → Agrees known w → (own : List ℕ) → AreOwn known own → IsGuarded known own value → Discloses known own rows w value →
+  leaves_by : {value : List ℤ → ℤ} (w : List ℤ) → Agrees known w → (own : List ℕ) → AreOwn known own → IsGuarded known own value →
+      Discloses known own rows w value →
       HasFewPeople shared several (with_asked answers rows (greatest_over w rows))
   leaves_by w agrees own are_own (total group row one within other) discloses = let k = one.1 in absurd (omega arith)
   leaves_by w agrees [] are_own (number row below other guarded) discloses =
@@ -97,7 +100,8 @@ module _ (n : ℕ) (answers : List Answer) (shared several rows : List ℕ) (wel
       let apart : q ≢ row = λ e. true≢false (sym (ap (λ r. has_row (q ∷ []) r) (sym e) ∙ has_first q []) ∙ sym (sym other)) in
       elim (scarce_or_open n whole w q row formed (agrees_now w agrees) below apart) [
         | inl scarce ↦ few_here n whole shared several q row formed scarce (one_alone row guarded) are_own.2.0 guarded
-        | inr free ↦ absurd (free.differs (discloses free.other (alike_in w free.other (gives_same n answers rows well are some w free.other free.agrees)) (free.same, tt)))
+        | inr free ↦ absurd (free.differs (discloses free.other (alike_in w free.other (gives_same n answers rows well are some w free.other free.agrees))
+            (free.same, tt)))
       ]
   leaves_by w agrees (q ∷ r ∷ own) are_own (number row below other guarded) discloses = let few = are_own.1 in absurd (omega arith)
 
@@ -140,7 +144,8 @@ module _ (n : ℕ) (answers : List Answer) (shared several rows : List ℕ) (wel
         }
 
     -- of two lines of one person each the one who is below the answer knows the other
-    from_pair : (a : Answer) → IsOneOf a whole → (r s : ℕ) → extremes whole a ≡ r ∷ s ∷ [] → has_row several r ≡ false → has_row several s ≡ false → IsDangerous known rows
+    from_pair : (a : Answer) → IsOneOf a whole → (r s : ℕ) → extremes whole a ≡ r ∷ s ∷ [] → has_row several r ≡ false → has_row several s ≡ false →
+        IsDangerous known rows
     from_pair a one r s only r_one s_one =
         let here : has_row (extremes whole a) r ≡ true = ap (λ l. has_row l r) only ∙ has_first r (s ∷ []) in
         let too : has_row (extremes whole a) s ≡ true = ap (λ l. has_row l s) only ∙ has_later r s (s ∷ []) (has_first s []) in
@@ -162,7 +167,8 @@ module _ (n : ℕ) (answers : List Answer) (shared several rows : List ℕ) (wel
                 ];
               } in
               let own : number_at w s ≢ a.value = λ e.
-              let less = get_or-set_same (highest n whole) s (number_at (highest n whole) s -ℤ pos 1) (pos 0) (omega (arith, length-highest n whole, below_s)) in
+              let less = get_or-set_same (highest n whole) s (number_at (highest n whole) s -ℤ pos 1) (pos 0)
+                      (omega (arith, length-highest n whole, below_s)) in
               let high = number_at-highest n whole s below_s in
               let bound = bound_from (upper_bound whole s) a.value (filter-has (λ q. is_bound (upper_bound whole q) a.value) a.rows s too).1 in
               absurd (omega (arith, ints)) in
@@ -174,7 +180,8 @@ module _ (n : ℕ) (answers : List Answer) (shared several rows : List ℕ) (wel
                 value = λ v. number_at v r;
                 guarded = number r (row_of n answers rows well are some x possible a one r here) (ap (λ b. b || false) (ne_eqb s r apart)) r_one;
                 disclosed = λ v alike same.
-                    scarce_tells n whole v s r scarce formed (agree_too n answers rows well are some x possible w v agrees (alike_out w v alike)) (λ e. own (sym same.0 ∙ e))
+                    scarce_tells n whole v s r scarce formed (agree_too n answers rows well are some x possible w v agrees (alike_out w v alike))
+                        (λ e. own (sym same.0 ∙ e))
                     ∙ sym (scarce_tells n whole w s r scarce formed agrees own);
               }
         ]

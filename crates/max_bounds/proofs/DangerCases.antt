@@ -113,7 +113,8 @@ module _ (answers : List Answer) (counts : List ℕ) (fewest : ℕ) (sets : List
                     absurd (omega (arith, ints)))
                     (λ r there.
                     let found = filter-has (λ q. not (has_row rows q)) e.rows r there in
-                    let among = ap (λ l. has_row l r) (sym only.1) ∙ has-filter (λ q. not (has_row rows q)) (extremes answers a) r (cover.3 r found.0) found.1 in
+                    let among = ap (λ l. has_row l r) (sym only.1) ∙ has-filter (λ q. not (has_row rows q)) (extremes answers a) r
+                            (cover.3 r found.0) found.1 in
                     elim (first_or_later only.0 r [] among) [ inl same ↦ same | inr later ↦ absurd (true≢false (sym later)) ]),
                 only.2,
               );
@@ -176,12 +177,14 @@ module _ (answers : List Answer) (counts : List ℕ) (fewest : ℕ) (sets : List
 -- ---- the same with few rows in place of one
 
 -- ascending rows among others are no more
-no_more_among : (low n : ℕ) (few many : List ℕ) → AscendsFrom low n few → AscendsFrom low n many → ((r : ℕ) → has_row few r ≡ true → has_row many r ≡ true) → length few ≤ length many
+no_more_among : (low n : ℕ) (few many : List ℕ) → AscendsFrom low n few → AscendsFrom low n many → ((r : ℕ) → has_row few r ≡ true → has_row many r ≡ true) →
+    length few ≤ length many
 no_more_among low n [] many p q all = omega arith
 no_more_among low n (x ∷ few) [] p q all = absurd (true≢false (sym (all x (has_first x few))))
 no_more_among low n (x ∷ few) (y ∷ many) p q all = elim (first_or_later y x many (all x (has_first x few))) [
   | inl same ↦
-      let rest = no_more_among (x + 1) n few many p.2 (subst (λ k. AscendsFrom (k + 1) n many) same q.2) (λ r there. elim (first_or_later y r many (all r (has_later x r few there))) [
+      let rest = no_more_among (x + 1) n few many p.2 (subst (λ k. AscendsFrom (k + 1) n many) same q.2)
+              (λ r there. elim (first_or_later y r many (all r (has_later x r few there))) [
         | inl is ↦ absurd (let after = from_row (x + 1) n few r p.2 there in omega arith)
         | inr later ↦ later
       ]) in omega arith
@@ -202,7 +205,8 @@ no_more_among low n (x ∷ few) (y ∷ many) p q all = elim (first_or_later y x 
       | inr late ↦ late
     ]
 
-module _ (most : ℕ) (answers : List Answer) (counts : List ℕ) (fewest : ℕ) (sets : List Answer) (tells : TellsExtremes (extremes answers) answers counts fewest sets) where
+module _ (most : ℕ) (answers : List Answer) (counts : List ℕ) (fewest : ℕ) (sets : List Answer)
+    (tells : TellsExtremes (extremes answers) answers counts fewest sets) where
   -- if the least count is few, some answer has few
   pub some_few : fewest ≤ most → fewest < 65535 → HasFewExtremes most answers
   some_few few small =
@@ -259,11 +263,13 @@ module _ (most : ℕ) (answers : List Answer) (counts : List ℕ) (fewest : ℕ)
                 let same = source.2 in
                 absurd (omega (arith, ints));
             few_left =
-                let fewer = no_more_among 0 n (outside rows e.rows) (outside rows (extremes answers a)) (filter-ascends 0 n (λ r. not (has_row rows r)) e.rows (kept_rows e cover.1))
+                let fewer = no_more_among 0 n (outside rows e.rows) (outside rows (extremes answers a))
+                        (filter-ascends 0 n (λ r. not (has_row rows r)) e.rows (kept_rows e cover.1))
                 (filter-ascends 0 n (λ r. not (has_row rows r)) (extremes answers a)
                 (filter-ascends 0 n (λ r. is_bound (upper_bound answers r) a.value) a.rows (all_at (λ b. AreRows n b.rows) answers a are held.one)))
                 (λ r there.
-                let found = filter-has (λ q. not (has_row rows q)) e.rows r there in has-filter (λ q. not (has_row rows q)) (extremes answers a) r (cover.3 r found.0) found.1) in
+                let found = filter-has (λ q. not (has_row rows q)) e.rows r there in has-filter (λ q. not (has_row rows q)) (extremes answers a) r
+                        (cover.3 r found.0) found.1) in
                 let few = held.few_left in
                 omega arith;
             lower = λ b one none.
@@ -275,7 +281,8 @@ module _ (most : ℕ) (answers : List Answer) (counts : List ℕ) (fewest : ℕ)
         )
 
     -- if no answer has few, few highest rows or a set that is nearly held decides
-    pub few_decides : most < fewest → IsFewByExtremes most answers rows → (HasFewHighest most (upper_bound answers) rows → ⊥) → HasNearlyHeld most (λ a. a.rows) sets rows
+    pub few_decides : most < fewest → IsFewByExtremes most answers rows → (HasFewHighest most (upper_bound answers) rows → ⊥) →
+        HasNearlyHeld most (λ a. a.rows) sets rows
     few_decides more told not_highest = elim told.cause [
       | inl few ↦ absurd (none_few more few)
       | inr other ↦ elim other [ inl highest ↦ absurd (not_highest highest) | inr held ↦ held_set held ]

@@ -15,7 +15,8 @@ use Rattle.max_bounds.proofs.Walks.{has-push, has-front, has-last, counted-push,
 use Rattle.max_bounds.proofs.HighestBounds.{never_below, not_both, below_higher, below_or_not}
 
 -- what passes one test where it passes another is no longer
-pub filter_grows : (p t : ℕ → Bool) (rows : List ℕ) → ((r : ℕ) → has_row rows r ≡ true → p r ≡ true → t r ≡ true) → length (filter p rows) ≤ length (filter t rows)
+pub filter_grows : (p t : ℕ → Bool) (rows : List ℕ) → ((r : ℕ) → has_row rows r ≡ true → p r ≡ true → t r ≡ true) →
+    length (filter p rows) ≤ length (filter t rows)
 filter_grows p t [] h = omega arith
 filter_grows p t (x ∷ rows) h = go (p x) (t x) refl refl (filter_grows p t rows (λ r there passes. h r (has_later x r rows there) passes))
   where
@@ -45,7 +46,8 @@ apart_bounds o p apart = by (option_eq int_eq o p) refl
 tests_below : (o p : Option ℤ) → IsBelowBound o p → is_below_bound o p ≡ true
 tests_below None p below = absurd below
 tests_below (Some b) None below = refl
-tests_below (Some b) (Some c) below = elim (int_lt b c) as (λ t. int_lt b c ≡ t → t ≡ true) [ true ↦ λ yes. refl | false ↦ λ more. absurd (omega (arith, ints)) ] refl
+tests_below (Some b) (Some c) below = elim (int_lt b c) as (λ t. int_lt b c ≡ t → t ≡ true)
+    [ true ↦ λ yes. refl | false ↦ λ more. absurd (omega (arith, ints)) ] refl
 
 -- and what passes it is below
 below_tested : (o p : Option ℤ) → is_below_bound o p ≡ true → IsBelowBound o p
@@ -102,7 +104,8 @@ module _ (bound : ℕ → Option ℤ) where
       there = has-last seen q;
       is = refl;
       counted = counted-push (has_it bound (bound q)) seen q 0
-          (ap length (sym (filter-none (has_it bound (bound q)) seen (λ p there. apart_bounds (bound p) (bound q) (λ same. never_below (bound p) (bound q) same (lower p there))))))
+          (ap length (sym (filter-none (has_it bound (bound q)) seen
+              (λ p there. apart_bounds (bound p) (bound q) (λ same. never_below (bound p) (bound q) same (lower p there))))))
           (same_bounds (bound q) (bound q) refl);
     }
       where
@@ -126,14 +129,16 @@ module _ (bound : ℕ → Option ℤ) where
     }
 
   -- at the end the count tells whether few are highest
-  pub count_ends : (most : ℕ) (rows : List ℕ) (highest : Option ℤ) (count : ℕ) → IsCounted bound rows highest count → (count ≤ most) ↔ HasFewHighest most bound rows
+  pub count_ends : (most : ℕ) (rows : List ℕ) (highest : Option ℤ) (count : ℕ) → IsCounted bound rows highest count →
+      (count ≤ most) ↔ HasFewHighest most bound rows
   count_ends most rows highest count h = (
     (λ few. (
       h.row,
       h.there,
       (let fewer = filter_grows (λ q. not (is_below_bound (bound q) (bound h.row))) (has_it bound highest) rows (λ q there passes. elim (h.most q there) [
         | inl same ↦ same_bounds (bound q) highest same
-        | inr under ↦ absurd (passes_not (is_below_bound (bound q) (bound h.row)) passes (tests_below (bound q) (bound h.row) (subst (IsBelowBound (bound q)) (sym h.is) under)))
+        | inr under ↦ absurd (passes_not (is_below_bound (bound q) (bound h.row)) passes
+            (tests_below (bound q) (bound h.row) (subst (IsBelowBound (bound q)) (sym h.is) under)))
       ]) in let is = h.counted in omega arith),
     )),
     (λ (r, there, few).

@@ -27,7 +27,8 @@ of_second (x ∷ xs) ys a one = inr (of_second xs ys a one)
 abbrev pub FewSoFar : ℕ → List Answer → List ℕ → Option ℤ → Type 0
 FewSoFar most seen rows None = (b : Answer) → IsOneOf b seen → most < length (left_of rows b)
 FewSoFar most seen rows (Some v) =
-    ((a : Answer) × IsOneOf a seen × (length (left_of rows a) ≤ most) × (a.value ≡ v)) × ((b : Answer) → IsOneOf b seen → length (left_of rows b) ≤ most → b.value ≤ℤ v)
+    ((a : Answer) × IsOneOf a seen × (length (left_of rows a) ≤ most) × (a.value ≡ v)) ×
+        ((b : Answer) → IsOneOf b seen → length (left_of rows b) ≤ most → b.value ≤ℤ v)
 
 -- and none is held whole
 pub record AreSeen (most : ℕ) (seen : List Answer) (rows : List ℕ) (few : Option ℤ) : Type 0 where
@@ -42,7 +43,8 @@ no_length rows e = ap length e
 
 module _ (most : ℕ) (seen : List Answer) (rows : List ℕ) (x : Answer) where
   -- an answer that isn't past what is noted is at least that
-  few_below : (few : Option ℤ) → FewSoFar most seen rows few → (IsPast few x.value → ⊥) → (b : Answer) → IsOneOf b seen → length (left_of rows b) ≤ most → b.value ≤ℤ x.value
+  few_below : (few : Option ℤ) → FewSoFar most seen rows few → (IsPast few x.value → ⊥) → (b : Answer) → IsOneOf b seen → length (left_of rows b) ≤ most →
+      b.value ≤ℤ x.value
   few_below None told not b one few = let more = told b one in absurd (omega arith)
   few_below (Some v) told not b one few = let low = told.1 b one few in by_lt_z x.value v (λ less. absurd (not less)) (λ late. omega (arith, ints))
 
@@ -109,7 +111,8 @@ module _ (most : ℕ) (seen : List Answer) (rows : List ℕ) (x : Answer) where
         )
 
     -- once a set is held whole, none is
-    pub held_never : (few : Option ℤ) → AreSeen most seen rows few → (IsPast few x.value → ⊥) → left_of rows x ≡ [] → HasNearlyHeld most (λ a. a.rows) (seen ++ x ∷ rest) rows → ⊥
+    pub held_never : (few : Option ℤ) → AreSeen most seen rows few → (IsPast few x.value → ⊥) → left_of rows x ≡ [] →
+        HasNearlyHeld most (λ a. a.rows) (seen ++ x ∷ rest) rows → ⊥
     held_never few h not whole (a, held) =
         let above = held.lower x (of_second seen (x ∷ rest) x (inl refl)) whole in
         elim (of_either seen (x ∷ rest) a held.one) [

@@ -24,7 +24,8 @@ descend_from (suc k) [] h = tt
 descend_from (suc k) (x ∷ least) h = descend_from k least h.1
 
 -- a set is one of the first ones, or of the others
-first_or_other : (k : ℕ) (least : List AnsweredMax) (a : Answer) → IsOneOf a (answers_of least) → IsOneOf a (answers_of (take k least)) ⊎ IsOneOf a (answers_of (drop k least))
+first_or_other : (k : ℕ) (least : List AnsweredMax) (a : Answer) → IsOneOf a (answers_of least) → IsOneOf a (answers_of (take k least)) ⊎
+    IsOneOf a (answers_of (drop k least))
 first_or_other zero least a one = inr one
 first_or_other (suc k) [] a one = absurd one
 first_or_other (suc k) (x ∷ least) a (inl same) = inl (inl same)

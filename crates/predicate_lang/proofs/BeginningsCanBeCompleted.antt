@@ -29,6 +29,7 @@ has_literal (Some role.Number) h = refl
 has_literal (Some role.Text) h = refl
 has_literal (Some role.Sum) h = h
 has_literal (Some role.Max) h = h
+has_literal (Some role.Min) h = h
 
 -- and is compared for equality
 has_equal : (r : Option Role) → public_role r ≡ true → has_operator r op.Eq ≡ true
@@ -37,6 +38,7 @@ has_equal (Some role.Number) h = refl
 has_equal (Some role.Text) h = refl
 has_equal (Some role.Sum) h = h
 has_equal (Some role.Max) h = h
+has_equal (Some role.Min) h = h
 
 module _ (columns : List Column) where
   -- a token more begins a predicate, so does what is before it

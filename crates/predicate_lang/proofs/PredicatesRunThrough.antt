@@ -34,6 +34,7 @@ role_public (Some role.Number) l h = refl
 role_public (Some role.Text) l h = refl
 role_public (Some role.Sum) l h = h
 role_public (Some role.Max) l h = h
+role_public (Some role.Min) l h = h
 role_public None l h = h
 
 -- after a whole operand if no `not` waits for it

@@ -160,6 +160,7 @@ fn takes_operator(role: Option<Role>, op: Op) -> bool
         },
         Some(Role::Sum) => false,
         Some(Role::Max) => false,
+        Some(Role::Min) => false,
         None => false,
     }
 }
@@ -172,6 +173,7 @@ fn takes_literal(role: Option<Role>, literal: &Literal) -> bool
         Some(Role::Text) => matches!(literal, Literal::Text(_)),
         Some(Role::Sum) => false,
         Some(Role::Max) => false,
+        Some(Role::Min) => false,
         None => false,
     }
 }

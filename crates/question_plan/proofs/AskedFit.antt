@@ -15,7 +15,7 @@ use Rattle.line_wire.specs.Lines.{CountedLine, text, long}
 use Rattle.line_wire.specs.Questions.{Written, counted, taken}
 use Rattle.line_wire.specs.Requests.{IsRequest, secret_of}
 use Rattle.line_wire.specs.declared.question.Take.{Take}
-use Rattle.line_wire.specs.declared.question.Take.TheVariants.{Sum, Avg, Max}
+use Rattle.line_wire.specs.declared.question.Take.TheVariants.{Sum, Avg, Max, Min}
 use Rattle.line_wire.specs.declared.request.Request.{Request}
 use Rattle.line_wire.specs.declared.request.Request.TheVariants as request
 use Rattle.question_plan.specs.declared.planning.Plan.TheVariants.{Ask}
@@ -37,6 +37,7 @@ module _ (places : PlacesAreColumns) (schema : List Column) (valid : AreColumns 
   TakesColumnBelow (request.Sum c p) = c < columns (shape_of schema public.rows)
   TakesColumnBelow (request.Avg c p) = c < columns (shape_of schema public.rows)
   TakesColumnBelow (request.Max c p) = c < columns (shape_of schema public.rows)
+  TakesColumnBelow (request.Min c p) = c < columns (shape_of schema public.rows)
 
   -- a question of such a column over the rows of a condition fits the shape
   question_fits : (t take : Take) (column : ℕ) (rows : List ℕ) (asked : Asked) → column < columns (shape_of schema public.rows) → AreRows public.rows rows →
@@ -56,6 +57,8 @@ module _ (places : PlacesAreColumns) (schema : List Column) (valid : AreColumns 
       question_fits Avg take c (meaning public (tree_of p)) asked below (AreRows-rows_that _ public.rows) is
   request_fits (request.Max c p) take asked below is =
       question_fits Max take c (meaning public (tree_of p)) asked below (AreRows-rows_that _ public.rows) is
+  request_fits (request.Min c p) take asked below is =
+      question_fits Min take c (meaning public (tree_of p)) asked below (AreRows-rows_that _ public.rows) is
 
   -- the column of a request that a question means
   taken_below : (written : Written) (t : Tree) (r : Request) → IsRequest schema written t r → TakesColumnBelow r
@@ -63,6 +66,7 @@ module _ (places : PlacesAreColumns) (schema : List Column) (valid : AreColumns 
   taken_below (taken Sum name condition) t (request.Sum c p) means = column_below name c means.0
   taken_below (taken Avg name condition) t (request.Avg c p) means = column_below name c means.0
   taken_below (taken Max name condition) t (request.Max c p) means = column_below name c means.0
+  taken_below (taken Min name condition) t (request.Min c p) means = column_below name c means.0
   taken_below question t r means = absurd means
 
   -- a question that a line comes to fits the shape

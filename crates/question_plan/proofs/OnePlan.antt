@@ -12,7 +12,7 @@ use Rattle.line_wire.specs.Lines.{CountedLine, text, long}
 use Rattle.line_wire.specs.Questions.{Written, counted, taken, text_of, question_of}
 use Rattle.line_wire.specs.Requests.{Requests, Refuses, HasBadCondition, column_fault, IsRequest, secret_of}
 use Rattle.line_wire.specs.declared.question.Take.{Take}
-use Rattle.line_wire.specs.declared.question.Take.TheVariants.{Sum, Avg, Max}
+use Rattle.line_wire.specs.declared.question.Take.TheVariants.{Sum, Avg, Max, Min}
 use Rattle.line_wire.specs.declared.request.Request.{Request}
 use Rattle.line_wire.specs.declared.request.Request.TheVariants as request
 use Rattle.line_wire.specs.declared.request.LineFault.{LineFault}
@@ -36,6 +36,7 @@ request_some public (request.Count p) take asked is = absurd (cc)
 request_some public (request.Sum c p) take asked is = question_some Sum take c public.rows (meaning public (tree_of p)) asked is
 request_some public (request.Avg c p) take asked is = question_some Avg take c public.rows (meaning public (tree_of p)) asked is
 request_some public (request.Max c p) take asked is = question_some Max take c public.rows (meaning public (tree_of p)) asked is
+request_some public (request.Min c p) take asked is = question_some Min take c public.rows (meaning public (tree_of p)) asked is
 
 -- a refusal asks nothing
 pub never_asks : {X : Type 0} (f : LineFault) (take : Take) (asked : Asked) → refusal f ≡ Some (Ask take asked) → X
@@ -75,6 +76,9 @@ module _ (columns : List Column) (public : PublicView) where
   requests_same (taken Max name condition) t (request.Max c p) (request.Max d q) r_is q_is =
       over_same Max c d (tree_of p) (tree_of q) (some_same c d (secret_of columns name) r_is.0 q_is.0) (r_is.1 ∙ sym q_is.1)
   requests_same (taken Max name condition) t (request.Max c p) q r_is q_is = absurd q_is
+  requests_same (taken Min name condition) t (request.Min c p) (request.Min d q) r_is q_is =
+      over_same Min c d (tree_of p) (tree_of q) (some_same c d (secret_of columns name) r_is.0 q_is.0) (r_is.1 ∙ sym q_is.1)
+  requests_same (taken Min name condition) t (request.Min c p) q r_is q_is = absurd q_is
   requests_same question t r q r_is q_is = absurd r_is
 
 -- ---- refusals

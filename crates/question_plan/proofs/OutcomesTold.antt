@@ -1,6 +1,6 @@
 -- What becomes of a question is told by a reply.
 use Rattle.std.proofs.Common.{◌≡◌, ◌≢◌, ℕ, ℤ, ◌*◌, ◌^◌, ◌<◌, ◌≤◌, List, [], refl, sym, ◌∙◌, ap, subst}
-use Rattle.std.specs.Prelude.{unsigned_abs}
+use Rattle.std.specs.Prelude.{neg_ℤ, unsigned_abs}
 use Rattle.audit_types.specs.declared.records.Asked.{Asked}
 use Rattle.audit_types.specs.declared.records.Answered.{Answered}
 use Rattle.audit_types.specs.declared.records.Verdict.TheVariants.{Released, DeniedUnsafe, DeniedWide}
@@ -18,7 +18,7 @@ use Rattle.line_wire.specs.Requests.{kind_for}
 use Rattle.line_wire.specs.declared.reply.Reply.{Reply}
 use Rattle.line_wire.specs.declared.reply.Reply.TheVariants as reply
 use Rattle.line_wire.specs.declared.question.Take.{Take}
-use Rattle.line_wire.specs.declared.question.Take.TheVariants.{Sum, Avg, Max}
+use Rattle.line_wire.specs.declared.question.Take.TheVariants.{Sum, Avg, Max, Min}
 use Rattle.question_plan.specs.Replies.{Tells}
 use Rattle.question_plan.specs.Plans.{CanBeTold, most_of}
 use Rattle.question_plan.specs.Laws.{OutcomesCanBeTold, SomeReplyTells}
@@ -44,6 +44,7 @@ module _ (sums : SumsAreSmall) (maxima : MaximaAreSmall) (secret : SecretView) (
   truth_small Sum = sums secret asked.column asked.rows.list is fits.column_below rows_are
   truth_small Avg = sums secret asked.column asked.rows.list is fits.column_below rows_are
   truth_small Max = maxima secret asked.column asked.rows.list is fits.column_below rows_are fits.some
+  truth_small Min = maxima secret asked.column asked.rows.list is fits.column_below rows_are fits.some
 
   answer_small : (z : ℤ) → z ≡ truth (kind_at secret.shape asked.column) (list_of secret.lists asked.column) asked.rows.list → unsigned_abs z ≤ most_of take
   answer_small z is_true =
@@ -65,6 +66,7 @@ some_telling : (take : Take) (size : ℕ) (answer : ℤ) → 0 < size → (told 
 some_telling Sum size answer some = (reply.Sum answer, refl)
 some_telling Avg size answer some = let mean = some_mean answer size some in (reply.Avg mean.0 mean.1, (mean.0, mean.1, mean.2, refl))
 some_telling Max size answer some = (reply.Max answer, refl)
+some_telling Min size answer some = (reply.Min (neg_ℤ answer), refl)
 
 pub some_told : SomeReplyTells
 some_told take size Full some can = (reply.Full, refl)

@@ -10,7 +10,7 @@ use Rattle.predicate_lang.specs.Trees.{tree_of}
 use Rattle.set_index.specs.Asked.{meaning}
 use Rattle.line_wire.specs.Requests.{CanBeAsked, kind_for}
 use Rattle.line_wire.specs.declared.question.Take.{Take}
-use Rattle.line_wire.specs.declared.question.Take.TheVariants.{Sum, Avg, Max}
+use Rattle.line_wire.specs.declared.question.Take.TheVariants.{Sum, Avg, Max, Min}
 use Rattle.line_wire.specs.declared.request.Request.{Request}
 use Rattle.line_wire.specs.declared.request.Request.TheVariants as request
 use Rattle.question_plan.specs.Replies.{plan_of, question_over}
@@ -30,3 +30,4 @@ module _ (schema : List Column) (public : PublicView) where
   request_served (request.Sum c p) can few = question_served Sum c (meaning public (tree_of p)) can.0 (AreRows-rows_that _ public.rows)
   request_served (request.Avg c p) can few = question_served Avg c (meaning public (tree_of p)) can.0 (AreRows-rows_that _ public.rows)
   request_served (request.Max c p) can few = question_served Max c (meaning public (tree_of p)) can.0 (AreRows-rows_that _ public.rows)
+  request_served (request.Min c p) can few = question_served Min c (meaning public (tree_of p)) can.0 (AreRows-rows_that _ public.rows)

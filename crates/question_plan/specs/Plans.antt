@@ -12,7 +12,7 @@ use Rattle.predicate_lang.specs.Trees.{Tree, tree_of}
 use Rattle.line_wire.specs.Reply.{IsInRange}
 use Rattle.line_wire.specs.Requests.{kind_for}
 use Rattle.line_wire.specs.declared.question.Take.{Take}
-use Rattle.line_wire.specs.declared.question.Take.TheVariants.{Sum, Avg, Max}
+use Rattle.line_wire.specs.declared.question.Take.TheVariants.{Sum, Avg, Max, Min}
 use Rattle.line_wire.specs.declared.request.Request.{Request}
 use Rattle.line_wire.specs.declared.request.Request.TheVariants as request
 use Rattle.question_plan.specs.declared.planning.Plan.{Plan}
@@ -24,6 +24,7 @@ condition_of (request.Count p) = tree_of p
 condition_of (request.Sum column p) = tree_of p
 condition_of (request.Avg column p) = tree_of p
 condition_of (request.Max column p) = tree_of p
+condition_of (request.Min column p) = tree_of p
 
 -- a question that can be decided over each table of a shape: it fits, and its column answers what is taken of it
 pub record IsAskable (shape : Shape) (take : Take) (asked : Asked) : Type 0 where
@@ -40,6 +41,7 @@ abbrev pub most_of : Take → ℕ
 most_of Sum = most_answer
 most_of Avg = most_answer
 most_of Max = most_number
+most_of Min = most_number
 
 -- a reply can tell the outcome: a denial isn't one of a released question, and an answer is one over a table
 abbrev pub CanBeTold : Take → Outcome → Type 0

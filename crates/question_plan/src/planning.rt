@@ -49,6 +49,7 @@ fn plan_request(index: &Index, request: &Request) -> Plan
         Request::Sum { column, pred } => plan_question(Take::Sum, *column, index.rows_of(pred)),
         Request::Avg { column, pred } => plan_question(Take::Avg, *column, index.rows_of(pred)),
         Request::Max { column, pred } => plan_question(Take::Max, *column, index.rows_of(pred)),
+        Request::Min { column, pred } => plan_question(Take::Min, *column, index.rows_of(pred)),
     }
 }
 

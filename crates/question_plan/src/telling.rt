@@ -23,6 +23,8 @@ pub fn tell(take: Take, size: u16, outcome: Outcome) -> Reply
             Take::Sum => Reply::Sum(answer),
             Take::Avg => average(answer, size),
             Take::Max => Reply::Max(answer),
+            // The numbers are kept negated.
+            Take::Min => Reply::Min(-answer),
         },
         Outcome::Denied(Verdict::DeniedUnsafe) => Reply::Unsafe,
         Outcome::Denied(Verdict::DeniedWide) => Reply::Wide,

@@ -2,7 +2,7 @@
 use Rattle.std.proofs.Common.{◌≡◌, ℕ, ◌<◌, ◌≤◌, ◌&&◌, Bool, true, false, List, [], length, Option, Some, None, refl, sym, ◌∙◌, subst, arith}
 use Rattle.std.specs.Prelude.{if◌then◌else◌, option_and_then, option_map, unwrap_or, codes, nat_le, Result, Ok, Err, nat_lt, not, ◌||◌}
 use Rattle.std.proofs.lemmas.Bool.{leb-true, ltb-false, true≢false}
-use Rattle.audit_types.specs.Limits.{most_groups, most_width}
+use Rattle.audit_types.specs.Limits.{most_groups, most_rows, most_width}
 use Rattle.serde_json.specs.Data.{Data}
 use Rattle.serde_json.specs.Find.{get, as_number, as_str, as_u64}
 use Rattle.schema_json.specs.Columns.{Column, Group, Guards, SchemaView, IsSchema, has_public, has_good_names, repeats, too_many}
@@ -11,9 +11,9 @@ use Rattle.schema_json.specs.declared.faults.SchemaFault.{SchemaFault}
 use Rattle.schema_json.specs.declared.faults.SchemaFault.TheVariants.{TooLong, NotJson, BadName, Repeated, TooMany}
 use Rattle.schema_json.proofs.FirstFault.{schema_long, schema_no_value, schema_value}
 
--- a width that may be
-abbrev IsWidth : ℕ → Type 0
-IsWidth width = (0 < width) × (width ≤ most_width)
+-- a width and a reach that may be
+abbrev AreBounds : ℕ → ℕ → Type 0
+AreBounds width reach = ((0 < width) × (width ≤ most_width)) × ((1 < reach) × (reach ≤ most_rows))
 
 -- the answer is a fault, and no schema
 no_schema : (f : SchemaFault) (r : Result SchemaView SchemaFault) (schema : SchemaView) → r ≡ Err f → r ≡ Ok schema → IsSchema schema
@@ -24,35 +24,36 @@ or_none : (a b : Bool) → (a || b) ≡ false → (a ≡ false) × (b ≡ false)
 or_none true b e = absurd (true≢false e)
 or_none false b e = (refl, e)
 
--- columns of which some are public, and that pass the tests of their names and numbers, with a width that may be
-passed : (s schema : SchemaView) (good again many : Bool) → has_public s.columns ≡ true → IsWidth s.guards.width → has_good_names s.columns ≡ good
-    → repeats s.columns ≡ again → (too_many s.columns || nat_lt most_groups (length s.guards.groups)) ≡ many
+-- columns of which some are public, and that pass the tests of their names and numbers, with a width and a reach that may be
+passed : (s schema : SchemaView) (good again many : Bool) → has_public s.columns ≡ true → AreBounds s.guards.width s.guards.reach
+    → has_good_names s.columns ≡ good → repeats s.columns ≡ again → (too_many s.columns || nat_lt most_groups (length s.guards.groups)) ≡ many
     → (if not good then Err BadName else (if again then Err Repeated else (if many then Err TooMany else Ok s))) ≡ Ok schema → IsSchema schema
-passed s schema false again many public width names once within is = absurd (cc)
-passed s schema true true many public width names once within is = absurd (cc)
-passed s schema true false true public width names once within is = absurd (cc)
-passed s schema true false false public width names once within is =
+passed s schema false again many public bounds names once within is = absurd (cc)
+passed s schema true true many public bounds names once within is = absurd (cc)
+passed s schema true false true public bounds names once within is = absurd (cc)
+passed s schema true false false public bounds names once within is =
     let same : s ≡ schema = cc in
     let parts = or_none (too_many s.columns) (nat_lt most_groups (length s.guards.groups)) within in
     subst IsSchema same (record {
       columns = record { public = public; good = names; once = once; within = parts.0 };
-      guards = record { few = ltb-false most_groups (length s.guards.groups) parts.1; wide = width.0; narrow = width.1 };
+      guards = record { few = ltb-false most_groups (length s.guards.groups) parts.1; width = bounds.0; reach = bounds.1 };
     })
 
 -- what a value lists, if some of the columns are public
-some_public : (cs : List Column) (g : Option Guards) (schema : SchemaView) (public : Bool) → ((guards : Guards) → g ≡ Some guards → IsWidth guards.width) → has_public cs ≡ public →
+some_public : (cs : List Column) (g : Option Guards) (schema : SchemaView) (public : Bool) →
+    ((guards : Guards) → g ≡ Some guards → AreBounds guards.width guards.reach) → has_public cs ≡ public →
     checked (made_of (λ columns guards. record { columns = columns; guards = guards }) (if public then Some cs else None) g) ≡ Ok schema → IsSchema schema
-some_public cs g schema false width public is = absurd (cc)
-some_public cs None schema true width public is = absurd (cc)
-some_public cs (Some gs) schema true width public is =
+some_public cs g schema false bounds public is = absurd (cc)
+some_public cs None schema true bounds public is = absurd (cc)
+some_public cs (Some gs) schema true bounds public is =
     let s : SchemaView = record { columns = cs; guards = gs } in
-    passed s schema (has_good_names cs) (repeats cs) (too_many cs || nat_lt most_groups (length gs.groups)) public (width gs refl) refl refl refl is
+    passed s schema (has_good_names cs) (repeats cs) (too_many cs || nat_lt most_groups (length gs.groups)) public (bounds gs refl) refl refl refl is
 
 -- what a value lists, if it lists columns
-listed : (o : Option (List Column)) (g : Option Guards) (schema : SchemaView) → ((guards : Guards) → g ≡ Some guards → IsWidth guards.width) →
+listed : (o : Option (List Column)) (g : Option Guards) (schema : SchemaView) → ((guards : Guards) → g ≡ Some guards → AreBounds guards.width guards.reach) →
     checked (made_of (λ columns guards. record { columns = columns; guards = guards }) (option_and_then with_public o) g) ≡ Ok schema → IsSchema schema
-listed None g schema width is = absurd (cc)
-listed (Some cs) g schema width is = some_public cs g schema (has_public cs) width refl is
+listed None g schema bounds is = absurd (cc)
+listed (Some cs) g schema bounds is = some_public cs g schema (has_public cs) bounds refl is
 
 -- a number is read only within its bounds
 number_read : (low high absent : ℕ) (d : Option Data) (n : ℕ) → low ≤ absent → absent ≤ high → unwrap_or (option_map (number_within low high) d) (Some absent) ≡ Some n →
@@ -69,27 +70,35 @@ number_read low high absent (Some d) n above below is = read (option_and_then as
     read None e = absurd (cc)
     read (Some k) e = within k (nat_le low k) (nat_le k high) refl refl e
 
--- what a value says is guarded has a width that may be
-width_of : (d : Data) (guards : Guards) → guards_of d ≡ Some guards → IsWidth guards.width
+-- what a value says is guarded has a width and a reach that may be
+bounds_of : (d : Data) (guards : Guards) → guards_of d ≡ Some guards → AreBounds guards.width guards.reach
 unfolding guards_of
-width_of d guards is =
-    by (has_these_keys d) (key_or None (λ v. option_map Some (as_str v)) (codes "only") d) (key_or [] groups_in (codes "protect") d) (key_or most_width (number_within 1 most_width) (codes "width") d) refl is
+bounds_of d guards is =
+    by (has_these_keys d) (key_or None (λ v. option_map Some (as_str v)) (codes "only") d) (key_or [] groups_in (codes "protect") d)
+    (key_or most_width (number_within 1 most_width) (codes "width") d) (key_or most_rows (number_within 2 most_rows) (codes "reach") d) refl refl is
   where
-    by : (keys : Bool) (only : Option (Option (List ℕ))) (groups : Option (List Group)) (width : Option ℕ) → key_or most_width (number_within 1 most_width) (codes "width") d ≡ width →
-        (if keys then made_of (λ (make : ℕ → Guards) width. make width) (made_of (λ only groups width. record { only = only; groups = groups; width = width }) only groups) width else None) ≡ Some guards →
-        IsWidth guards.width
-    by false only groups width w e = absurd (cc)
-    by true None groups width w e = absurd (cc)
-    by true (Some only) None width w e = absurd (cc)
-    by true (Some only) (Some groups) None w e = absurd (cc)
-    by true (Some only) (Some groups) (Some width) w e =
-        let same : width ≡ guards.width = cc in
-        subst IsWidth same (number_read 1 most_width most_width (get (codes "width") d) width (omega arith) (omega arith) w)
+    by : (keys : Bool) (only : Option (Option (List ℕ))) (groups : Option (List Group)) (width reach : Option ℕ) →
+        key_or most_width (number_within 1 most_width) (codes "width") d ≡ width → key_or most_rows (number_within 2 most_rows) (codes "reach") d ≡ reach →
+        (if keys then made_of (λ (make : ℕ × ℕ → Guards) bounds. make bounds)
+        (made_of (λ only groups bounds. record { only = only; groups = groups; width = bounds.0; reach = bounds.1 }) only groups)
+        (made_of (λ width reach. (width, reach)) width reach) else None) ≡ Some guards →
+        AreBounds guards.width guards.reach
+    by false only groups width reach w r e = absurd (cc)
+    by true None groups width reach w r e = absurd (cc)
+    by true (Some only) None width reach w r e = absurd (cc)
+    by true (Some only) (Some groups) None reach w r e = absurd (cc)
+    by true (Some only) (Some groups) (Some width) None w r e = absurd (cc)
+    by true (Some only) (Some groups) (Some width) (Some reach) w r e =
+        let wide : width ≡ guards.width = cc in
+        let far : reach ≡ guards.reach = cc in
+        let in_width = number_read 1 most_width most_width (get (codes "width") d) width (omega arith) (omega arith) w in
+        let in_reach = number_read 2 most_rows most_rows (get (codes "reach") d) reach (omega arith) (omega arith) r in
+        subst (λ n. AreBounds n guards.reach) wide (subst (AreBounds width) far (in_width, in_reach))
 
 -- what a value lists is a schema
 of_value : (d : Data) (schema : SchemaView) → checked (listed_of d) ≡ Ok schema → IsSchema schema
 unfolding columns_of
-of_value d schema is = listed (option_and_then (each_as column_of) (items_at _ d)) (guards_of d) schema (width_of d) is
+of_value d schema is = listed (option_and_then (each_as column_of) (items_at _ d)) (guards_of d) schema (bounds_of d) is
 
 -- what bytes mean is a schema
 pub meant_columns : (bytes : List ℕ) (schema : SchemaView) → schema_of bytes ≡ Ok schema → IsSchema schema

@@ -19,6 +19,7 @@ kinds_and role.Text bytes = refl
 kinds_and role.Number bytes = refl
 kinds_and role.Sum bytes = refl
 kinds_and role.Max bytes = refl
+kinds_and role.Min bytes = refl
 
 -- the kind bytes of a front that is longer by one column
 kinds_suc : (cs : List Column) (k : ℕ) (r : Role) → Some r ≡ role_at cs k → kind_bytes (take (suc k) cs) ≡ kind_bytes (take k cs) ++ byte_of r
@@ -43,6 +44,7 @@ kinds_step c m n bytes h = by c.role
     by role.Number = omega (arith, h)
     by role.Sum = omega (arith, h)
     by role.Max = omega (arith, h)
+    by role.Min = omega (arith, h)
 
 -- as many bytes as secret columns
 pub kinds_count : (cs : List Column) → length (kind_bytes cs) ≡ secret_count cs
@@ -77,6 +79,7 @@ kinds_room cs k r are is secret =
     by role.Number h = absurd (false≢true h)
     by role.Sum h = refl
     by role.Max h = refl
+    by role.Min h = refl
 
 -- a front of zeros
 zeros : (m n : ℕ) → m ≤ n → take {A = ℕ} m (replicate n 0) ≡ replicate m 0

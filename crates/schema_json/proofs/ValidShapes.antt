@@ -7,7 +7,7 @@ use Rattle.std.proofs.Math.ListN.{get_or-append}
 use Rattle.std.proofs.lemmas.List.Sums.{sum_by-cons}
 use Rattle.audit_types.specs.Shapes.{IsShape, AreKinds, columns, kind_at, kind_of_byte}
 use Rattle.schema_json.specs.Columns.{Column, AreColumns, is_secret, secret_count, secret_place, role_at}
-use Rattle.schema_json.specs.SecretShape.{IsSecretOf, kind_bytes, kind_byte_and, shape_of, role_of_kind}
+use Rattle.schema_json.specs.SecretShape.{IsSecretOf, kind_bytes, kind_byte_and, kind_of_role, shape_of}
 use Rattle.schema_json.specs.declared.roles.Role.{Role}
 use Rattle.schema_json.specs.declared.roles.Role.TheVariants as role
 use Rattle.schema_json.proofs.ShapeKinds.{kinds_count, at_most_eight}
@@ -23,9 +23,11 @@ kinds_before : (r : Role) (bytes : List ℕ) (m : ℕ) → ((k : ℕ) → AreKin
 kinds_before role.Text bytes m later = later m
 kinds_before role.Number bytes m later = later m
 kinds_before role.Sum bytes zero later = tt
-kinds_before role.Sum bytes (suc m) later = inl (inl refl, later m)
+kinds_before role.Sum bytes (suc m) later = inl ((omega arith, omega arith), later m)
 kinds_before role.Max bytes zero later = tt
-kinds_before role.Max bytes (suc m) later = inl (inr refl, later m)
+kinds_before role.Max bytes (suc m) later = inl ((omega arith, omega arith), later m)
+kinds_before role.Min bytes zero later = tt
+kinds_before role.Min bytes (suc m) later = inl ((omega arith, omega arith), later m)
 
 -- a kind byte before others, with what follows them all
 before-append : (r : Role) (bytes more : List ℕ) → kind_byte_and r bytes ++ more ≡ kind_byte_and r (bytes ++ more)
@@ -33,6 +35,7 @@ before-append role.Text bytes more = refl
 before-append role.Number bytes more = refl
 before-append role.Sum bytes more = refl
 before-append role.Max bytes more = refl
+before-append role.Min bytes more = refl
 
 -- the bytes of the secret columns, and zeros after them, are kinds
 are_kinds : (cs : List Column) (m n : ℕ) → AreKinds (take m (kind_bytes cs ++ replicate n 0))
@@ -62,6 +65,9 @@ counted_before role.Sum bytes (suc m) n later fits =
 counted_before role.Max bytes zero n later fits = absurd (omega (arith, fits))
 counted_before role.Max bytes (suc m) n later fits =
     sum_by-cons (λ b. cond (nat_lt 0 b) 1 0) 2 (take m (bytes ++ replicate n 0)) ∙ ap (λ n. 1 + n) (later m (omega (arith, fits))) ∙ one-add (length bytes)
+counted_before role.Min bytes zero n later fits = absurd (omega (arith, fits))
+counted_before role.Min bytes (suc m) n later fits =
+    sum_by-cons (λ b. cond (nat_lt 0 b) 1 0) 3 (take m (bytes ++ replicate n 0)) ∙ ap (λ n. 1 + n) (later m (omega (arith, fits))) ∙ one-add (length bytes)
 
 -- the bytes count the secret columns, if there is room for them
 counted : (cs : List Column) (m n : ℕ) → length (kind_bytes cs) ≤ m →
@@ -98,22 +104,23 @@ secret_place_below (c ∷ cs) (suc place) k is =
     below_later (is_secret c.role) (slice_get cs place) c (filter (λ d. is_secret d.role) (take place cs)) (filter (λ d. is_secret d.role) cs) k
     (secret_place_below cs place) is
 
--- the role that the byte at place k names is this one
+-- the byte at place k names the kind of this role
 abbrev Named : Option Role → List ℕ → ℕ → Type 0
-Named found bytes k = found ≡ Some (role_of_kind (kind_of_byte (get_or bytes k 0)))
+Named found bytes k = option_and_then kind_of_role found ≡ Some (kind_of_byte (get_or bytes k 0))
 
--- the first byte names the first secret column's role
+-- the first byte names the first secret column's kind
 named_first : (r : Role) (bytes : List ℕ) (k : ℕ) → cond (is_secret r) (Some 0) None ≡ Some k → Named (Some r) (kind_byte_and r bytes) k
 named_first role.Text bytes k is = absurd (cc)
 named_first role.Number bytes k is = absurd (cc)
-named_first role.Sum bytes k is = ap (λ j. Some (role_of_kind (kind_of_byte (get_or (1 ∷ bytes) j 0)))) (ap (λ o. unwrap_or o 0) is)
-named_first role.Max bytes k is = ap (λ j. Some (role_of_kind (kind_of_byte (get_or (2 ∷ bytes) j 0)))) (ap (λ o. unwrap_or o 0) is)
+named_first role.Sum bytes k is = ap (λ j. Some (kind_of_byte (get_or (1 ∷ bytes) j 0))) (ap (λ o. unwrap_or o 0) is)
+named_first role.Max bytes k is = ap (λ j. Some (kind_of_byte (get_or (2 ∷ bytes) j 0))) (ap (λ o. unwrap_or o 0) is)
+named_first role.Min bytes k is = ap (λ j. Some (kind_of_byte (get_or (3 ∷ bytes) j 0))) (ap (λ o. unwrap_or o 0) is)
 
 -- a byte before the others moves each place by one
 named_one_more : (b : Bool) (found : Option Role) (byte n k : ℕ) (bytes : List ℕ) → ((m : ℕ) → cond b (Some n) None ≡ Some m → Named found bytes m) →
     cond b (Some (suc n)) None ≡ Some k → Named found (byte ∷ bytes) k
 named_one_more true found byte n k bytes earlier is =
-    earlier n refl ∙ ap (λ j. Some (role_of_kind (kind_of_byte (get_or (byte ∷ bytes) j 0)))) (ap (λ o. unwrap_or o 0) is)
+    earlier n refl ∙ ap (λ j. Some (kind_of_byte (get_or (byte ∷ bytes) j 0))) (ap (λ o. unwrap_or o 0) is)
 named_one_more false found byte n k bytes earlier is = absurd (cc)
 
 -- the same, of the column that is found
@@ -130,8 +137,9 @@ named_later role.Text o c front k bytes earlier is = earlier k is
 named_later role.Number o c front k bytes earlier is = earlier k is
 named_later role.Sum o c front k bytes earlier is = named_behind o 1 (length front) k bytes earlier is
 named_later role.Max o c front k bytes earlier is = named_behind o 2 (length front) k bytes earlier is
+named_later role.Min o c front k bytes earlier is = named_behind o 3 (length front) k bytes earlier is
 
--- the byte at a secret column's place names its role
+-- the byte at a secret column's place names its kind
 named : (cs : List Column) (place k : ℕ) → secret_place cs place ≡ Some k → Named (role_at cs place) (kind_bytes cs) k
 named [] place k is = absurd (cc)
 named (c ∷ cs) zero k is = named_first c.role (kind_bytes cs) k is
@@ -148,13 +156,13 @@ shape_counts cs rows are = counted cs 8 8 (omega (arith, at_most_eight cs are, k
 
 -- the kind of a secret column in the shape is the one that its role names
 pub shape_names : (cs : List Column) (rows : ℕ) → AreColumns cs → (place k : ℕ) → secret_place cs place ≡ Some k →
-    role_at cs place ≡ Some (role_of_kind (kind_at (shape_of cs rows) k))
+    option_and_then kind_of_role (role_at cs place) ≡ Some (kind_at (shape_of cs rows) k)
 shape_names cs rows are place k is =
     let below = secret_place_below cs place k is in
     let within : k < length (kind_bytes cs) = omega (arith, below, kinds_count cs) in
     let room : k < 8 = omega (arith, below, at_most_eight cs are) in
     named cs place k is
-    ∙ ap (λ b. Some (role_of_kind (kind_of_byte b))) (sym (get_or-take 8 (kind_bytes cs ++ replicate 8 0) k 0 room
+    ∙ ap (λ b. Some (kind_of_byte b)) (sym (get_or-take 8 (kind_bytes cs ++ replicate 8 0) k 0 room
     ∙ get_or-append (kind_bytes cs) (replicate 8 0) 0 k within))
 
 -- a secret column's place among the secret ones is that of a column of its kind, in each table

@@ -5,7 +5,7 @@ use Rattle.serde_json.specs.Data.{Data, Items, no_items, item, Members, no_membe
 use Rattle.serde_json.specs.Read.{read}
 use Rattle.serde_json.specs.Find.{get, as_number, as_str, as_array, as_object, as_u64}
 use Rattle.std.specs.declared.alloc.Global.{Global}
-use Rattle.audit_types.specs.Limits.{most_groups, most_width}
+use Rattle.audit_types.specs.Limits.{most_groups, most_rows, most_width}
 use Rattle.schema_json.specs.Columns.{Column, Group, Guards, SchemaView, has_good_names, repeats, too_many, has_public}
 use Rattle.schema_json.specs.declared.roles.Role.{Role}
 use Rattle.schema_json.specs.declared.roles.Role.TheVariants as role
@@ -27,7 +27,7 @@ key_count d = unwrap_or (option_map members_len (as_object d)) 0
 
 -- the role that a word names
 abbrev pub role_of : List ℕ → Option Role
-role_of word = if bytes_eq word (codes "text") then Some role.Text else (if bytes_eq word (codes "number") then Some role.Number else (if bytes_eq word (codes "sum") then Some role.Sum else (if bytes_eq word (codes "max") then Some role.Max else None)))
+role_of word = if bytes_eq word (codes "text") then Some role.Text else (if bytes_eq word (codes "number") then Some role.Number else (if bytes_eq word (codes "sum") then Some role.Sum else (if bytes_eq word (codes "max") then Some role.Max else (if bytes_eq word (codes "min") then Some role.Min else None))))
 
 -- what is made of two parts, if both are there
 abbrev pub made_of : {X Y Z : Type 0} → (X → Y → Z) → Option X → Option Y → Option Z
@@ -77,15 +77,16 @@ has_key key d = cond (is_some (get key d)) 1 0
 
 -- an object has no keys but `columns` and those that say what is guarded
 abbrev pub has_these_keys : Data → Bool
-has_these_keys d = key_count d == 1 + has_key (codes "only") d + has_key (codes "protect") d + has_key (codes "width") d
+has_these_keys d = key_count d == 1 + has_key (codes "only") d + has_key (codes "protect") d + has_key (codes "width") d + has_key (codes "reach") d
 
--- what an object says is guarded: no condition unless it has the key `only`, no groups unless it has `protect`, and the greatest width unless
--- it has `width`
+-- what an object says is guarded: no condition unless it has the key `only`, no groups unless it has `protect`, the greatest width unless it
+-- has `width`, and the greatest reach unless it has `reach`
 unfoldable pub guards_of : Data → Option Guards
-guards_of d =
-    if has_these_keys d then made_of (λ (make : ℕ → Guards) width. make width)
-    (made_of (λ only groups width. record { only = only; groups = groups; width = width }) (key_or None (λ v. option_map Some (as_str v)) (codes "only") d)
-    (key_or [] groups_in (codes "protect") d)) (key_or most_width (number_within 1 most_width) (codes "width") d) else None
+guards_of d = if has_these_keys d then made_of (λ (make : ℕ × ℕ → Guards) bounds. make bounds)
+    (made_of (λ only groups bounds. record { only = only; groups = groups; width = bounds.0; reach = bounds.1 })
+    (key_or None (λ v. option_map Some (as_str v)) (codes "only") d) (key_or [] groups_in (codes "protect") d))
+    (made_of (λ width reach. (width, reach)) (key_or most_width (number_within 1 most_width) (codes "width") d)
+    (key_or most_rows (number_within 2 most_rows) (codes "reach") d)) else None
 
 -- what a value lists: columns, and what is guarded
 abbrev pub listed_of : Data → Option SchemaView

@@ -2,13 +2,14 @@
 ghost use Rattle.std.specs.Prelude.{◌≡◌};
 ghost use Rattle.schema_json.specs.Columns.{is_secret};
 
-/// What a column holds. Text and numbers are public; the columns of sums and maxima are secret.
+/// What a column holds. Text and numbers are public; the columns of sums, maxima and minima are secret.
 #[derive(Clone, Copy, Drop)]
 pub enum Role {
     Text,
     Number,
     Sum,
     Max,
+    Min,
 }
 
 impl Role {
@@ -18,7 +19,7 @@ impl Role {
     {
         match self {
             Role::Text | Role::Number => false,
-            Role::Sum | Role::Max => true,
+            Role::Sum | Role::Max | Role::Min => true,
         }
     }
 }

@@ -5,7 +5,7 @@ ghost use Rattle.schema_json.specs.SecretShape.{shape_of};
 use crate::people::people;
 use crate::staff::{TABLE, staff};
 use audit_store::Store;
-use audit_types::{Answered, Guard, MOST_WIDTH};
+use audit_types::{Answered, Guard, MOST_REACH, MOST_WIDTH};
 use bench_core::{MemoryBench, Room};
 use journal_audit::audit;
 use schema_json::Schema;
@@ -46,7 +46,7 @@ fn send_report(
     match Store::start(
         alloc,
         secret,
-        Guard::new(Vec::new(alloc), MOST_WIDTH),
+        Guard::new(Vec::new(alloc), MOST_WIDTH, MOST_REACH),
         bench,
     ) {
         Ok(store) => audit(alloc, schema, &store, bench).ok(),

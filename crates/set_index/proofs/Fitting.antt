@@ -28,6 +28,7 @@ kept (Some found) cells l holds is = of found cells l (holds found refl) is
     of role.Text (numbers xs) l holds is = absurd holds
     of role.Sum cells l holds is = absurd (false≢true is)
     of role.Max cells l holds is = absurd (false≢true is)
+    of role.Min cells l holds is = absurd (false≢true is)
 
 all_kept : (r : Option Role) (cells : Cells) (ls : List Literal) → ((found : Role) → r ≡ Some found → HoldsRole found cells) →
     list_all (is_of_role r) ls ≡ true → are_kept cells ls ≡ true

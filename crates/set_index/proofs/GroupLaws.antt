@@ -3,16 +3,16 @@ use Rattle.std.proofs.Common.{◌+◌, ◌≡◌, ℕ, suc, ◌≤◌, List, [],
 use Rattle.std.specs.Prelude.{option_and_then, slice_get, All}
 use Rattle.std.proofs.lemmas.List.{length-append}
 use Rattle.std.proofs.lemmas.List.Elements.{All-append, All-nil, All-cons}
+use Rattle.std.proofs.lemmas.Option.{same_Some}
 use Rattle.audit_types.specs.Rows.{AreRows}
 use Rattle.audit_types.specs.RowLaws.{AreRows-rows_that}
 use Rattle.audit_types.specs.Limits.{most_groups}
 use Rattle.audit_types.specs.PlainLaws.{plain_fits}
 use Rattle.audit_types.specs.History.{Protection, IsProtected, IsPlainFor, FitsShape, against_outsiders, entry_of}
 use Rattle.audit_types.specs.declared.records.Protected.{Protected}
-use Rattle.audit_types.specs.declared.shapes.Kind.{Kind}
 use Rattle.audit_types.specs.declared.shapes.Kind.TheVariants as kind
 use Rattle.schema_json.specs.Columns.{Column, Group, Guards, AreColumns, place_of, role_at, secret_place}
-use Rattle.schema_json.specs.SecretShape.{IsSecretOf, PlacesAreColumns, role_of_kind, shape_of}
+use Rattle.schema_json.specs.SecretShape.{IsSecretOf, PlacesAreColumns, shape_of}
 use Rattle.schema_json.specs.declared.roles.Role.TheVariants.{Sum}
 use Rattle.table_load.specs.Cells.{PublicView, whole}
 use Rattle.predicate_lang.specs.Laws.{OneMeaning}
@@ -77,14 +77,15 @@ sound_only columns (Some text) public (t, short, is, asks) = (t, short, is)
 -- and they protect in one way
 one_way : OneMeaning → (columns : List Column) (public : PublicView) (guards : Guards) (a b : Protection) → Protects columns public guards a → Protects columns public guards b → a ≡ b
 one_way means columns public guards a b first second =
-    first.1 ∙ ap (λ entries. against_outsiders entries [] guards.width) (one_list means columns public 0 guards.groups a.groups b.groups first.0 second.0) ∙ sym second.1
+    let entries = one_list means columns public 0 guards.groups a.groups b.groups first.0 second.0 in
+    first.1 ∙ ap (λ groups. against_outsiders groups [] guards.width guards.reach) entries ∙ sym second.1
 
 some_way : (columns : List Column) (public : PublicView) (guards : Guards) → AreSound columns guards →
     (asked : PublicView) × (protected : Protection) × (whole asked ≡ whole public) × Protects columns asked guards protected
 some_way columns public guards sound =
     let part = some_part columns guards.only public sound.only in
     let list = some_list columns part.0 0 guards.groups sound.groups in
-    (part.0, against_outsiders list.0 [] guards.width, part.1, (list.1, refl, part.2))
+    (part.0, against_outsiders list.0 [] guards.width guards.reach, part.1, (list.1, refl, part.2))
 
 -- what has a fault isn't sound
 bad_way : (columns : List Column) (guards : Guards) (bad : GuardPart) → IsFirstBad columns guards bad → ¬ (AreSound columns guards)
@@ -114,10 +115,6 @@ sums_at places columns group column t are is = by (place_of group.column columns
     by None sums place = absurd (cc)
     by (Some p) sums place = subst (λ r. IsSecretOf columns r column) sums (places columns p column are place)
 
-kind_of_sums : (k : Kind) → Some Sum ≡ Some (role_of_kind k) → k ≡ kind.Sum
-kind_of_sums kind.Sum is = refl
-kind_of_sums kind.Max is = absurd (cc)
-
 -- some rows of a column of sums are a group that fits
 fits_sums : (columns : List Column) (column place rows : ℕ) (list : List ℕ) → IsSecretOf columns (Some Sum) column → AreRows rows list →
     All (IsProtected (shape_of columns rows)) (entry_of column place rows list) × (length (entry_of column place rows list) ≤ 1)
@@ -126,7 +123,7 @@ fits_sums columns column place rows (r ∷ list) secret are =
     let shape = shape_of columns rows in
     let p : Protected = record { column = column; place = place; rows = record { n = rows; list = r ∷ list } } in
     let fits : FitsShape shape column p.rows = record { column_below = secret.has.below rows; same_n = refl; are_rows = are; some = λ none. cc } in
-    (All-cons (IsProtected shape) p [] (fits, secret.has.of_kind rows ∙ kind_of_sums secret.kind secret.named) (All-nil (IsProtected shape)), omega arith)
+    (All-cons (IsProtected shape) p [] (fits, secret.has.of_kind rows ∙ sym (same_Some kind.Sum secret.kind secret.named)) (All-nil (IsProtected shape)), omega arith)
 
 -- the entries of groups fit the table, and are no more than the groups
 entries_fit : PlacesAreColumns → (columns : List Column) (public : PublicView) (from : ℕ) (groups : List Group) (protected : List Protected) → AreColumns columns →
@@ -147,4 +144,5 @@ entries_are_protected places columns public guards protected are is guarded prot
     let shape = shape_of columns public.rows in
     let fit = entries_fit places columns public 0 guards.groups protected.groups are protects.0 in
     let few : length protected.groups ≤ most_groups = omega (arith, fit.1, guarded.few) in
-    subst (IsPlainFor shape) (sym protects.1) (plain_fits shape protected.groups guards.width fit.0 few guarded.wide guarded.narrow)
+    let plain = plain_fits shape protected.groups guards.width guards.reach fit.0 few guarded.width.0 guarded.width.1 guarded.reach.0 guarded.reach.1 in
+    subst (IsPlainFor shape) (sym protects.1) plain

@@ -30,10 +30,10 @@ abbrev pub AsksOnly : List Column → Option (List ℕ) → PublicView → Type 
 AsksOnly columns None public = public.only ≡ None
 AsksOnly columns (Some text) public = (t : Tree) × (length text ≤ 8192) × Means columns text t × (public.only ≡ Some (meaning (whole public) t))
 
--- what a schema guards of a table: each row, and the entries of its groups, by forms of its width; and of which rows may be asked
+-- what a schema guards of a table: each row, and the entries of its groups, by forms of its width and reach; and of which rows may be asked
 abbrev pub Protects : List Column → PublicView → Guards → Protection → Type 0
-Protects columns public guards protected =
-    AreEntries columns public 0 guards.groups protected.groups × (protected ≡ against_outsiders protected.groups [] guards.width) × AsksOnly columns guards.only public
+Protects columns public guards protected = AreEntries columns public 0 guards.groups protected.groups
+    × (protected ≡ against_outsiders protected.groups [] guards.width guards.reach) × AsksOnly columns guards.only public
 
 -- a group has no fault
 abbrev pub HasNoFault : List Column → Group → Type 0

@@ -249,7 +249,7 @@ impl Index {
     {
         groups_of_a_schema();
         // The count says that these are a schema's columns, and the width that at most 64 groups are guarded, within bounds.
-        let (_count, width) = (schema.count(), schema.width());
+        let (_count, width, reach) = (schema.count(), schema.width(), schema.reach());
         // What was read of a table says of no row that it may not be asked of.
         let _rows = public.rows();
         let Ok(columns) = sorted_columns(alloc, &public) else {
@@ -258,11 +258,11 @@ impl Index {
         let mut index = Index {
             public,
             only: None,
-            protected: Guard::new(Vec::new(alloc), width),
+            protected: Guard::new(Vec::new(alloc), width, reach),
             columns,
         };
         index.only = only_rows(alloc, schema, &index)?;
-        index.protected = Guard::new(entries_of(alloc, schema, &index)?, width);
+        index.protected = Guard::new(entries_of(alloc, schema, &index)?, width, reach);
         Ok(index)
     }
 
@@ -273,7 +273,7 @@ impl Index {
         &self.public
     }
 
-    /// What the schema guards: each row, and the groups that some row satisfies, in the order of the schema; and by which width.
+    /// What the schema guards: each row, and the groups that some row satisfies, in the order of the schema; and by which width and reach.
     pub fn protected(&self) -> &Guard
         ensures { result.now ≡ self.now.protected }
     {

@@ -1,16 +1,19 @@
 -- The columns of a table, one after another, and what they are if no record has a fault.
 use Rattle.std.proofs.Common.{◌≡◌, ℕ, zero, suc, ◌+◌, ◌<◌, Bool, true, false, cond, List, [], ◌∷◌, length, drop, filter, Option, Some, None, refl, sym, ap, ◌∙◌, add-one}
-use Rattle.std.specs.Prelude.{ℤ, pos, unwrap_or}
+use Rattle.std.specs.Prelude.{ℤ, pos, neg_ℤ, unwrap_or, not, nat_lt}
 use Rattle.std.specs.List.{AllByRecursion}
 use Rattle.std.proofs.lemmas.List.{length-map}
 use Rattle.audit_types.specs.History.{Secrets}
+use Rattle.audit_types.specs.Limits.{most_number}
+use Rattle.audit_types.specs.Minima.{negated}
+use Rattle.audit_types.specs.Numbers.{size_negated}
 use Rattle.schema_json.specs.Columns.{Column, is_public, is_secret, role_at, secret_count}
 use Rattle.schema_json.specs.declared.roles.Role.{Role}
 use Rattle.schema_json.specs.declared.roles.Role.TheVariants as role
 use Rattle.table_load.specs.Numerals.{number_in, in_range}
 use Rattle.table_load.specs.Cells.{AreCells, AreNumbers}
 use Rattle.table_load.specs.Reading.{Fields, is_in_file, has_numbers, file_columns, roles_of, records_fault}
-use Rattle.table_load.specs.Tables.{HasCell, is_number, field_of, number_of_field, number_column, cells_of, place_after, cells_from, secrets_from}
+use Rattle.table_load.specs.Tables.{HasCell, is_number, field_of, number_of_field, number_column, kept_as, kept_number, cells_of, place_after, cells_from, secrets_from}
 use Rattle.table_load.specs.declared.layout.FileColumns.{FileColumns}
 use Rattle.table_load.specs.declared.layout.FileColumns.TheVariants as file
 use Rattle.table_load.specs.SchemaPlaces.{here, role_is}
@@ -38,12 +41,13 @@ cells_step which k cs place r rows within is =
 
 -- the secret columns from a place of the schema on
 pub secrets_step : (k : ℕ) (cs : List Column) (place : ℕ) (r : Role) (rows : List Fields) → place < length cs → Some r ≡ role_at cs place
-    → secrets_from k (drop place cs) rows ≡ cond (is_secret r) (number_column k rows ∷ secrets_from (k + 1) (drop (place + 1) cs) rows)
+    → secrets_from k (drop place cs) rows ≡ cond (is_secret r) (kept_as r (number_column k rows) ∷ secrets_from (k + 1) (drop (place + 1) cs) rows)
     (secrets_from (k + 1) (drop (place + 1) cs) rows)
 secrets_step k cs place r rows within is =
     let h = here cs place within in
     ap (λ columns. secrets_from k columns rows) h.from_here
-    ∙ ap (λ x. cond (is_secret x) (number_column k rows ∷ secrets_from (k + 1) (drop (place + 1) cs) rows) (secrets_from (k + 1) (drop (place + 1) cs) rows))
+    ∙ ap (λ x. cond (is_secret x) (kept_as x (number_column k rows) ∷ secrets_from (k + 1) (drop (place + 1) cs) rows)
+    (secrets_from (k + 1) (drop (place + 1) cs) rows))
     (sym (role_is cs place h r is))
 
 -- a file with all columns has the schema's
@@ -74,6 +78,7 @@ secret_numbers role.Text secret = absurd (cc)
 secret_numbers role.Number secret = refl
 secret_numbers role.Sum secret = refl
 secret_numbers role.Max secret = refl
+secret_numbers role.Min secret = refl
 
 -- the number of a field that spells one in range is in range
 number_in_range : (o : Option ℤ) → is_number o ≡ true → in_range (unwrap_or o (pos 0)) ≡ true
@@ -92,12 +97,45 @@ pub numbers_are : (r : Role) (k : ℕ) (rows : List Fields) → has_numbers r �
 numbers_are r k rows numeric all =
     record { one_each = length-map rows (λ fields. number_of_field (field_of k fields)); within = all_in_range r k rows numeric all }
 
+-- a number is negated within the range
+negated_in_range : (z : ℤ) → in_range z ≡ true → in_range (neg_ℤ z) ≡ true
+negated_in_range z within = ap (λ n. not (nat_lt most_number n)) (size_negated z) ∙ within
+
+-- numbers in range are in range as they are kept
+kept_are : (r : Role) (n : ℕ) (w : List ℤ) → AreNumbers n w → AreNumbers n (kept_as r w)
+kept_are role.Text n w are = are
+kept_are role.Number n w are = are
+kept_are role.Sum n w are = are
+kept_are role.Max n w are = are
+kept_are role.Min n w are = record { one_each = length-map w neg_ℤ ∙ are.one_each; within = all w are.within }
+  where
+    all : (w : List ℤ) → AllByRecursion (λ z. in_range z ≡ true) w → AllByRecursion (λ z. in_range z ≡ true) (negated w)
+    all [] within = tt
+    all (z ∷ w) within = (negated_in_range z within.0, all w within.1)
+
+-- one number more, as they are kept
+pub kept_one : (r : Role) (z : ℤ) (w : List ℤ) → kept_as r (z ∷ w) ≡ kept_number r z ∷ kept_as r w
+kept_one role.Text z w = refl
+kept_one role.Number z w = refl
+kept_one role.Sum z w = refl
+kept_one role.Max z w = refl
+kept_one role.Min z w = refl
+
+-- none
+pub kept_none : (r : Role) → kept_as r [] ≡ []
+kept_none role.Text = refl
+kept_none role.Number = refl
+kept_none role.Sum = refl
+kept_none role.Max = refl
+kept_none role.Min = refl
+
 -- what everybody may see of a column has a cell for each row
 cells_are : (r : Role) (k : ℕ) (rows : List Fields) → (is_public r ≡ true → AllByRecursion (HasCell r k) rows) → AreCells (length rows) (cells_of r k rows)
 cells_are role.Text k rows all = length-map rows (field_of k)
 cells_are role.Number k rows all = numbers_are role.Number k rows refl (all refl)
 cells_are role.Sum k rows all = tt
 cells_are role.Max k rows all = tt
+cells_are role.Min k rows all = tt
 
 -- a column that is in the file has the next role
 roles_in : (which : FileColumns) (c : Column) (cs : List Column) (r : Role) (b : Bool) → is_in_file which r ≡ b → b ≡ true →
@@ -132,8 +170,9 @@ pub all_secrets_are : (roles : List Role) (rows : List Fields) (k : ℕ) (cs : L
     AllByRecursion (AreNumbers (length rows)) (secrets_from k cs rows)
 all_secrets_are roles rows k [] good at_k = tt
 all_secrets_are roles rows k (c ∷ cs) good at_k =
-    secret_of (is_secret c.role) (number_column k rows) (secrets_from (k + 1) cs rows) (length rows)
-    (λ secret. numbers_are c.role k rows (secret_numbers c.role secret) (records_hold roles 2 rows k c.role (roles_of cs) good at_k))
+    secret_of (is_secret c.role) (kept_as c.role (number_column k rows)) (secrets_from (k + 1) cs rows) (length rows)
+    (λ secret. kept_are c.role (length rows) (number_column k rows)
+    (numbers_are c.role k rows (secret_numbers c.role secret) (records_hold roles 2 rows k c.role (roles_of cs) good at_k)))
     (all_secrets_are roles rows (k + 1) cs good (drop_tail roles k c.role (roles_of cs) at_k))
 
 -- a list that is there or not counts as its column does
@@ -146,4 +185,4 @@ counted false list lists c cs same = same
 pub secrets_counted : (k : ℕ) (cs : List Column) (rows : List Fields) → length (secrets_from k cs rows) ≡ secret_count cs
 secrets_counted k [] rows = refl
 secrets_counted k (c ∷ cs) rows =
-    counted (is_secret c.role) (number_column k rows) (secrets_from (k + 1) cs rows) c (filter (λ d. is_secret d.role) cs) (secrets_counted (k + 1) cs rows)
+    counted (is_secret c.role) (kept_as c.role (number_column k rows)) (secrets_from (k + 1) cs rows) c (filter (λ d. is_secret d.role) cs) (secrets_counted (k + 1) cs rows)

@@ -7,7 +7,7 @@ use Rattle.audit_types.specs.Shapes.{IsShape, columns}
 use Rattle.audit_types.specs.declared.shapes.Shape.{Shape}
 use Rattle.schema_json.specs.Columns.{Column, is_public, is_secret, role_at}
 use Rattle.schema_json.specs.declared.roles.Role.{Role}
-use Rattle.schema_json.specs.declared.roles.Role.TheVariants.{Text, Number, Sum, Max}
+use Rattle.schema_json.specs.declared.roles.Role.TheVariants.{Text, Number, Sum, Max, Min}
 use Rattle.table_load.specs.Numerals.{in_range}
 
 -- a column by its place in the schema: numbers, texts, or one that is not public
@@ -100,6 +100,7 @@ HoldsRole Text cells = HasTexts cells
 HoldsRole Number cells = HasNumbers cells
 HoldsRole Sum cells = cells ≡ hidden
 HoldsRole Max cells = cells ≡ hidden
+HoldsRole Min cells = cells ≡ hidden
 
 -- a public part whose columns hold what the schema's roles say
 abbrev pub FitsSchema : List Column → PublicView → Type 0

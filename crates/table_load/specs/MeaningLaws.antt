@@ -58,6 +58,7 @@ cell_from role.Text line column field fine other = absurd (other refl)
 cell_from role.Number line column field fine other = number_from line column field (number_in field) refl fine
 cell_from role.Sum line column field fine other = number_from line column field (number_in field) refl fine
 cell_from role.Max line column field fine other = number_from line column field (number_in field) refl fine
+cell_from role.Min line column field fine other = number_from line column field (number_in field) refl fine
 
 -- and such a field has none
 cell_fine : (r : Role) (line column : ℕ) (field : List ℕ) → (r ≢ role.Text → IsNumber field) → cell_fault r line column field ≡ None
@@ -65,6 +66,7 @@ cell_fine role.Text line column field number = refl
 cell_fine role.Number line column field number = number_fine line column field (number (search rules))
 cell_fine role.Sum line column field number = number_fine line column field (number (search rules))
 cell_fine role.Max line column field number = number_fine line column field (number (search rules))
+cell_fine role.Min line column field number = number_fine line column field (number (search rules))
 
 -- the columns that hold no texts have numbers in these fields
 abbrev AreNumbered : List Column → Fields → Type 0

@@ -19,6 +19,7 @@ cells_hold_role role.Text k rows = tt
 cells_hold_role role.Number k rows = tt
 cells_hold_role role.Sum k rows = refl
 cells_hold_role role.Max k rows = refl
+cells_hold_role role.Min k rows = refl
 
 -- the columns of a file fit the schema
 pub cells_fit : (which : FileColumns) (k : ℕ) (cs : List Column) (rows : List Fields) (place : ℕ) (r : Role) → role_at cs place ≡ Some r → HoldsRole r (get_or (cells_from which k cs rows) place hidden)
@@ -35,6 +36,7 @@ numbered_holds role.Text list later others no_text = absurd (no_text refl)
 numbered_holds role.Number list later others no_text = tt
 numbered_holds role.Sum list later others no_text = refl
 numbered_holds role.Max list later others no_text = refl
+numbered_holds role.Min list later others no_text = refl
 
 -- a later column does, whichever came first
 numbered_later : (b : Bool) (r : Role) (first second : Cells) (xs ys : List Cells) (place : ℕ) → HoldsRole r (get_or xs place hidden) → HoldsRole r (get_or ys place hidden)

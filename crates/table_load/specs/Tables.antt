@@ -1,10 +1,10 @@
 -- The cells of a file's records, and the table that bytes mean.
-use Rattle.std.specs.Prelude.{◌≡◌, ◌<◌, ℕ, ◌+◌, ℤ, pos, Bool, true, false, cond, Option, Some, None, List, [], ◌∷◌, length, map, drop, slice_index_or, unwrap_or, Result}
+use Rattle.std.specs.Prelude.{◌≡◌, ◌<◌, ℕ, ◌+◌, ℤ, pos, neg_ℤ, Bool, true, false, cond, Option, Some, None, List, [], ◌∷◌, length, map, drop, slice_index_or, unwrap_or, Result}
 use Rattle.audit_types.specs.History.{Secrets}
 use Rattle.schema_json.specs.Columns.{Column, is_secret}
 use Rattle.schema_json.specs.SecretShape.{shape_of}
 use Rattle.schema_json.specs.declared.roles.Role.{Role}
-use Rattle.schema_json.specs.declared.roles.Role.TheVariants.{Text, Number}
+use Rattle.schema_json.specs.declared.roles.Role.TheVariants.{Text, Number, Min}
 use Rattle.table_load.specs.Cells.{Cells, hidden, numbers, texts, PublicView, SecretView, TableView}
 use Rattle.table_load.specs.Faults.{unless_fault}
 use Rattle.table_load.specs.Numerals.{number_in, in_range}
@@ -35,6 +35,11 @@ pub record HasCell (role : Role) (k : ℕ) (fields : Fields) : Type 0 where
 abbrev pub number_column : ℕ → List Fields → List ℤ
 number_column k rows = map (λ r. number_of_field (field_of k r)) rows
 
+-- a number as it is kept in a column of this role
+abbrev pub kept_number : Role → ℤ → ℤ
+kept_number Min z = neg_ℤ z
+kept_number role z = z
+
 -- the texts of a column of the file
 abbrev pub text_column : ℕ → List Fields → List (List ℕ)
 text_column k rows = map (field_of k) rows
@@ -54,10 +59,15 @@ abbrev pub cells_from : FileColumns → ℕ → List Column → List Fields → 
 cells_from which k [] rows = []
 cells_from which k (c ∷ columns) rows = cells_of c.role k rows ∷ cells_from which (place_after which c.role k) columns rows
 
--- the numbers of the secret columns, if all columns stand in the file from column k on
+-- the numbers of a column as they are kept: those of a column of minima negated
+abbrev pub kept_as : Role → List ℤ → List ℤ
+kept_as Min w = map neg_ℤ w
+kept_as role w = w
+
+-- the numbers of the secret columns as they are kept, if all columns stand in the file from column k on
 abbrev pub secrets_from : ℕ → List Column → List Fields → Secrets
 secrets_from k [] rows = []
-secrets_from k (c ∷ columns) rows = cond (is_secret c.role) (number_column k rows ∷ secrets_from (k + 1) columns rows) (secrets_from (k + 1) columns rows)
+secrets_from k (c ∷ columns) rows = cond (is_secret c.role) (kept_as c.role (number_column k rows) ∷ secrets_from (k + 1) columns rows) (secrets_from (k + 1) columns rows)
 
 -- the records after the header
 abbrev pub data_of : List ℕ → List Fields

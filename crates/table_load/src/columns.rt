@@ -4,9 +4,9 @@ ghost use Rattle.std.specs.List.{AllByRecursion};
 ghost use Rattle.csv.specs.Records.{fields_of};
 ghost use Rattle.schema_json.specs.Columns.{is_public};
 ghost use Rattle.table_load.specs.Kept.{cells_kept};
-ghost use Rattle.table_load.specs.Numerals.{number_in};
+ghost use Rattle.table_load.specs.Numerals.{number_in, in_range};
 ghost use Rattle.table_load.specs.Reading.{file_columns, records_fault, roles_of, has_numbers};
-ghost use Rattle.table_load.specs.Tables.{HasCell, is_number, number_column, text_column, cells_of, cells_from, secrets_from};
+ghost use Rattle.table_load.specs.Tables.{HasCell, is_number, kept_as, kept_number, number_column, text_column, cells_of, cells_from, secrets_from};
 
 use crate::layout::FileColumns;
 use crate::numerals::{Numeral, numeral_in};
@@ -30,6 +30,18 @@ fn number_of(field: &[u8]) -> i64
     }
 }
 
+// A number in range as it is kept in a column of this role: negated in one of minima.
+fn kept(role: Role, number: i64) -> i64
+    requires { in_range number ≡ true }
+    ensures { result ≡ kept_number role number }
+{
+    match role {
+        Role::Min => -number,
+        _ => number,
+    }
+}
+
+// The numbers of a column as they are kept.
 fn number_column(
     alloc: Global,
     role: Role,
@@ -38,11 +50,11 @@ fn number_column(
 ) -> Result<Vec<i64>, NoMemory>
     requires numeric { has_numbers role ≡ true }
     requires cells { AllByRecursion (HasCell role k) (map fields_of rows.now) }
-    ensures { IfOk result (λ v. v.items ≡ number_column k (map fields_of rows.now)) }
+    ensures { IfOk result (λ v. v.items ≡ kept_as role (number_column k (map fields_of rows.now))) }
 {
     let mut numbers = Vec::new(alloc);
     for row in rows {
-        numbers.push(number_of(field(row, k)))?;
+        numbers.push(kept(role, number_of(field(row, k))))?;
     }
     Ok(numbers)
 }
@@ -79,6 +91,7 @@ fn cells(alloc: Global, role: Role, k: usize, rows: &[ByteRecord]) -> Result<Col
         },
         Role::Sum => Ok(Column::Hidden),
         Role::Max => Ok(Column::Hidden),
+        Role::Min => Ok(Column::Hidden),
     }
 }
 
@@ -104,7 +117,7 @@ pub(crate) fn public_columns(
     Ok(columns)
 }
 
-/// The numbers of the secret columns, in order, of a file with all columns.
+/// The numbers of the secret columns as they are kept, in order, of a file with all columns.
 pub(crate) fn secret_lists(
     alloc: Global,
     schema: &Schema,

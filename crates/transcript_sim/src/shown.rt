@@ -65,6 +65,8 @@ fn answer_told(take: Take, size: u16, reply: Reply) -> Option<i64>
         (Take::Sum, Reply::Sum(sum)) => Some(sum),
         (Take::Avg, Reply::Avg { num, den }) => sum_of_average(num, den, size),
         (Take::Max, Reply::Max(max)) => Some(max),
+        // The numbers are kept negated.
+        (Take::Min, Reply::Min(min)) => Some(-min),
         _ => None,
     }
 }

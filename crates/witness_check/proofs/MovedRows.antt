@@ -13,8 +13,10 @@ use Rattle.audit_types.specs.Numbers.{zero_or_not}
 -- a row of both lists counts as it does in the first, if its number is 0 outside the second
 counts_once : (a b : Bool) (x : ℤ) → (x ≢ pos 0 → b ≡ true) → cond (a && b) (pos 1) (pos 0) *ℤ x ≡ cond a (pos 1) (pos 0) *ℤ x
 counts_once a b x h = elim (zero_or_not x) [
-  | inl none ↦ ap (λ z. cond (a && b) (pos 1) (pos 0) *ℤ z) none ∙ *ℤ-zero (cond (a && b) (pos 1) (pos 0)) ∙ sym (ap (λ z. cond a (pos 1) (pos 0) *ℤ z) none ∙ *ℤ-zero (cond a (pos 1) (pos 0)))
-  | inr some ↦ ap (λ t. cond (a && t) (pos 1) (pos 0) *ℤ x) (h some) ∙ elim a as (λ t. cond (t && true) (pos 1) (pos 0) *ℤ x ≡ cond t (pos 1) (pos 0) *ℤ x) [ true ↦ refl | false ↦ refl ]
+  | inl none ↦ ap (λ z. cond (a && b) (pos 1) (pos 0) *ℤ z) none ∙ *ℤ-zero (cond (a && b) (pos 1) (pos 0))
+      ∙ sym (ap (λ z. cond a (pos 1) (pos 0) *ℤ z) none ∙ *ℤ-zero (cond a (pos 1) (pos 0)))
+  | inr some ↦ ap (λ t. cond (a && t) (pos 1) (pos 0) *ℤ x) (h some) ∙ elim a as
+      (λ t. cond (t && true) (pos 1) (pos 0) *ℤ x ≡ cond t (pos 1) (pos 0) *ℤ x) [ true ↦ refl | false ↦ refl ]
 ]
 
 -- the sum over a list is that over its rows in the other, if no other row has a number but 0

@@ -45,14 +45,17 @@ returns g c = record {
       (c.shut.ensures.any_moment told quiet) in
       let opening = c.open_over_closed.ensures.any_moment told (c.in_ok-shut.ensures.quiet told) in
       joins g.B.Bench bench c.shut.new.bench c.open_over_closed.new.bench (IsUnmadeOrOpened behind before) closed
-      (subst (λ (sent : List ℕ). LeavesOnly g.B.Bench c.shut.new.bench c.open_over_closed.new.bench (IsUnmadeOrOpened behind sent)) c.shut.ensures.sent opening);
+      (subst (λ (sent : List ℕ). LeavesOnly g.B.Bench c.shut.new.bench c.open_over_closed.new.bench (IsUnmadeOrOpened behind sent)) c.shut.ensures.sent
+          opening);
   done = λ told.
       on_ok_weaker c.open_over_closed.result
-      (over_shut c.args.behind.now (g.B.Bench.file c.args.bench.now) (g.B.Bench.file c.shut.new.bench) (g.B.Bench.file c.open_over_closed.new.bench) (c.in_ok-shut.ensures.done told))
+      (over_shut c.args.behind.now (g.B.Bench.file c.args.bench.now) (g.B.Bench.file c.shut.new.bench) (g.B.Bench.file c.open_over_closed.new.bench)
+          (c.in_ok-shut.ensures.done told))
       (c.open_over_closed.ensures.done told);
   ticks = λ told. on_ok_weaker c.open_over_closed.result (λ is. omega (arith, is, c.in_ok-shut.ensures.ticks told)) (c.open_over_closed.ensures.ticks told);
   quiet = c.open_over_closed.ensures.quiet;
   sent = c.open_over_closed.ensures.sent ∙ c.shut.ensures.sent;
-  cause = subst (λ (n : ℕ). HasCause n (g.B.Bench.faults c.open_over_closed.new.bench) c.open_over_closed.result) c.in_ok-shut.ensures.cause.steady c.open_over_closed.ensures.cause;
+  cause = subst (λ (n : ℕ). HasCause n (g.B.Bench.faults c.open_over_closed.new.bench) c.open_over_closed.result) c.in_ok-shut.ensures.cause.steady
+      c.open_over_closed.ensures.cause;
   last_call = c.open_over_closed.ensures.last_call;
 }

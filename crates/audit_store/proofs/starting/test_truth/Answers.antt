@@ -1,10 +1,14 @@
-use Rattle.std.proofs.Common.{rules, [], refl, sym, arith, FitsSigned, ◌∙◌}
+use Rattle.std.proofs.Common.{◌≢◌, rules, [], refl, sym, ap, subst, arith, FitsSigned, to_z, of_z, ◌∙◌}
 use Rattle.std.specs.Int.{w64}
 use Rattle.std.proofs.Math.Facts.{to_z-of_z}
 use Rattle.std.proofs.lemmas.Option.{slice_get_read, slice_get_within}
 use Rattle.audit_types.specs.Limits.{most_width}
+use Rattle.audit_types.specs.Shapes.{is_least}
 use Rattle.audit_types.specs.History.{against_outsiders}
 use Rattle.table_load.specs.Database.{secret_table}
+use Rattle.audit_store.specs.declared.starting.StartFault.{StartFault}
+use Rattle.audit_store.specs.Starting.{HistoryCause, stated_answer}
+use Rattle.audit_store.proofs.Causes.{same_stated}
 use Rattle.audit_store.proofs.LegalHistories.{next_is_true}
 use Rattle.audit_store.proofs.starting.test_truth.Goals as goal
 
@@ -13,14 +17,17 @@ returns-then-now-answered-clause-err c = λ protected.
     let list = c.args.list.now in
     let r = c.index-list-place.result in
     let kept : FitsSigned w64 r.answer = search rules in
-    let now : FitsSigned w64 c.truth-now.result = search rules in (
+    let now : FitsSigned w64 c.truth-now.result = search rules in
+    let different : to_z w64 (of_z w64 r.answer) ≢ to_z w64 (of_z w64 c.truth-now.result) = search rules in
+    let table = secret_table c.args.secret.now protected in
+    subst (λ (f : StartFault). HistoryCause f c.args.secret.now.shape list table) (sym c.untrue.ensures) (
       refl,
       record {
         at = r;
         stands = slice_get_read list _ c.loop-place.place r refl c.loop-place-test.true c.index-list-place.is;
-        kept_is = to_z-of_z kept;
-        now_is = to_z-of_z now ∙ c.truth-now.ensures;
-        differ = search rules;
+        kept_is = ap (stated_answer table r) (to_z-of_z kept);
+        now_is = ap (stated_answer table r) (to_z-of_z now ∙ c.truth-now.ensures);
+        differ = λ same. different (same_stated (is_least c.args.secret.now.shape r.column) _ _ same);
         before = c.loop-place.invariant;
       },
     )

@@ -1,7 +1,7 @@
 use Rattle.std.proofs.Common.{◌≡◌, refl, ℕ, List, [], Result, Ok, Err, OnOk, ap, sym, ◌∙◌, subst}
 use Rattle.audit_types.specs.declared.records.Protected.{Protected}
 use Rattle.audit_types.specs.declared.records.Answered.{Answered}
-use Rattle.audit_types.specs.Limits.{most_width}
+use Rattle.audit_types.specs.Limits.{most_rows, most_width}
 use Rattle.audit_types.specs.History.{against_outsiders}
 use Rattle.table_load.specs.Cells.{SecretView}
 use Rattle.bench_core.specs.BenchContents.{file_of, sent_of}
@@ -24,7 +24,7 @@ up_to_some (Err fault) last UpTo is = tt
 pub answer_over-requires : goal.answer_over-requires
 answer_over-requires c = record {
   usable = c.in-Ok.ensures.store.2;
-  entries = c.requires.none ∙ sym (c.new-2.ensures ∙ ap (λ (groups : List Protected). against_outsiders groups [] most_width) c.new.ensures.items) ∙ sym c.in-Ok.ensures.store.1;
+  entries = c.requires.none ∙ sym (c.new-2.ensures ∙ ap (λ (groups : List Protected). against_outsiders groups [] most_width most_rows) c.new.ensures.items) ∙ sym c.in-Ok.ensures.store.1;
   fits = c.requires.fits;
   shape = ap (λ (secret : SecretView). secret.shape) c.in-Ok.ensures.store.0 ∙ c.requires.shape;
   stands = subst (λ (file : List ℕ). IsAsLeft file c.in-Ok.store) (sym c.start.ensures.reads.file) (c.in-Ok.ensures.stands (tt {0}));

@@ -2,7 +2,7 @@ use Rattle.std.proofs.Common.{◌≡◌, ◌∙◌, ℕ, ◌<◌, List, [], leng
 use Rattle.std.proofs.lemmas.Option.{slice_get_within}
 use Rattle.std.proofs.lemmas.Result.{IfOk-from_err}
 use Rattle.audit_types.specs.declared.records.Protected.{Protected}
-use Rattle.audit_types.specs.Limits.{most_width}
+use Rattle.audit_types.specs.Limits.{most_rows, most_width}
 use Rattle.audit_types.specs.History.{Protection, against_outsiders}
 use Rattle.schema_json.specs.Columns.{Column, Group, Guards, no_guards}
 use Rattle.table_load.specs.Cells.{PublicView, whole}
@@ -25,10 +25,10 @@ unreachable-requires c =
 
 -- no group guards each row alone
 none_guarded : (columns : List Column) (public : PublicView) (guards : Guards) (protected : Protection) → guards ≡ no_guards → Protects columns public guards protected →
-    protected ≡ against_outsiders [] [] most_width
+    protected ≡ against_outsiders [] [] most_width most_rows
 none_guarded columns public guards protected none protects =
     let alone = subst (λ (g : Guards). Protects columns public g protected) none protects in
-    alone.1 ∙ ap (λ (entries : List Protected). against_outsiders entries [] most_width) alone.0
+    alone.1 ∙ ap (λ (entries : List Protected). against_outsiders entries [] most_width most_rows) alone.0
 
 -- and each row may be asked of
 none_left : (columns : List Column) (public : PublicView) (guards : Guards) (protected : Protection) → guards ≡ no_guards → Protects columns public guards protected →

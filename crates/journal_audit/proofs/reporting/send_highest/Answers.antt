@@ -1,11 +1,13 @@
 use Rattle.std.proofs.Common.{◌≡◌, ◌<◌, [], ◌∷◌, Err, sym, ap, ◌∙◌, subst}
 use Rattle.std.specs.List.{AllByRecursion}
 use Rattle.audit_types.specs.Rows.{has_row}
+use Rattle.audit_types.specs.Shapes.{is_least}
+use Rattle.audit_types.specs.declared.shapes.Shape.{Shape}
 use Rattle.audit_types.specs.History.{Protection}
 use Rattle.audit_types.specs.Extremes.{IsConsistent, IsLone}
 use Rattle.max_audit.specs.Witnesses.{highest}
 use Rattle.table_load.specs.Database.{secret_table}
-use Rattle.journal_audit.specs.Texts.{high_line}
+use Rattle.journal_audit.specs.Texts.{bound_line}
 use Rattle.journal_audit.specs.Reports.{audit_of, column_of, secret_name, SendsLinesOn}
 use Rattle.journal_audit.proofs.FreeColumns.{same_n}
 use Rattle.journal_audit.proofs.LinesOn.{refusal_is, no_memory, line_on}
@@ -52,8 +54,13 @@ pub returns : goal.returns
 returns g c =
     let audit = audit_of c.args.schema.now.columns c.args.store.now in
     let named = name_is audit.schema c.args.place c.args.column c.name-name.result.now c.requires.named c.name-name.ensures in
-    let line = c.deref.ensures.value ∙ c.in_ok-write_column.ensures ∙ ap (λ s. high_line s (highest c.args.maxima.now.n c.args.maxima.now.answers)) named
-    ∙ ap (λ n. high_line (secret_name audit.schema c.args.column) (highest n c.args.maxima.now.answers)) c.requires.part.n
-    ∙ ap (λ a. high_line (secret_name audit.schema c.args.column) (highest audit.shape.rows a)) c.requires.part.answers in
+    let maxima = c.args.maxima.now in
+    let least = is_least audit.shape c.args.column in
+    let told : c.is_least-least.result ≡ least = c.is_least-least.ensures ∙ ap (λ (s : Shape). is_least s c.args.column) c.shape.ensures.shape in
+    let line = c.deref.ensures.value ∙ c.in_ok-write_column.ensures
+    ∙ ap (λ l. bound_line l c.name-name.result.now (highest maxima.n maxima.answers)) told
+    ∙ ap (λ s. bound_line least s (highest maxima.n maxima.answers)) named
+    ∙ ap (λ n. bound_line least (secret_name audit.schema c.args.column) (highest n maxima.answers)) c.requires.part.n
+    ∙ ap (λ a. bound_line least (secret_name audit.schema c.args.column) (highest audit.shape.rows a)) c.requires.part.answers in
     line_on g.B.Bench g.met.B.Bench.only_now audit
     (column_of c.args.column) c.deref.result.now line c.args.bench.now c.send_line.new.bench c.send_line.result c.send_line.ensures

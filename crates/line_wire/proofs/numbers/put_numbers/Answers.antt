@@ -2,9 +2,8 @@ use Rattle.std.proofs.Common.{◌≡◌, ◌++◌, ◌∙◌, refl, sym, ap, ari
 use Rattle.std.proofs.lemmas.Int.{to_z-of_z}
 use Rattle.std.proofs.lemmas.List.{take_all}
 use Rattle.std.proofs.lemmas.Result.{IfOk-from_err}
-use Rattle.std.specs.Fmt.{signed_decimal}
 use mir.Syntax.{w128}
-use Rattle.line_wire.specs.CommaLists.{with_commas}
+use Rattle.line_wire.specs.CommaLists.{stated, with_commas}
 use Rattle.line_wire.specs.CommaLists.{is_none, is_none-snoc, text_more}
 use Rattle.line_wire.proofs.NumbersSoFar.{numbers_more}
 use Rattle.line_wire.proofs.numbers.put_numbers.Goals as goal
@@ -14,27 +13,28 @@ loop-number-preserved c =
     let before = c.args.line.now.items in
     let i = c.loop-number.number-index in
     let x : ℤ = get_or c.args.numbers.now i (pos 0) in
-    let texts = map signed_decimal (take i c.args.numbers.now) in
+    let least = c.args.least in
+    let texts = map (stated least) (take i c.args.numbers.now) in
     let same : to_z w128 (of_z w128 x) ≡ x = grind (arith, to_z-of_z) in
-    let more = numbers_more c.args.numbers.now i c.loop-number-test.true in
+    let more = numbers_more least c.args.numbers.now i c.loop-number-test.true in
     let put =
-    c.in_ok-put_number.ensures ∙ ap (λ z. c.loop-number.line.items ++ c.comma_unless.result.now ++ signed_decimal z) same
-    ∙ ap (λ l. c.loop-number.line.items ++ l ++ signed_decimal x) c.comma_unless.ensures in
+    c.in_ok-put_stated.ensures ∙ ap (λ z. c.loop-number.line.items ++ c.comma_unless.result.now ++ stated least z) same
+    ∙ ap (λ l. c.loop-number.line.items ++ l ++ stated least x) c.comma_unless.ensures in
     record {
       so_far =
-          text_more before c.put_number.new.line.items c.loop-number.line.items c.loop-number.first texts
-          (signed_decimal x) c.loop-number.invariant.so_far c.loop-number.invariant.none_before put
+          text_more before c.put_stated.new.line.items c.loop-number.line.items c.loop-number.first texts
+          (stated least x) c.loop-number.invariant.so_far c.loop-number.invariant.none_before put
           ∙ ap (λ t. before ++ with_commas t) (sym more);
-      none_before = sym (ap is_none more ∙ is_none-snoc texts (signed_decimal x));
+      none_before = sym (ap is_none more ∙ is_none-snoc texts (stated least x));
     }
 
 pub loop-number-init : goal.loop-number-init
 loop-number-init c = record { so_far = sym (append-nil c.args.line.now.items); none_before = refl }
 
-pub returns-in_err-put_number : goal.returns-in_err-put_number
-returns-in_err-put_number c = IfOk-from_err _ _ c.from_residual.ensures.0
+pub returns-in_err-put_stated : goal.returns-in_err-put_stated
+returns-in_err-put_stated c = IfOk-from_err _ _ c.from_residual.ensures.0
 
 pub returns : goal.returns
 returns c =
     let all = take_all c.loop-number.number-index c.args.numbers.now (omega (arith, c.loop-number-test.false)) in
-    c.loop-number.invariant.so_far ∙ ap (λ (l : List ℤ). c.args.line.now.items ++ with_commas (map signed_decimal l)) all
+    c.loop-number.invariant.so_far ∙ ap (λ (l : List ℤ). c.args.line.now.items ++ with_commas (map (stated c.args.least) l)) all

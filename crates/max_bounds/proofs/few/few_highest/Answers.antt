@@ -28,7 +28,8 @@ bounds-upper-row c =
 pub overflow_add-count : goal.overflow_add-count
 overflow_add-count c =
     let seen : List ℕ = c.in-Some.first ∷ c.loop-row.yielded in
-    let count = filter-shorter (λ q. option_eq int_eq (bound_at c.args.upper.now q) c.loop-row.highest) seen c.loop-row.count c.loop-row.invariant.counted.counted in
+    let count = filter-shorter (λ q. option_eq int_eq (bound_at c.args.upper.now q) c.loop-row.highest) seen c.loop-row.count
+            c.loop-row.invariant.counted.counted in
     let all = ap length (sym c.loop-row.invariant.together) in
     let parts = length-append seen c.loop-row.row-iterator in
     let within = length-rows c.args.rows.now.n c.args.rows.now.list c.n.ensures.are_rows in
@@ -40,7 +41,8 @@ loop-row-preserved-then-eq c =
     let seen : List ℕ = c.in-Some.first ∷ c.loop-row.yielded in
     record {
       together =
-          walk_more seen c.loop-row.row-iterator c.next-in-loop-row.new.self c.args.rows.now.list c.in-Some-row.row c.loop-row.invariant.together c.in-Some-row.ensures.steps;
+          walk_more seen c.loop-row.row-iterator c.next-in-loop-row.new.self c.args.rows.now.list c.in-Some-row.row c.loop-row.invariant.together
+              c.in-Some-row.ensures.steps;
       counted =
           count_equal (bound_at c.args.upper.now) seen c.loop-row.highest c.loop-row.count c.in-Some-row.row c.loop-row.invariant.counted
           (equal_bounds _ _ (sym c.eq.ensures ∙ c.if-eq.true));
@@ -51,7 +53,8 @@ loop-row-preserved-then-is_higher c =
     let seen : List ℕ = c.in-Some.first ∷ c.loop-row.yielded in
     record {
       together =
-          walk_more seen c.loop-row.row-iterator c.next-in-loop-row.new.self c.args.rows.now.list c.in-Some-row.row c.loop-row.invariant.together c.in-Some-row.ensures.steps;
+          walk_more seen c.loop-row.row-iterator c.next-in-loop-row.new.self c.args.rows.now.list c.in-Some-row.row c.loop-row.invariant.together
+              c.in-Some-row.ensures.steps;
       counted =
           count_above (bound_at c.args.upper.now) seen c.loop-row.highest c.loop-row.count c.in-Some-row.row c.loop-row.invariant.counted
           (c.is_higher.ensures.0 c.if-is_higher.true);
@@ -62,7 +65,8 @@ loop-row-preserved c =
     let seen : List ℕ = c.in-Some.first ∷ c.loop-row.yielded in
     record {
       together =
-          walk_more seen c.loop-row.row-iterator c.next-in-loop-row.new.self c.args.rows.now.list c.in-Some-row.row c.loop-row.invariant.together c.in-Some-row.ensures.steps;
+          walk_more seen c.loop-row.row-iterator c.next-in-loop-row.new.self c.args.rows.now.list c.in-Some-row.row c.loop-row.invariant.together
+              c.in-Some-row.ensures.steps;
       counted =
           count_below (bound_at c.args.upper.now) seen c.loop-row.highest c.loop-row.count c.in-Some-row.row c.loop-row.invariant.counted
           (other_bounds _ _ (sym c.eq.ensures ∙ c.if-eq.false))

@@ -23,7 +23,8 @@ returns-then-is_none c =
     let new = fresh c.args.rows.now.n seen c.loop-row.row-iterator c.next-in-loop-row.new.self c.args.rows.now.list q c.n.ensures.are_rows
     c.loop-row.invariant.together c.in-Some-row.ensures.steps in (
       (λ yes. absurd (true≢false (sym yes))),
-      (λ own. absurd (two_free (bound_at c.args.upper.now) seen c.loop-row.highest c.loop-row.at c.loop-row.alone q c.loop-row.invariant.highest c.args.rows.now.list
+      (λ own. absurd (two_free (bound_at c.args.upper.now) seen c.loop-row.highest c.loop-row.at c.loop-row.alone q c.loop-row.invariant.highest
+          c.args.rows.now.list
           (λ p there. seen_before seen c.loop-row.row-iterator c.next-in-loop-row.new.self c.args.rows.now.list q p c.loop-row.invariant.together
           c.in-Some-row.ensures.steps there)
           same (sym same ∙ without_bound _ c.is_none.result c.is_none.ensures c.if-is_none.true) new own.0)),
@@ -77,7 +78,8 @@ returns-then-not-alone c =
     let all = walk_ends seen c.loop-row.row-iterator c.args.rows.now.list c.loop-row.invariant.together c.in-None.ensures.steps.0 in
     let ends = subst (λ l. IsHighest (bound_at c.args.upper.now) l c.loop-row.highest c.loop-row.at false) all
     (subst (λ b. IsHighest (bound_at c.args.upper.now) seen c.loop-row.highest c.loop-row.at b) c.if-not-alone.true c.loop-row.invariant.highest) in
-    (λ yes. absurd (true≢false (sym yes)), λ own. absurd (none_at_end (bound_at c.args.upper.now) c.args.rows.now.list c.loop-row.highest c.loop-row.at ends own.0))
+    (λ yes. absurd (true≢false (sym yes)), λ own. absurd
+        (none_at_end (bound_at c.args.upper.now) c.args.rows.now.list c.loop-row.highest c.loop-row.at ends own.0))
 
 pub has-requires : goal.has-requires
 has-requires c =

@@ -42,5 +42,6 @@ loop-set-preserved c = λ rows flipped.
           (lost_whole c.args.shared.now.list seen rows x c.loop-set.lost before matters (w.in-Nothing.ensures rows flipped))
       | in-One w ↦ subst (IsLost c.args.shared.now.list (seen ++ x ∷ []) rows) (sym (w.lost-is ∙ ap AllButOne same))
           (lost_one c.args.shared.now.list seen rows x c.loop-set.lost before matters (w.in-One.ensures rows flipped))
-      | in-More w ↦ subst (IsLost c.args.shared.now.list (seen ++ x ∷ []) rows) (sym w.lost-is) (lost_more c.args.shared.now.list seen rows x c.loop-set.lost before (w.in-More.ensures rows flipped))
+      | in-More w ↦ subst (IsLost c.args.shared.now.list (seen ++ x ∷ []) rows) (sym w.lost-is)
+          (lost_more c.args.shared.now.list seen rows x c.loop-set.lost before (w.in-More.ensures rows flipped))
     ])

@@ -3,7 +3,7 @@ use Rattle.std.proofs.lemmas.List.{map-append}
 use Rattle.csv.specs.Records.{fields_of}
 use Rattle.schema_json.specs.Columns.{is_secret}
 use Rattle.table_load.specs.Reading.{roles_of}
-use Rattle.table_load.specs.Tables.{number_column, secrets_from}
+use Rattle.table_load.specs.Tables.{kept_as, number_column, secrets_from}
 use Rattle.table_load.proofs.GoodCells.{records_hold}
 use Rattle.table_load.proofs.ColumnSteps.{secrets_step, role_of_all}
 use Rattle.table_load.proofs.columns.secret_lists.Goals.{then-is_secret+in_ok-number_column+in_ok-push, else-is_secret}
@@ -30,16 +30,16 @@ loop-place-preserved c =
       | then-is_secret+in_ok-number_column+in_ok-push w ↦
           let secret : is_secret role ≡ true = sym c.is_secret.ensures ∙ w.if-is_secret.true in
           let items = w.in_ok-push.ensures.items in
-          let more : map (λ (v : Vec ℤ Global). v.items) w.push.new.self.items ≡ old ++ number_column place rows ∷ [] =
+          let more : map (λ (v : Vec ℤ Global). v.items) w.push.new.self.items ≡ old ++ kept_as role (number_column place rows) ∷ [] =
           ap (map (λ (v : Vec ℤ Global). v.items)) items ∙ map-append (λ (v : Vec ℤ Global). v.items) c.loop-place.lists.items
           (w.in_ok-number_column.field-0 ∷ [])
           ∙ ap (λ x. old ++ x ∷ []) w.in_ok-number_column.ensures in
           rw (w.lists-is, more) (
           step
-          ∙ ap (λ b. old ++ cond b (number_column place rows ∷ rest) rest) secret
-          ∙ sym (append_assoc old (number_column place rows ∷ []) rest)
+          ∙ ap (λ b. old ++ cond b (kept_as role (number_column place rows) ∷ rest) rest) secret
+          ∙ sym (append_assoc old (kept_as role (number_column place rows) ∷ []) rest)
           )
       | else-is_secret w ↦
           let public : is_secret role ≡ false = sym c.is_secret.ensures ∙ w.if-is_secret.false in
-          rw w.lists-is (step ∙ ap (λ b. old ++ cond b (number_column place rows ∷ rest) rest) public)
+          rw w.lists-is (step ∙ ap (λ b. old ++ cond b (kept_as role (number_column place rows) ∷ rest) rest) public)
     ]

@@ -43,7 +43,8 @@ returns g c = record {
   damaged = search rules;
   damaged_only = λ at told made breaks.
       let contents = c.in_ok-shape.field-0 in
-      c.no_break_in_a_journal.ensures (g.B.Bench.file c.args.bench.now) contents.shape contents.list.items contents.gate at (c.in_ok-shape.ensures.ok told) breaks;
+      c.no_break_in_a_journal.ensures (g.B.Bench.file c.args.bench.now) contents.shape contents.list.items contents.gate at
+          (c.in_ok-shape.ensures.ok told) breaks;
   whole = λ shape history gate told stands.
       let contents = c.in_ok-shape.field-0 in
       let once =
@@ -52,6 +53,7 @@ returns g c = record {
       (ap (λ (j : JournalContents). j.shape) c.ending_at.ensures ∙ once.0, once.1, ap (λ (j : JournalContents). j.gate) c.ending_at.ensures ∙ once.2);
   reads = c.contents_of.ensures.reads;
   ticks = c.in_ok-shape.ensures.ticks;
+  unmade = λ told is. c.in_ok-shape.ensures.ticks told;
   fault = search rules;
 }
 

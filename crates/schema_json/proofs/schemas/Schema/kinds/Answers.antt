@@ -1,7 +1,7 @@
 use Rattle.std.proofs.Common.{ap, ◌∙◌, arith}
 use Rattle.schema_json.specs.Columns.{is_secret}
 use Rattle.schema_json.proofs.ShapeKinds.{kinds_room, byte_of, keeps, puts}
-use Rattle.schema_json.proofs.schemas.Schema.kinds.Goals.{in-Text, in-Number, in-Sum, in-Max}
+use Rattle.schema_json.proofs.schemas.Schema.kinds.Goals.{in-Text, in-Number, in-Sum, in-Max, in-Min}
 use Rattle.schema_json.proofs.schemas.Schema.kinds.Goals as goal
 
 pub bounds-kinds-at : goal.bounds-kinds-at
@@ -24,6 +24,16 @@ overflow_add-at-in-Max c =
     omega
     (arith, c.loop-k.invariant.at_is, kinds_room c.args.self.now.columns c.loop-k.k _ c.count-k-end.ensures.columns c.role.ensures (ap is_secret c.in-Max.is))
 
+pub bounds-kinds-at-in-Min : goal.bounds-kinds-at-in-Min
+bounds-kinds-at-in-Min c =
+    omega
+    (arith, c.loop-k.invariant.at_is, kinds_room c.args.self.now.columns c.loop-k.k _ c.count-k-end.ensures.columns c.role.ensures (ap is_secret c.in-Min.is))
+
+pub overflow_add-at-in-Min : goal.overflow_add-at-in-Min
+overflow_add-at-in-Min c =
+    omega
+    (arith, c.loop-k.invariant.at_is, kinds_room c.args.self.now.columns c.loop-k.k _ c.count-k-end.ensures.columns c.role.ensures (ap is_secret c.in-Min.is))
+
 pub loop-k-preserved : goal.loop-k-preserved
 loop-k-preserved c =
     let cs = c.args.self.now.columns in
@@ -36,5 +46,7 @@ loop-k-preserved c =
       | in-Sum w ↦ let p = puts cs c.loop-k.k _ 1 _ _ c.count-k-end.ensures.columns c.role.ensures (ap is_secret w.in-Sum.is) (ap byte_of w.in-Sum.is) inv in
           record { at_is = w.at-is ∙ p.at_is; kinds_are = w.kinds-is ∙ p.kinds_are }
       | in-Max w ↦ let p = puts cs c.loop-k.k _ 2 _ _ c.count-k-end.ensures.columns c.role.ensures (ap is_secret w.in-Max.is) (ap byte_of w.in-Max.is) inv in
+          record { at_is = w.at-is ∙ p.at_is; kinds_are = w.kinds-is ∙ p.kinds_are }
+      | in-Min w ↦ let p = puts cs c.loop-k.k _ 3 _ _ c.count-k-end.ensures.columns c.role.ensures (ap is_secret w.in-Min.is) (ap byte_of w.in-Min.is) inv in
           record { at_is = w.at-is ∙ p.at_is; kinds_are = w.kinds-is ∙ p.kinds_are }
     ]

@@ -1,6 +1,5 @@
 use Rattle.std.proofs.Common.{sym, subst, ap, ◌∙◌, List, ℕ, Some}
 use Rattle.audit_types.specs.Shapes.{IsShape, columns, kind_at}
-use Rattle.schema_json.specs.SecretShape.{role_of_kind}
 use Rattle.schema_json.proofs.ValidShapes.{shape_is_valid, shape_counts, shape_names}
 use Rattle.schema_json.proofs.schemas.Schema.shape.Goals as goal
 
@@ -17,4 +16,4 @@ returns-clause-secrets c =
 pub returns-clause-kinds : goal.returns-clause-kinds
 returns-clause-kinds c = λ place k is.
     shape_names c.args.self.now.columns c.args.rows c.kinds.ensures.columns place k is
-    ∙ ap (λ kinds. Some (role_of_kind (kind_at (record { rows = c.args.rows; kinds = kinds }) k))) (sym c.kinds.ensures.kinds)
+    ∙ ap (λ kinds. Some (kind_at (record { rows = c.args.rows; kinds = kinds }) k)) (sym c.kinds.ensures.kinds)
