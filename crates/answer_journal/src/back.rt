@@ -47,6 +47,7 @@ fn contents_of<B: Bench>(alloc: Global, bench: &mut B) -> Result<Contents, BackF
     ensures err { B.told → IfErr result (λ fault. IsFaultOf (B.file bench.old) fault) }
     ensures reads { OnlyReads B.Bench bench.old bench.new }
     ensures ticks { B.told → OnOk result (B.moment bench.new ≡ B.moment bench.old + 2) }
+    ensures unmade { B.told → result ≡ Err BackFault.NotMade → B.moment bench.new ≡ B.moment bench.old + 2 }
     ensures fault { TellsFault B.Bench bench.old bench.new (IsErrOf result BackFault.Failed) }
 {
     the_front_tells();
@@ -79,6 +80,7 @@ impl Journal {
 
         ensures reads { OnlyReads B.Bench bench.old bench.new }
         ensures ticks { B.told → OnOk result (B.moment bench.new ≡ B.moment bench.old + 2) }
+        ensures unmade { B.told → result ≡ Err BackFault.NotMade → B.moment bench.new ≡ B.moment bench.old + 2 }
         ensures fault { TellsFault B.Bench bench.old bench.new (IsErrOf result BackFault.Failed) }
     {
         one_reading();

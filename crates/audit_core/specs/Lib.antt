@@ -12,3 +12,5 @@ pub mod GroupEntries
 pub mod OneBlame
 pub mod Ranges
 pub mod RangeLaws
+pub mod LegalFronts
+pub mod Released

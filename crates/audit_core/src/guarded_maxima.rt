@@ -2,7 +2,7 @@
 ghost use Rattle.std.specs.Prelude.{◌≡◌, ◌≢◌, ◌<◌, ◌≤◌, [], IfOk};
 ghost use Rattle.audit_types.specs.Column.{IsPossible, known_max, guarding, with_groups, with_bounds};
 ghost use Rattle.audit_types.specs.declared.shapes.Kind.TheVariants.{Max};
-ghost use Rattle.audit_types.specs.Judgement.{IsDecision};
+ghost use Rattle.audit_types.specs.Judgement.{IsDecision, IsJudgement};
 ghost use Rattle.audit_types.specs.Limits.{most_rows};
 
 use audit_types::{ColumnAudit, NoMemory, RowSet, Verdict};
@@ -65,6 +65,7 @@ impl GuardedMaxima {
     pub(crate) fn probe_with_none(&self, rows: &RowSet) -> Result<Verdict, NoMemory>
         requires same_n { rows.now.n ≡ self.now.n }
         requires some { rows.now.list ≢ [] }
+        ensures judged { IfOk result (λ verdict. IsJudgement (with_groups self.now []) rows.now.list verdict) }
         ensures decided { IfOk result (λ verdict. IsPossible self.now → IsDecision (with_groups self.now []) rows.now.list verdict) }
         ensures maxima { self.now.kind ≡ Max }
     {

@@ -15,10 +15,10 @@ use Rattle.answer_journal.specs.Faults.{GaveUp, IsDueOrGaveUp}
 use Rattle.answer_journal.specs.Moments.{IsMade}
 use Rattle.audit_store.specs.declared.starting.StartFault.{StartFault}
 use Rattle.audit_store.specs.declared.starting.StartFault.TheVariants.{NotMade, Damaged, OtherShape, Untrue, Illegal, Failed, NoMemory}
-use Rattle.audit_core.specs.Blame.{Blames}
+use Rattle.audit_core.specs.Blame.{Blames, IsReleasedWith, asked_in}
 use Rattle.audit_core.specs.OneBlame.{one_blame}
 use Rattle.audit_core.specs.Outcomes.{true_answer}
-use Rattle.audit_store.specs.Starting.{IsFirstUntrue, stated_answer, IsFirstIllegal, asked_in, StartCause, HistoryCause, GivesUp, RefusedUnlessFailed, StartsUnlessFailed, start_fault}
+use Rattle.audit_store.specs.Starting.{IsFirstUntrue, stated_answer, IsFirstIllegal, StartCause, HistoryCause, GivesUp, RefusedUnlessFailed, StartsUnlessFailed, start_fault}
 
 -- what a reading of the journal gives up with
 pub gave_up : (fault : BackFault) → GaveUp fault → GivesUp (start_fault fault)
@@ -90,7 +90,7 @@ module _ (table : Table) (history : List Answered) where
               let same : q.at ≡ p.at = same_Some q.at p.at (sym q.stands ∙ ap (slice_get history) place ∙ p.stands) in
               let blamed : Blames table.setting (take a history) (asked_in p.at) h =
               subst (λ r. Blames table.setting (take a history) (asked_in r) h) same (subst (λ k. Blames table.setting (take k history) (asked_in q.at) h) place q.blamed) in
-              ap (λ k. Illegal k h) place ∙ ap (λ k. Illegal a k) (one_blame table.setting (take a history) (asked_in p.at) h g blamed p.blamed)
+              ap (λ k. Illegal k h) place ∙ ap (λ k. Illegal a k) (one_blame table.setting.protected.groups (IsReleasedWith table.setting (take a history) (asked_in p.at)) h g blamed p.blamed)
         ]
       ]
 

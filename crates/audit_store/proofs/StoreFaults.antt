@@ -12,8 +12,7 @@ use Rattle.audit_store.specs.Starting.{start_fault}
 use Rattle.audit_store.specs.Growing.{grow_fault}
 use Rattle.audit_store.specs.declared.growing.GrowFault.{GrowFault}
 use Rattle.audit_store.specs.declared.growing.GrowFault.TheVariants as grow
-use Rattle.bench_core.specs.declared.bench.Bench.{Ghosts}
-use Rattle.bench_core.specs.Calls.{TellsFault}
+use Rattle.bench_core.specs.Reports.{is_refusal}
 use Rattle.audit_store.specs.declared.outcome.StoreFault.{StoreFault}
 use Rattle.audit_store.specs.declared.outcome.StoreFault.TheVariants.{Failed, NoMemory}
 
@@ -102,25 +101,7 @@ module _ {X E : Type 0} (answer : Result X E) (e : E) (is : answer ≡ Err e) wh
   pub on_refusal : (P : Type 0) → P → OnErr answer P
   on_refusal P holds = subst (λ (r : Result X E). OnErr r P) (sym is) holds
 
--- an answer that refuses with a fault is that refusal
-pub is_refusal : {X E : Type 0} (answer : Result X E) (given : E) → IsErr answer × IsErrAnd answer (λ e. e ≡ given) → answer ≡ Err given
-is_refusal (Ok x) given refuses = absurd (false≢true refuses.0)
-is_refusal {X} {E} (Err e) given refuses = ap (λ (f : E). refusal f) refuses.1
-  where
-    refusal : E → Result X E
-    refusal f = Err f
-
 -- what holds of that refusal holds of the answer
 pub of_refusal : {X E : Type 0} (answer : Result X E) (given : E) → IsErr answer × IsErrAnd answer (λ e. e ≡ given) → (P : Result X E → Type 0) →
     P (Err given) → P answer
 of_refusal answer given refuses P holds = subst P (sym (is_refusal answer given refuses)) holds
-
--- a fault that is reported of one answer is reported of another that fails alike
-pub told_as : {D : Type 0} (bench : Ghosts D) (old new : D) (Told Answered : Type 0) → (Told → Answered) → (Answered → Told) → TellsFault bench old new Told →
-    TellsFault bench old new Answered
-told_as bench old new Told Answered to from tells = record {
-  later = tells.later;
-  failed = λ answered. tells.failed (from answered);
-  last_call = λ answered. tells.last_call (from answered);
-  steady = λ other. tells.steady (λ told. other (to told));
-}

@@ -151,12 +151,17 @@ refused_store secret old new released before after usable is_usable store audite
       },
     )
 
+-- its history is what was released before
+pub still_released : (old new shown : List Answered) (released : ℕ) → released ≡ length old → take (length old) new ≡ old → take released old ≡ shown →
+    take released new ≡ shown
+still_released old new shown released all begins view =
+    ap (λ n. take n new) all ∙ begins ∙ sym (take-length old) ∙ ap (λ n. take n old) (sym all) ∙ view
+
 -- and its refusal says so
 pub refused_history : {X E : Type 0} (answer : Result X E) (old new shown : List Answered) (released : ℕ) → released ≡ length old → take (length old) new ≡ old
     → take released old ≡ shown → OnErr answer ((take released new ≡ shown) × (false ≡ false))
 refused_history (Ok x) old new shown released all begins view = tt
-refused_history (Err e) old new shown released all begins view =
-    (ap (λ n. take n new) all ∙ begins ∙ sym (take-length old) ∙ ap (λ n. take n old) (sym all) ∙ view, refl)
+refused_history (Err e) old new shown released all begins view = (still_released old new shown released all begins view, refl)
 
 -- a group that was kept belongs to the history
 pub kept_store : (secret : SecretView) (old new : Audited) (released now : ℕ) (before after : JournalContents) (usable : Bool) (group made : List Answered) →

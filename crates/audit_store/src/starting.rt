@@ -1,7 +1,7 @@
 //! Opening the journal of a table.
 ghost use Rattle.std.specs.Prelude.{◌≡◌, ◌<◌, ◌≤◌, ◌+◌, true, false, Ok, Err, List, length, All, IfOk, IfErr, OnOk, IsErrOf};
 ghost use Rattle.audit_types.specs.Limits.{most_records};
-ghost use Rattle.audit_types.specs.History.{Protection, FitsShape, IsPlainFor, IsLegal, IsPossibleHistory, IsDecisionAfter, setting_of};
+ghost use Rattle.audit_types.specs.History.{Protection, FitsShape, IsPlainFor, IsLegal, IsPossibleHistory, IsDecisionAfter, IsJudgementAfter, setting_of};
 ghost use Rattle.audit_types.specs.declared.records.Answered.{Answered};
 ghost use Rattle.audit_types.specs.declared.records.Verdict.TheVariants.{Released};
 ghost use Rattle.audit_types.specs.Minima.{as_it_stands};
@@ -104,6 +104,7 @@ fn is_released(core: &mut Core, answered: &Answered) -> Result<bool, NoMemory>
     requires possible { IsPossibleHistory core.old.setting core.old.history }
     ensures yes { result ≡ Ok true → IsDecisionAfter core.old.setting core.old.history answered.now.column answered.now.rows.list Released }
     ensures no { result ≡ Ok false → ¬ (IsDecisionAfter core.old.setting core.old.history answered.now.column answered.now.rows.list Released) }
+    ensures judged { result ≡ Ok false → ¬ (IsJudgementAfter core.old.setting core.old.history answered.now.column answered.now.rows.list Released) }
     ensures same { core.new ≡ core.old }
 {
     narrow_or_wide();
@@ -122,7 +123,7 @@ fn is_released(core: &mut Core, answered: &Answered) -> Result<bool, NoMemory>
 fn illegal(core: &Core, place: u32, answered: &Answered) -> StartFault
     requires fits { FitsShape core.now.setting.shape answered.now.column answered.now.rows }
     requires possible { IsPossibleHistory core.now.setting core.now.history }
-    requires denied { ¬ (IsDecisionAfter core.now.setting core.now.history answered.now.column answered.now.rows.list Released) }
+    requires denied { ¬ (IsJudgementAfter core.now.setting core.now.history answered.now.column answered.now.rows.list Released) }
     ensures { TellsIllegal core.now place answered.now result }
 {
     let asked = Asked {

@@ -5,7 +5,7 @@ use Rattle.audit_types.specs.declared.records.Answered.{Answered}
 use Rattle.audit_types.specs.History.{Table as Guarded, IsLegal}
 use Rattle.bench_core.specs.Causes.{Rose}
 use Rattle.table_load.specs.Database.{Database}
-use Rattle.audit_store.specs.LegalFronts.{legal_front}
+use Rattle.audit_core.specs.LegalFronts.{legal_front}
 use Rattle.audit_store.specs.Starting.{GivesUp}
 use Rattle.audit_store.specs.declared.starting.StartFault.{StartFault}
 use Rattle.audit_store.specs.declared.starting.StartFault.TheVariants as start

@@ -4,6 +4,7 @@ pub mod Crash
 pub mod Bench
 pub mod Calls
 pub mod Moments
+pub mod Reports
 pub mod Machine
 pub mod MachineLaws
 pub mod SourceContents

@@ -12,7 +12,7 @@ use Rattle.audit_types.specs.Rows.{AreRows, has_row}
 use Rattle.audit_types.specs.Shapes.{columns, kind_at}
 use Rattle.audit_types.specs.Truth.{sum_over}
 use Rattle.audit_types.specs.Form.{set_row, InSpan}
-use Rattle.audit_types.specs.Column.{Agrees, IsDangerous, known_sum, total, with_groups, with_width}
+use Rattle.audit_types.specs.Column.{Agrees, IsDangerous, known_sum, total, with_groups, with_bounds}
 use Rattle.audit_types.specs.History.{Table, Protection, AreSecrets, IsPlainFor, AgreeWithHistory, IsLegal, answers_of, groups_of, known_of, list_of}
 use Rattle.audit_types.specs.Laws.{TrueAnswersKeepAgreement}
 use Rattle.audit_types.specs.ListLaws.{all-get_or, all-push, all-weaker}
@@ -90,11 +90,11 @@ module _ (laws : LegalLaws) (table : Table) (history : List Answered) (secrets :
           let answers = answers_of column history in
           let sets : List (List ℕ) = map (λ a. a.rows) answers in
           let groups_are = groups_of column table.setting.protected.groups in
-          let known = with_groups (with_width (known_sum n answers) table.setting.protected.width) groups_are in
+          let known = with_groups (with_bounds (known_sum n answers) table.setting.protected.width table.setting.protected.reach) groups_are in
           let of_sums : IsDangerous known rows = subst (λ k. IsDangerous k rows) (plain_sums table.setting history column protected.1 sums) danger in
           let with_asked = all-push (AreRows n) sets rows are own in
           let group_rows = All-weaker (λ group. AreRows n group × (group ≢ [])) (AreRows n) (λ group is. is.0) groups_are groups in
-          elim (plain_danger known (sets ++ rows ∷ []) refl refl ((laws.dangerous n answers [] [] groups_are 0 table.setting.protected.width rows with_asked group_rows (list_of table.secrets column, own_agrees)).0 of_sums)) [
+          elim (plain_danger known (sets ++ rows ∷ []) refl refl ((laws.dangerous n answers [] [] groups_are 0 table.setting.protected.width table.setting.protected.reach rows with_asked group_rows (list_of table.secrets column, own_agrees)).0 of_sums)) [
             | inl (i, pinned) ↦
                 laws.pins_nothing table history column i secrets protected.0 legal below sums (ap (λ (p : Protection). has_row p.shared i) protected.1) (record {
                   below = pinned.below;

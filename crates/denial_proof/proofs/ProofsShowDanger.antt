@@ -83,12 +83,12 @@ rows_fit shape column rows fits = subst (λ n. AreRows n rows.list) fits.same_n 
 
 -- ---- sums
 
-module _ (shape : Shape) (history : List Answered) (protected : List Protected) (width : ℕ) (asked : Asked)
+module _ (shape : Shape) (history : List Answered) (protected : List Protected) (width reach : ℕ) (asked : Asked)
     (records : All (λ r. FitsShape shape r.column r.rows) history) (entries : All (λ p. FitsShape shape p.column p.rows) protected)
     (question : FitsShape shape asked.column asked.rows) where
   -- what is known of the column before, were it of this kind
   abbrev known_as : Kind → Known
-  known_as kind = plain_as kind shape.rows (answers_of asked.column history) (groups_of asked.column protected) width
+  known_as kind = plain_as kind shape.rows (answers_of asked.column history) (groups_of asked.column protected) width reach
 
   -- were it one of sums
   abbrev known : Known
@@ -204,12 +204,12 @@ module _ (shape : Shape) (history : List Answered) (protected : List Protected) 
 
 pub proofs_show_danger : GreatestIsBoundAndReached → ProofsShowDanger
 proofs_show_danger greatest setting history asked (Sum target times terms own) records entries plain question possible (sums, shown) =
-    let known = known_as setting.shape history setting.protected.groups setting.protected.width asked records entries question in
+    let known = known_as setting.shape history setting.protected.groups setting.protected.width setting.protected.reach asked records entries question in
     let same : known kind.Sum ≡ known_of setting history asked.column = ap known (sym sums) ∙ sym (plain_known setting history asked.column plain) in
     subst (λ (k : Known). IsDangerous k asked.rows.list) same
-    (sums_show_danger setting.shape history setting.protected.groups setting.protected.width asked records entries question target times terms own shown (subst IsPossible (sym same) possible))
+    (sums_show_danger setting.shape history setting.protected.groups setting.protected.width setting.protected.reach asked records entries question target times terms own shown (subst IsPossible (sym same) possible))
 proofs_show_danger greatest setting history asked (Max answer row place high) records entries plain question possible (maxima, shown) =
-    let known = known_as setting.shape history setting.protected.groups setting.protected.width asked records entries question in
+    let known = known_as setting.shape history setting.protected.groups setting.protected.width setting.protected.reach asked records entries question in
     let same : known kind.Max ≡ known_of setting history asked.column = ap known (sym maxima) ∙ sym (plain_known setting history asked.column plain) in
     subst (λ (k : Known). IsDangerous k asked.rows.list) same
-    (maxima_show_danger setting.shape history setting.protected.groups setting.protected.width asked records entries question greatest answer row place high shown)
+    (maxima_show_danger setting.shape history setting.protected.groups setting.protected.width setting.protected.reach asked records entries question greatest answer row place high shown)

@@ -14,12 +14,12 @@ use Rattle.audit_types.specs.declared.shapes.Shape.{Shape}
 use Rattle.audit_types.specs.declared.shapes.Kind.TheVariants.{Sum, Max}
 use Rattle.audit_types.specs.Rows.{AreRows, has_row}
 use Rattle.audit_types.specs.Shapes.{columns, kind_at}
-use Rattle.audit_types.specs.Column.{Answer, IsDangerous, IsWellFormed, known_sum, known_max, with_groups, with_width}
+use Rattle.audit_types.specs.Column.{Answer, IsDangerous, IsWellFormed, known_sum, known_max, with_groups, with_bounds}
 use Rattle.audit_types.specs.Direction.{PinSomeRow}
 use Rattle.audit_types.specs.Form.{set_row, InSpan}
 use Rattle.audit_types.specs.Judgement.{IsWithinWidth}
 use Rattle.audit_types.specs.Limits.{most_width}
-use Rattle.audit_types.specs.WidthLaws.{dangerous_from, has_narrow_by_more}
+use Rattle.audit_types.specs.WidthLaws.{dangerous_from, has_narrow_by_more, narrow_within}
 use Rattle.audit_types.specs.History.{Setting, Protection, Table, FitsShape, IsProtected, IsPlainFor, IsDecisionAfter, list_of, answers_of, answer_in, groups_of}
 use Rattle.audit_types.specs.ListLaws.{all-map, all-filter, all-push, all-weaker}
 use Rattle.audit_core.specs.Laws.{LegalIsNarrow, LegalPinsNothing, sets_before}
@@ -120,7 +120,7 @@ module _ (setting : Setting) (history : List Answered) (fit : All (λ (r : Answe
         let formed : IsWellFormed (known_max setting.shape.rows (answers_of asked.column history)) = record { are_rows = sets_are_rows asked.column; some = sets_have_rows asked.column } in
         let known = known_max setting.shape.rows (answers_of asked.column history) in
         let danger =
-        dangerous_from known setting.protected.width asked.rows.list
+        dangerous_from known setting.protected.width setting.protected.reach asked.rows.list
         (subst (λ k. IsDangerous k asked.rows.list) (plain_maxima setting history asked.column protected.1 maxima (no_groups setting protected asked.column maxima)) denied.1) in
         (by_candidates setting.shape.rows (answers_of asked.column history) [] asked.rows.list formed own_rows question.some).0 danger
 
@@ -139,8 +139,8 @@ module _ (setting : Setting) (history : List Answered) (fit : All (λ (r : Answe
           let with_asked = all-push (AreRows n) (map (λ a. a.rows) answers) asked.rows.list (all_sets asked.column) own_rows in
           let group_rows = All-weaker (λ group. AreRows n group × (group ≢ [])) (AreRows n) (λ group is. is.0) groups (groups_are_rows setting protected asked.column) in
           let danger = subst (λ k. IsDangerous k asked.rows.list) (plain_sums setting history asked.column protected.1 sums) denied.1 in
-          let told = plain_danger (with_groups (with_width (known_sum n answers) setting.protected.width) groups) (sets_with_asked history asked) refl refl
-          ((laws.dangerous n answers [] [] groups 0 setting.protected.width asked.rows.list with_asked group_rows (list_of legal.secrets asked.column, agrees)).0 danger) in
+          let told = plain_danger (with_groups (with_bounds (known_sum n answers) setting.protected.width setting.protected.reach) groups) (sets_with_asked history asked) refl refl
+          ((laws.dangerous n answers [] [] groups 0 setting.protected.width setting.protected.reach asked.rows.list with_asked group_rows (list_of legal.secrets asked.column, agrees)).0 danger) in
           elim told [
             | inl pinned ↦ inl pinned
             | inr (group, guarded, spanned) ↦
@@ -161,6 +161,8 @@ module _ (setting : Setting) (history : List Answered) (fit : All (λ (r : Answe
         new = λ span.
             asked_new laws table history legal.are_secrets protected legal.legal asked.column question.column_below sums (all_sets asked.column) asked.rows.list own_rows
             (groups_are_rows setting protected asked.column) denied.1 (at_end asked.column (set_row setting.shape.rows asked.rows.list) span);
-        narrow = subst (λ k. IsWithinWidth k asked.rows.list) (plain_sums setting history asked.column protected.1 sums) denied.0;
+        narrow = narrow_within (with_groups (with_bounds (known_sum setting.shape.rows (answers_of asked.column history)) setting.protected.width setting.protected.reach)
+            (groups_of asked.column setting.protected.groups)) asked.rows.list
+            (subst (λ k. IsWithinWidth k asked.rows.list) (plain_sums setting history asked.column protected.1 sums) denied.0);
         gives_away = gives_away;
       }

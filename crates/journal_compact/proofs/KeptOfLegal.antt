@@ -2,7 +2,7 @@
 --
 -- A sum that is left out has its row in the span of those before it, so the form is as it was; one set more changes two equal forms in the
 -- same way. Danger, of a number or of a group's total, asks for nothing but the lists that agree, and these are the same.
-use Rattle.std.proofs.Common.{◌≡◌, ℕ, ◌<◌, ℤ, List, [], ◌∷◌, ◌++◌, map, length, refl, sym, ap, ◌∙◌, subst, arith, inl, inr}
+use Rattle.std.proofs.Common.{◌≡◌, ℕ, ◌<◌, ℤ, pos, List, [], ◌∷◌, ◌++◌, map, length, refl, sym, ap, ◌∙◌, subst, arith, inl, inr}
 use Rattle.std.specs.Prelude.{◌↔◌}
 use Rattle.std.specs.List.{AllByRecursion}
 use Rattle.std.proofs.lemmas.Bool.{cases_eq}
@@ -14,14 +14,17 @@ use Rattle.audit_types.specs.declared.records.Verdict.{Verdict}
 use Rattle.audit_types.specs.declared.records.Verdict.TheVariants.{Released, DeniedUnsafe, DeniedWide}
 use Rattle.audit_types.specs.Rows.{AreRows}
 use Rattle.audit_types.specs.Shapes.{columns, kind_at}
-use Rattle.audit_types.specs.Form.{set_row, InSpan, IsReducedForm, Reduced, HasNarrowForm, HasWideForm}
+use Rattle.audit_types.specs.Form.{set_row, InSpan, IsReducedForm, Reduced}
+use Rattle.audit_types.specs.Reach.{Changes, IsWithinBounds}
+use Rattle.audit_types.specs.Totals.{products_from_sums, products_in_span, sums_from_products}
+use Rattle.audit_types.specs.Truth.{number_at, sum_over}
 use Rattle.audit_types.specs.FormRows.{lengths_of_form}
 use Rattle.audit_types.specs.RowNumbers.{length-set_row, lengths_of_sets}
 use Rattle.audit_types.specs.Column.{Known, Answer, Agrees, IsPossible, IsGuarded, number, total, IsDangerous, known_sum, with_answer}
 use Rattle.audit_types.specs.Judgement.{IsWideFor, IsWithinWidthFor, IsDecision}
 use Rattle.audit_types.specs.History.{Protection, Table, AreSecrets, IsLegal, IsDecisionAfter, setting_of, known_of, groups_of, answers_of, answer_in, list_of}
 use Rattle.audit_types.specs.Laws.{LegalIsPossible}
-use Rattle.audit_types.specs.ListLaws.{all-push, all_by_place}
+use Rattle.audit_types.specs.ListLaws.{all-front, all-push, all-map, all_by_place}
 use Rattle.sum_basis.specs.Laws.{FormsAreUnique, EveryRowSpaceHasAForm, SpanKeepsForm, OneMoreSet}
 use Rattle.audit_core.specs.Laws.{LegalGrows}
 use Rattle.journal_compact.specs.Kept.{IsKeptOf, IsImplied, IsImpliedBy, no_groups}
@@ -69,20 +72,30 @@ module _ (laws : FormLaws) (n : ℕ) where
     λ is. with_spanned sets rows form span is,
   )
 
-  -- with one set more they are narrow, or wide, together
-  narrow_alike : (width : ℕ) (sets others : List (List ℕ)) (rows : List ℕ) → AreAlike n sets others → HasNarrowForm width n (sets ++ rows ∷ []) → HasNarrowForm width n (others ++ rows ∷ [])
-  narrow_alike width sets others rows alike has = record {
-    form = has.form;
-    reduced = (push_alike sets others rows alike has.form).0 has.reduced;
-    narrow = has.narrow;
-  }
+  -- what sums to 0 over the sets does over the others
+  sums_alike : (sets others : List (List ℕ)) → AreAlike n sets others → AllByRecursion (AreRows n) sets → AllByRecursion (AreRows n) others → (d : List ℤ) →
+      AllByRecursion (λ s. sum_over d s ≡ pos 0) sets → AllByRecursion (λ s. sum_over d s ≡ pos 0) others
+  sums_alike sets others alike are others_are d zeros =
+      let form = laws.exist n (map (set_row n) sets) (lengths_of_sets n sets) in
+      let of_form = products_in_span n (number_at d) (map (set_row n) sets) form.0 (products_from_sums n d sets are zeros) form.1.within in
+      sums_from_products n d others others_are (products_in_span n (number_at d) form.0 (map (set_row n) others) of_form ((alike form.0).0 form.1).spans)
 
-  wide_alike : (width : ℕ) (sets others : List (List ℕ)) (rows : List ℕ) → AreAlike n sets others → HasWideForm width n (sets ++ rows ∷ []) → HasWideForm width n (others ++ rows ∷ [])
-  wide_alike width sets others rows alike has = record {
-    form = has.form;
-    reduced = (push_alike sets others rows alike has.form).0 has.reduced;
-    wide = has.wide;
-  }
+  -- so with one set more the same changes along a form's directions
+  changes_alike : (sets others : List (List ℕ)) (rows : List ℕ) → AreAlike n sets others → AllByRecursion (AreRows n) sets → AllByRecursion (AreRows n) others →
+      (form : List (List ℤ)) (most : ℕ) (value : List ℤ → ℤ) → Changes n (sets ++ rows ∷ []) form most value → Changes n (others ++ rows ∷ []) form most value
+  changes_alike sets others rows alike are others_are form most value c =
+      let zeros = all-front (λ s. sum_over c.direction s ≡ pos 0) sets rows c.still.zero_sums in
+      record {
+        direction = c.direction;
+        still = record {
+          one_each = c.still.one_each;
+          zero_sums = all-push (λ s. sum_over c.direction s ≡ pos 0) others rows (sums_alike sets others alike are others_are c.direction zeros.0) zeros.1;
+        };
+        column = c.column;
+        only = c.only;
+        near = c.near;
+        changed = c.changed;
+      }
 
 -- the sets of answers
 abbrev sets_of : List Answer → List (List ℕ)
@@ -99,6 +112,7 @@ knows n protected groups kind answers = record {
   several = protected.several;
   own = protected.own;
   width = protected.width;
+  reach = protected.reach;
 }
 
 module _ (n : ℕ) (protected : Protection) (groups : List (List ℕ)) where
@@ -122,27 +136,56 @@ module _ (n : ℕ) (protected : Protection) (groups : List (List ℕ)) where
   }
 
   module _ (laws : FormLaws) where
-    within_width : (kind : Kind) (answers others : List Answer) (rows : List ℕ) → (kind ≡ Sum → AreAlike n (sets_of answers) (sets_of others)) →
-        IsWithinWidthFor kind (knows n protected groups kind answers) rows → IsWithinWidthFor kind (knows n protected groups kind others) rows
-    within_width Sum answers others rows alike has = narrow_alike laws n protected.width (sets_of answers) (sets_of others) rows (alike refl) has
-    within_width Max answers others rows alike has = has
+    -- sets with the same forms, all of rows of the table
+    record AreSame (answers others : List Answer) : Type 0 where
+      alike : AreAlike n (sets_of answers) (sets_of others)
+      are : AllByRecursion (AreRows n) (sets_of answers)
+      others_are : AllByRecursion (AreRows n) (sets_of others)
 
-    too_wide : (kind : Kind) (answers others : List Answer) (rows : List ℕ) → (kind ≡ Sum → AreAlike n (sets_of answers) (sets_of others)) →
+    turned : (answers others : List Answer) → AreSame answers others → AreSame others answers
+    turned answers others same = record {
+      alike = λ form. ((same.alike form).1, (same.alike form).0);
+      are = same.others_are;
+      others_are = same.are;
+    }
+
+    within_bounds : (answers others : List Answer) (rows : List ℕ) → AreSame answers others → (form : List (List ℤ)) →
+        IsWithinBounds (knows n protected groups Sum answers) (sets_of answers ++ rows ∷ []) form →
+        IsWithinBounds (knows n protected groups Sum others) (sets_of others ++ rows ∷ []) form
+    within_bounds answers others rows same form within = record {
+      narrow = within.narrow;
+      near = λ value told changes.
+          changes_alike laws n (sets_of answers) (sets_of others) rows same.alike same.are same.others_are form protected.reach value
+          (within.near value (guarded Sum others answers [] told)
+          (changes_alike laws n (sets_of others) (sets_of answers) rows (λ f. ((same.alike f).1, (same.alike f).0)) same.others_are same.are form n value changes));
+    }
+
+    within_width : (kind : Kind) (answers others : List Answer) (rows : List ℕ) → (kind ≡ Sum → AreSame answers others) →
+        IsWithinWidthFor kind (knows n protected groups kind answers) rows → IsWithinWidthFor kind (knows n protected groups kind others) rows
+    within_width Sum answers others rows same (form, reduced, within) =
+        (form, (push_alike laws n (sets_of answers) (sets_of others) rows (same refl).alike form).0 reduced, within_bounds answers others rows (same refl) form within)
+    within_width Max answers others rows same has = has
+
+    too_wide : (kind : Kind) (answers others : List Answer) (rows : List ℕ) → (kind ≡ Sum → AreSame answers others) →
         IsWideFor kind (knows n protected groups kind answers) rows → IsWideFor kind (knows n protected groups kind others) rows
-    too_wide Sum answers others rows alike has = wide_alike laws n protected.width (sets_of answers) (sets_of others) rows (alike refl) has
-    too_wide Max answers others rows alike has = has
+    too_wide Sum answers others rows same (form, reduced, wide) = (
+      form,
+      (push_alike laws n (sets_of answers) (sets_of others) rows (same refl).alike form).0 reduced,
+      λ within. wide (within_bounds others answers rows (turned answers others (same refl)) form within),
+    )
+    too_wide Max answers others rows same has = has
 
     -- a question is decided after some answers as after others
     decided : (kind : Kind) (answers others : List Answer) (rows : List ℕ) (verdict : Verdict) →
         ((w : List ℤ) → Agrees (knows n protected groups kind answers) w ↔ Agrees (knows n protected groups kind others) w) →
-        (kind ≡ Sum → AreAlike n (sets_of answers) (sets_of others)) → IsDecision (knows n protected groups kind answers) rows verdict → IsDecision (knows n protected groups kind others) rows verdict
-    decided kind answers others rows DeniedWide lists alike is = too_wide kind answers others rows alike is
-    decided kind answers others rows DeniedUnsafe lists alike is = (
-      within_width kind answers others rows alike is.0,
+        (kind ≡ Sum → AreSame answers others) → IsDecision (knows n protected groups kind answers) rows verdict → IsDecision (knows n protected groups kind others) rows verdict
+    decided kind answers others rows DeniedWide lists same is = too_wide kind answers others rows same is
+    decided kind answers others rows DeniedUnsafe lists same is = (
+      within_width kind answers others rows same is.0,
       dangerous kind answers others rows lists is.1,
     )
-    decided kind answers others rows Released lists alike is = (
-      within_width kind answers others rows alike is.0,
+    decided kind answers others rows Released lists same is = (
+      within_width kind answers others rows same is.0,
       λ danger. is.1 (dangerous kind others answers rows (λ w. ((lists w).1, (lists w).0)) danger),
     )
 
@@ -210,6 +253,23 @@ module _ (laws : LegalLaws) (table : Table) (secrets : AreSecrets table.setting.
               (subst (λ l. Reduced rows_in (sets_in column before) form ↔ Reduced rows_in (map (λ a. a.rows) l) form) (sym (other_answers column kept r apart)) (rest form))
         ]
 
+  -- the kept sets are rows of the table too
+  kept_are : (column : ℕ) {history kept : List Answered} → IsKeptOf table.setting.shape history kept → IsLegal table history →
+      AllByRecursion (λ b. AreRows rows_in b.rows) (answers_of column kept)
+  kept_are column none legal = tt
+  kept_are column (left_out {before} {kept} r so_far implied) legal = kept_are column so_far (legal_front table before r legal)
+  kept_are column (stays {before} {kept} r so_far new) legal =
+      let rest = kept_are column so_far (legal_front table before r legal) in
+      let fits = (legal_last table before r legal).fits in
+      elim (cases_eq r.column column) [
+        | inl own ↦ subst (AllByRecursion (λ b. AreRows rows_in b.rows)) (sym (own_answers column kept r own))
+            (all-push (λ (b : Answer). AreRows rows_in b.rows) (answers_of column kept) (answer_in r) rest (subst (λ m. AreRows m r.rows.list) fits.same_n fits.are_rows))
+        | inr apart ↦ subst (AllByRecursion (λ b. AreRows rows_in b.rows)) (sym (other_answers column kept r apart)) rest
+      ]
+
+  as_sets : (answers : List Answer) → AllByRecursion (λ b. AreRows rows_in b.rows) answers → AllByRecursion (AreRows rows_in) (sets_of answers)
+  as_sets answers are = all-map (λ (b : Answer). b.rows) (AreRows rows_in) answers are
+
   decisions : {history kept : List Answered} → IsKeptOf table.setting.shape history kept → IsLegal table history → (column : ℕ) (rows : List ℕ) (verdict : Verdict) → column < columns table.setting.shape →
       IsDecisionAfter table.setting history column rows verdict ↔ IsDecisionAfter table.setting kept column rows verdict
   decisions {history} {kept} is legal column rows verdict below =
@@ -217,10 +277,19 @@ module _ (laws : LegalLaws) (table : Table) (secrets : AreSecrets table.setting.
       let groups = groups_of column table.setting.protected.groups in
       let answers = answers_of column history in
       let others = answers_of column kept in (
-        λ d. decided rows_in table.setting.protected groups laws.forms kind answers others rows verdict (λ w. same_lists table.setting column w is) (λ sum. forms column below sum is legal) d,
+        λ d. decided rows_in table.setting.protected groups laws.forms kind answers others rows verdict (λ w. same_lists table.setting column w is)
+            (λ sum. record {
+              alike = forms column below sum is legal;
+              are = as_sets answers (sets_are column history legal);
+              others_are = as_sets others (kept_are column is legal);
+            }) d,
         λ d. decided rows_in table.setting.protected groups laws.forms kind others answers rows verdict
             (λ w. let both = same_lists table.setting column w is in (both.1, both.0))
-            (λ sum form. let both = forms column below sum is legal form in (both.1, both.0)) d,
+            (λ sum. record {
+              alike = λ form. let both = forms column below sum is legal form in (both.1, both.0);
+              are = as_sets others (kept_are column is legal);
+              others_are = as_sets answers (sets_are column history legal);
+            }) d,
       )
 
   kept_legal : {history kept : List Answered} → IsKeptOf table.setting.shape history kept → IsLegal table history → IsLegal table kept

@@ -25,6 +25,13 @@ untouched_unmade shape list file before unmade image sent (same, is) = (
   inl (λ made. unmade (omega (arith, made.0, ap length is), ap (λ l. get_or l 0 0) (sym is) ∙ made.1)),
 )
 
+-- neither a closed file nor a short one is made
+pub never_closed : (file : List ℕ) → IsFound Closed file → IsMade file → ⊥
+never_closed file found made = found.1 made.1
+
+pub never_short : (file : List ℕ) → IsFound Short file → IsMade file → ⊥
+never_short file found made = omega (arith, found, made.0)
+
 module _ (shape : Shape) (list : List Answered) (behind : List ℕ) (few : length list ≤ 65536) (fit : All (λ r. FitsShape shape r.column r.rows) list)
     (are : AreBehindGate shape list behind) where
   whole_or_unmade : (before image sent : List ℕ) → IsUnmadeOrOpened behind before image sent → IsUnmadeOrWhole shape list before image sent

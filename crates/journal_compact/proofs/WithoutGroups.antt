@@ -1,4 +1,4 @@
--- A history that is legal if groups are protected is legal if none is, at the greatest width: fewer questions are dangerous, and none is wider.
+-- A history that is legal if groups are protected is legal if none is, at the greatest bounds: fewer questions are dangerous, and none is wider.
 use Rattle.std.proofs.Common.{ℕ, ℤ, List, [], take, subst, arith}
 use Rattle.audit_types.specs.declared.shapes.Kind.{Kind}
 use Rattle.audit_types.specs.declared.shapes.Kind.TheVariants.{Sum, Max}
@@ -6,7 +6,7 @@ use Rattle.audit_types.specs.declared.records.Answered.{Answered}
 use Rattle.audit_types.specs.declared.records.Verdict.TheVariants.{Released}
 use Rattle.audit_types.specs.Column.{Known, IsGuarded, number, total, IsDangerous, with_groups}
 use Rattle.audit_types.specs.Judgement.{IsWithinWidthFor, IsDecision}
-use Rattle.audit_types.specs.Limits.{most_width}
+use Rattle.audit_types.specs.Limits.{most_rows, most_width}
 use Rattle.audit_types.specs.WidthLaws.{released_by_more}
 use Rattle.audit_types.specs.History.{Protection, Table, IsPlainFor, IsLegal, against_outsiders, known_of, setting_of}
 use Rattle.journal_compact.specs.Kept.{no_groups}
@@ -32,7 +32,8 @@ danger_still known rows danger = record {
 }
 
 within_still : (kind : Kind) (known : Known) (rows : List ℕ) → IsWithinWidthFor kind known rows → IsWithinWidthFor kind (with_groups known []) rows
-within_still Sum known rows within = within
+within_still Sum known rows (form, reduced, within) =
+    (form, reduced, record { narrow = within.narrow; near = λ value guarded changes. within.near value (guarded_still known [] guarded) changes })
 within_still Max known rows within = within
 
 released_still : (known : Known) (rows : List ℕ) → IsDecision known rows Released → IsDecision (with_groups known []) rows Released
@@ -45,11 +46,11 @@ legal_without_groups table history fit legal = record {
   each = λ i r here.
       let may_follow = legal.each i r here in
       let known : Protection → Known = λ protected. known_of (setting_of table.setting.shape protected) (take i history) r.column in
-      let plain = against_outsiders table.setting.protected.groups [] table.setting.protected.width in
+      let plain = against_outsiders table.setting.protected.groups [] table.setting.protected.width table.setting.protected.reach in
       record {
         fits = may_follow.fits;
         true_answer = may_follow.true_answer;
-        released = released_by_more (with_groups (known plain) []) most_width r.rows.list fit.0.5
+        released = released_by_more (with_groups (known plain) []) most_width most_rows r.rows.list fit.0.5 fit.0.7
             (released_still (known plain) r.rows.list (subst (λ protected. IsDecision (known protected) r.rows.list Released) fit.1 may_follow.released));
       };
 }

@@ -6,7 +6,7 @@ use Rattle.audit_types.specs.Rows.{has_row}
 use Rattle.audit_types.specs.Truth.{truth}
 use Rattle.audit_types.specs.Column.{Known, Answer, Agrees}
 use Rattle.audit_types.specs.Extremes.{upper_bound}
-use Rattle.audit_types.specs.Limits.{most_width}
+use Rattle.audit_types.specs.Limits.{most_rows, most_width}
 use Rattle.audit_types.specs.History.{Protection, against_outsiders, answer_in, known_of, setting_of}
 use Rattle.max_bounds.specs.Outside.{HasExtremesWithin}
 
@@ -16,7 +16,7 @@ IsImplied known a = (w : List ℤ) → Agrees known w → truth known.kind w a.r
 
 -- plain protection by no group
 abbrev pub no_groups : Protection
-no_groups = against_outsiders [] [] most_width
+no_groups = against_outsiders [] [] most_width most_rows
 
 -- every list that agrees with the records before it, on its column, gives the record's answer. Which groups are protected doesn't matter
 abbrev pub IsImpliedBy : Shape → List Answered → Answered → Type 0

@@ -10,7 +10,7 @@ use crate::laws::{implied_maxima, implied_sums, kept_of_legal};
 use audit_core::laws::released_records;
 use audit_core::{ColumnRef, Core};
 use audit_types::laws::true_answers;
-use audit_types::{Answered, Guard, MOST_WIDTH, NoMemory, Shape};
+use audit_types::{Answered, Guard, MOST_REACH, MOST_WIDTH, NoMemory, Shape};
 use std::alloc::Global;
 
 // Whether the records of the core imply this one.
@@ -44,7 +44,8 @@ pub fn kept(alloc: Global, shape: &Shape, history: &[Answered]) -> Result<Vec<An
     released_records();
     kept_of_legal();
     // Protected groups make no record implied, so the core knows none.
-    let mut core = Core::new(alloc, *shape, Guard::new(Vec::new(alloc), MOST_WIDTH))?;
+    let unguarded = Guard::new(Vec::new(alloc), MOST_WIDTH, MOST_REACH);
+    let mut core = Core::new(alloc, *shape, unguarded)?;
     for answered in history {
         if !is_implied(&core, answered) {
             core.take(answered)?;

@@ -3,7 +3,7 @@ use Rattle.std.proofs.Common.{List, length, take, ap, subst, ◌∙◌, ℕ}
 use Rattle.std.proofs.Math.Seq.{take-append_seam}
 use Rattle.audit_types.specs.declared.records.Answered.{Answered}
 use Rattle.audit_types.specs.History.{Table, IsLegal}
-use Rattle.audit_store.specs.LegalFronts.{legal_front}
+use Rattle.audit_core.specs.LegalFronts.{legal_front}
 use Rattle.audit_session.specs.Stops.{IsFront}
 use Rattle.twin_journal.specs.Twins.{KeepTogether}
 

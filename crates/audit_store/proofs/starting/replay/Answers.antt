@@ -26,7 +26,7 @@ illegal-requires-clause-possible c =
     rw (c.is_released.ensures.same, i.same_setting, i.so_far) possible
 
 pub illegal-requires-clause-denied : goal.illegal-requires-clause-denied
-illegal-requires-clause-denied c = rw c.is_released.ensures.same (c.in-Ok-false.ensures.no (ap said c.in-Ok-false.field-0-test))
+illegal-requires-clause-denied c = rw c.is_released.ensures.same (c.in-Ok-false.ensures.judged (ap said c.in-Ok-false.field-0-test))
 
 -- what is told of the record at this place is the cause of the history
 pub returns-in-Ok-false-clause-err : goal.returns-in-Ok-false-clause-err

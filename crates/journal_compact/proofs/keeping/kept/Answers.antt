@@ -1,7 +1,7 @@
 use Rattle.std.proofs.Common.{◌≡◌, ◌+◌, take, [], ◌∷◌, ◌++◌, List, sym, ap, ◌∙◌, subst}
 use Rattle.std.proofs.lemmas.Bool.{true≢false}
 use Rattle.audit_types.specs.declared.records.Answered.{Answered}
-use Rattle.audit_types.specs.Limits.{most_width}
+use Rattle.audit_types.specs.Limits.{most_rows, most_width}
 use Rattle.audit_types.specs.History.{against_outsiders, setting_of}
 use Rattle.audit_core.specs.Audited.{Audited}
 use Rattle.journal_compact.specs.Kept.{IsKeptOf}
@@ -12,7 +12,7 @@ use Rattle.journal_compact.proofs.keeping.kept.Goals.{then-not-is_implied+in_ok-
 
 pub loop-answered-init : goal.loop-answered-init
 loop-answered-init c = record {
-  setting = ap (λ (a : Audited). a.setting) c.in_ok-core.ensures ∙ ap (setting_of c.args.shape.now) c.new-2.ensures ∙ ap (λ groups. setting_of c.args.shape.now (against_outsiders groups [] most_width)) c.new.ensures.items;
+  setting = ap (λ (a : Audited). a.setting) c.in_ok-core.ensures ∙ ap (setting_of c.args.shape.now) c.new-unguarded.ensures ∙ ap (λ groups. setting_of c.args.shape.now (against_outsiders groups [] most_width most_rows)) c.new.ensures.items;
   kept = subst (λ (l : List Answered). IsKeptOf c.args.shape.now [] l) (sym (ap (λ (a : Audited). a.history) c.in_ok-core.ensures)) none;
 }
 

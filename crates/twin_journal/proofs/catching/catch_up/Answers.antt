@@ -5,7 +5,7 @@ use Rattle.audit_types.specs.declared.shapes.Shape.{Shape}
 use Rattle.audit_types.specs.History.{FitsShape}
 use Rattle.bench_core.specs.Calls.{LeavesOnly}
 use Rattle.journal_form.specs.Journal.{StandsAt}
-use Rattle.audit_store.specs.LegalFronts.{legal_fits}
+use Rattle.audit_core.specs.LegalFronts.{legal_fits}
 use Rattle.audit_store.specs.Stores.{table_of}
 use Rattle.audit_store.specs.Twice.{IsBroughtUp, StandsWithSome}
 use Rattle.twin_journal.specs.Twins.{DifferFirst}

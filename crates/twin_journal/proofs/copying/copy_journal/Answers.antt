@@ -7,7 +7,7 @@ use Rattle.journal_form.specs.Journal.{StandsAt, StandsFor}
 use Rattle.journal_compact.specs.Whole.{IsUnmadeOrWhole}
 use Rattle.table_load.specs.Cells.{SecretView}
 use Rattle.table_load.specs.Database.{secret_table}
-use Rattle.audit_store.specs.LegalFronts.{legal_fits}
+use Rattle.audit_core.specs.LegalFronts.{legal_fits}
 use Rattle.audit_store.specs.Stores.{table_of}
 use Rattle.twin_journal.proofs.Copies.{kept_for_one, never_copied}
 use Rattle.twin_journal.proofs.copying.copy_journal.Goals as goal

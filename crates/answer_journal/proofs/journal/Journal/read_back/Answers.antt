@@ -53,6 +53,7 @@ returns g c = record {
       (ap (λ (j : JournalContents). j.shape) c.ending_at.ensures ∙ once.0, once.1, ap (λ (j : JournalContents). j.gate) c.ending_at.ensures ∙ once.2);
   reads = c.contents_of.ensures.reads;
   ticks = c.in_ok-shape.ensures.ticks;
+  unmade = λ told is. c.in_ok-shape.ensures.ticks told;
   fault = search rules;
 }
 

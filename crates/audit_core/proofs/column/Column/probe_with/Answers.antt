@@ -4,9 +4,9 @@ use Rattle.audit_core.specs.Columns.{known_in}
 use Rattle.audit_core.proofs.column.Column.probe_with.Goals as goal
 
 pub returns-in-Sum : goal.returns-in-Sum
-returns-in-Sum c = rw c.in-Sum.is c.probe_with.ensures
+returns-in-Sum c = record { judged = rw c.in-Sum.is c.probe_with.ensures.judged; decided = rw c.in-Sum.is c.probe_with.ensures.decided }
 
 pub returns-in-Max : goal.returns-in-Max
 returns-in-Max c =
     let none : c.args.apart.now ≡ [] = c.requires.sums (ap (λ (k : Column). (known_in k).kind) c.in-Max.is ∙ c.probe_with_none.ensures.maxima) in
-    rw (none, c.in-Max.is) c.probe_with_none.ensures.decided
+    record { judged = rw (none, c.in-Max.is) c.probe_with_none.ensures.judged; decided = rw (none, c.in-Max.is) c.probe_with_none.ensures.decided }

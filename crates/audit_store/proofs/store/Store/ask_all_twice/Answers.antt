@@ -1,167 +1,357 @@
-use Rattle.std.proofs.Common.{◌≡◌, true, List, ℕ, refl, ◌++◌, length, take, sym, ap, subst, ◌∙◌}
+use Rattle.std.proofs.Common.{◌≡◌, true, List, ℕ, Err, refl, ◌+◌, ◌++◌, length, take, sym, ap, subst, ◌∙◌}
+use Rattle.std.specs.Prelude.{IsErrOf}
+use Rattle.std.proofs.lemmas.Result.{IfOk-from_err}
 use Rattle.audit_types.specs.declared.records.Answered.{Answered}
+use Rattle.audit_types.specs.History.{Setting}
 use Rattle.journal_form.specs.Journal.{StandsAt}
-use Rattle.audit_core.specs.Outcomes.{AreOutcomes, records_made}
-use Rattle.audit_store.specs.Stores.{StoreContents, table_of}
-use Rattle.audit_store.specs.StoreLaws.{table_by, core_is_history, taken_since, more_released, kept_store}
+use Rattle.audit_core.specs.Outcomes.{records_made}
+use Rattle.audit_store.specs.Stores.{StoreContents, HasGroup, calls_for}
+use Rattle.audit_store.specs.StoreLaws.{kept_store, more_released, nothing_appended, refused_history, refused_store, still_released}
+use Rattle.audit_store.specs.Refusals.{no_refusal}
+use Rattle.bench_core.specs.Reports.{done_call, failed_call, is_refusal, not_called}
 use Rattle.audit_store.specs.Twice.{group_of}
-use Rattle.audit_store.proofs.KeptTwice.{over_own_shape, stands_after, keeps_group, kept_ahead}
+use Rattle.audit_store.specs.declared.keeper.KeepFault.TheVariants as keep
+use Rattle.audit_store.proofs.KeptTwice.{decided, has_made, journal_after, keeps_group, kept_ahead, over_other, over_own_shape, stands_after}
 use Rattle.audit_store.proofs.store.Store.ask_all_twice.Goals as goal
+
+pub invariant_of-self : goal.invariant_of-self
+invariant_of-self g c =
+    let i = c.self.inside in
+    let usable : i.usable ≡ true = ap (λ (s : StoreContents). s.usable) c.self.view_is ∙ c.requires.usable in
+    let took = c.decide_all.ensures in
+    refused_store i.secret i.core c.decide_all.new.core i.released i.journal i.journal i.usable usable c.self.invariant.0 c.self.invariant.1
+    took.begins took.within took.setting
+
+pub invariant_of-self-in_err-ready : goal.invariant_of-self-in_err-ready
+invariant_of-self-in_err-ready g c =
+    let i = c.self.inside in
+    let usable : i.usable ≡ true = ap (λ (s : StoreContents). s.usable) c.self.view_is ∙ c.requires.usable in
+    let took = c.decide_all.ensures in
+    refused_store i.secret i.core c.decide_all.new.core i.released i.journal i.journal i.usable usable c.self.invariant.0 c.self.invariant.1
+    took.begins took.within took.setting
+
+pub invariant_of-self-in-Err : goal.invariant_of-self-in-Err
+invariant_of-self-in-Err g c =
+    let i = c.self.inside in
+    let usable : i.usable ≡ true = ap (λ (s : StoreContents). s.usable) c.self.view_is ∙ c.requires.usable in
+    let took = c.decide_all.ensures in
+    refused_store i.secret i.core c.decide_all.new.core i.released i.journal i.journal i.usable usable c.self.invariant.0 c.self.invariant.1
+    took.begins took.within took.setting
+
+pub invariant_of-self-in-Err-keep_ready : goal.invariant_of-self-in-Err-keep_ready
+invariant_of-self-in-Err-keep_ready g c =
+    let i = c.self.inside in
+    let usable : i.usable ≡ true = ap (λ (s : StoreContents). s.usable) c.self.view_is ∙ c.requires.usable in
+    let took = c.decide_all.ensures in
+    refused_store i.secret i.core c.decide_all.new.core i.released i.journal c.keep_ready-2.new.journal i.usable usable c.self.invariant.0 c.self.invariant.1
+    took.begins took.within took.setting
 
 pub invariant_of-self-2 : goal.invariant_of-self-2
 invariant_of-self-2 g c =
     let i = c.self.inside in
     let store = c.args.self.now in
     let usable : i.usable ≡ true = ap (λ (s : StoreContents). s.usable) c.self.view_is ∙ c.requires.usable in
+    let asked = c.args.asked.now in
     let outcomes = c.in_ok-outcomes.outcomes.items in
-    let made = records_made c.args.asked.now outcomes in
+    let made = records_made asked outcomes in
     let group = group_of c.in_ok-ready.ready in
-    let group_is : group ≡ made =
-    c.in_ok-ready.ensures.group ∙ taken_since i.core.history c.decide_all.new.core.history c.history.result.now made i.released c.history.ensures.is
-    (c.self.invariant.1.all usable) c.in_ok-outcomes.ensures.history in
     let took = c.in_ok-outcomes.ensures in
+    let is =
+    decided i.secret i.core c.decide_all.new.core i.released i.journal i.usable store asked outcomes c.history.result.now group c.self.view_is usable
+    c.self.invariant.0 c.self.invariant.1 took.outcomes took.history c.history.ensures.is c.in_ok-ready.ensures.group in
     let kept = c.in-Ok-keep_ready.ensures in
     kept_store i.secret i.core c.decide_all.new.core i.released (length c.history-2.result.now) i.journal c.keep_ready-2.new.journal i.usable
     group made usable c.self.invariant.0 c.self.invariant.1 took.history c.decide_all.ensures.setting
-    took.legal (ap length c.history-2.ensures.is) group_is kept.usable c.keep_ready-2.ensures.shape kept.counted
+    took.legal (ap length c.history-2.ensures.is) is.group_is kept.usable c.keep_ready-2.ensures.shape kept.counted
+
+-- ---- memory ran out
+
+pub returns-in_err-outcomes : goal.returns-in_err-outcomes
+returns-in_err-outcomes g c =
+    let i = c.self.inside in
+    let store = c.args.self.now in
+    let usable : i.usable ≡ true = ap (λ (s : StoreContents). s.usable) c.self.view_is ∙ c.requires.usable in
+    let answer = c.from_residual.result in
+    let same : answer ≡ Err keep.NoMemory = is_refusal answer keep.NoMemory c.from_residual.ensures in
+    record {
+      outcomes = IfOk-from_err _ _ c.from_residual.ensures.0;
+      history = IfOk-from_err _ _ c.from_residual.ensures.0;
+      stands = λ told. IfOk-from_err _ _ c.from_residual.ensures.0;
+      spare_stands = λ told. IfOk-from_err _ _ c.from_residual.ensures.0;
+      usable = IfOk-from_err _ _ c.from_residual.ensures.0;
+      kept =
+          refused_history answer i.core.history c.decide_all.new.core.history store.history i.released
+          (c.self.invariant.1.all usable) c.decide_all.ensures.begins (ap (λ (s : StoreContents). s.history) c.self.view_is);
+      no_memory = λ is. (refl, refl);
+      spare_first = λ is. refl;
+      fault = not_called g.B.Bench c.args.bench.now (IsErrOf c.from_residual.result keep.Bench) (λ is. let none : ⊥ = cc in none);
+      spare_fault = not_called g.S.Bench c.args.spare.now (IsErrOf c.from_residual.result keep.Spare) (λ is. let none : ⊥ = cc in none);
+      secret = ap (λ (s : StoreContents). s.secret) c.self.view_is;
+      protected = ap (λ (s : Setting). s.protected) c.decide_all.ensures.setting ∙ ap (λ (s : StoreContents). s.protected) c.self.view_is;
+      is = (invariant_of-self g c).0;
+      any_moment = λ told quiet other. absurd (other same);
+      spare_moments = λ told quiet other. absurd (other same);
+      ahead = λ told spare_told quiet is. let none : ⊥ = cc in absurd none;
+      written = λ told. IfOk-from_err _ _ c.from_residual.ensures.0;
+      spare_written = λ told. IfOk-from_err _ _ c.from_residual.ensures.0;
+      quiet = λ told quiet other. quiet;
+      spare_quiet = λ told quiet other. quiet;
+      sent = refl;
+      spare_sent = refl;
+      ticks = λ told. IfOk-from_err _ _ c.from_residual.ensures.0;
+      spare_ticks = λ told. IfOk-from_err _ _ c.from_residual.ensures.0;
+      unasked = IfOk-from_err _ _ c.from_residual.ensures.0;
+    }
+
+pub returns-in_err-ready : goal.returns-in_err-ready
+returns-in_err-ready g c =
+    let i = c.self.inside in
+    let store = c.args.self.now in
+    let usable : i.usable ≡ true = ap (λ (s : StoreContents). s.usable) c.self.view_is ∙ c.requires.usable in
+    let answer = c.from_residual-in_err-ready.result in
+    let same : answer ≡ Err keep.NoMemory = is_refusal answer keep.NoMemory c.from_residual-in_err-ready.ensures in
+    record {
+      outcomes = IfOk-from_err _ _ c.from_residual-in_err-ready.ensures.0;
+      history = IfOk-from_err _ _ c.from_residual-in_err-ready.ensures.0;
+      stands = λ told. IfOk-from_err _ _ c.from_residual-in_err-ready.ensures.0;
+      spare_stands = λ told. IfOk-from_err _ _ c.from_residual-in_err-ready.ensures.0;
+      usable = IfOk-from_err _ _ c.from_residual-in_err-ready.ensures.0;
+      kept =
+          refused_history answer i.core.history c.decide_all.new.core.history store.history i.released
+          (c.self.invariant.1.all usable) c.decide_all.ensures.begins (ap (λ (s : StoreContents). s.history) c.self.view_is);
+      no_memory = λ is. (refl, refl);
+      spare_first = λ is. refl;
+      fault = not_called g.B.Bench c.args.bench.now (IsErrOf c.from_residual-in_err-ready.result keep.Bench) (λ is. let none : ⊥ = cc in none);
+      spare_fault = not_called g.S.Bench c.args.spare.now (IsErrOf c.from_residual-in_err-ready.result keep.Spare) (λ is. let none : ⊥ = cc in none);
+      secret = ap (λ (s : StoreContents). s.secret) c.self.view_is;
+      protected = ap (λ (s : Setting). s.protected) c.decide_all.ensures.setting ∙ ap (λ (s : StoreContents). s.protected) c.self.view_is;
+      is = (invariant_of-self-in_err-ready g c).0;
+      any_moment = λ told quiet other. absurd (other same);
+      spare_moments = λ told quiet other. absurd (other same);
+      ahead = λ told spare_told quiet is. let none : ⊥ = cc in absurd none;
+      written = λ told. IfOk-from_err _ _ c.from_residual-in_err-ready.ensures.0;
+      spare_written = λ told. IfOk-from_err _ _ c.from_residual-in_err-ready.ensures.0;
+      quiet = λ told quiet other. quiet;
+      spare_quiet = λ told quiet other. quiet;
+      sent = refl;
+      spare_sent = refl;
+      ticks = λ told. IfOk-from_err _ _ c.from_residual-in_err-ready.ensures.0;
+      spare_ticks = λ told. IfOk-from_err _ _ c.from_residual-in_err-ready.ensures.0;
+      unasked = IfOk-from_err _ _ c.from_residual-in_err-ready.ensures.0;
+    }
+
+-- ---- a call of the spare failed
+
+pub returns-in-Err : goal.returns-in-Err
+returns-in-Err g c =
+    let i = c.self.inside in
+    let store = c.args.self.now in
+    let usable : i.usable ≡ true = ap (λ (s : StoreContents). s.usable) c.self.view_is ∙ c.requires.usable in
+    let asked = c.args.asked.now in
+    let outcomes = c.in_ok-outcomes.outcomes.items in
+    let made = records_made asked outcomes in
+    let group = group_of c.in_ok-ready.ready in
+    let took = c.in_ok-outcomes.ensures in
+    let is =
+    decided i.secret i.core c.decide_all.new.core i.released i.journal i.usable store asked outcomes c.history.result.now group c.self.view_is usable
+    c.self.invariant.0 c.self.invariant.1 took.outcomes took.history c.history.ensures.is c.in_ok-ready.ensures.group in
+    let file = g.B.Bench.file c.args.bench.now in
+    let here : g.B.Bench.told → StandsAt file i.journal.shape store.history i.journal.gate = λ told.
+    over_own_shape store asked outcomes i.journal group is file
+    (subst (λ (n : ℕ). StandsAt file store.secret.shape store.history n) (ap (λ (s : StoreContents). s.journal.gate) (sym c.self.view_is))
+    (c.requires.stands told)) in
+    let other = c.args.other.now in
+    let of_other = over_other store asked outcomes i.journal group is other c.requires.other in
+    let spare_file = g.S.Bench.file c.args.spare.now in
+    let there : g.S.Bench.told → StandsAt spare_file other.shape store.history other.gate = λ told.
+    over_own_shape store asked outcomes other group of_other spare_file (c.requires.spare_stands told) in
+    record {
+      outcomes = tt;
+      history = tt;
+      stands = λ told. tt;
+      spare_stands = λ told. tt;
+      usable = tt;
+      kept = (
+        still_released i.core.history c.decide_all.new.core.history store.history i.released (c.self.invariant.1.all usable)
+            c.decide_all.ensures.begins (ap (λ (s : StoreContents). s.history) c.self.view_is),
+        refl,
+      );
+      no_memory = λ is. let none : ⊥ = cc in absurd none;
+      spare_first = λ is. refl;
+      fault = not_called g.B.Bench c.args.bench.now _ (λ is. let none : ⊥ = cc in none);
+      spare_fault =
+          failed_call g.S.Bench c.args.spare.now c.keep_ready.new.bench _ _ c.in-Err.ensures.cause c.in-Err.ensures.last_call refl;
+      secret = ap (λ (s : StoreContents). s.secret) c.self.view_is;
+      protected = ap (λ (s : Setting). s.protected) c.decide_all.ensures.setting ∙ ap (λ (s : StoreContents). s.protected) c.self.view_is;
+      is = (invariant_of-self-in-Err g c).0;
+      any_moment = λ told quiet no_memory.
+          keeps_group store asked outcomes i.journal group is g.B.Bench c.args.bench.now c.args.bench.now
+          (nothing_appended g.B.Bench c.args.bench.now i.journal.shape store.history group i.journal.gate
+          (λ image sent was. g.met.B.Bench.only_now c.args.bench.now image sent was) quiet (here told));
+      spare_moments = λ told quiet no_memory.
+          keeps_group store asked outcomes other group of_other g.S.Bench c.args.spare.now c.keep_ready.new.bench
+          (c.keep_ready.ensures.any_moment store.history told (there told) (sym c.requires.other.counted) quiet);
+      ahead = λ told spare_told quiet is. let none : ⊥ = cc in absurd none;
+      written = λ told. tt;
+      spare_written = λ told. tt;
+      quiet = λ told quiet other. quiet;
+      spare_quiet = λ told quiet other. absurd (other refl);
+      sent = refl;
+      spare_sent = c.keep_ready.ensures.sent;
+      ticks = λ told. tt;
+      spare_ticks = λ told. tt;
+      unasked = tt;
+    }
 
 -- ---- a call of the bench failed
 
-pub returns-in-Err-keep_ready-clause-ahead : goal.returns-in-Err-keep_ready-clause-ahead
-returns-in-Err-keep_ready-clause-ahead g c = λ told spare_told quiet is image left.
+pub returns-in-Err-keep_ready : goal.returns-in-Err-keep_ready
+returns-in-Err-keep_ready g c =
     let i = c.self.inside in
     let store = c.args.self.now in
     let usable : i.usable ≡ true = ap (λ (s : StoreContents). s.usable) c.self.view_is ∙ c.requires.usable in
+    let asked = c.args.asked.now in
     let outcomes = c.in_ok-outcomes.outcomes.items in
-    let made = records_made c.args.asked.now outcomes in
+    let made = records_made asked outcomes in
     let group = group_of c.in_ok-ready.ready in
-    let group_is : group ≡ made =
-    c.in_ok-ready.ensures.group ∙ taken_since i.core.history c.decide_all.new.core.history c.history.result.now made i.released c.history.ensures.is
-    (c.self.invariant.1.all usable) c.in_ok-outcomes.ensures.history in
-    let all = core_is_history (table_by i.secret i.core) i.core i.released i.usable (take i.released i.core.history) c.self.invariant.1 usable refl in
-    let due : AreOutcomes (table_of store) store.history c.args.asked.now outcomes =
-    subst (λ (s : StoreContents). AreOutcomes (table_of s) s.history c.args.asked.now outcomes) c.self.view_is
-    (subst (λ (h : List Answered). AreOutcomes (table_by i.secret i.core) h c.args.asked.now outcomes) all c.in_ok-outcomes.ensures.outcomes) in
-    let shape : i.journal.shape ≡ store.secret.shape = c.self.invariant.0.same_shape usable ∙ ap (λ (s : StoreContents). s.secret.shape) c.self.view_is in
-    let many : length store.history ≡ i.journal.count = sym (c.self.invariant.0.counted usable ∙ ap (λ (s : StoreContents). length s.history) c.self.view_is) in
+    let took = c.in_ok-outcomes.ensures in
+    let is =
+    decided i.secret i.core c.decide_all.new.core i.released i.journal i.usable store asked outcomes c.history.result.now group c.self.view_is usable
+    c.self.invariant.0 c.self.invariant.1 took.outcomes took.history c.history.ensures.is c.in_ok-ready.ensures.group in
     let file = g.B.Bench.file c.args.bench.now in
-    let here : g.B.Bench.told → StandsAt file i.journal.shape store.history i.journal.gate = λ told. over_own_shape store c.args.asked.now outcomes due i.journal shape group group_is file
-    (subst (λ (n : ℕ). StandsAt file store.secret.shape store.history n) (ap (λ (s : StoreContents). s.journal.gate) (sym c.self.view_is)) (c.requires.stands told)) in
+    let here : g.B.Bench.told → StandsAt file i.journal.shape store.history i.journal.gate = λ told.
+    over_own_shape store asked outcomes i.journal group is file
+    (subst (λ (n : ℕ). StandsAt file store.secret.shape store.history n) (ap (λ (s : StoreContents). s.journal.gate) (sym c.self.view_is))
+    (c.requires.stands told)) in
     let other = c.args.other.now in
-    let other_file = g.S.Bench.file c.args.spare.now in
-    let there : g.S.Bench.told → StandsAt other_file other.shape store.history other.gate = λ told. over_own_shape store c.args.asked.now outcomes due other c.requires.other.same_shape group group_is other_file (c.requires.spare_stands told) in
-    let bench = g.B.Bench in
-    let found = c.keep_ready-2.ensures.any_moment store.history told (here told) many quiet in
-    let spare_file = g.S.Bench.file c.keep_ready.new.bench in
-    let stands = stands_after store c.args.asked.now outcomes due other c.requires.other.same_shape group group_is spare_file c.keep_ready.new.journal.shape
-    c.keep_ready.new.journal.gate (store.history ++ made) c.keep_ready.ensures.shape refl
-    (c.in-Ok.ensures.done store.history spare_told (there spare_told) (sym c.requires.other.counted)) in
-    kept_ahead store c.args.asked.now outcomes due i.journal shape group group_is bench c.args.bench.now c.keep_ready-2.new.bench found spare_file image
-    (c.keep_ready.new.journal.gate, stands) (g.met.B.Bench.counts_now c.keep_ready-2.new.bench (bench.moment c.args.bench.now) image found.later left)
+    let of_other = over_other store asked outcomes i.journal group is other c.requires.other in
+    let spare_file = g.S.Bench.file c.args.spare.now in
+    let there : g.S.Bench.told → StandsAt spare_file other.shape store.history other.gate = λ told.
+    over_own_shape store asked outcomes other group of_other spare_file (c.requires.spare_stands told) in
+    record {
+      outcomes = tt;
+      history = tt;
+      stands = λ told. tt;
+      spare_stands = λ told. tt;
+      usable = tt;
+      kept = (
+        still_released i.core.history c.decide_all.new.core.history store.history i.released (c.self.invariant.1.all usable)
+            c.decide_all.ensures.begins (ap (λ (s : StoreContents). s.history) c.self.view_is),
+        refl,
+      );
+      no_memory = λ is. let none : ⊥ = cc in absurd none;
+      spare_first = λ is. let none : ⊥ = cc in absurd none;
+      fault =
+          failed_call g.B.Bench c.args.bench.now c.keep_ready-2.new.bench _ _ c.in-Err-keep_ready.ensures.cause
+          c.in-Err-keep_ready.ensures.last_call refl;
+      spare_fault = done_call g.S.Bench c.args.spare.now c.keep_ready.new.bench _ _ c.in-Ok.ensures.cause (λ is. let none : ⊥ = cc in none);
+      secret = ap (λ (s : StoreContents). s.secret) c.self.view_is;
+      protected = ap (λ (s : Setting). s.protected) c.decide_all.ensures.setting ∙ ap (λ (s : StoreContents). s.protected) c.self.view_is;
+      is = (invariant_of-self-in-Err-keep_ready g c).0;
+      any_moment = λ told quiet no_memory.
+          keeps_group store asked outcomes i.journal group is g.B.Bench c.args.bench.now c.keep_ready-2.new.bench
+          (c.keep_ready-2.ensures.any_moment store.history told (here told) is.counted quiet);
+      spare_moments = λ told quiet no_memory.
+          keeps_group store asked outcomes other group of_other g.S.Bench c.args.spare.now c.keep_ready.new.bench
+          (c.keep_ready.ensures.any_moment store.history told (there told) (sym c.requires.other.counted) quiet);
+      ahead = λ told spare_told quiet failed image left.
+          let found = c.keep_ready-2.ensures.any_moment store.history told (here told) is.counted quiet in
+          let file = g.S.Bench.file c.keep_ready.new.bench in
+          let stands =
+          stands_after store asked outcomes other group of_other file c.keep_ready.new.journal.shape store.secret.shape c.keep_ready.new.journal.gate
+          (store.history ++ made) c.keep_ready.ensures.shape refl refl
+          (c.in-Ok.ensures.done store.history spare_told (there spare_told) (sym c.requires.other.counted)) in
+          kept_ahead store asked outcomes i.journal group is g.B.Bench c.args.bench.now c.keep_ready-2.new.bench found file image
+          (c.keep_ready.new.journal.gate, stands)
+          (g.met.B.Bench.counts_now c.keep_ready-2.new.bench (g.B.Bench.moment c.args.bench.now) image found.later left);
+      written = λ told. tt;
+      spare_written = λ told. tt;
+      quiet = λ told quiet other. absurd (other refl);
+      spare_quiet = λ told quiet other. c.in-Ok.ensures.quiet told quiet;
+      sent = c.keep_ready-2.ensures.sent;
+      spare_sent = c.keep_ready.ensures.sent;
+      ticks = λ told. tt;
+      spare_ticks = λ told. tt;
+      unasked = tt;
+    }
 
 -- ---- both were appended to
 
-pub returns-clause-stands : goal.returns-clause-stands
-returns-clause-stands g c = λ told.
+pub returns : goal.returns
+returns g c =
     let i = c.self.inside in
     let store = c.args.self.now in
     let usable : i.usable ≡ true = ap (λ (s : StoreContents). s.usable) c.self.view_is ∙ c.requires.usable in
+    let asked = c.args.asked.now in
     let outcomes = c.in_ok-outcomes.outcomes.items in
-    let made = records_made c.args.asked.now outcomes in
+    let made = records_made asked outcomes in
     let group = group_of c.in_ok-ready.ready in
-    let group_is : group ≡ made =
-    c.in_ok-ready.ensures.group ∙ taken_since i.core.history c.decide_all.new.core.history c.history.result.now made i.released c.history.ensures.is
-    (c.self.invariant.1.all usable) c.in_ok-outcomes.ensures.history in
-    let all = core_is_history (table_by i.secret i.core) i.core i.released i.usable (take i.released i.core.history) c.self.invariant.1 usable refl in
-    let due : AreOutcomes (table_of store) store.history c.args.asked.now outcomes =
-    subst (λ (s : StoreContents). AreOutcomes (table_of s) s.history c.args.asked.now outcomes) c.self.view_is
-    (subst (λ (h : List Answered). AreOutcomes (table_by i.secret i.core) h c.args.asked.now outcomes) all c.in_ok-outcomes.ensures.outcomes) in
-    let shape : i.journal.shape ≡ store.secret.shape = c.self.invariant.0.same_shape usable ∙ ap (λ (s : StoreContents). s.secret.shape) c.self.view_is in
-    let many : length store.history ≡ i.journal.count = sym (c.self.invariant.0.counted usable ∙ ap (λ (s : StoreContents). length s.history) c.self.view_is) in
+    let took = c.in_ok-outcomes.ensures in
+    let is =
+    decided i.secret i.core c.decide_all.new.core i.released i.journal i.usable store asked outcomes c.history.result.now group c.self.view_is usable
+    c.self.invariant.0 c.self.invariant.1 took.outcomes took.history c.history.ensures.is c.in_ok-ready.ensures.group in
     let file = g.B.Bench.file c.args.bench.now in
-    let here : g.B.Bench.told → StandsAt file i.journal.shape store.history i.journal.gate = λ told. over_own_shape store c.args.asked.now outcomes due i.journal shape group group_is file
-    (subst (λ (n : ℕ). StandsAt file store.secret.shape store.history n) (ap (λ (s : StoreContents). s.journal.gate) (sym c.self.view_is)) (c.requires.stands told)) in
+    let here : g.B.Bench.told → StandsAt file i.journal.shape store.history i.journal.gate = λ told.
+    over_own_shape store asked outcomes i.journal group is file
+    (subst (λ (n : ℕ). StandsAt file store.secret.shape store.history n) (ap (λ (s : StoreContents). s.journal.gate) (sym c.self.view_is))
+    (c.requires.stands told)) in
+    let other = c.args.other.now in
+    let of_other = over_other store asked outcomes i.journal group is other c.requires.other in
+    let spare_file = g.S.Bench.file c.args.spare.now in
+    let there : g.S.Bench.told → StandsAt spare_file other.shape store.history other.gate = λ told.
+    over_own_shape store asked outcomes other group of_other spare_file (c.requires.spare_stands told) in
     let now = take (length c.history-2.result.now) c.decide_all.new.core.history in
     let now_is : now ≡ store.history ++ made =
     more_released i.core.history c.decide_all.new.core.history store.history made i.released (length c.history-2.result.now)
-    (c.self.invariant.1.all usable) c.in_ok-outcomes.ensures.history (ap (λ (l : List Answered). length l) c.history-2.ensures.is)
+    (c.self.invariant.1.all usable) took.history (ap (λ (l : List Answered). length l) c.history-2.ensures.is)
     (ap (λ (s : StoreContents). s.history) c.self.view_is) in
-    let done = c.in-Ok-keep_ready.ensures.done store.history told (here told) many in
-    subst (λ (s : StoreContents). StandsAt (g.B.Bench.file c.keep_ready-2.new.bench) s.secret.shape now c.keep_ready-2.new.journal.gate) (sym c.self.view_is)
-    (stands_after store c.args.asked.now outcomes due i.journal shape group group_is (g.B.Bench.file c.keep_ready-2.new.bench) c.keep_ready-2.new.journal.shape
-    c.keep_ready-2.new.journal.gate now c.keep_ready-2.ensures.shape now_is done)
-
-pub returns-clause-spare_stands : goal.returns-clause-spare_stands
-returns-clause-spare_stands g c = λ told.
-    let i = c.self.inside in
-    let store = c.args.self.now in
-    let usable : i.usable ≡ true = ap (λ (s : StoreContents). s.usable) c.self.view_is ∙ c.requires.usable in
-    let outcomes = c.in_ok-outcomes.outcomes.items in
-    let made = records_made c.args.asked.now outcomes in
-    let group = group_of c.in_ok-ready.ready in
-    let group_is : group ≡ made =
-    c.in_ok-ready.ensures.group ∙ taken_since i.core.history c.decide_all.new.core.history c.history.result.now made i.released c.history.ensures.is
-    (c.self.invariant.1.all usable) c.in_ok-outcomes.ensures.history in
-    let all = core_is_history (table_by i.secret i.core) i.core i.released i.usable (take i.released i.core.history) c.self.invariant.1 usable refl in
-    let due : AreOutcomes (table_of store) store.history c.args.asked.now outcomes =
-    subst (λ (s : StoreContents). AreOutcomes (table_of s) s.history c.args.asked.now outcomes) c.self.view_is
-    (subst (λ (h : List Answered). AreOutcomes (table_by i.secret i.core) h c.args.asked.now outcomes) all c.in_ok-outcomes.ensures.outcomes) in
-    let other = c.args.other.now in
-    let other_file = g.S.Bench.file c.args.spare.now in
-    let there : g.S.Bench.told → StandsAt other_file other.shape store.history other.gate = λ told. over_own_shape store c.args.asked.now outcomes due other c.requires.other.same_shape group group_is other_file (c.requires.spare_stands told) in
-    let now = take (length c.history-2.result.now) c.decide_all.new.core.history in
-    let now_is : now ≡ store.history ++ made =
-    more_released i.core.history c.decide_all.new.core.history store.history made i.released (length c.history-2.result.now)
-    (c.self.invariant.1.all usable) c.in_ok-outcomes.ensures.history (ap (λ (l : List Answered). length l) c.history-2.ensures.is)
-    (ap (λ (s : StoreContents). s.history) c.self.view_is) in
-    let done = c.in-Ok.ensures.done store.history told (there told) (sym c.requires.other.counted) in
-    subst (λ (s : StoreContents). StandsAt (g.S.Bench.file c.keep_ready.new.bench) s.secret.shape now c.keep_ready.new.journal.gate) (sym c.self.view_is)
-    (stands_after store c.args.asked.now outcomes due other c.requires.other.same_shape group group_is (g.S.Bench.file c.keep_ready.new.bench) c.keep_ready.new.journal.shape
-    c.keep_ready.new.journal.gate now c.keep_ready.ensures.shape now_is done)
-
-pub returns-clause-is : goal.returns-clause-is
-returns-clause-is g c = (invariant_of-self-2 g c).0
-
-pub returns-clause-any_moment : goal.returns-clause-any_moment
-returns-clause-any_moment g c = λ told quiet other_fault.
-    let i = c.self.inside in
-    let store = c.args.self.now in
-    let usable : i.usable ≡ true = ap (λ (s : StoreContents). s.usable) c.self.view_is ∙ c.requires.usable in
-    let outcomes = c.in_ok-outcomes.outcomes.items in
-    let made = records_made c.args.asked.now outcomes in
-    let group = group_of c.in_ok-ready.ready in
-    let group_is : group ≡ made =
-    c.in_ok-ready.ensures.group ∙ taken_since i.core.history c.decide_all.new.core.history c.history.result.now made i.released c.history.ensures.is
-    (c.self.invariant.1.all usable) c.in_ok-outcomes.ensures.history in
-    let all = core_is_history (table_by i.secret i.core) i.core i.released i.usable (take i.released i.core.history) c.self.invariant.1 usable refl in
-    let due : AreOutcomes (table_of store) store.history c.args.asked.now outcomes =
-    subst (λ (s : StoreContents). AreOutcomes (table_of s) s.history c.args.asked.now outcomes) c.self.view_is
-    (subst (λ (h : List Answered). AreOutcomes (table_by i.secret i.core) h c.args.asked.now outcomes) all c.in_ok-outcomes.ensures.outcomes) in
-    let shape : i.journal.shape ≡ store.secret.shape = c.self.invariant.0.same_shape usable ∙ ap (λ (s : StoreContents). s.secret.shape) c.self.view_is in
-    let many : length store.history ≡ i.journal.count = sym (c.self.invariant.0.counted usable ∙ ap (λ (s : StoreContents). length s.history) c.self.view_is) in
-    let file = g.B.Bench.file c.args.bench.now in
-    let here : g.B.Bench.told → StandsAt file i.journal.shape store.history i.journal.gate = λ told. over_own_shape store c.args.asked.now outcomes due i.journal shape group group_is file
-    (subst (λ (n : ℕ). StandsAt file store.secret.shape store.history n) (ap (λ (s : StoreContents). s.journal.gate) (sym c.self.view_is)) (c.requires.stands told)) in
-    keeps_group store c.args.asked.now outcomes due i.journal shape group group_is g.B.Bench c.args.bench.now c.keep_ready-2.new.bench
-    (c.keep_ready-2.ensures.any_moment store.history told (here told) many quiet)
-
-pub returns-clause-spare_moments : goal.returns-clause-spare_moments
-returns-clause-spare_moments g c = λ told quiet other_fault.
-    let i = c.self.inside in
-    let store = c.args.self.now in
-    let usable : i.usable ≡ true = ap (λ (s : StoreContents). s.usable) c.self.view_is ∙ c.requires.usable in
-    let outcomes = c.in_ok-outcomes.outcomes.items in
-    let made = records_made c.args.asked.now outcomes in
-    let group = group_of c.in_ok-ready.ready in
-    let group_is : group ≡ made =
-    c.in_ok-ready.ensures.group ∙ taken_since i.core.history c.decide_all.new.core.history c.history.result.now made i.released c.history.ensures.is
-    (c.self.invariant.1.all usable) c.in_ok-outcomes.ensures.history in
-    let all = core_is_history (table_by i.secret i.core) i.core i.released i.usable (take i.released i.core.history) c.self.invariant.1 usable refl in
-    let due : AreOutcomes (table_of store) store.history c.args.asked.now outcomes =
-    subst (λ (s : StoreContents). AreOutcomes (table_of s) s.history c.args.asked.now outcomes) c.self.view_is
-    (subst (λ (h : List Answered). AreOutcomes (table_by i.secret i.core) h c.args.asked.now outcomes) all c.in_ok-outcomes.ensures.outcomes) in
-    let other = c.args.other.now in
-    let other_file = g.S.Bench.file c.args.spare.now in
-    let there : g.S.Bench.told → StandsAt other_file other.shape store.history other.gate = λ told. over_own_shape store c.args.asked.now outcomes due other c.requires.other.same_shape group group_is other_file (c.requires.spare_stands told) in
-    keeps_group store c.args.asked.now outcomes due other c.requires.other.same_shape group group_is g.S.Bench c.args.spare.now c.keep_ready.new.bench
-    (c.keep_ready.ensures.any_moment store.history told (there told) (sym c.requires.other.counted) quiet)
+    let over : i.secret.shape ≡ store.secret.shape = ap (λ (s : StoreContents). s.secret.shape) c.self.view_is in
+    let kept = c.in-Ok.ensures in
+    record {
+      outcomes = is.due;
+      history = now_is;
+      stands = λ told.
+          stands_after store asked outcomes i.journal group is (g.B.Bench.file c.keep_ready-2.new.bench) c.keep_ready-2.new.journal.shape i.secret.shape
+          c.keep_ready-2.new.journal.gate now c.keep_ready-2.ensures.shape over now_is
+          (c.in-Ok-keep_ready.ensures.done store.history told (here told) is.counted);
+      spare_stands = λ told.
+          stands_after store asked outcomes other group of_other (g.S.Bench.file c.keep_ready.new.bench) c.keep_ready.new.journal.shape i.secret.shape
+          c.keep_ready.new.journal.gate now c.keep_ready.ensures.shape over now_is
+          (kept.done store.history told (there told) (sym c.requires.other.counted));
+      usable = (
+        refl,
+        journal_after store asked outcomes other group of_other c.keep_ready.new.journal i.secret.shape now over now_is kept.usable
+            c.keep_ready.ensures.shape kept.counted,
+      );
+      kept = tt;
+      no_memory = λ is. no_refusal _ _ is;
+      spare_first = λ is. no_refusal _ _ is;
+      fault = done_call g.B.Bench c.args.bench.now c.keep_ready-2.new.bench _ _ c.in-Ok-keep_ready.ensures.cause (λ is. no_refusal _ _ is);
+      spare_fault = done_call g.S.Bench c.args.spare.now c.keep_ready.new.bench _ _ kept.cause (λ is. no_refusal _ _ is);
+      secret = ap (λ (s : StoreContents). s.secret) c.self.view_is;
+      protected = ap (λ (s : Setting). s.protected) c.decide_all.ensures.setting ∙ ap (λ (s : StoreContents). s.protected) c.self.view_is;
+      is = (invariant_of-self-2 g c).0;
+      any_moment = λ told quiet no_memory.
+          keeps_group store asked outcomes i.journal group is g.B.Bench c.args.bench.now c.keep_ready-2.new.bench
+          (c.keep_ready-2.ensures.any_moment store.history told (here told) is.counted quiet);
+      spare_moments = λ told quiet no_memory.
+          keeps_group store asked outcomes other group of_other g.S.Bench c.args.spare.now c.keep_ready.new.bench
+          (c.keep_ready.ensures.any_moment store.history told (there told) (sym c.requires.other.counted) quiet);
+      ahead = λ told spare_told quiet is. no_refusal _ _ is;
+      written = λ told.
+          let old = g.B.Bench.file c.args.bench.now in
+          let new = g.B.Bench.file c.keep_ready-2.new.bench in
+          subst (λ (s : StoreContents). HasGroup store.secret.shape made s.journal.gate old new) c.self.view_is
+          (has_made store asked outcomes i.journal group is i.journal.gate old new (c.in-Ok-keep_ready.ensures.written told));
+      spare_written = λ told.
+          has_made store asked outcomes other group of_other other.gate (g.S.Bench.file c.args.spare.now) (g.S.Bench.file c.keep_ready.new.bench)
+          (kept.written told);
+      quiet = λ told quiet other. c.in-Ok-keep_ready.ensures.quiet told quiet;
+      spare_quiet = λ told quiet other. kept.quiet told quiet;
+      sent = c.keep_ready-2.ensures.sent;
+      spare_sent = c.keep_ready.ensures.sent;
+      ticks = λ told.
+          c.in-Ok-keep_ready.ensures.ticks told ∙ ap (λ (l : List Answered). g.B.Bench.moment c.args.bench.now + calls_for l) is.group_is;
+      spare_ticks = λ told. kept.ticks told ∙ ap (λ (l : List Answered). g.S.Bench.moment c.args.spare.now + calls_for l) is.group_is;
+      unasked = λ none. (c.in-Ok-keep_ready.ensures.unasked (is.group_is ∙ none), kept.unasked (is.group_is ∙ none));
+    }

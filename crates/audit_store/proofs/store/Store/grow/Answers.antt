@@ -14,8 +14,9 @@ use Rattle.audit_store.specs.declared.growing.GrowFault.{GrowFault}
 use Rattle.audit_store.specs.declared.growing.GrowFault.TheVariants.{Failed}
 use Rattle.audit_store.specs.Growing.{GivesUpGrowing, GrowCause, GrowHistoryCause, GrowsFrom, NotGrownUnlessFailed, GrowsUnlessFailed}
 use Rattle.audit_store.specs.Refusals.{no_refusal}
+use Rattle.bench_core.specs.Reports.{is_refusal, told_as}
 use Rattle.audit_store.proofs.GrowCauses.{grow_cause_of_reading, grow_due_of_reading, grow_gave_up, grow_cause_in_file, grow_due_of_history, one_grow_cause, grows_has_no_cause, grows_from, can_grow, history_no_call}
-use Rattle.audit_store.proofs.StoreFaults.{grow_read_failed, grow_failed, no_answer, on_refusal, is_refusal, told_as}
+use Rattle.audit_store.proofs.StoreFaults.{grow_read_failed, grow_failed, no_answer, on_refusal}
 use Rattle.audit_store.proofs.store.Store.grow.Goals as goal
 
 module _ {D : Type 0} (bench : Ghosts D) (old : D) (other : Shape) (history : List Answered) (more : ℕ) (stands : StandsFor (bench.file old) other history) where
