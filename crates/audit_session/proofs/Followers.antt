@@ -1,5 +1,5 @@
 -- What was legal for a table is legal for one that comes after it.
-use Rattle.std.proofs.Common.{◌≡◌, ℕ, ℤ, inl, inr, List, map, take, refl, sym, ◌∙◌, ap, subst, arith}
+use Rattle.std.proofs.Common.{◌≡◌, ℕ, ℤ, inl, inr, List, [], map, take, refl, sym, ◌∙◌, ap, subst, arith}
 use Rattle.std.specs.Prelude.{Contains}
 use Rattle.std.proofs.lemmas.Bool.{cases_lt}
 use Rattle.audit_types.specs.declared.shapes.Kind.{Kind}
@@ -9,7 +9,8 @@ use Rattle.audit_types.specs.declared.records.Answered.{Answered}
 use Rattle.audit_types.specs.declared.records.Protected.{Protected}
 use Rattle.audit_types.specs.declared.records.Verdict.TheVariants.{Released}
 use Rattle.audit_types.specs.Column.{Known, IsGuarded, number, total, IsDangerous, with_groups}
-use Rattle.audit_types.specs.Judgement.{IsDecision, IsWithinWidthFor}
+use Rattle.audit_types.specs.Judgement.{IsDecision, IsWithinWidthFor, sets_with}
+use Rattle.audit_types.specs.Reach.{IsWithinBounds}
 use Rattle.audit_types.specs.ListLaws.{all_by_place}
 use Rattle.audit_types.specs.Widening.{over, widened, protection_among, first_rows}
 use Rattle.audit_types.specs.WideningLaws.{widened-same}
@@ -44,7 +45,10 @@ module _ (known : Known) (groups : List (List ℕ)) (fewer : (group : List ℕ) 
   }
 
   within_same : (kind : Kind) (rows : List ℕ) → IsWithinWidthFor kind known rows → IsWithinWidthFor kind less rows
-  within_same Sum rows within = within
+  within_same Sum rows (form, reduced, within) =
+      let near : IsWithinBounds less (sets_with less rows) form =
+      record { narrow = within.narrow; near = λ value guarded. within.near value (guarded_more [] guarded) } in
+      (form, reduced, near)
   within_same Max rows within = within
 
   released_less : (rows : List ℕ) → IsDecision known rows Released → IsDecision less rows Released

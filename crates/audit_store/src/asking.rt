@@ -14,9 +14,10 @@ ghost use Rattle.audit_store.specs.Stores.{HasGroup, calls_for};
 ghost use Rattle.audit_store.specs.Twice.{IsReadyOver, group_of};
 
 use crate::outcome::StoreFault;
+use crate::sealed::Sealed;
 use answer_journal::{Journal, Ready};
+use audit_core::Outcome;
 use audit_core::laws::released_records;
-use audit_core::{Core, Outcome};
 use audit_types::laws::true_answers;
 use audit_types::{Answered, Asked, MOST_RECORDS, NoMemory, Verdict};
 use bench_core::{Bench, Failed};
@@ -24,21 +25,21 @@ use std::alloc::Global;
 use table_load::Secret;
 
 /// What becomes of a question after the records of the core. The decision reads no secret, and the answer is read after it.
-pub fn outcome_of(secret: &Secret, core: &mut Core, asked: &Asked) -> Result<Outcome, NoMemory>
-    requires same_shape { core.old.setting.shape ≡ secret.now.shape }
-    requires legal { IsLegal (secret_table secret.now core.old.setting.protected) core.old.history }
-    requires fits { FitsShape secret.now.shape asked.now.column asked.now.rows }
-    ensures outcome { IfOk result (λ outcome. IsOutcome (secret_table secret.now core.old.setting.protected) core.old.history asked.now outcome) }
-    ensures same { core.new ≡ core.old }
+pub fn outcome_of(sealed: &mut Sealed<Secret>, asked: &Asked) -> Result<Outcome, NoMemory>
+    requires same_shape { sealed.old.core.setting.shape ≡ sealed.old.secret.shape }
+    requires legal { IsLegal (secret_table sealed.old.secret sealed.old.core.setting.protected) sealed.old.core.history }
+    requires fits { FitsShape sealed.old.secret.shape asked.now.column asked.now.rows }
+    ensures outcome { IfOk result (λ outcome. IsOutcome (secret_table sealed.old.secret sealed.old.core.setting.protected) sealed.old.core.history asked.now outcome) }
+    ensures same { sealed.new ≡ sealed.old }
 {
     true_answers();
     // The secrets say of themselves that they are a table's.
-    let _ = secret.shape();
-    if core.history().len() >= MOST_RECORDS {
+    let _ = sealed.shape();
+    if sealed.core().history().len() >= MOST_RECORDS {
         return Ok(Outcome::Full);
     }
-    match core.weigh(asked) {
-        Ok(Verdict::Released) => Ok(Outcome::Answer(secret.truth(asked.column, &asked.rows))),
+    match sealed.weigh(asked) {
+        Ok(Verdict::Released) => Ok(Outcome::Answer(sealed.truth(asked))),
         Ok(Verdict::DeniedUnsafe) => Ok(Outcome::Denied(Verdict::DeniedUnsafe)),
         Ok(Verdict::DeniedWide) => Ok(Outcome::Denied(Verdict::DeniedWide)),
         Err(NoMemory) => Err(NoMemory),
@@ -46,25 +47,26 @@ pub fn outcome_of(secret: &Secret, core: &mut Core, asked: &Asked) -> Result<Out
 }
 
 // Decides a question after the records of the core, which takes the record of an answer.
-fn decide(secret: &Secret, core: &mut Core, asked: &Asked) -> Result<Outcome, NoMemory>
-    requires same_shape { core.old.setting.shape ≡ secret.now.shape }
-    requires legal { IsLegal (secret_table secret.now core.old.setting.protected) core.old.history }
-    requires fits { FitsShape secret.now.shape asked.now.column asked.now.rows }
-    ensures outcome { IfOk result (λ outcome. IsOutcome (secret_table secret.now core.old.setting.protected) core.old.history asked.now outcome) }
-    ensures history { IfOk result (λ outcome. core.new.history ≡ core.old.history ++ option_to_list (record_of asked.now outcome)) }
-    ensures legal { OnOk result (IsLegal (secret_table secret.now core.old.setting.protected) core.new.history) }
-    ensures kept { OnErr result (core.new.history ≡ core.old.history) }
-    ensures setting { core.new.setting ≡ core.old.setting }
+fn decide(sealed: &mut Sealed<Secret>, asked: &Asked) -> Result<Outcome, NoMemory>
+    requires same_shape { sealed.old.core.setting.shape ≡ sealed.old.secret.shape }
+    requires legal { IsLegal (secret_table sealed.old.secret sealed.old.core.setting.protected) sealed.old.core.history }
+    requires fits { FitsShape sealed.old.secret.shape asked.now.column asked.now.rows }
+    ensures outcome { IfOk result (λ outcome. IsOutcome (secret_table sealed.old.secret sealed.old.core.setting.protected) sealed.old.core.history asked.now outcome) }
+    ensures history { IfOk result (λ outcome. sealed.new.core.history ≡ sealed.old.core.history ++ option_to_list (record_of asked.now outcome)) }
+    ensures legal { OnOk result (IsLegal (secret_table sealed.old.secret sealed.old.core.setting.protected) sealed.new.core.history) }
+    ensures kept { OnErr result (sealed.new.core.history ≡ sealed.old.core.history) }
+    ensures setting { sealed.new.core.setting ≡ sealed.old.core.setting }
+    ensures secret { sealed.new.secret ≡ sealed.old.secret }
 {
     released_records();
-    match outcome_of(secret, core, asked)? {
+    match outcome_of(sealed, asked)? {
         Outcome::Answer(answer) => {
             let answered = Answered {
                 column: asked.column,
                 rows: asked.rows,
                 answer,
             };
-            core.take(&answered)?;
+            sealed.take(&answered)?;
             Ok(Outcome::Answer(answer))
         }
         Outcome::Denied(verdict) => Ok(Outcome::Denied(verdict)),
@@ -76,24 +78,24 @@ fn decide(secret: &Secret, core: &mut Core, asked: &Asked) -> Result<Outcome, No
 /// record at once, and may have some of them after `NoMemory`.
 pub fn decide_all(
     alloc: Global,
-    secret: &Secret,
-    core: &mut Core,
+    sealed: &mut Sealed<Secret>,
     asked: &[Asked],
 ) -> Result<Vec<Outcome>, NoMemory>
-    requires same_shape { core.old.setting.shape ≡ secret.now.shape }
-    requires legal { IsLegal (secret_table secret.now core.old.setting.protected) core.old.history }
-    requires fit { All (λ a. FitsShape secret.now.shape a.column a.rows) asked.now }
-    ensures outcomes { IfOk result (λ v. AreOutcomes (secret_table secret.now core.old.setting.protected) core.old.history asked.now v.items) }
-    ensures history { IfOk result (λ v. core.new.history ≡ core.old.history ++ records_made asked.now v.items) }
+    requires same_shape { sealed.old.core.setting.shape ≡ sealed.old.secret.shape }
+    requires legal { IsLegal (secret_table sealed.old.secret sealed.old.core.setting.protected) sealed.old.core.history }
+    requires fit { All (λ a. FitsShape sealed.old.secret.shape a.column a.rows) asked.now }
+    ensures outcomes { IfOk result (λ v. AreOutcomes (secret_table sealed.old.secret sealed.old.core.setting.protected) sealed.old.core.history asked.now v.items) }
+    ensures history { IfOk result (λ v. sealed.new.core.history ≡ sealed.old.core.history ++ records_made asked.now v.items) }
     ensures few { IfOk result (λ v. length (records_made asked.now v.items) ≤ length asked.now) }
-    ensures legal { OnOk result (IsLegal (secret_table secret.now core.old.setting.protected) core.new.history) }
-    ensures begins { take (length core.old.history) core.new.history ≡ core.old.history }
-    ensures within { length core.old.history ≤ length core.new.history }
-    ensures setting { core.new.setting ≡ core.old.setting }
+    ensures legal { OnOk result (IsLegal (secret_table sealed.old.secret sealed.old.core.setting.protected) sealed.new.core.history) }
+    ensures begins { take (length sealed.old.core.history) sealed.new.core.history ≡ sealed.old.core.history }
+    ensures within { length sealed.old.core.history ≤ length sealed.new.core.history }
+    ensures setting { sealed.new.core.setting ≡ sealed.old.core.setting }
+    ensures secret { sealed.new.secret ≡ sealed.old.secret }
 {
     let mut outcomes = Vec::with_capacity(alloc, asked.len())?;
     for question in asked {
-        let outcome = decide(secret, core, question)?;
+        let outcome = decide(sealed, question)?;
         outcomes.push_reserved(outcome);
     }
     Ok(outcomes)

@@ -9,8 +9,8 @@ ghost use Rattle.audit_store.specs.Twice.{IsBroughtUp, StandsWithSome, calls_to_
 
 use crate::asking::keep;
 use crate::outcome::StoreFault;
+use crate::sealed::Sealed;
 use answer_journal::Journal;
-use audit_core::Core;
 use audit_types::{Answered, NoMemory};
 use bench_core::Bench;
 
@@ -53,16 +53,17 @@ pub fn bring_up<B: Bench>(
     Ok(())
 }
 
-/// Adds records to a core whose history, with them, is legal for some table. On `NoMemory` it may have some of them.
-pub fn take_all(core: &mut Core, list: &[Answered]) -> Result<(), NoMemory>
-    requires { (table : Table) × (table.setting ≡ core.old.setting) × IsLegal table (core.old.history ++ list.now) }
-    ensures history { OnOk result (core.new.history ≡ core.old.history ++ list.now) }
-    ensures begins { take (length core.old.history) core.new.history ≡ core.old.history }
-    ensures within { length core.old.history ≤ length core.new.history }
-    ensures setting { core.new.setting ≡ core.old.setting }
+/// Adds records to the audit of what is sealed, whose history, with them, is legal for some table. On `NoMemory` it may have some of them.
+pub fn take_all<S: Drop>(sealed: &mut Sealed<S>, list: &[Answered]) -> Result<(), NoMemory>
+    requires { (table : Table) × (table.setting ≡ sealed.old.core.setting) × IsLegal table (sealed.old.core.history ++ list.now) }
+    ensures history { OnOk result (sealed.new.core.history ≡ sealed.old.core.history ++ list.now) }
+    ensures begins { take (length sealed.old.core.history) sealed.new.core.history ≡ sealed.old.core.history }
+    ensures within { length sealed.old.core.history ≤ length sealed.new.core.history }
+    ensures setting { sealed.new.core.setting ≡ sealed.old.core.setting }
+    ensures secret { sealed.new.secret ≡ sealed.old.secret }
 {
     for answered in list {
-        core.take(answered)?;
+        sealed.take(answered)?;
     }
     Ok(())
 }

@@ -12,6 +12,7 @@ mod bringing;
 mod growing;
 mod keeper;
 mod outcome;
+mod sealed;
 mod starting;
 mod store;
 

@@ -11,6 +11,7 @@ ghost use Rattle.audit_store.specs.declared.growing.GrowFault.{GrowFault};
 ghost use Rattle.audit_core.specs.Outcomes.{AreOutcomes, records_made};
 ghost use Rattle.audit_store.specs.Stores.{IsAsLeft, IsStore, table_of, Keeps, KeptAhead, HasGroup, calls_for};
 ghost use Rattle.audit_store.specs.Twice.{IsBroughtUp, IsJournalOf, StandsWithSome, calls_to_bring_up};
+ghost use Rattle.table_load.specs.Cells.{IsSecret};
 ghost use Rattle.table_load.specs.Database.{secret_table};
 ghost use Rattle.audit_store.specs.Starting.{StartCause, GivesUp, StartsUnlessFailed, RefusedUnlessFailed};
 ghost use Rattle.audit_store.specs.declared.starting.StartFault.{StartFault};
@@ -20,10 +21,11 @@ use crate::bringing::{bring_up, take_all};
 use crate::growing::{GrowFault, may_grow};
 use crate::keeper::KeepFault;
 use crate::outcome::StoreFault;
-use crate::starting::{StartFault, recover, recover_other};
+use crate::sealed::Sealed;
+use crate::starting::{StartFault, recover};
 use answer_journal::Journal;
 use audit_core::{Core, Outcome};
-use audit_types::{Answered, Asked, Guard};
+use audit_types::{Answered, Asked, Guard, Shape};
 use bench_core::{Bench, Failed};
 use std::alloc::Global;
 use std::marker::Model;
@@ -33,9 +35,8 @@ use table_load::Secret;
 #[derive(Drop)]
 pub struct Store {
     alloc: Global,
-    secret: Secret,
-    core: Core,
-    // How many of the core's records were released. The core may have more, after a refusal.
+    sealed: Sealed<Secret>,
+    // How many of the audit's records were released. It may have more, after a refusal.
     released: u32,
     journal: Journal,
     usable: bool,
@@ -48,9 +49,9 @@ impl Model for Store {
 
     ghost Value = { StoreContents };
 
-    ghost view = { λ s. record { secret = s.secret; protected = s.core.setting.protected; history = take s.released s.core.history; journal = s.journal; usable = s.usable } };
+    ghost view = { λ s. record { secret = s.sealed.secret; protected = s.sealed.core.setting.protected; history = take s.released s.sealed.core.history; journal = s.journal; usable = s.usable } };
 
-    ghost invariant = { λ s. IsStore (record { secret = s.secret; protected = s.core.setting.protected; history = take s.released s.core.history; journal = s.journal; usable = s.usable }) × IsAuditedBy (secret_table s.secret s.core.setting.protected) s.core s.released s.usable };
+    ghost invariant = { λ s. IsStore (record { secret = s.sealed.secret; protected = s.sealed.core.setting.protected; history = take s.released s.sealed.core.history; journal = s.journal; usable = s.usable }) × IsAuditedBy (secret_table s.sealed.secret s.sealed.core.setting.protected) s.sealed.core s.released s.usable };
 }
 
 impl Store {
@@ -81,8 +82,7 @@ impl Store {
         let (journal, core) = recover(alloc, &secret, protected, bench)?;
         Ok(Store {
             alloc,
-            secret,
-            core,
+            sealed: Sealed::new(secret, core),
             released: journal.count(),
             journal,
             usable: true,
@@ -172,10 +172,10 @@ impl Store {
         ensures unasked { IfOk result (λ v. records_made asked.now v.items ≡ [] → bench.new ≡ bench.old) }
     {
         self.usable = false;
-        let outcomes = decide_all(self.alloc, &self.secret, &mut self.core, asked)?;
-        let group = &self.core.history()[self.released as usize..];
+        let outcomes = decide_all(self.alloc, &mut self.sealed, asked)?;
+        let group = &self.sealed.core().history()[self.released as usize..];
         keep(&mut self.journal, bench, group)?;
-        self.released = self.core.history().len() as u32;
+        self.released = self.sealed.core().history().len() as u32;
         self.usable = true;
         Ok(outcomes)
     }
@@ -235,8 +235,8 @@ impl Store {
         ensures unasked { IfOk result (λ v. records_made asked.now v.items ≡ [] → (bench.new ≡ bench.old) × (spare.new ≡ spare.old)) }
     {
         self.usable = false;
-        let outcomes = decide_all(self.alloc, &self.secret, &mut self.core, asked)?;
-        let group = &self.core.history()[self.released as usize..];
+        let outcomes = decide_all(self.alloc, &mut self.sealed, asked)?;
+        let group = &self.sealed.core().history()[self.released as usize..];
         let ready = made_ready(&self.journal, group)?;
         match keep_ready(other, spare, &ready) {
             Ok(()) => {}
@@ -246,7 +246,7 @@ impl Store {
             Ok(()) => {}
             Err(Failed) => return Err(KeepFault::Bench),
         }
-        self.released = self.core.history().len() as u32;
+        self.released = self.sealed.core().history().len() as u32;
         self.usable = true;
         Ok(outcomes)
     }
@@ -274,7 +274,7 @@ impl Store {
         ensures ticks { S.told → OnOk result (S.moment spare.new ≡ S.moment spare.old + 2) }
         ensures fault { TellsFault S.Bench spare.old spare.new (IsErrOf result StartFault.Failed) }
     {
-        recover_other(self.alloc, &self.secret, &self.core, spare)
+        self.sealed.open_other(self.alloc, spare)
     }
 
     /// Goes on with records that its journal lacks, and brings that up to them, in groups of up to 64. They aren't decided again.
@@ -306,9 +306,9 @@ impl Store {
         ensures fault { TellsFault B.Bench bench.old bench.new (IsErrOf result StoreFault.Failed) }
     {
         self.usable = false;
-        take_all(&mut self.core, missing)?;
+        take_all(&mut self.sealed, missing)?;
         bring_up(&mut self.journal, bench, missing)?;
-        self.released = self.core.history().len() as u32;
+        self.released = self.sealed.core().history().len() as u32;
         self.usable = true;
         Ok(())
     }
@@ -325,21 +325,22 @@ impl Store {
         ensures history { result.now ≡ self.now.history }
         ensures is { IsStore self.now }
     {
-        &self.core.history()[..self.released as usize]
+        &self.sealed.core().history()[..self.released as usize]
     }
 
-    /// The secrets that the store guards.
-    pub fn secret(&self) -> &Secret
-        ensures { result.now ≡ self.now.secret }
+    /// The number of rows of the table, and what each secret column answers.
+    pub fn shape(&self) -> Shape
+        ensures shape { result ≡ self.now.secret.shape }
+        ensures is { IsSecret self.now.secret }
     {
-        &self.secret
+        self.sealed.shape()
     }
 
     /// What is guarded of the table.
     pub fn protected(&self) -> &Guard
         ensures { result.now ≡ self.now.protected }
     {
-        self.core.protected()
+        self.sealed.core().protected()
     }
 
     /// The audit of the columns. While the store is usable its history is `history()`; after a refusal it begins with it.
@@ -348,6 +349,6 @@ impl Store {
         ensures begins { take (length self.now.history) result.now.history ≡ self.now.history }
         ensures same { self.now.usable ≡ true → result.now.history ≡ self.now.history }
     {
-        &self.core
+        self.sealed.core()
     }
 }

@@ -107,7 +107,7 @@ pub fn compact<B: Bench>(
 {
     lists_of_secrets();
     let history = store.history();
-    let shape = store.secret().shape();
+    let shape = store.shape();
     let list = kept(alloc, &shape, history)?;
     let line = compact_line(alloc, history.len(), list.len())?;
     write_whole(alloc, spare, &shape, &list)?;

@@ -85,7 +85,7 @@ fn send_highest<B: Bench>(
         unreachable!();
     }
     let name = schema.name(place);
-    let least = store.secret().shape().is_least(column);
+    let least = store.shape().is_least(column);
     write_column(alloc, line, name, least, column, store.history(), maxima)?;
     send_line(bench, line)
 }
@@ -145,7 +145,7 @@ fn send_totals<B: Bench>(
 ) -> Result<(), AuditFault>
     ensures { SendsLinesOn B.Bench (audit_of schema.now.columns store.now) (totals ∷ []) bench.old bench.new result }
 {
-    let shape = store.secret().shape();
+    let shape = store.shape();
     write_totals(line, store.history().len(), shape.columns(), shape.rows)?;
     send_line(bench, line)
 }

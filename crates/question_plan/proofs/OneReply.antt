@@ -12,7 +12,7 @@ use Rattle.audit_types.specs.declared.records.Verdict.TheVariants.{Released, Den
 use Rattle.audit_types.specs.Column.{Known}
 use Rattle.audit_types.specs.Judgement.{IsDecision, IsJudgement, IsWideFor, IsWithinWidthFor, sets_with}
 use Rattle.audit_types.specs.History.{Protection, Table, Setting, setting_of, known_of}
-use Rattle.sum_basis.specs.Laws.{NarrowOrWide}
+use Rattle.sum_basis.specs.Laws.{SetsHaveOneForm}
 use Rattle.audit_core.specs.declared.outcome.Outcome.{Outcome}
 use Rattle.audit_core.specs.declared.outcome.Outcome.TheVariants.{Answer, Denied, Full}
 use Rattle.audit_core.specs.Outcomes.{IsOutcome, record_of}
@@ -42,10 +42,10 @@ one_telling Avg size answer a b some first second = one_mean answer size a b som
 one_telling Max size answer a b some first second = first ∙ sym second
 one_telling Min size answer a b some first second = first ∙ sym second
 
-pub decided_once : NarrowOrWide → OneDecisionIsMade
+pub decided_once : SetsHaveOneForm → OneDecisionIsMade
 decided_once forms setting history column rows v w first second = one_decision forms (known_of setting history column) rows v w first second
 
-pub judged_once : NarrowOrWide → OneJudgementIsMade
+pub judged_once : SetsHaveOneForm → OneJudgementIsMade
 judged_once forms setting history column rows v w first second = one_judgement forms (known_of setting history column) rows v w first second
 
 -- a reply tells one answer
@@ -69,7 +69,7 @@ one_denial take asked size Released a b first second = absurd first
 one_denial take asked size DeniedUnsafe a b first second = first ∙ sym second
 one_denial take asked size DeniedWide a b first second = first ∙ sym second
 
-module _ (forms : NarrowOrWide) (table twin : Table) (same : twin.setting ≡ table.setting) (history : List Answered) (take : Take) (asked : Asked)
+module _ (forms : SetsHaveOneForm) (table twin : Table) (same : twin.setting ≡ table.setting) (history : List Answered) (take : Take) (asked : Asked)
     (some : 0 < length asked.rows.list) where
   rows : List ℕ
   rows = asked.rows.list
@@ -111,7 +111,7 @@ module _ (forms : NarrowOrWide) (table twin : Table) (same : twin.setting ≡ ta
   })
 
 -- what a plan comes to over both
-replies_alike : NarrowOrWide → (plan : Plan) (table twin : Table) → twin.setting ≡ table.setting → (history : List Answered) (a b : Replied Answered)
+replies_alike : SetsHaveOneForm → (plan : Plan) (table twin : Table) → twin.setting ≡ table.setting → (history : List Answered) (a b : Replied Answered)
     → ((take : Take) (asked : Asked) → plan ≡ Ask take asked → 0 < length asked.rows.list)
     → IsReplyOf table history plan a → IsReplyOf twin history plan b → (a ≡ b) ⊎ AreAnswersAlike table twin a b
 replies_alike forms (Ready answer) table twin same history a b some first second = inl (first ∙ sym second)
@@ -120,7 +120,7 @@ replies_alike forms (Ask take asked) table twin same history a b some first seco
     (some take asked refl) first.outcome second.outcome first.answer second.answer a b first.due second.due first.tells second.tells first.replied_is
     second.replied_is
 
-pub due_alike : NarrowOrWide → OneMeaning → (columns : List Column) (public : PublicView) (protected : Protection) (secret twin : SecretView)
+pub due_alike : SetsHaveOneForm → OneMeaning → (columns : List Column) (public : PublicView) (protected : Protection) (secret twin : SecretView)
     → twin.shape ≡ secret.shape → (history : List Answered) (line : CountedLine) (a b : Replied Answered)
     → IsDue (base_of columns public protected secret) history line a → IsDue (base_of columns public protected twin) history line b →
     (a ≡ b) ⊎ AreAnswersAlike (secret_table secret protected) (secret_table twin protected) a b
@@ -143,13 +143,13 @@ equal_answers table twin a b alike value =
     } in
     alike.first.replied_is ∙ ap (λ (r : Reply). whole r alike.first.answer) told ∙ ap (λ (z : ℤ). whole alike.second.told z) value ∙ sym alike.second.replied_is
 
-pub one_due : NarrowOrWide → OneMeaning → OneReplyIsDue
+pub one_due : SetsHaveOneForm → OneMeaning → OneReplyIsDue
 one_due forms meanings base history line a b first second =
     ⊎_elim (λ same. same)
     (λ alike. equal_answers (table_in base) (table_in base) a b alike (alike.first.is_true ∙ sym alike.second.is_true))
     (due_alike forms meanings base.columns base.public base.protected base.secret base.secret refl history line a b first second)
 
-pub decided_alike : NarrowOrWide → OneMeaning → DecidedAlike
+pub decided_alike : SetsHaveOneForm → OneMeaning → DecidedAlike
 decided_alike forms meanings base twin history line a b twins first second =
     subst (λ (other : Database). IsDue other history line b → (a ≡ b) ⊎ AreAnswersAlike (table_in base) (table_in other) a b) (sym twins.0)
     (due_alike forms meanings base.columns base.public base.protected base.secret twin.secret twins.1 history line a b first) second

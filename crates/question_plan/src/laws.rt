@@ -35,14 +35,14 @@ pub fn asked_questions()
 pub fn one_decision()
     ensures { OneDecisionIsMade }
 {
-    sum_basis::laws::narrow_or_wide();
+    sum_basis::laws::sets_have_one_form();
 }
 
 /// A question is judged in one way after a history.
 pub fn one_judgement()
     ensures { OneJudgementIsMade }
 {
-    sum_basis::laws::narrow_or_wide();
+    sum_basis::laws::sets_have_one_form();
 }
 
 /// A reply tells one answer to a question.
@@ -55,7 +55,7 @@ pub fn one_reply()
     ensures { OneReplyIsDue }
 {
     predicate_lang::one_meaning();
-    sum_basis::laws::narrow_or_wide();
+    sum_basis::laws::sets_have_one_form();
 }
 
 /// Over tables that differ in their secrets alone the replies to a line after one history are equal, or both tell the answer
@@ -65,5 +65,5 @@ pub fn decided_alike()
     ensures equal { EqualAnswersEqualReplies }
 {
     predicate_lang::one_meaning();
-    sum_basis::laws::narrow_or_wide();
+    sum_basis::laws::sets_have_one_form();
 }

@@ -88,7 +88,7 @@ pub fn copy_journal<K: Bench, L: Bench>(
         Ok(store) => store,
         Err(fault) => return Err(CopyFault::from(fault)),
     };
-    let shape = store.secret().shape();
+    let shape = store.shape();
     match write_whole(alloc, lost, &shape, store.history()) {
         Ok(()) => Ok(()),
         Err(WholeFault::AlreadyThere) => Err(CopyFault::AlreadyThere),

@@ -8,10 +8,11 @@ use Rattle.audit_store.proofs.asking.decide_all.Given as goal
 -- the questions so far are decided, and the core has their records
 abbrev pub invariant-loop-question : goal.invariant-loop-question
 invariant-loop-question l = record {
-  same_setting : l.core.setting ≡ l.fn.core.setting;
-  so_far : AreOutcomes (secret_table l.secret l.fn.core.setting.protected) l.fn.core.history (take l.question-index l.asked) l.outcomes.items;
-  history : l.core.history ≡ l.fn.core.history ++ records_made (take l.question-index l.asked) l.outcomes.items;
-  legal : IsLegal (secret_table l.secret l.fn.core.setting.protected) l.core.history;
+  same_setting : l.sealed.core.setting ≡ l.fn.sealed.core.setting;
+  same_secret : l.sealed.secret ≡ l.fn.sealed.secret;
+  so_far : AreOutcomes (secret_table l.fn.sealed.secret l.fn.sealed.core.setting.protected) l.fn.sealed.core.history (take l.question-index l.asked) l.outcomes.items;
+  history : l.sealed.core.history ≡ l.fn.sealed.core.history ++ records_made (take l.question-index l.asked) l.outcomes.items;
+  legal : IsLegal (secret_table l.fn.sealed.secret l.fn.sealed.core.setting.protected) l.sealed.core.history;
   many : vec_len l.outcomes ≡ l.question-index;
   room : length l.asked ≤ vec_capacity l.outcomes;
 }

@@ -15,7 +15,7 @@ returns-in_err-write_totals g c =
 pub returns : goal.returns
 returns g c =
     let audit = audit_of c.args.schema.now.columns c.args.store.now in
-    let shape : c.shape-shape.result ≡ audit.shape = c.shape-shape.ensures.shape ∙ ap (λ s. s.shape) c.secret.ensures in
+    let shape : c.shape-shape.result ≡ audit.shape = c.shape-shape.ensures.shape in
     let counted : c.columns.result ≡ columns audit.shape = c.columns.ensures ∙ ap columns shape in
     let line : c.deref.result.now ≡ total_line (length audit.history) (columns audit.shape) audit.shape.rows =
     c.deref.ensures.value ∙ c.in_ok-write_totals.ensures ∙ (λ i. total_line (length (c.history.ensures.history i)) (counted i) (shape i).rows) in

@@ -15,7 +15,7 @@ use Rattle.twin_journal.proofs.copying.copy_journal.Goals as goal
 pub write_whole-requires-clause-fit : goal.write_whole-requires-clause-fit
 write_whole-requires-clause-fit g c =
     let store = c.in-Ok.store in
-    let shape : c.shape-shape.result ≡ store.secret.shape = c.shape-shape.ensures.shape ∙ ap (λ (s : SecretView). s.shape) c.secret.ensures in
+    let shape : c.shape-shape.result ≡ store.secret.shape = c.shape-shape.ensures.shape in
     subst (λ (s : Shape). All (λ (r : Answered). FitsShape s r.column r.rows) c.history.result.now) (sym shape)
     (subst (λ (h : List Answered). All (λ (r : Answered). FitsShape store.secret.shape r.column r.rows) h) (sym c.history.ensures.history)
     (legal_fits (table_of store) store.history c.history.ensures.is.legal))
@@ -26,7 +26,7 @@ returns-in-Ok-write_whole-clause-moments g c = λ history told lost_told quiet k
     let file = g.K.Bench.file c.args.kept.now in
     let is = c.in-Ok.ensures.store in
     let same : store.secret.shape ≡ c.args.secret.shape = ap (λ (s : SecretView). s.shape) is.0 in
-    let shape : c.shape-shape.result ≡ c.args.secret.shape = c.shape-shape.ensures.shape ∙ ap (λ (s : SecretView). s.shape) c.secret.ensures ∙ same in
+    let shape : c.shape-shape.result ≡ c.args.secret.shape = c.shape-shape.ensures.shape ∙ same in
     let stands : StandsFor file c.args.secret.shape store.history = (store.journal.gate, subst (λ (s : Shape). StandsAt file s store.history store.journal.gate) same (c.in-Ok.ensures.stands told)) in
     let list : c.history.result.now ≡ history = c.history.ensures.history
     ∙ sym (kept_for_one c.one_reading.ensures (secret_table c.args.secret c.args.protected) file history store.history kept stands) in
@@ -40,7 +40,7 @@ returns-in-Err-Failed-clause-moments g c = λ history told lost_told quiet kept.
     let file = g.K.Bench.file c.args.kept.now in
     let is = c.in-Ok.ensures.store in
     let same : store.secret.shape ≡ c.args.secret.shape = ap (λ (s : SecretView). s.shape) is.0 in
-    let shape : c.shape-shape.result ≡ c.args.secret.shape = c.shape-shape.ensures.shape ∙ ap (λ (s : SecretView). s.shape) c.secret.ensures ∙ same in
+    let shape : c.shape-shape.result ≡ c.args.secret.shape = c.shape-shape.ensures.shape ∙ same in
     let stands : StandsFor file c.args.secret.shape store.history = (store.journal.gate, subst (λ (s : Shape). StandsAt file s store.history store.journal.gate) same (c.in-Ok.ensures.stands told)) in
     let list : c.history.result.now ≡ history = c.history.ensures.history
     ∙ sym (kept_for_one c.one_reading.ensures (secret_table c.args.secret c.args.protected) file history store.history kept stands) in
@@ -54,7 +54,7 @@ returns-clause-moments g c = λ history told lost_told quiet kept.
     let file = g.K.Bench.file c.args.kept.now in
     let is = c.in-Ok.ensures.store in
     let same : store.secret.shape ≡ c.args.secret.shape = ap (λ (s : SecretView). s.shape) is.0 in
-    let shape : c.shape-shape.result ≡ c.args.secret.shape = c.shape-shape.ensures.shape ∙ ap (λ (s : SecretView). s.shape) c.secret.ensures ∙ same in
+    let shape : c.shape-shape.result ≡ c.args.secret.shape = c.shape-shape.ensures.shape ∙ same in
     let stands : StandsFor file c.args.secret.shape store.history = (store.journal.gate, subst (λ (s : Shape). StandsAt file s store.history store.journal.gate) same (c.in-Ok.ensures.stands told)) in
     let list : c.history.result.now ≡ history = c.history.ensures.history
     ∙ sym (kept_for_one c.one_reading.ensures (secret_table c.args.secret c.args.protected) file history store.history kept stands) in

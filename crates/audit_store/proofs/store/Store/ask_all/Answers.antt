@@ -1,4 +1,4 @@
-use Rattle.std.proofs.Common.{◌≡◌, true, List, All, ◌+◌, ◌-◌, refl, ◌++◌, length, take, drop, sym, ap, subst, ◌∙◌, arith}
+use Rattle.std.proofs.Common.{◌≡◌, true, false, List, All, ◌+◌, ◌-◌, refl, ◌++◌, length, take, drop, sym, ap, subst, ◌∙◌, arith}
 use Rattle.std.proofs.Math.Seq.{take-length}
 use Rattle.std.proofs.lemmas.List.Elements.{All-take, All-drop}
 use Rattle.std.proofs.lemmas.Result.{IfOk-from_err}
@@ -9,9 +9,11 @@ use Rattle.audit_types.specs.History.{FitsShape, IsLegal, Setting}
 use Rattle.journal_form.specs.Journal.{StandsAt}
 use Rattle.answer_journal.specs.Moments.{IsBeforeOrAfter}
 use Rattle.bench_core.specs.Calls.{LeavesOnly}
+use Rattle.audit_core.specs.Audited.{Audited}
 use Rattle.audit_core.specs.Outcomes.{AreOutcomes, records_made}
-use Rattle.audit_store.specs.Stores.{StoreContents, table_of, HasGroup, calls_for}
-use Rattle.audit_store.specs.StoreLaws.{table_by, core_is_history, released_and_more, more_released, taken_since, refused_history, refused_store, kept_store}
+use Rattle.table_load.specs.Cells.{SecretView}
+use Rattle.audit_store.specs.Stores.{StoreContents, IsStore, IsAuditedBy, table_of, HasGroup, calls_for}
+use Rattle.audit_store.specs.StoreLaws.{store_in, table_by, core_is_history, released_and_more, more_released, taken_since, refused_history, refused_store, kept_store}
 use Rattle.audit_store.specs.declared.outcome.StoreFault.TheVariants.{Failed, NoMemory}
 use Rattle.audit_store.specs.Refusals.{no_refusal}
 use Rattle.audit_store.proofs.StoreFaults.{is_memory, memory_no_call, given_is, answer_is}
@@ -22,9 +24,9 @@ keep-requires-clause-stands g c = λ told.
     let i = c.self.inside in
     let file = g.B.Bench.file c.args.bench.now in
     let usable : i.usable ≡ true = ap (λ (s : StoreContents). s.usable) c.self.view_is ∙ c.requires.usable in
-    let shape : i.journal.shape ≡ i.secret.shape = c.self.invariant.0.same_shape usable in
-    let history = take i.released i.core.history in
-    let before : StandsAt file i.secret.shape history i.journal.gate =
+    let shape : i.journal.shape ≡ i.sealed.secret.shape = c.self.invariant.0.same_shape usable in
+    let history = take i.released i.sealed.core.history in
+    let before : StandsAt file i.sealed.secret.shape history i.journal.gate =
     subst (λ (s : StoreContents). StandsAt file s.secret.shape s.history s.journal.gate) (sym c.self.view_is) (c.requires.stands told) in
     let here : StandsAt file i.journal.shape history i.journal.gate = subst (λ (s : Shape). StandsAt file s history i.journal.gate) (sym shape) before in
     (history, here, sym (c.self.invariant.0.counted usable))
@@ -34,16 +36,20 @@ invariant_of-self g c =
     let i = c.self.inside in
     let usable : i.usable ≡ true = ap (λ (s : StoreContents). s.usable) c.self.view_is ∙ c.requires.usable in
     let took = c.decide_all.ensures in
-    refused_store i.secret i.core c.decide_all.new.core i.released i.journal i.journal i.usable usable c.self.invariant.0 c.self.invariant.1
-    took.begins took.within took.setting
+    let holds = λ (secret : SecretView). IsStore (store_in secret c.decide_all.new.sealed.core i.released i.journal false)
+    × IsAuditedBy (table_by secret c.decide_all.new.sealed.core) c.decide_all.new.sealed.core i.released false in
+    subst holds (sym took.secret) (refused_store i.sealed.secret i.sealed.core c.decide_all.new.sealed.core i.released i.journal i.journal i.usable usable
+    c.self.invariant.0 c.self.invariant.1 took.begins took.within took.setting)
 
 pub invariant_of-self-in_err-keep : goal.invariant_of-self-in_err-keep
 invariant_of-self-in_err-keep g c =
     let i = c.self.inside in
     let usable : i.usable ≡ true = ap (λ (s : StoreContents). s.usable) c.self.view_is ∙ c.requires.usable in
     let took = c.decide_all.ensures in
-    refused_store i.secret i.core c.decide_all.new.core i.released i.journal c.keep.new.journal i.usable usable c.self.invariant.0 c.self.invariant.1
-    took.begins took.within took.setting
+    let holds = λ (secret : SecretView). IsStore (store_in secret c.decide_all.new.sealed.core i.released c.keep.new.journal false)
+    × IsAuditedBy (table_by secret c.decide_all.new.sealed.core) c.decide_all.new.sealed.core i.released false in
+    subst holds (sym took.secret) (refused_store i.sealed.secret i.sealed.core c.decide_all.new.sealed.core i.released i.journal c.keep.new.journal i.usable usable
+    c.self.invariant.0 c.self.invariant.1 took.begins took.within took.setting)
 
 pub invariant_of-self-2 : goal.invariant_of-self-2
 invariant_of-self-2 g c =
@@ -53,11 +59,14 @@ invariant_of-self-2 g c =
     let made = records_made c.args.asked.now c.in_ok-outcomes.outcomes.items in
     let shown = c.history.result.now in
     let all = c.self.invariant.1.all usable in
-    let group = taken_since i.core.history c.decide_all.new.core.history shown made i.released c.history.ensures.is all took.history in
+    let group = taken_since i.sealed.core.history c.decide_all.new.sealed.core.history shown made i.released (c.history.ensures.is ∙ ap (λ (a : Audited). a.history) c.core.ensures) all took.history in
     let kept = c.in_ok-keep.ensures in
-    kept_store i.secret i.core c.decide_all.new.core i.released (length c.history-2.result.now) i.journal c.keep.new.journal i.usable
+    let now = length c.history-2.result.now in
+    let holds = λ (secret : SecretView). IsStore (store_in secret c.decide_all.new.sealed.core now c.keep.new.journal true)
+    × IsAuditedBy (table_by secret c.decide_all.new.sealed.core) c.decide_all.new.sealed.core now true in
+    subst holds (sym c.decide_all.ensures.secret) (kept_store i.sealed.secret i.sealed.core c.decide_all.new.sealed.core i.released (length c.history-2.result.now) i.journal c.keep.new.journal i.usable
     (take (length shown - i.released) (drop i.released shown)) made usable c.self.invariant.0 c.self.invariant.1 took.history c.decide_all.ensures.setting
-    took.legal (ap length c.history-2.ensures.is) group kept.usable c.keep.ensures.shape kept.counted
+    took.legal (ap length (c.history-2.ensures.is ∙ ap (λ (a : Audited). a.history) c.core-2.ensures)) group kept.usable c.keep.ensures.shape kept.counted)
 
 pub keep-requires-clause-group : goal.keep-requires-clause-group
 keep-requires-clause-group g c =
@@ -67,7 +76,7 @@ keep-requires-clause-group g c =
     let took = c.in_ok-outcomes.ensures in
     let made = records_made c.args.asked.now c.in_ok-outcomes.outcomes.items in
     let shown = c.history.result.now in
-    let group = taken_since i.core.history c.decide_all.new.core.history shown made i.released c.history.ensures.is all took.history in
+    let group = taken_since i.sealed.core.history c.decide_all.new.sealed.core.history shown made i.released (c.history.ensures.is ∙ ap (λ (a : Audited). a.history) c.core.ensures) all took.history in
     omega (arith, ap length group, took.few, c.requires.few)
 
 pub keep-requires-clause-fit : goal.keep-requires-clause-fit
@@ -78,10 +87,10 @@ keep-requires-clause-fit g c =
     let shown = c.history.result.now in
     let group = take (length shown - i.released) (drop i.released shown) in
     let fits = λ (s : Shape). λ (r : Answered). FitsShape s r.column r.rows in
-    let core = c.decide_all.new.core.setting.shape in
+    let core = c.decide_all.new.sealed.core.setting.shape in
     let shape : core ≡ i.journal.shape = ap (λ (s : Setting). s.shape) setting ∙ sym (c.self.invariant.0.same_shape usable) in
     subst (λ (s : Shape). All (λ (r : Answered). FitsShape s r.column r.rows) group) shape
-    (All-take (fits core) (length shown - i.released) (drop i.released shown) (All-drop (fits core) i.released shown c.history.ensures.fit))
+    (All-take (fits core) (length shown - i.released) (drop i.released shown) (All-drop (fits core) i.released shown (subst (λ (a : Audited). All (fits a.setting.shape) c.history.result.now) c.core.ensures c.history.ensures.fit)))
 
 pub decide_all-requires-clause-same_shape : goal.decide_all-requires-clause-same_shape
 decide_all-requires-clause-same_shape g c = ap (λ (s : Setting). s.shape) c.self.invariant.1.same_setting
@@ -90,8 +99,8 @@ pub decide_all-requires-clause-legal : goal.decide_all-requires-clause-legal
 decide_all-requires-clause-legal g c =
     let i = c.self.inside in
     let usable : i.usable ≡ true = ap (λ (s : StoreContents). s.usable) c.self.view_is ∙ c.requires.usable in
-    let all = core_is_history (table_by i.secret i.core) i.core i.released i.usable (take i.released i.core.history) c.self.invariant.1 usable refl in
-    subst (λ (h : List Answered). IsLegal (table_by i.secret i.core) h) (sym all) c.self.invariant.0.legal
+    let all = core_is_history (table_by i.sealed.secret i.sealed.core) i.sealed.core i.released i.usable (take i.released i.sealed.core.history) c.self.invariant.1 usable refl in
+    subst (λ (h : List Answered). IsLegal (table_by i.sealed.secret i.sealed.core) h) (sym all) c.self.invariant.0.legal
 
 pub decide_all-requires-clause-fit : goal.decide_all-requires-clause-fit
 decide_all-requires-clause-fit g c =
@@ -115,7 +124,7 @@ returns-in_err-keep g c =
       stands = λ told. IfOk-from_err _ _ c.from_residual-in_err-keep.ensures.0;
       usable = IfOk-from_err _ _ c.from_residual-in_err-keep.ensures.0;
       kept =
-          refused_history c.from_residual-in_err-keep.result i.core.history c.decide_all.new.core.history c.args.self.now.history i.released
+          refused_history c.from_residual-in_err-keep.result i.sealed.core.history c.decide_all.new.sealed.core.history c.args.self.now.history i.released
           (c.self.invariant.1.all usable) c.decide_all.ensures.begins
           (ap (λ (s : StoreContents). s.history) c.self.view_is);
       no_memory = λ is.
@@ -130,19 +139,19 @@ returns-in_err-keep g c =
             (λ is. other (answer_is c.in_err-keep.field-0.0 Failed c.from_residual-in_err-keep.result c.from_residual-in_err-keep.ensures is));
         later = c.keep.ensures.fault.later;
       };
-      secret = ap (λ (s : StoreContents). s.secret) c.self.view_is;
+      secret = c.decide_all.ensures.secret ∙ ap (λ (s : StoreContents). s.secret) c.self.view_is;
       protected = ap (λ (s : Setting). s.protected) c.decide_all.ensures.setting ∙ ap (λ (s : StoreContents). s.protected) c.self.view_is;
       is = (invariant_of-self-in_err-keep g c).0;
       any_moment = λ told quiet other.
           let made = records_made c.args.asked.now c.in_ok-outcomes.outcomes.items in
           let group =
-          taken_since i.core.history c.decide_all.new.core.history c.history.result.now made i.released c.history.ensures.is
+          taken_since i.sealed.core.history c.decide_all.new.sealed.core.history c.history.result.now made i.released (c.history.ensures.is ∙ ap (λ (a : Audited). a.history) c.core.ensures)
           (c.self.invariant.1.all usable) c.in_ok-outcomes.ensures.history in
           let file = g.B.Bench.file c.args.bench.now in
           let sent = g.B.Bench.sent c.args.bench.now in
-          let shape : i.journal.shape ≡ i.secret.shape = c.self.invariant.0.same_shape usable in
-          let history = take i.released i.core.history in
-          let before : StandsAt file i.secret.shape history i.journal.gate =
+          let shape : i.journal.shape ≡ i.sealed.secret.shape = c.self.invariant.0.same_shape usable in
+          let history = take i.released i.sealed.core.history in
+          let before : StandsAt file i.sealed.secret.shape history i.journal.gate =
           subst (λ (s : StoreContents). StandsAt file s.secret.shape s.history s.journal.gate) (sym c.self.view_is) (c.requires.stands told) in
           let here : StandsAt file i.journal.shape history i.journal.gate = subst (λ (s : Shape). StandsAt file s history i.journal.gate) (sym shape) before in
           let found = c.keep.ensures.any_moment history told here (sym (c.self.invariant.0.counted usable)) quiet in
@@ -152,11 +161,11 @@ returns-in_err-keep g c =
           (λ (s : Shape). LeavesOnly g.B.Bench c.args.bench.now c.keep.new.bench (IsBeforeOrAfter s history made sent)) shape
           (subst (λ (l : List Answered). LeavesOnly g.B.Bench c.args.bench.now c.keep.new.bench
           (IsBeforeOrAfter i.journal.shape history l sent)) group found)) in
-          let all = core_is_history (table_by i.secret i.core) i.core i.released i.usable history c.self.invariant.1 usable refl in
+          let all = core_is_history (table_by i.sealed.secret i.sealed.core) i.sealed.core i.released i.usable history c.self.invariant.1 usable refl in
           let due =
           subst (λ (s : StoreContents). AreOutcomes (table_of s) s.history c.args.asked.now c.in_ok-outcomes.outcomes.items) c.self.view_is
           (subst (λ (h : List Answered). AreOutcomes
-          (table_by i.secret i.core) h c.args.asked.now c.in_ok-outcomes.outcomes.items) all c.in_ok-outcomes.ensures.outcomes) in
+          (table_by i.sealed.secret i.sealed.core) h c.args.asked.now c.in_ok-outcomes.outcomes.items) all c.in_ok-outcomes.ensures.outcomes) in
           record { outcomes = c.in_ok-outcomes.outcomes.items; due = due; moments = moments };
       moments = λ told quiet. IfOk-from_err _ _ c.from_residual-in_err-keep.ensures.0;
       written = λ told. IfOk-from_err _ _ c.from_residual-in_err-keep.ensures.0;
@@ -177,7 +186,7 @@ returns-in_err-outcomes g c = record {
   kept =
       let i = c.self.inside in
       let usable : i.usable ≡ true = ap (λ (s : StoreContents). s.usable) c.self.view_is ∙ c.requires.usable in
-      refused_history c.from_residual.result i.core.history c.decide_all.new.core.history c.args.self.now.history i.released
+      refused_history c.from_residual.result i.sealed.core.history c.decide_all.new.sealed.core.history c.args.self.now.history i.released
       (c.self.invariant.1.all usable) c.decide_all.ensures.begins
       (ap (λ (s : StoreContents). s.history) c.self.view_is);
   no_memory = λ is. refl;
@@ -187,7 +196,7 @@ returns-in_err-outcomes g c = record {
     steady = λ other. refl;
     later = omega arith;
   };
-  secret = ap (λ (s : StoreContents). s.secret) c.self.view_is;
+  secret = c.decide_all.ensures.secret ∙ ap (λ (s : StoreContents). s.secret) c.self.view_is;
   protected = ap (λ (s : Setting). s.protected) c.decide_all.ensures.setting ∙ ap (λ (s : StoreContents). s.protected) c.self.view_is;
   is = (invariant_of-self g c).0;
   any_moment = λ told quiet other. absurd (other (is_memory c.from_residual.result c.from_residual.ensures));
@@ -206,39 +215,39 @@ returns g c =
     let i = c.self.inside in
     let usable : i.usable ≡ true = ap (λ (s : StoreContents). s.usable) c.self.view_is ∙ c.requires.usable in
     let file = g.B.Bench.file c.args.bench.now in
-    let shape : i.journal.shape ≡ i.secret.shape = c.self.invariant.0.same_shape usable in
-    let history = take i.released i.core.history in
+    let shape : i.journal.shape ≡ i.sealed.secret.shape = c.self.invariant.0.same_shape usable in
+    let history = take i.released i.sealed.core.history in
     let made = records_made c.args.asked.now c.in_ok-outcomes.outcomes.items in
     let group =
-    taken_since i.core.history c.decide_all.new.core.history c.history.result.now made i.released c.history.ensures.is
+    taken_since i.sealed.core.history c.decide_all.new.sealed.core.history c.history.result.now made i.released (c.history.ensures.is ∙ ap (λ (a : Audited). a.history) c.core.ensures)
     (c.self.invariant.1.all usable) c.in_ok-outcomes.ensures.history in
     let sent = g.B.Bench.sent c.args.bench.now in
     record {
       outcomes =
-          let all = core_is_history (table_by i.secret i.core) i.core i.released i.usable (take i.released i.core.history) c.self.invariant.1 usable refl in
+          let all = core_is_history (table_by i.sealed.secret i.sealed.core) i.sealed.core i.released i.usable (take i.released i.sealed.core.history) c.self.invariant.1 usable refl in
           subst (λ (s : StoreContents). AreOutcomes (table_of s) s.history c.args.asked.now c.in_ok-outcomes.outcomes.items) c.self.view_is
           (subst (λ (h : List Answered). AreOutcomes
-          (table_by i.secret i.core) h c.args.asked.now c.in_ok-outcomes.outcomes.items) all c.in_ok-outcomes.ensures.outcomes);
+          (table_by i.sealed.secret i.sealed.core) h c.args.asked.now c.in_ok-outcomes.outcomes.items) all c.in_ok-outcomes.ensures.outcomes);
       history =
-          more_released i.core.history c.decide_all.new.core.history c.args.self.now.history
+          more_released i.sealed.core.history c.decide_all.new.sealed.core.history c.args.self.now.history
           (records_made c.args.asked.now c.in_ok-outcomes.outcomes.items) i.released (length c.history-2.result.now)
-          (c.self.invariant.1.all usable) c.in_ok-outcomes.ensures.history (ap (λ (l : List Answered). length l) c.history-2.ensures.is)
+          (c.self.invariant.1.all usable) c.in_ok-outcomes.ensures.history (ap (λ (l : List Answered). length l) (c.history-2.ensures.is ∙ ap (λ (a : Audited). a.history) c.core-2.ensures))
           (ap (λ (s : StoreContents). s.history) c.self.view_is);
       stands = λ told.
-          let whole = c.decide_all.new.core.history in
-          let before : StandsAt file i.secret.shape history i.journal.gate =
+          let whole = c.decide_all.new.sealed.core.history in
+          let before : StandsAt file i.sealed.secret.shape history i.journal.gate =
           subst (λ (s : StoreContents). StandsAt file s.secret.shape s.history s.journal.gate) (sym c.self.view_is) (c.requires.stands told) in
           let here : StandsAt file i.journal.shape history i.journal.gate = subst (λ (s : Shape). StandsAt file s history i.journal.gate) (sym shape) before in
           let all : history ++ take (length whole - i.released) (drop i.released whole) ≡ whole =
-          released_and_more i.core.history whole i.released (c.self.invariant.1.all usable) c.in_ok-outcomes.ensures.begins in
+          released_and_more i.sealed.core.history whole i.released (c.self.invariant.1.all usable) c.in_ok-outcomes.ensures.begins in
           let same : whole ≡ take (length c.history-2.result.now) whole =
-          sym (ap (λ (l : List Answered). take (length l) whole) c.history-2.ensures.is ∙ take-length whole) in
+          sym (ap (λ (l : List Answered). take (length l) whole) (c.history-2.ensures.is ∙ ap (λ (a : Audited). a.history) c.core-2.ensures) ∙ take-length whole) in
           let done = c.in_ok-keep.ensures.done history told here (sym (c.self.invariant.0.counted usable)) in
           let ended =
           subst (λ (h : List Answered). StandsAt (g.B.Bench.file c.keep.new.bench) c.keep.new.journal.shape h c.keep.new.journal.gate)
-          (ap (λ (l : List Answered). history ++ take (length l - i.released) (drop i.released l)) c.history.ensures.is ∙ all ∙ same) done in
+          (ap (λ (l : List Answered). history ++ take (length l - i.released) (drop i.released l)) (c.history.ensures.is ∙ ap (λ (a : Audited). a.history) c.core.ensures) ∙ all ∙ same) done in
           subst (λ (s : Shape). StandsAt (g.B.Bench.file c.keep.new.bench) s (take (length c.history-2.result.now) whole) c.keep.new.journal.gate)
-          (c.in_ok-keep.ensures.shape ∙ shape) ended;
+          (c.in_ok-keep.ensures.shape ∙ shape ∙ ap (λ (s : SecretView). s.shape) (sym c.decide_all.ensures.secret)) ended;
       usable = refl;
       kept = tt;
       no_memory = λ is. no_refusal _ _ is;
@@ -248,11 +257,11 @@ returns g c =
         steady = λ other. c.in_ok-keep.ensures.fault.steady (λ is. no_refusal _ _ is);
         later = c.keep.ensures.fault.later;
       };
-      secret = ap (λ (s : StoreContents). s.secret) c.self.view_is;
+      secret = c.decide_all.ensures.secret ∙ ap (λ (s : StoreContents). s.secret) c.self.view_is;
       protected = ap (λ (s : Setting). s.protected) c.decide_all.ensures.setting ∙ ap (λ (s : StoreContents). s.protected) c.self.view_is;
       is = (invariant_of-self-2 g c).0;
       any_moment = λ told quiet other.
-          let before : StandsAt file i.secret.shape history i.journal.gate =
+          let before : StandsAt file i.sealed.secret.shape history i.journal.gate =
           subst (λ (s : StoreContents). StandsAt file s.secret.shape s.history s.journal.gate) (sym c.self.view_is) (c.requires.stands told) in
           let here : StandsAt file i.journal.shape history i.journal.gate = subst (λ (s : Shape). StandsAt file s history i.journal.gate) (sym shape) before in
           let found = c.keep.ensures.any_moment history told here (sym (c.self.invariant.0.counted usable)) quiet in
@@ -262,14 +271,14 @@ returns g c =
           (λ (s : Shape). LeavesOnly g.B.Bench c.args.bench.now c.keep.new.bench (IsBeforeOrAfter s history made sent)) shape
           (subst (λ (l : List Answered). LeavesOnly g.B.Bench c.args.bench.now c.keep.new.bench
           (IsBeforeOrAfter i.journal.shape history l sent)) group found)) in
-          let all = core_is_history (table_by i.secret i.core) i.core i.released i.usable history c.self.invariant.1 usable refl in
+          let all = core_is_history (table_by i.sealed.secret i.sealed.core) i.sealed.core i.released i.usable history c.self.invariant.1 usable refl in
           let due =
           subst (λ (s : StoreContents). AreOutcomes (table_of s) s.history c.args.asked.now c.in_ok-outcomes.outcomes.items) c.self.view_is
           (subst (λ (h : List Answered). AreOutcomes
-          (table_by i.secret i.core) h c.args.asked.now c.in_ok-outcomes.outcomes.items) all c.in_ok-outcomes.ensures.outcomes) in
+          (table_by i.sealed.secret i.sealed.core) h c.args.asked.now c.in_ok-outcomes.outcomes.items) all c.in_ok-outcomes.ensures.outcomes) in
           record { outcomes = c.in_ok-outcomes.outcomes.items; due = due; moments = moments };
       moments = λ told quiet.
-          let before : StandsAt file i.secret.shape history i.journal.gate =
+          let before : StandsAt file i.sealed.secret.shape history i.journal.gate =
           subst (λ (s : StoreContents). StandsAt file s.secret.shape s.history s.journal.gate) (sym c.self.view_is) (c.requires.stands told) in
           let here : StandsAt file i.journal.shape history i.journal.gate = subst (λ (s : Shape). StandsAt file s history i.journal.gate) (sym shape) before in
           let found = c.keep.ensures.any_moment history told here (sym (c.self.invariant.0.counted usable)) quiet in

@@ -1,12 +1,14 @@
-use Rattle.std.proofs.Common.{◌≡◌, true, List, ℕ, Err, refl, ◌+◌, ◌++◌, length, take, sym, ap, subst, ◌∙◌}
+use Rattle.std.proofs.Common.{◌≡◌, true, false, List, ℕ, Err, refl, ◌+◌, ◌++◌, length, take, sym, ap, subst, ◌∙◌}
 use Rattle.std.specs.Prelude.{IsErrOf}
 use Rattle.std.proofs.lemmas.Result.{IfOk-from_err}
 use Rattle.audit_types.specs.declared.records.Answered.{Answered}
 use Rattle.audit_types.specs.History.{Setting}
 use Rattle.journal_form.specs.Journal.{StandsAt}
+use Rattle.audit_core.specs.Audited.{Audited}
 use Rattle.audit_core.specs.Outcomes.{records_made}
-use Rattle.audit_store.specs.Stores.{StoreContents, HasGroup, calls_for}
-use Rattle.audit_store.specs.StoreLaws.{kept_store, more_released, nothing_appended, refused_history, refused_store, still_released}
+use Rattle.table_load.specs.Cells.{SecretView}
+use Rattle.audit_store.specs.Stores.{StoreContents, IsStore, IsAuditedBy, HasGroup, calls_for}
+use Rattle.audit_store.specs.StoreLaws.{kept_store, more_released, nothing_appended, refused_history, refused_store, still_released, store_in, table_by}
 use Rattle.audit_store.specs.Refusals.{no_refusal}
 use Rattle.bench_core.specs.Reports.{done_call, failed_call, is_refusal, not_called}
 use Rattle.audit_store.specs.Twice.{group_of}
@@ -19,32 +21,44 @@ invariant_of-self g c =
     let i = c.self.inside in
     let usable : i.usable ≡ true = ap (λ (s : StoreContents). s.usable) c.self.view_is ∙ c.requires.usable in
     let took = c.decide_all.ensures in
-    refused_store i.secret i.core c.decide_all.new.core i.released i.journal i.journal i.usable usable c.self.invariant.0 c.self.invariant.1
-    took.begins took.within took.setting
+    let new = c.decide_all.new.sealed.core in
+    let holds = λ (secret : SecretView). IsStore (store_in secret new i.released i.journal false)
+    × IsAuditedBy (table_by secret new) new i.released false in
+    subst holds (sym took.secret) (refused_store i.sealed.secret i.sealed.core new i.released i.journal i.journal i.usable usable
+    c.self.invariant.0 c.self.invariant.1 took.begins took.within took.setting)
 
 pub invariant_of-self-in_err-ready : goal.invariant_of-self-in_err-ready
 invariant_of-self-in_err-ready g c =
     let i = c.self.inside in
     let usable : i.usable ≡ true = ap (λ (s : StoreContents). s.usable) c.self.view_is ∙ c.requires.usable in
     let took = c.decide_all.ensures in
-    refused_store i.secret i.core c.decide_all.new.core i.released i.journal i.journal i.usable usable c.self.invariant.0 c.self.invariant.1
-    took.begins took.within took.setting
+    let new = c.decide_all.new.sealed.core in
+    let holds = λ (secret : SecretView). IsStore (store_in secret new i.released i.journal false)
+    × IsAuditedBy (table_by secret new) new i.released false in
+    subst holds (sym took.secret) (refused_store i.sealed.secret i.sealed.core new i.released i.journal i.journal i.usable usable
+    c.self.invariant.0 c.self.invariant.1 took.begins took.within took.setting)
 
 pub invariant_of-self-in-Err : goal.invariant_of-self-in-Err
 invariant_of-self-in-Err g c =
     let i = c.self.inside in
     let usable : i.usable ≡ true = ap (λ (s : StoreContents). s.usable) c.self.view_is ∙ c.requires.usable in
     let took = c.decide_all.ensures in
-    refused_store i.secret i.core c.decide_all.new.core i.released i.journal i.journal i.usable usable c.self.invariant.0 c.self.invariant.1
-    took.begins took.within took.setting
+    let new = c.decide_all.new.sealed.core in
+    let holds = λ (secret : SecretView). IsStore (store_in secret new i.released i.journal false)
+    × IsAuditedBy (table_by secret new) new i.released false in
+    subst holds (sym took.secret) (refused_store i.sealed.secret i.sealed.core new i.released i.journal i.journal i.usable usable
+    c.self.invariant.0 c.self.invariant.1 took.begins took.within took.setting)
 
 pub invariant_of-self-in-Err-keep_ready : goal.invariant_of-self-in-Err-keep_ready
 invariant_of-self-in-Err-keep_ready g c =
     let i = c.self.inside in
     let usable : i.usable ≡ true = ap (λ (s : StoreContents). s.usable) c.self.view_is ∙ c.requires.usable in
     let took = c.decide_all.ensures in
-    refused_store i.secret i.core c.decide_all.new.core i.released i.journal c.keep_ready-2.new.journal i.usable usable c.self.invariant.0 c.self.invariant.1
-    took.begins took.within took.setting
+    let new = c.decide_all.new.sealed.core in
+    let holds = λ (secret : SecretView). IsStore (store_in secret new i.released c.keep_ready-2.new.journal false)
+    × IsAuditedBy (table_by secret new) new i.released false in
+    subst holds (sym took.secret) (refused_store i.sealed.secret i.sealed.core new i.released i.journal c.keep_ready-2.new.journal i.usable usable
+    c.self.invariant.0 c.self.invariant.1 took.begins took.within took.setting)
 
 pub invariant_of-self-2 : goal.invariant_of-self-2
 invariant_of-self-2 g c =
@@ -57,12 +71,15 @@ invariant_of-self-2 g c =
     let group = group_of c.in_ok-ready.ready in
     let took = c.in_ok-outcomes.ensures in
     let is =
-    decided i.secret i.core c.decide_all.new.core i.released i.journal i.usable store asked outcomes c.history.result.now group c.self.view_is usable
-    c.self.invariant.0 c.self.invariant.1 took.outcomes took.history c.history.ensures.is c.in_ok-ready.ensures.group in
+    decided i.sealed.secret i.sealed.core c.decide_all.new.sealed.core i.released i.journal i.usable store asked outcomes c.history.result.now group c.self.view_is usable
+    c.self.invariant.0 c.self.invariant.1 took.outcomes took.history (c.history.ensures.is ∙ ap (λ (a : Audited). a.history) c.core.ensures) c.in_ok-ready.ensures.group in
     let kept = c.in-Ok-keep_ready.ensures in
-    kept_store i.secret i.core c.decide_all.new.core i.released (length c.history-2.result.now) i.journal c.keep_ready-2.new.journal i.usable
+    let now = length c.history-2.result.now in
+    let holds = λ (secret : SecretView). IsStore (store_in secret c.decide_all.new.sealed.core now c.keep_ready-2.new.journal true)
+    × IsAuditedBy (table_by secret c.decide_all.new.sealed.core) c.decide_all.new.sealed.core now true in
+    subst holds (sym c.decide_all.ensures.secret) (kept_store i.sealed.secret i.sealed.core c.decide_all.new.sealed.core i.released (length c.history-2.result.now) i.journal c.keep_ready-2.new.journal i.usable
     group made usable c.self.invariant.0 c.self.invariant.1 took.history c.decide_all.ensures.setting
-    took.legal (ap length c.history-2.ensures.is) is.group_is kept.usable c.keep_ready-2.ensures.shape kept.counted
+    took.legal (ap length (c.history-2.ensures.is ∙ ap (λ (a : Audited). a.history) c.core-2.ensures)) is.group_is kept.usable c.keep_ready-2.ensures.shape kept.counted)
 
 -- ---- memory ran out
 
@@ -80,13 +97,13 @@ returns-in_err-outcomes g c =
       spare_stands = λ told. IfOk-from_err _ _ c.from_residual.ensures.0;
       usable = IfOk-from_err _ _ c.from_residual.ensures.0;
       kept =
-          refused_history answer i.core.history c.decide_all.new.core.history store.history i.released
+          refused_history answer i.sealed.core.history c.decide_all.new.sealed.core.history store.history i.released
           (c.self.invariant.1.all usable) c.decide_all.ensures.begins (ap (λ (s : StoreContents). s.history) c.self.view_is);
       no_memory = λ is. (refl, refl);
       spare_first = λ is. refl;
       fault = not_called g.B.Bench c.args.bench.now (IsErrOf c.from_residual.result keep.Bench) (λ is. let none : ⊥ = cc in none);
       spare_fault = not_called g.S.Bench c.args.spare.now (IsErrOf c.from_residual.result keep.Spare) (λ is. let none : ⊥ = cc in none);
-      secret = ap (λ (s : StoreContents). s.secret) c.self.view_is;
+      secret = c.decide_all.ensures.secret ∙ ap (λ (s : StoreContents). s.secret) c.self.view_is;
       protected = ap (λ (s : Setting). s.protected) c.decide_all.ensures.setting ∙ ap (λ (s : StoreContents). s.protected) c.self.view_is;
       is = (invariant_of-self g c).0;
       any_moment = λ told quiet other. absurd (other same);
@@ -117,13 +134,13 @@ returns-in_err-ready g c =
       spare_stands = λ told. IfOk-from_err _ _ c.from_residual-in_err-ready.ensures.0;
       usable = IfOk-from_err _ _ c.from_residual-in_err-ready.ensures.0;
       kept =
-          refused_history answer i.core.history c.decide_all.new.core.history store.history i.released
+          refused_history answer i.sealed.core.history c.decide_all.new.sealed.core.history store.history i.released
           (c.self.invariant.1.all usable) c.decide_all.ensures.begins (ap (λ (s : StoreContents). s.history) c.self.view_is);
       no_memory = λ is. (refl, refl);
       spare_first = λ is. refl;
       fault = not_called g.B.Bench c.args.bench.now (IsErrOf c.from_residual-in_err-ready.result keep.Bench) (λ is. let none : ⊥ = cc in none);
       spare_fault = not_called g.S.Bench c.args.spare.now (IsErrOf c.from_residual-in_err-ready.result keep.Spare) (λ is. let none : ⊥ = cc in none);
-      secret = ap (λ (s : StoreContents). s.secret) c.self.view_is;
+      secret = c.decide_all.ensures.secret ∙ ap (λ (s : StoreContents). s.secret) c.self.view_is;
       protected = ap (λ (s : Setting). s.protected) c.decide_all.ensures.setting ∙ ap (λ (s : StoreContents). s.protected) c.self.view_is;
       is = (invariant_of-self-in_err-ready g c).0;
       any_moment = λ told quiet other. absurd (other same);
@@ -153,8 +170,8 @@ returns-in-Err g c =
     let group = group_of c.in_ok-ready.ready in
     let took = c.in_ok-outcomes.ensures in
     let is =
-    decided i.secret i.core c.decide_all.new.core i.released i.journal i.usable store asked outcomes c.history.result.now group c.self.view_is usable
-    c.self.invariant.0 c.self.invariant.1 took.outcomes took.history c.history.ensures.is c.in_ok-ready.ensures.group in
+    decided i.sealed.secret i.sealed.core c.decide_all.new.sealed.core i.released i.journal i.usable store asked outcomes c.history.result.now group c.self.view_is usable
+    c.self.invariant.0 c.self.invariant.1 took.outcomes took.history (c.history.ensures.is ∙ ap (λ (a : Audited). a.history) c.core.ensures) c.in_ok-ready.ensures.group in
     let file = g.B.Bench.file c.args.bench.now in
     let here : g.B.Bench.told → StandsAt file i.journal.shape store.history i.journal.gate = λ told.
     over_own_shape store asked outcomes i.journal group is file
@@ -172,7 +189,7 @@ returns-in-Err g c =
       spare_stands = λ told. tt;
       usable = tt;
       kept = (
-        still_released i.core.history c.decide_all.new.core.history store.history i.released (c.self.invariant.1.all usable)
+        still_released i.sealed.core.history c.decide_all.new.sealed.core.history store.history i.released (c.self.invariant.1.all usable)
             c.decide_all.ensures.begins (ap (λ (s : StoreContents). s.history) c.self.view_is),
         refl,
       );
@@ -181,7 +198,7 @@ returns-in-Err g c =
       fault = not_called g.B.Bench c.args.bench.now _ (λ is. let none : ⊥ = cc in none);
       spare_fault =
           failed_call g.S.Bench c.args.spare.now c.keep_ready.new.bench _ _ c.in-Err.ensures.cause c.in-Err.ensures.last_call refl;
-      secret = ap (λ (s : StoreContents). s.secret) c.self.view_is;
+      secret = c.decide_all.ensures.secret ∙ ap (λ (s : StoreContents). s.secret) c.self.view_is;
       protected = ap (λ (s : Setting). s.protected) c.decide_all.ensures.setting ∙ ap (λ (s : StoreContents). s.protected) c.self.view_is;
       is = (invariant_of-self-in-Err g c).0;
       any_moment = λ told quiet no_memory.
@@ -216,8 +233,8 @@ returns-in-Err-keep_ready g c =
     let group = group_of c.in_ok-ready.ready in
     let took = c.in_ok-outcomes.ensures in
     let is =
-    decided i.secret i.core c.decide_all.new.core i.released i.journal i.usable store asked outcomes c.history.result.now group c.self.view_is usable
-    c.self.invariant.0 c.self.invariant.1 took.outcomes took.history c.history.ensures.is c.in_ok-ready.ensures.group in
+    decided i.sealed.secret i.sealed.core c.decide_all.new.sealed.core i.released i.journal i.usable store asked outcomes c.history.result.now group c.self.view_is usable
+    c.self.invariant.0 c.self.invariant.1 took.outcomes took.history (c.history.ensures.is ∙ ap (λ (a : Audited). a.history) c.core.ensures) c.in_ok-ready.ensures.group in
     let file = g.B.Bench.file c.args.bench.now in
     let here : g.B.Bench.told → StandsAt file i.journal.shape store.history i.journal.gate = λ told.
     over_own_shape store asked outcomes i.journal group is file
@@ -235,7 +252,7 @@ returns-in-Err-keep_ready g c =
       spare_stands = λ told. tt;
       usable = tt;
       kept = (
-        still_released i.core.history c.decide_all.new.core.history store.history i.released (c.self.invariant.1.all usable)
+        still_released i.sealed.core.history c.decide_all.new.sealed.core.history store.history i.released (c.self.invariant.1.all usable)
             c.decide_all.ensures.begins (ap (λ (s : StoreContents). s.history) c.self.view_is),
         refl,
       );
@@ -245,7 +262,7 @@ returns-in-Err-keep_ready g c =
           failed_call g.B.Bench c.args.bench.now c.keep_ready-2.new.bench _ _ c.in-Err-keep_ready.ensures.cause
           c.in-Err-keep_ready.ensures.last_call refl;
       spare_fault = done_call g.S.Bench c.args.spare.now c.keep_ready.new.bench _ _ c.in-Ok.ensures.cause (λ is. let none : ⊥ = cc in none);
-      secret = ap (λ (s : StoreContents). s.secret) c.self.view_is;
+      secret = c.decide_all.ensures.secret ∙ ap (λ (s : StoreContents). s.secret) c.self.view_is;
       protected = ap (λ (s : Setting). s.protected) c.decide_all.ensures.setting ∙ ap (λ (s : StoreContents). s.protected) c.self.view_is;
       is = (invariant_of-self-in-Err-keep_ready g c).0;
       any_moment = λ told quiet no_memory.
@@ -288,8 +305,8 @@ returns g c =
     let group = group_of c.in_ok-ready.ready in
     let took = c.in_ok-outcomes.ensures in
     let is =
-    decided i.secret i.core c.decide_all.new.core i.released i.journal i.usable store asked outcomes c.history.result.now group c.self.view_is usable
-    c.self.invariant.0 c.self.invariant.1 took.outcomes took.history c.history.ensures.is c.in_ok-ready.ensures.group in
+    decided i.sealed.secret i.sealed.core c.decide_all.new.sealed.core i.released i.journal i.usable store asked outcomes c.history.result.now group c.self.view_is usable
+    c.self.invariant.0 c.self.invariant.1 took.outcomes took.history (c.history.ensures.is ∙ ap (λ (a : Audited). a.history) c.core.ensures) c.in_ok-ready.ensures.group in
     let file = g.B.Bench.file c.args.bench.now in
     let here : g.B.Bench.told → StandsAt file i.journal.shape store.history i.journal.gate = λ told.
     over_own_shape store asked outcomes i.journal group is file
@@ -300,27 +317,29 @@ returns g c =
     let spare_file = g.S.Bench.file c.args.spare.now in
     let there : g.S.Bench.told → StandsAt spare_file other.shape store.history other.gate = λ told.
     over_own_shape store asked outcomes other group of_other spare_file (c.requires.spare_stands told) in
-    let now = take (length c.history-2.result.now) c.decide_all.new.core.history in
+    let now = take (length c.history-2.result.now) c.decide_all.new.sealed.core.history in
     let now_is : now ≡ store.history ++ made =
-    more_released i.core.history c.decide_all.new.core.history store.history made i.released (length c.history-2.result.now)
-    (c.self.invariant.1.all usable) took.history (ap (λ (l : List Answered). length l) c.history-2.ensures.is)
+    more_released i.sealed.core.history c.decide_all.new.sealed.core.history store.history made i.released (length c.history-2.result.now)
+    (c.self.invariant.1.all usable) took.history (ap (λ (l : List Answered). length l) (c.history-2.ensures.is ∙ ap (λ (a : Audited). a.history) c.core-2.ensures))
     (ap (λ (s : StoreContents). s.history) c.self.view_is) in
-    let over : i.secret.shape ≡ store.secret.shape = ap (λ (s : StoreContents). s.secret.shape) c.self.view_is in
+    let secret = c.decide_all.new.sealed.secret in
+    let over : secret.shape ≡ store.secret.shape =
+    ap (λ (s : SecretView). s.shape) c.decide_all.ensures.secret ∙ ap (λ (s : StoreContents). s.secret.shape) c.self.view_is in
     let kept = c.in-Ok.ensures in
     record {
       outcomes = is.due;
       history = now_is;
       stands = λ told.
-          stands_after store asked outcomes i.journal group is (g.B.Bench.file c.keep_ready-2.new.bench) c.keep_ready-2.new.journal.shape i.secret.shape
+          stands_after store asked outcomes i.journal group is (g.B.Bench.file c.keep_ready-2.new.bench) c.keep_ready-2.new.journal.shape secret.shape
           c.keep_ready-2.new.journal.gate now c.keep_ready-2.ensures.shape over now_is
           (c.in-Ok-keep_ready.ensures.done store.history told (here told) is.counted);
       spare_stands = λ told.
-          stands_after store asked outcomes other group of_other (g.S.Bench.file c.keep_ready.new.bench) c.keep_ready.new.journal.shape i.secret.shape
+          stands_after store asked outcomes other group of_other (g.S.Bench.file c.keep_ready.new.bench) c.keep_ready.new.journal.shape secret.shape
           c.keep_ready.new.journal.gate now c.keep_ready.ensures.shape over now_is
           (kept.done store.history told (there told) (sym c.requires.other.counted));
       usable = (
         refl,
-        journal_after store asked outcomes other group of_other c.keep_ready.new.journal i.secret.shape now over now_is kept.usable
+        journal_after store asked outcomes other group of_other c.keep_ready.new.journal secret.shape now over now_is kept.usable
             c.keep_ready.ensures.shape kept.counted,
       );
       kept = tt;
@@ -328,7 +347,7 @@ returns g c =
       spare_first = λ is. no_refusal _ _ is;
       fault = done_call g.B.Bench c.args.bench.now c.keep_ready-2.new.bench _ _ c.in-Ok-keep_ready.ensures.cause (λ is. no_refusal _ _ is);
       spare_fault = done_call g.S.Bench c.args.spare.now c.keep_ready.new.bench _ _ kept.cause (λ is. no_refusal _ _ is);
-      secret = ap (λ (s : StoreContents). s.secret) c.self.view_is;
+      secret = c.decide_all.ensures.secret ∙ ap (λ (s : StoreContents). s.secret) c.self.view_is;
       protected = ap (λ (s : Setting). s.protected) c.decide_all.ensures.setting ∙ ap (λ (s : StoreContents). s.protected) c.self.view_is;
       is = (invariant_of-self-2 g c).0;
       any_moment = λ told quiet no_memory.

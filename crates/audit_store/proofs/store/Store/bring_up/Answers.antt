@@ -1,16 +1,18 @@
-use Rattle.std.proofs.Common.{◌≡◌, ◌∙◌, ◌++◌, List, ℕ, true, Err, All, length, take, refl, sym, ap, subst, append-nil}
+use Rattle.std.proofs.Common.{◌≡◌, ◌∙◌, ◌++◌, List, ℕ, true, false, Err, All, length, take, refl, sym, ap, subst, append-nil}
 use Rattle.std.specs.Prelude.{IsErrOf}
 use Rattle.std.proofs.lemmas.Result.{IfOk-from_err}
 use Rattle.audit_types.specs.declared.records.Answered.{Answered}
 use Rattle.audit_types.specs.declared.shapes.Shape.{Shape}
 use Rattle.audit_types.specs.History.{FitsShape, IsLegal, Setting, Table}
+use Rattle.audit_core.specs.Audited.{Audited}
+use Rattle.table_load.specs.Cells.{SecretView}
 use Rattle.bench_core.specs.Calls.{LeavesOnly}
 use Rattle.bench_core.specs.Reports.{not_called, told_as}
 use Rattle.journal_form.specs.Journal.{StandsAt}
 use Rattle.audit_store.specs.declared.outcome.StoreFault.TheVariants.{Failed, NoMemory}
 use Rattle.audit_store.specs.Refusals.{no_refusal}
-use Rattle.audit_store.specs.Stores.{StoreContents, table_of}
-use Rattle.audit_store.specs.StoreLaws.{core_is_history, kept_store, more_released, refused_history, refused_store, table_by}
+use Rattle.audit_store.specs.Stores.{StoreContents, IsStore, IsAuditedBy, table_of}
+use Rattle.audit_store.specs.StoreLaws.{core_is_history, kept_store, more_released, refused_history, refused_store, store_in, table_by}
 use Rattle.audit_store.specs.Twice.{IsBroughtUp, StandsWithSome}
 use Rattle.audit_store.proofs.LegalHistories.{legal_fits_after}
 use Rattle.audit_store.proofs.Appended.{nothing_brought_up}
@@ -22,16 +24,22 @@ invariant_of-self g c =
     let i = c.self.inside in
     let usable : i.usable ≡ true = ap (λ (s : StoreContents). s.usable) c.self.view_is ∙ c.requires.usable in
     let took = c.take_all.ensures in
-    refused_store i.secret i.core c.take_all.new.core i.released i.journal i.journal i.usable usable c.self.invariant.0 c.self.invariant.1
-    took.begins took.within took.setting
+    let new = c.take_all.new.sealed.core in
+    let holds = λ (secret : SecretView). IsStore (store_in secret new i.released i.journal false)
+    × IsAuditedBy (table_by secret new) new i.released false in
+    subst holds (sym took.secret) (refused_store i.sealed.secret i.sealed.core new i.released i.journal i.journal i.usable usable
+    c.self.invariant.0 c.self.invariant.1 took.begins took.within took.setting)
 
 pub invariant_of-self-in_err-bring_up : goal.invariant_of-self-in_err-bring_up
 invariant_of-self-in_err-bring_up g c =
     let i = c.self.inside in
     let usable : i.usable ≡ true = ap (λ (s : StoreContents). s.usable) c.self.view_is ∙ c.requires.usable in
     let took = c.take_all.ensures in
-    refused_store i.secret i.core c.take_all.new.core i.released i.journal c.bring_up.new.journal i.usable usable c.self.invariant.0 c.self.invariant.1
-    took.begins took.within took.setting
+    let new = c.take_all.new.sealed.core in
+    let holds = λ (secret : SecretView). IsStore (store_in secret new i.released c.bring_up.new.journal false)
+    × IsAuditedBy (table_by secret new) new i.released false in
+    subst holds (sym took.secret) (refused_store i.sealed.secret i.sealed.core new i.released i.journal c.bring_up.new.journal i.usable usable
+    c.self.invariant.0 c.self.invariant.1 took.begins took.within took.setting)
 
 pub bring_up-requires-clause-fit : goal.bring_up-requires-clause-fit
 bring_up-requires-clause-fit g c =
@@ -48,9 +56,9 @@ invariant_of-self-2 g c =
     let store = c.args.self.now in
     let missing = c.args.missing.now in
     let usable : i.usable ≡ true = ap (λ (s : StoreContents). s.usable) c.self.view_is ∙ c.requires.usable in
-    let old = i.core in
-    let new = c.take_all.new.core in
-    let table = table_by i.secret old in
+    let old = i.sealed.core in
+    let new = c.take_all.new.sealed.core in
+    let table = table_by i.sealed.secret old in
     let took : new.history ≡ old.history ++ missing = c.in_ok-take_all.ensures.history in
     let all : old.history ≡ store.history =
     core_is_history table old i.released i.usable store.history c.self.invariant.1 usable (ap (λ (s : StoreContents). s.history) c.self.view_is) in
@@ -58,9 +66,11 @@ invariant_of-self-2 g c =
     subst (λ (h : List Answered). IsLegal table h) (ap (λ (h : List Answered). h ++ missing) (sym all) ∙ sym took)
     (subst (λ (t : Table). IsLegal t (store.history ++ missing)) (ap table_of (sym c.self.view_is)) c.requires.legal) in
     let kept = c.in_ok-bring_up.ensures in
-    kept_store i.secret old new i.released (length c.history.result.now) i.journal c.bring_up.new.journal i.usable missing missing usable
-    c.self.invariant.0 c.self.invariant.1 took c.take_all.ensures.setting legal (ap length c.history.ensures.is) refl kept.usable
-    c.bring_up.ensures.shape kept.counted
+    let now = length c.history.result.now in
+    let holds = λ (secret : SecretView). IsStore (store_in secret new now c.bring_up.new.journal true) × IsAuditedBy (table_by secret new) new now true in
+    subst holds (sym c.take_all.ensures.secret) (kept_store i.sealed.secret old new i.released (length c.history.result.now) i.journal c.bring_up.new.journal i.usable missing missing usable
+    c.self.invariant.0 c.self.invariant.1 took c.take_all.ensures.setting legal (ap length (c.history.ensures.is ∙ ap (λ (a : Audited). a.history) c.core.ensures)) refl kept.usable
+    c.bring_up.ensures.shape kept.counted)
 
 -- ---- memory ran out
 
@@ -74,9 +84,9 @@ returns-in_err-take_all g c =
       stands = λ told. IfOk-from_err _ _ c.from_residual.ensures.0;
       usable = IfOk-from_err _ _ c.from_residual.ensures.0;
       kept =
-          refused_history c.from_residual.result i.core.history c.take_all.new.core.history store.history i.released
+          refused_history c.from_residual.result i.sealed.core.history c.take_all.new.sealed.core.history store.history i.released
           (c.self.invariant.1.all usable) c.take_all.ensures.begins (ap (λ (s : StoreContents). s.history) c.self.view_is);
-      secret = ap (λ (s : StoreContents). s.secret) c.self.view_is;
+      secret = c.take_all.ensures.secret ∙ ap (λ (s : StoreContents). s.secret) c.self.view_is;
       protected = ap (λ (s : Setting). s.protected) c.take_all.ensures.setting ∙ ap (λ (s : StoreContents). s.protected) c.self.view_is;
       is = (invariant_of-self g c).0;
       any_moment = λ told quiet.
@@ -122,9 +132,9 @@ returns-in_err-bring_up g c =
       stands = λ told. IfOk-from_err _ _ refuses.0;
       usable = IfOk-from_err _ _ refuses.0;
       kept =
-          refused_history answer i.core.history c.take_all.new.core.history store.history i.released
+          refused_history answer i.sealed.core.history c.take_all.new.sealed.core.history store.history i.released
           (c.self.invariant.1.all usable) c.take_all.ensures.begins (ap (λ (s : StoreContents). s.history) c.self.view_is);
-      secret = ap (λ (s : StoreContents). s.secret) c.self.view_is;
+      secret = c.take_all.ensures.secret ∙ ap (λ (s : StoreContents). s.secret) c.self.view_is;
       protected = ap (λ (s : Setting). s.protected) c.take_all.ensures.setting ∙ ap (λ (s : StoreContents). s.protected) c.self.view_is;
       is = (invariant_of-self-in_err-bring_up g c).0;
       any_moment = λ told quiet.
@@ -158,23 +168,25 @@ returns g c =
     subst (λ (s : Shape). StandsAt file s store.history journal.gate) (sym shape)
     (subst (λ (n : ℕ). StandsAt file store.secret.shape store.history n) (ap (λ (s : StoreContents). s.journal.gate) (sym c.self.view_is))
     (c.requires.stands told)) in
-    let now = take (length c.history.result.now) c.take_all.new.core.history in
+    let now = take (length c.history.result.now) c.take_all.new.sealed.core.history in
     let now_is =
-    more_released i.core.history c.take_all.new.core.history store.history c.args.missing.now i.released (length c.history.result.now)
-    (c.self.invariant.1.all usable) c.in_ok-take_all.ensures.history (ap (λ (l : List Answered). length l) c.history.ensures.is)
+    more_released i.sealed.core.history c.take_all.new.sealed.core.history store.history c.args.missing.now i.released (length c.history.result.now)
+    (c.self.invariant.1.all usable) c.in_ok-take_all.ensures.history (ap (λ (l : List Answered). length l) (c.history.ensures.is ∙ ap (λ (a : Audited). a.history) c.core.ensures))
     (ap (λ (s : StoreContents). s.history) c.self.view_is) in
-    let over : store.secret.shape ≡ i.secret.shape = ap (λ (s : StoreContents). s.secret.shape) (sym c.self.view_is) in
+    let secret = c.take_all.new.sealed.secret in
+    let over : store.secret.shape ≡ secret.shape =
+    ap (λ (s : StoreContents). s.secret.shape) (sym c.self.view_is) ∙ ap (λ (s : SecretView). s.shape) (sym c.take_all.ensures.secret) in
     record {
       history = now_is;
       stands = λ told.
           let after = g.B.Bench.file c.bring_up.new.bench in
           let gate = c.bring_up.new.journal.gate in
-          subst (λ (h : List Answered). StandsAt after i.secret.shape h gate) (sym now_is)
+          subst (λ (h : List Answered). StandsAt after secret.shape h gate) (sym now_is)
           (subst (λ (s : Shape). StandsAt after s (store.history ++ c.args.missing.now) gate) (c.bring_up.ensures.shape ∙ shape ∙ over)
           (c.in_ok-bring_up.ensures.done store.history told (here told) many));
       usable = refl;
       kept = tt;
-      secret = ap (λ (s : StoreContents). s.secret) c.self.view_is;
+      secret = c.take_all.ensures.secret ∙ ap (λ (s : StoreContents). s.secret) c.self.view_is;
       protected = ap (λ (s : Setting). s.protected) c.take_all.ensures.setting ∙ ap (λ (s : StoreContents). s.protected) c.self.view_is;
       is = (invariant_of-self-2 g c).0;
       any_moment = λ told quiet.

@@ -1,4 +1,6 @@
-use Rattle.std.proofs.Common.{ℕ, true, refl, sym, subst}
+use Rattle.std.proofs.Common.{ℕ, true, refl, sym, ap, subst, ◌∙◌}
+use Rattle.audit_core.specs.Audited.{Audited}
+use Rattle.table_load.specs.Cells.{SecretView}
 use Rattle.audit_store.specs.Stores.{IsStore, IsAuditedBy}
 use Rattle.audit_store.specs.StoreLaws.{store_in, table_by, recovered_groups, recovered_store}
 use Rattle.audit_store.proofs.store.Store.start.Goals as goal
@@ -6,15 +8,19 @@ use Rattle.audit_store.proofs.store.Store.start.Goals as goal
 pub invariant_of-result : goal.invariant_of-result
 invariant_of-result g c =
     let found = c.in_ok-journal in
-    subst (λ (n : ℕ). IsStore (store_in c.args.secret found.core n found.journal true) × IsAuditedBy (table_by c.args.secret found.core) found.core n true)
-    (sym c.count.ensures.count)
-    (recovered_store c.args.secret c.args.protected found.journal found.core found.ensures.recovers c.requires.fit)
+    let holds = λ (secret : SecretView) (core : Audited) (n : ℕ).
+    IsStore (store_in secret core n found.journal true) × IsAuditedBy (table_by secret core) core n true in
+    subst (λ (secret : SecretView). holds secret c.new.result.core c.count.result) (sym c.new.ensures.secret)
+    (subst (λ (core : Audited). holds c.args.secret core c.count.result) (sym c.new.ensures.core)
+    (subst (λ (n : ℕ). holds c.args.secret found.core n) (sym c.count.ensures.count)
+    (recovered_store c.args.secret c.args.protected found.journal found.core found.ensures.recovers c.requires.fit)))
 
 pub returns-clause-store : goal.returns-clause-store
 returns-clause-store g c =
     let found = c.in_ok-journal in (
-      refl,
-      recovered_groups c.args.secret c.args.protected found.journal found.core found.ensures.recovers,
+      c.new.ensures.secret,
+      ap (λ (core : Audited). core.setting.protected) c.new.ensures.core
+          ∙ recovered_groups c.args.secret c.args.protected found.journal found.core found.ensures.recovers,
       refl,
       (invariant_of-result g c).0,
     )
