@@ -2,7 +2,7 @@ use Rattle.std.proofs.Common.{◌≢◌, rules, [], refl, sym, ap, subst, arith,
 use Rattle.std.specs.Int.{w64}
 use Rattle.std.proofs.Math.Facts.{to_z-of_z}
 use Rattle.std.proofs.lemmas.Option.{slice_get_read, slice_get_within}
-use Rattle.audit_types.specs.Limits.{most_width}
+use Rattle.audit_types.specs.Limits.{most_rows, most_width}
 use Rattle.audit_types.specs.Shapes.{is_least}
 use Rattle.audit_types.specs.History.{against_outsiders}
 use Rattle.table_load.specs.Database.{secret_table}
@@ -25,9 +25,9 @@ returns-then-now-answered-clause-err c = λ protected.
       record {
         at = r;
         stands = slice_get_read list _ c.loop-place.place r refl c.loop-place-test.true c.index-list-place.is;
-        kept_is = ap (stated_answer table r) (to_z-of_z kept);
+        kept_is = refl;
         now_is = ap (stated_answer table r) (to_z-of_z now ∙ c.truth-now.ensures);
-        differ = λ same. different (same_stated (is_least c.args.secret.now.shape r.column) _ _ same);
+        differ = λ same. different (to_z-of_z kept ∙ same_stated (is_least c.args.secret.now.shape r.column) _ _ same);
         before = c.loop-place.invariant;
       },
     )
@@ -40,7 +40,7 @@ loop-place-preserved c =
     let now : FitsSigned w64 c.truth-now.result = search rules in
     let stands = slice_get_read list _ c.loop-place.place r refl c.loop-place-test.true c.index-list-place.is in
     let is = sym (to_z-of_z kept) ∙ (rw c.if-now-answered.false at (to_z-of_z now)) ∙ c.truth-now.ensures in
-    next_is_true (secret_table c.args.secret.now (against_outsiders [] [] most_width)) list c.loop-place.place r stands is c.loop-place.invariant
+    next_is_true (secret_table c.args.secret.now (against_outsiders [] [] most_width most_rows)) list c.loop-place.place r stands is c.loop-place.invariant
 
 pub returns-clause-ok : goal.returns-clause-ok
 returns-clause-ok c =
