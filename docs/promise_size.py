@@ -27,13 +27,13 @@ CRATES = {
     "lives": ("audit_types", "audit_core", "audit_session", "twin_journal", "auditor_top"),
 }
 MOST = {
-    "disclosure": 100,
+    "disclosure": 103,
     "decision": 110,
     "lines and conditions": 393,
     "formats of files": 219,
     "journal and crash": 95,
     "lives": 288,
-    "the promise": 1185,
+    "the promise": 1190,
 }
 
 IMPORT = re.compile(r"(?:ghost )?use (?:Rattle\.)?([\w.]+?)(?:\.\{(.*)\}| as (\w+));?$")

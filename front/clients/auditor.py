@@ -378,7 +378,7 @@ class Table(Asker):
             raise DoorFault(f"{self.name}: {fault}", fault.status) from None
 
     def ask(self, kind, column, where="all"):
-        """The answer to `count`, `sum`, `avg` or `max`, or Denied; Refused is raised."""
+        """The answer to `count`, `sum`, `avg`, `max` or `min`, or Denied; Refused is raised."""
         reply = self._post("ask", kind, column, where)
         if "denied" in reply:
             named = any(total["column"] == column and total["where"].strip() == where.strip() for total in self.protected)
@@ -412,7 +412,7 @@ class Table(Asker):
     def _why_words(self, line, column):
         if line["verdict"] != "unsafe" or "proof" in line:
             return self.sentence("why", "proof" if "proof" in line else line["verdict"])
-        if "high" in line:
+        if "answer" in line:
             return max_words(line, lambda number: f"{self.in_units(column, number):f}")
         return sum_words(line, self._target(line))
 

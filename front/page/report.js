@@ -34,7 +34,8 @@ async function showReport() {
 function freeOf(column, lines) {
   const ways = new Map(), box = element("details"), rows = chosen[0].rows.length;
   for (const line of lines) {
-    if (Array.isArray(line.high)) line.high.forEach((high, row) => ways.set(row, lowered(column, high)));
+    const [bounds, step] = "low" in line ? [line.low, 1n] : [line.high, -1n];
+    if (Array.isArray(bounds)) bounds.forEach((bound, row) => ways.set(row, moved(column, bound, step)));
     else if ("row" in line) ways.set(line.row, changed(line.direction));
   }
   box.append(element("summary", `${titleOf(column.name)}: ${showCount(ways.size)} of ${showCount(rows)} numbers are free`));
@@ -42,9 +43,9 @@ function freeOf(column, lines) {
   return box;
 }
 
-function lowered(column, high) {
-  return `Give each row the number of the report's list, and this one ${showValue(BigInt(high) - 1n, column.name)} in place of ` +
-    `${showValue(high, column.name)}: every answer is the same.`;
+function moved(column, bound, step) {
+  return `Give each row the number of the report's list, and this one ${showValue(BigInt(bound) + step, column.name)} in place of ` +
+    `${showValue(bound, column.name)}: every answer is the same.`;
 }
 
 function changed(direction) {

@@ -7,11 +7,13 @@ import json
 import random
 import shutil
 import unittest
+import urllib.error
 import urllib.request
 
 import staff
 from table_kit import TableTest
-from test_clients import CLIENTS, NO_R, auditor, in_r, missing, typed
+from test_clients import NO_R, auditor, in_r, missing, typed
+from test_page import PageCase
 
 from asking.questions import Unclear, parse
 from nearing.columns import Minima, read_column
@@ -97,6 +99,63 @@ class OverParts(unittest.TestCase):
         table = office.ready(lambda: auditor.connect(office.url))
         self.assertEqual(table.min("stay"), min(map(least, parts.values())))
         self.assertEqual(table.min("stay", "ward = 'South'"), min(least(rows, "South") for rows in parts.values()))
+
+
+class OnThePage(PageCase):
+    """The same in a browser."""
+
+    @classmethod
+    def setUpClass(cls):
+        super().setUpClass()
+        cls.rows = stays(6)
+        cls.office = staff.Office({"": (COLUMNS, cls.rows, 2, NOTES)}, "--report-every", "0.5")
+        cls.addClassCleanup(cls.office.close)
+        cls.office.ready(lambda: cls.office.get("health"))
+
+    def setUp(self):
+        self.browser.open(self.office.url)
+
+    def least_is_chosen(self):
+        self.browser.click("#kinds input[value=min]")
+        self.assertEqual([one.get_attribute("value") for one in self.browser.all("#column option")], ["stay"])
+
+    def reported(self):
+        """Whether there is a report over an answer."""
+        try:
+            return '"low":[' in self.office.get("report.jsonl") and json.loads(self.office.get("report.jsonl").splitlines()[-1])["audited"] > 0
+        except urllib.error.HTTPError:
+            return False
+
+    def test_the_least_is_asked_and_drawn(self):
+        kinds = [one.text for one in self.browser.all("#kinds label")]
+        self.assertEqual(kinds, ["Number of rows", "Total", "Average", "Least"])
+        self.assertIn("the least number", self.browser.text("columns"))
+        self.least_is_chosen()
+        self.browser.ask()
+        self.answers(f"{least(self.rows)} days")
+        wards = sorted({row.ward for row in self.rows})
+        self.draw("min stay", "ward", len(wards))
+        self.assertEqual({label: text for label, text, _ in self.bars()}, {ward: f"{least(self.rows, ward)} days" for ward in wards})
+
+    def test_a_denial_is_explained(self):
+        self.least_is_chosen()
+        self.browser.write("age = 20")
+        self.browser.ask()
+        self.browser.click("#answer button")
+        self.browser.wait(lambda: "one person alone could have it" in self.browser.text("answer"))
+
+    def test_the_report_moves_a_number_up(self):
+        self.least_is_chosen()
+        self.browser.ask()
+        self.browser.wait(self.reported)
+        self.browser.click("#report")
+        self.browser.wait(lambda: len(self.browser.all("#free details")) == 2)
+        self.browser.click("#free details:nth-child(1) summary")
+        self.browser.wait(lambda: self.browser.all("#free details:nth-child(1) button"))
+        self.browser.click("#free details:nth-child(1) button")
+        said = self.browser.find("#free details:nth-child(1) [role=status]").text
+        bound = least(self.rows)
+        self.assertIn(f"this one {bound + 1} days in place of {bound} days", said)
 
 
 class Prepared(TableTest):

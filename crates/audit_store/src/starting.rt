@@ -22,7 +22,7 @@ use audit_types::laws::true_answers;
 use audit_types::{Answered, Asked, Guard, NoMemory, Shape, Verdict};
 use bench_core::Bench;
 use std::alloc::Global;
-use sum_basis::laws::narrow_or_wide;
+use sum_basis::laws::sets_have_one_form;
 use table_load::Secret;
 
 /// Why a store was not started.
@@ -107,7 +107,7 @@ fn is_released(core: &mut Core, answered: &Answered) -> Result<bool, NoMemory>
     ensures judged { result ≡ Ok false → ¬ (IsJudgementAfter core.old.setting core.old.history answered.now.column answered.now.rows.list Released) }
     ensures same { core.new ≡ core.old }
 {
-    narrow_or_wide();
+    sets_have_one_form();
     let asked = Asked {
         column: answered.column,
         rows: answered.rows,

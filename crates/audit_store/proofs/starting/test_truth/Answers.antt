@@ -2,7 +2,7 @@ use Rattle.std.proofs.Common.{◌≢◌, rules, [], refl, sym, ap, subst, arith,
 use Rattle.std.specs.Int.{w64}
 use Rattle.std.proofs.Math.Facts.{to_z-of_z}
 use Rattle.std.proofs.lemmas.Option.{slice_get_read, slice_get_within}
-use Rattle.audit_types.specs.Limits.{most_rows, most_width}
+use Rattle.audit_types.specs.Limits.{most_width, most_rows}
 use Rattle.audit_types.specs.Shapes.{is_least}
 use Rattle.audit_types.specs.History.{against_outsiders}
 use Rattle.table_load.specs.Database.{secret_table}
