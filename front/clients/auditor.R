@@ -11,6 +11,7 @@
 #
 # With several tables behind a door the table's name ends the address, "http://127.0.0.1:8087/north"; not that of a socket.
 #   auditor_login(token = readline("token: "))                                 or name = and password =, for a proxy's login
+# Where the system doesn't know the office's own certificates, CURL_CA_BUNDLE names their file, as for curl in a terminal.
 #
 # A denial is NA with its reason in attr(x, "denied"). Numbers are in the unit of the column, by notes.json, which stands in attr(x, "unit"); with
 # steps = TRUE they are as the table has them, whole numbers of the smallest steps, and then totals are exact: they stay below 2^53.
@@ -32,6 +33,7 @@ auditor_send <- function(url, path, body = NULL) {
   handle <- curl::new_handle(timeout = 90)
   if (grepl("@", sub("/.*", "", sub("^[a-z]+://", "", url)), fixed = TRUE)) stop("a login goes into auditor_login, not into the address", call. = FALSE)
   if (!is.null(socket)) curl::handle_setopt(handle, unix_socket_path = socket)
+  if (nzchar(Sys.getenv("CURL_CA_BUNDLE"))) curl::handle_setopt(handle, cainfo = Sys.getenv("CURL_CA_BUNDLE"))
   headers <- c(if (!is.null(auditor_who$header)) list(Authorization = gsub("\n", "", auditor_who$header)),
                if (!is.null(body)) list("Content-Type" = "application/json"))
   if (!is.null(body)) curl::handle_setopt(handle, post = TRUE, copypostfields = enc2utf8(body))
