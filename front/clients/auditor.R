@@ -85,10 +85,15 @@ auditor_ask <- function(url, ask, column = NULL, where = "all") {
   as.numeric(reply[[known]])
 }
 
-# What notes.json says of a column: decimals, which its whole numbers have, and unit.
-auditor_note <- function(url, column) {
+# What notes.json says of the columns, by name; NULL if there is none.
+auditor_notes <- function(url) {
   reply <- auditor_send(url, "notes.json")
-  notes <- if (reply$status == 200) tryCatch(jsonlite::parse_json(reply$text, simplifyVector = TRUE)$columns[[column]], error = function(fault) NULL)
+  if (reply$status == 200) tryCatch(jsonlite::parse_json(reply$text, simplifyVector = TRUE)$columns, error = function(fault) NULL)
+}
+
+# What they say of one: decimals, which its whole numbers have, and unit.
+auditor_note <- function(url, column, all = auditor_notes(url)) {
+  notes <- tryCatch(all[[column]], error = function(fault) NULL)
   decimals <- if (is.numeric(notes$decimals) && notes$decimals %in% 0:12) notes$decimals else 0
   list(decimals = decimals, unit = if (is.character(notes$unit)) notes$unit)
 }
@@ -140,7 +145,8 @@ auditor_columns <- function(url) {
   reply <- auditor_send(url, "schema.json")
   if (reply$status != 200) stop("the door gives no table", call. = FALSE)
   schema <- jsonlite::parse_json(reply$text, simplifyVector = TRUE)
-  notes <- lapply(schema$columns$name, function(name) auditor_note(url, name))
+  all <- auditor_notes(url)
+  notes <- lapply(schema$columns$name, function(name) auditor_note(url, name, all))
   frame <- data.frame(schema$columns[c("name", "is")], unit = vapply(notes, function(note) c(note$unit, "")[1], ""),
                       decimals = vapply(notes, function(note) as.numeric(note$decimals), 0))
   structure(frame, only = if (is.character(schema$only)) paste("every question is over the rows where", schema$only),
