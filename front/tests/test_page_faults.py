@@ -10,6 +10,7 @@ from kit import PATIENCE
 from scripted_door import ScriptedDoor
 from test_page import PageCase
 
+CONTROL, ENTER = "\ue009", "\ue007"      # keys, as the browser's driver has them
 COLUMNS = [{"name": "constructor", "is": "text"}, {"name": "age", "is": "number"},
            {"name": "pay", "is": "sum"}, {"name": "best", "is": "max"}]
 ROWS = "constructor,age\r\nA,30\r\n\r\n\"B, \"\"x\"\"\",40\r\nA, +50\r\n"
@@ -332,6 +333,26 @@ class Scripted(OneTable):
         self.assertEqual(self.browser.text("chart-hint"), "Draw asks 30 questions, one for each group (the 30 largest of 40 groups).")
         self.draw("sum pay", "constructor", 30)
         self.assertNotIn("rare", [label for label, _, _ in self.bars()])
+
+    def test_control_and_enter_ask_and_enter_alone_begins_a_line(self):
+        self.open('{"sum":500}')
+        area = self.browser.find("#where")
+        area.send_keys(CONTROL + ENTER)
+        self.browser.wait(lambda: "5.00 EUR" in self.browser.text("answer"))
+        area.send_keys(ENTER)
+        self.assertEqual(area.get_property("value").strip(), "all")
+        self.assertIn("\n", area.get_property("value"))
+        self.assertEqual(len(self.door.questions("sum")), 1)
+
+    def test_fifty_tables_are_asked_as_parts_of_one(self):
+        names = [f"t{number}" for number in range(50)]
+        parts = {"tables.json": json.dumps(names)}
+        for name in names:
+            parts |= files(f"{name}/")
+        self.open(lambda path, _: (200, '{"verdict":"released"}' if path.endswith("would") else '{"sum":500}'), parts)
+        self.assertTrue(self.browser.ask().startswith("250.00 EUR"))
+        self.assertEqual(sorted({path for path, question, _ in self.door.asked if question["ask"] == "sum" and path.endswith("ask")}),
+                         sorted(f"/{name}/ask" for name in names))
 
     def test_the_group_of_the_most_rows_is_asked_first(self):
         """As the program counts them within the condition, and not as the public columns have them."""
