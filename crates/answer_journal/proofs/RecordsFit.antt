@@ -118,4 +118,4 @@ history_fits file shape history gate stands =
 pub shape_is_valid : (file : List ℕ) (shape : Shape) (history : List Answered) (gate : ℕ) → StandsAt file shape history gate → IsShape shape
 shape_is_valid file shape history gate stands =
     subst (λ k. IsShape (over k shape)) (sym stands.rows_are)
-        (after_groups (over stands.first shape) stands.groups stands.begins.shaped.valid stands.begins.whole)
+    (after_groups (over stands.first shape) stands.groups stands.begins.shaped.valid stands.begins.whole)

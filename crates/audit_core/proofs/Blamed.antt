@@ -39,7 +39,8 @@ module _ (audited : Audited) (asked : Asked) (known : Known) (below : asked.colu
       IsDecision (with_groups (known_of audited.setting audited.history asked.column) (groups_of asked.column groups)) asked.rows.list verdict
   decided_with_them verdict possible decided =
       subst (λ s. IsDecision (with_groups (known_of audited.setting audited.history asked.column) s) asked.rows.list verdict) same
-      (subst (λ k. IsPossible k → IsDecision (with_groups k sets) asked.rows.list verdict) own decided (list_of possible.0 asked.column, possible.2 asked.column below))
+      (subst (λ k. IsPossible k → IsDecision (with_groups k sets) asked.rows.list verdict) own decided
+      (list_of possible.0 asked.column, possible.2 asked.column below))
 
   -- so is a judgement
   judged_with_them : (verdict : Verdict) → IsJudgement (with_groups known sets) asked.rows.list verdict →
@@ -52,11 +53,13 @@ module _ (audited : Audited) (asked : Asked) (known : Known) (below : asked.colu
       IsTrue true ↔ IsReleasedWith audited.setting audited.history asked groups
   is_released decided possible = (λ yes. decided_with_them Released possible decided, λ is. refl)
 
-  pub is_denied : SetsHaveOneForm → (verdict : Verdict) → (Released ≡ verdict → ⊥) → (IsPossible known → IsDecision (with_groups known sets) asked.rows.list verdict) →
+  pub is_denied : SetsHaveOneForm → (verdict : Verdict) → (Released ≡ verdict → ⊥) →
+      (IsPossible known → IsDecision (with_groups known sets) asked.rows.list verdict) →
       IsPossibleHistory audited.setting audited.history → IsTrue false ↔ IsReleasedWith audited.setting audited.history asked groups
   is_denied forms verdict other decided possible = (
     λ no. absurd (true≢false (sym no)),
-    λ is. absurd (other (one_decision forms (with_groups (known_of audited.setting audited.history asked.column) (groups_of asked.column groups)) asked.rows.list Released verdict
+    λ is. absurd (other (one_decision forms (with_groups (known_of audited.setting audited.history asked.column) (groups_of asked.column groups))
+        asked.rows.list Released verdict
         is (decided_with_them verdict possible decided))),
   )
 
@@ -68,7 +71,8 @@ module _ (audited : Audited) (asked : Asked) (known : Known) (below : asked.colu
       IsTrue false ↔ IsJudgedReleasedWith audited.setting audited.history asked groups
   is_judged_denied forms verdict other judged = (
     λ no. absurd (true≢false (sym no)),
-    λ is. absurd (other (one_judgement forms (with_groups (known_of audited.setting audited.history asked.column) (groups_of asked.column groups)) asked.rows.list Released verdict
+    λ is. absurd (other (one_judgement forms (with_groups (known_of audited.setting audited.history asked.column) (groups_of asked.column groups))
+        asked.rows.list Released verdict
         is (judged_with_them verdict judged))),
   )
 
@@ -93,7 +97,8 @@ module _ (setting : Setting) (history : List Answered) (asked : Asked) where
   alone p = groups_of asked.column (p ∷ [])
 
   -- a group of the column is that of one entry alone
-  group_alone : (group : List ℕ) → Contains known.groups group → (p : Protected) × (i : ℕ) × (slice_get setting.protected.groups i ≡ Some p) × Contains (alone p) group
+  group_alone : (group : List ℕ) → Contains known.groups group → (p : Protected) × (i : ℕ) × (slice_get setting.protected.groups i ≡ Some p) ×
+      Contains (alone p) group
   group_alone group among =
       let found = entry_of_group setting.protected.groups asked.column group among in
       let one : Contains (alone found.entry) group = rw (eq-eqb found.entry.column asked.column found.own) (zero, omega arith, found.rows_are) in
@@ -102,7 +107,7 @@ module _ (setting : Setting) (history : List Answered) (asked : Asked) where
   -- what is within the bounds with each group alone, and with none, is so with all: what is guarded is one of theirs, and the form is the same
   module _ (forms : SetsHaveOneForm)
       (each : (i : ℕ) (p : Protected) → slice_get setting.protected.groups i ≡ Some p →
-          IsWithinWidthFor known.kind (with_groups known (alone p)) asked.rows.list) where
+      IsWithinWidthFor known.kind (with_groups known (alone p)) asked.rows.list) where
     abbrev sets : List (List ℕ)
     sets = sets_with known asked.rows.list
 
@@ -169,7 +174,8 @@ module _ (setting : Setting) (history : List Answered) (asked : Asked) where
   )
 
 -- if the groups before a place pass and the one there does, all before the next place do
-pub one_more_passes : (groups : List Protected) (passes : List Protected → Type 0) (at : ℕ) (group : Protected) → slice_get groups at ≡ Some group → passes (group ∷ []) →
+pub one_more_passes : (groups : List Protected) (passes : List Protected → Type 0) (at : ℕ) (group : Protected) → slice_get groups at ≡ Some group →
+    passes (group ∷ []) →
     ((i : ℕ) (p : Protected) → i < at → slice_get groups i ≡ Some p → passes (p ∷ [])) →
     (i : ℕ) (p : Protected) → i < at + 1 → slice_get groups i ≡ Some p → passes (p ∷ [])
 one_more_passes groups passes at group there passed before i p below here = elim (cases_lt i at) [

@@ -50,7 +50,8 @@ module _ (one : SetsHaveOneForm) (known : Known) (rows : List ℕ) (k : ℕ) (ar
     is_longer other is = (one n sets).2 other is ∙ sym ((one n sets).2 longer reduced_longer)
 
     -- what is within the bounds is within them over more rows
-    within_longer : (shared several : List ℕ) (groups : List (List ℕ)) → ShareAlike known shared → ((group : List ℕ) → Contains groups group → IsOldOrNew known n group) →
+    within_longer : (shared several : List ℕ) (groups : List (List ℕ)) → ShareAlike known shared →
+        ((group : List ℕ) → Contains groups group → IsOldOrNew known n group) →
         IsWithinBounds known sets form → IsWithinBounds (grown n shared several groups known) sets longer
     within_longer shared several groups alike each within = record {
       narrow = narrow-padded known.width k form pivots within.narrow;
@@ -73,13 +74,15 @@ module _ (one : SetsHaveOneForm) (known : Known) (rows : List ℕ) (k : ℕ) (ar
     }
 
   within_for : (kind : Kind) (shared several : List ℕ) (groups : List (List ℕ)) → ShareAlike known shared →
-      ((group : List ℕ) → Contains groups group → IsOldOrNew known n group) → IsWithinWidthFor kind known rows → IsWithinWidthFor kind (grown n shared several groups known) rows
+      ((group : List ℕ) → Contains groups group → IsOldOrNew known n group) → IsWithinWidthFor kind known rows →
+      IsWithinWidthFor kind (grown n shared several groups known) rows
   within_for Sum shared several groups alike each (form, reduced, within) =
       (longer form reduced, reduced_longer form reduced, within_longer form reduced shared several groups alike each within)
   within_for Max shared several groups alike each within = tt
 
   -- what was released is released over more rows, if each group with old rows alone was protected
-  released_longer : (shared several : List ℕ) (groups : List (List ℕ)) → ShareAlike known shared → ((group : List ℕ) → Contains groups group → IsOldOrNew known n group) →
+  released_longer : (shared several : List ℕ) (groups : List (List ℕ)) → ShareAlike known shared →
+      ((group : List ℕ) → Contains groups group → IsOldOrNew known n group) →
       known.own ≡ 0 → IsDecision known rows Released → IsDecision (grown n shared several groups known) rows Released
   released_longer shared several groups alike each outside d =
       (within_for known.kind shared several groups alike each d.0, λ bad. d.1 (danger_was known rows n are le shared several groups alike each outside bad))
@@ -130,7 +133,8 @@ module _ (one : SetsHaveOneForm) (known : Known) (rows : List ℕ) (k : ℕ) (ar
 more : (m n : ℕ) → m ≤ n → m + (n - m) ≡ n
 more m n le = omega (arith, le)
 
-pub released_stays : SetsHaveOneForm → (known : Known) (rows : List ℕ) (n : ℕ) → AreSetsOf known rows → known.n ≤ n → 0 < known.reach → (shared several : List ℕ) (groups : List (List ℕ)) →
+pub released_stays : SetsHaveOneForm → (known : Known) (rows : List ℕ) (n : ℕ) → AreSetsOf known rows → known.n ≤ n → 0 < known.reach →
+    (shared several : List ℕ) (groups : List (List ℕ)) →
     ShareAlike known shared → ((group : List ℕ) → Contains groups group → IsOldOrNew known n group) → known.own ≡ 0 → IsDecision known rows Released →
     IsDecision (grown n shared several groups known) rows Released
 released_stays one known rows n are le reach shared several groups alike each outside d =

@@ -31,7 +31,8 @@ groups_of-append column front rest =
     ∙ map-append (λ (q : Protected). q.rows.list) (filter (λ (q : Protected). q.column == column) front) (filter (λ (q : Protected). q.column == column) rest)
 
 -- a group of the rest is a group
-later_group : (column : ℕ) (front rest : List Protected) (group : List ℕ) → Contains (groups_of column rest) group → Contains (groups_of column (front ++ rest)) group
+later_group : (column : ℕ) (front rest : List Protected) (group : List ℕ) → Contains (groups_of column rest) group →
+    Contains (groups_of column (front ++ rest)) group
 later_group column front rest group there =
     subst (λ (groups : List (List ℕ)). Contains groups group) (sym (groups_of-append column front rest))
     (Contains-append_right (groups_of column front) (groups_of column rest) group there)
@@ -57,7 +58,8 @@ module _ (shape : Shape) (m column : ℕ) where
         | inr new ↦ inr (record { row = new.0; new = new.1; there = new.2; are = are })
         | inl old ↦ inl (
           old,
-          subst (λ rows. Contains (groups_of column (entry_of p.column p.place m rows ++ groups_among m protected)) p.rows.list) (sym (rows-again m p.rows.list old))
+          subst (λ rows. Contains (groups_of column (entry_of p.column p.place m rows ++ groups_among m protected)) p.rows.list)
+              (sym (rows-again m p.rows.list old))
               (entry_is_group p.column column p.place m p.rows.list (groups_among m protected) fits.0.some own),
         )
       ]
@@ -70,7 +72,11 @@ module _ (shape : Shape) (m column : ℕ) where
       (groups_of column protected) (all_old_or_new protected (All-tail (IsProtected shape) p protected fit)))
     where
       later : (group : List ℕ) → IsFirstOrNew (groups_among m protected) group → IsFirstOrNew (groups_among m (p ∷ protected)) group
-      later group (inl old) = inl (old.0, later_group column (entry_of p.column p.place m (rows_that (has_row p.rows.list) m)) (groups_among m protected) group old.1)
+      later group (inl old) = inl (
+        old.0,
+        later_group column (entry_of p.column p.place m (rows_that (has_row p.rows.list) m))
+            (groups_among m protected) group old.1,
+      )
       later group (inr new) = inr new
 
       by : (b : Bool) → (p.column == column) ≡ b → All (IsFirstOrNew (groups_among m (p ∷ protected))) (groups_of column protected) →

@@ -30,7 +30,8 @@ list_of-first (suc m) [] column = refl
 list_of-first m (w ∷ lists) zero = refl
 list_of-first m (w ∷ lists) (suc column) = list_of-first m lists column
 
-module _ (law : SetsHaveOneForm) (longer : Table) (fit : All (IsProtected longer.setting.shape) longer.setting.protected.groups) (outside : longer.setting.protected.own ≡ 0) (reach : 0 < longer.setting.protected.reach) (m : ℕ) (le : m ≤ longer.setting.shape.rows)
+module _ (law : SetsHaveOneForm) (longer : Table) (fit : All (IsProtected longer.setting.shape) longer.setting.protected.groups)
+    (outside : longer.setting.protected.own ≡ 0) (reach : 0 < longer.setting.protected.reach) (m : ℕ) (le : m ≤ longer.setting.shape.rows)
     (history : List Answered) (legal : IsLegal (first_rows m longer) history) where
   -- what the first records tell of a column over the first rows
   abbrev known_before : ℕ → ℕ → Known
@@ -54,7 +55,8 @@ module _ (law : SetsHaveOneForm) (longer : Table) (fit : All (IsProtected longer
   share_alike row below = has-rows_that (has_row longer.setting.protected.shared) m row below
 
   same_known : (i column : ℕ) → known_of longer.setting (widened longer.setting.shape.rows (take i history)) column
-      ≡ grown longer.setting.shape.rows longer.setting.protected.shared longer.setting.protected.several (groups_of column longer.setting.protected.groups) (known_before i column)
+      ≡ grown longer.setting.shape.rows longer.setting.protected.shared longer.setting.protected.several (groups_of column longer.setting.protected.groups)
+      (known_before i column)
   same_known i column =
       ap (λ answers. record {
         kind = kind_at longer.setting.shape column;
@@ -86,7 +88,8 @@ module _ (law : SetsHaveOneForm) (longer : Table) (fit : All (IsProtected longer
             (λ q lt. get_or-take m (list_of longer.secrets r.column) q _ lt) (kind_at longer.setting.shape r.column) r.rows.list are;
         released = subst (λ known. IsDecision known r.rows.list Released) (sym (same_known i r.column))
             (released_stays law (known_before i r.column) r.rows.list longer.setting.shape.rows (sets_before i r.column, are) le reach
-            longer.setting.protected.shared longer.setting.protected.several (groups_of r.column longer.setting.protected.groups) share_alike (groups_before i r.column) outside
+            longer.setting.protected.shared longer.setting.protected.several (groups_of r.column longer.setting.protected.groups) share_alike
+            (groups_before i r.column) outside
             old.released);
       }
 
@@ -102,4 +105,5 @@ module _ (law : SetsHaveOneForm) (longer : Table) (fit : All (IsProtected longer
 
 pub legal_stays : SetsHaveOneForm → LegalStays
 legal_stays law table longer history fit outside extends legal =
-    legal_over_all law longer fit.0 outside (omega (arith, fit.6)) table.setting.shape.rows (omega (arith, extends.0)) history (subst (λ (t : Table). IsLegal t history) extends.1 legal)
+    legal_over_all law longer fit.0 outside (omega (arith, fit.6)) table.setting.shape.rows (omega (arith, extends.0)) history
+    (subst (λ (t : Table). IsLegal t history) extends.1 legal)

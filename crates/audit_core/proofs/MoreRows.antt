@@ -143,7 +143,8 @@ module _ (known : Known) (rows : List ℕ) (n : ℕ) (are : AreSetsOf known rows
     }
 
     -- what reads a new row is never disclosed: its number may be one more
-    new_is_free : (w : List ℤ) (value : List ℤ → ℤ) → ReadsNew known.n n value → Agrees (grown n shared several groups known) w → Discloses (grown n shared several groups known) [] rows w value → ⊥
+    new_is_free : (w : List ℤ) (value : List ℤ → ℤ) → ReadsNew known.n n value → Agrees (grown n shared several groups known) w →
+        Discloses (grown n shared several groups known) [] rows w value → ⊥
     new_is_free w value reads agrees disclosed =
         let other = slice_set w reads.row (number_at w reads.row +ℤ pos 1) in
         let same : (r : ℕ) → r < known.n → number_at w r ≡ number_at other r =
@@ -205,7 +206,8 @@ module _ (known : Known) (rows : List ℕ) (n : ℕ) (are : AreSetsOf known rows
   pub danger : AreGroupsOf known → known.own ≡ 0 → IsDangerous known rows ↔ IsDangerous (over_rows n known) rows
   danger groups_are outside = (
     danger_goes_on groups_are outside,
-    danger_was known.shared known.several known.groups (λ row lt. refl) (λ group there. inl (subst (AreRows known.n) there.2 (groups_are there.0 group there.1), there)) outside,
+    danger_was known.shared known.several known.groups (λ row lt. refl)
+        (λ group there. inl (subst (AreRows known.n) there.2 (groups_are there.0 group there.1), there)) outside,
   )
 
 pub danger_stays : DangerStays

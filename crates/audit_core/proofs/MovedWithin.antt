@@ -84,7 +84,8 @@ module _ (n width reach k : ℕ) (w d : List ℤ) (often : ℤ) (small : IsSmall
 
     pub near : AreNear low high k w (range_with_len 0 n) moved
     near = (
-      all_rows _ n (λ r below. subst (λ z. ((low r +ℤ pos 0) ≤ℤ z) × ((z +ℤ pos 0) ≤ℤ high r)) (sym (number_moved r)) (stays_at r below (is_zero (number_at d r)) refl)),
+      all_rows _ n (λ r below. subst (λ z. ((low r +ℤ pos 0) ≤ℤ z) × ((z +ℤ pos 0) ≤ℤ high r)) (sym (number_moved r))
+          (stays_at r below (is_zero (number_at d r)) refl)),
       all_rows _ n (λ r below.
           let between : number_at moved r -ℤ number_at w r ≡ often *ℤ number_at d r = let here = number_moved r in omega (arith, ints) in
           subst (λ m. k ∣ m) (sym (ap unsigned_abs between ∙ size_of_change r)) (dvd-mul_right k (unsigned_abs (number_at d r)))),

@@ -45,13 +45,15 @@ within_at_first known some reach groups = record {
   };
 }
 
-module _ (table : Table) (history : List Answered) (column : ℕ) (protected : AreProtected table.setting.shape table.setting.protected) (legal : IsLegal table history)
+module _ (table : Table) (history : List Answered) (column : ℕ) (protected : AreProtected table.setting.shape table.setting.protected)
+    (legal : IsLegal table history)
     (sums : kind_at table.setting.shape column ≡ Sum) where
   abbrev known : Known
   known = known_of table.setting history column
 
   -- one record more
-  within_next : (i : ℕ) (r : Answered) → slice_get history i ≡ Some r → i < length history → get_or history i r ≡ r → AreWithin known (sets_before column history i) →
+  within_next : (i : ℕ) (r : Answered) → slice_get history i ≡ Some r → i < length history → get_or history i r ≡ r →
+      AreWithin known (sets_before column history i) →
       AreWithin known (sets_before column history (i + 1))
   within_next i r there below is rest = elim (cases_eq r.column column) [
     | inl own ↦
@@ -71,7 +73,8 @@ module _ (table : Table) (history : List Answered) (column : ℕ) (protected : A
   ]
 
   within_so_far : (place : ℕ) → place ≤ length history → AreWithin known (sets_before column history place)
-  within_so_far zero le = within_at_first known protected.4 (omega (arith, protected.6)) (group_rows_of table.setting.shape table.setting.protected column protected)
+  within_so_far zero le = within_at_first known protected.4 (omega (arith, protected.6))
+      (group_rows_of table.setting.shape table.setting.protected column protected)
   within_so_far (suc i) le =
       let rest = within_so_far i (omega arith) in
       elim (slice_get_cases history i).1 [
@@ -85,4 +88,5 @@ legal_is_within_bounds table history column place fit legal sums le =
 
 pub legal_is_narrow : LegalIsNarrow
 legal_is_narrow table history column place fit legal sums le =
-    let found = within_so_far table history column fit legal sums place le in record { form = found.form; reduced = found.reduced; narrow = found.within.narrow }
+    let found = within_so_far table history column fit legal sums place le in
+    record { form = found.form; reduced = found.reduced; narrow = found.within.narrow }

@@ -49,10 +49,13 @@ record IsTotalOf (n : ℕ) (value : List ℤ → ℤ) : Type 0 where
 
 total_of : (known : Known) → All (AreRows known.n) known.groups → {value : List ℤ → ℤ} → IsGuarded known [] value → IsTotalOf known.n value
 total_of known groups (number row below other alone) = record { set = row ∷ []; rows = (omega arith, below, tt); is = λ w. sym (+ℤ_idr (number_at w row)) }
-total_of known groups (total group row one inside other) = record { set = group; rows = All-contains (AreRows known.n) known.groups group groups one; is = λ w. refl }
+total_of known groups (total group row one inside other) = record
+    { set = group; rows = All-contains (AreRows known.n) known.groups group groups one; is = λ w. refl }
 
-module _ (laws : ColumnLaws) (small : SpannedOrMovedBySmall) (fixed : FixedTotalsBySpan) (any : LoneOrAny) (table : Table) (history : List Answered) (column : ℕ)
-    (secrets : AreSecrets table.setting.shape table.secrets) (protected : AreProtected table.setting.shape table.setting.protected) (legal : IsLegal table history)
+module _ (laws : ColumnLaws) (small : SpannedOrMovedBySmall) (fixed : FixedTotalsBySpan) (any : LoneOrAny) (table : Table) (history : List Answered)
+    (column : ℕ)
+    (secrets : AreSecrets table.setting.shape table.secrets) (protected : AreProtected table.setting.shape table.setting.protected)
+    (legal : IsLegal table history)
     (below : column < columns table.setting.shape) where
   abbrev known : Known
   known = known_of table.setting history column
@@ -68,7 +71,13 @@ module _ (laws : ColumnLaws) (small : SpannedOrMovedBySmall) (fixed : FixedTotal
 
   -- other numbers of the column that give its answers
   may_have : (Is : List ℤ → Type 0) (v : List ℤ) → Agrees known v → Is v → HasNumbers table history column Is
-  may_have Is v gives is = record { numbers = v; one_each = gives.one_each; agree = agree_with laws table secrets protected history legal column v below gives; is = is }
+  may_have Is v gives is = record {
+    numbers = v;
+    one_each = gives.one_each;
+    agree =
+        agree_with laws table secrets protected history legal column v below gives;
+    is = is;
+  }
 
   -- ---- sums
 
@@ -84,7 +93,8 @@ module _ (laws : ColumnLaws) (small : SpannedOrMovedBySmall) (fixed : FixedTotal
 
     -- the form of all its sets
     bounded : (form : List (List ℤ)) × Reduced known.n sets form × IsWithinBounds known sets form
-    bounded = subst (λ h. (form : List (List ℤ)) × Reduced known.n (map (λ a. a.rows) (answers_of column h)) form × IsWithinBounds known (map (λ a. a.rows) (answers_of column h)) form)
+    bounded = subst (λ h. (form : List (List ℤ)) × Reduced known.n (map (λ a. a.rows) (answers_of column h)) form ×
+        IsWithinBounds known (map (λ a. a.rows) (answers_of column h)) form)
         (take_all (length history) history (omega arith)) (legal_is_within_bounds table history column (length history) protected legal sums (omega arith))
 
     module _ {value : List ℤ → ℤ} (guarded : IsGuarded known [] value) where
@@ -95,7 +105,15 @@ module _ (laws : ColumnLaws) (small : SpannedOrMovedBySmall) (fixed : FixedTotal
       near_total : IsNearFor known.n sets bounded.0 known.reach (λ w. sum_over w whole.set)
       near_total c =
           let near = bounded.2.near value guarded
-          (record { direction = c.direction; still = c.still; column = c.column; only = c.only; near = c.near; changed = λ e. c.changed (sym (whole.is c.direction) ∙ e) }) in
+          (record {
+            direction = c.direction;
+            still = c.still;
+            column = c.column;
+            only = c.only;
+            near = c.near;
+            changed =
+                λ e. c.changed (sym (whole.is c.direction) ∙ e);
+          }) in
           record {
             direction = near.direction;
             still = near.still;
@@ -111,7 +129,8 @@ module _ (laws : ColumnLaws) (small : SpannedOrMovedBySmall) (fixed : FixedTotal
         | inr found ↦ found
         | inl span ↦
             let other = other_here laws table secrets protected history legal column below [] (tt, omega arith, tt) guarded in
-            let one = (fixed known.n known.answers whole.set are_rows whole.rows (own, as_sum own agrees)).1 span other.other own (as_sum other.other other.agrees) (as_sum own agrees) in
+            let one = (fixed known.n known.answers whole.set are_rows whole.rows (own, as_sum own agrees)).1 span other.other own
+            (as_sum other.other other.agrees) (as_sum own agrees) in
             absurd (other.differs (whole.is other.other ∙ one ∙ sym (whole.is own)))
       ]
 
@@ -126,7 +145,8 @@ module _ (laws : ColumnLaws) (small : SpannedOrMovedBySmall) (fixed : FixedTotal
             record {
               one_each = length-moved_by known.n (times often moves.0) own (length-map moves.0 (λ x. often *ℤ x) ∙ direction.one_each) agrees.one_each;
               same = by_kind Sum known.kind (sym sums) (moved_by (times often moves.0) own) known.answers
-                  (moved_gives (times often moves.0) own known.answers (as_sum own agrees).same (zero_sums_times often moves.0 known.answers direction.zero_sums));
+                  (moved_gives (times often moves.0) own known.answers (as_sum own agrees).same
+                  (zero_sums_times often moves.0 known.answers direction.zero_sums));
             }
 
         higher : HasNumbers table history column (λ v. AreNear low high k own (range_with_len 0 known.n) v × ((value own +ℤ pos k) ≤ℤ value v))
@@ -136,7 +156,8 @@ module _ (laws : ColumnLaws) (small : SpannedOrMovedBySmall) (fixed : FixedTotal
             let more = up.2 in
             let before = whole.is own in
             let after = whole.is (moved_by (times often moves.0) own) in
-            may_have _ (moved_by (times often moves.0) own) (gives often) (near known.n known.width known.reach k own moves.0 often moves.2 up.1 low high inside far, omega (arith, ints))
+            may_have _ (moved_by (times often moves.0) own) (gives often)
+            (near known.n known.width known.reach k own moves.0 often moves.2 up.1 low high inside far, omega (arith, ints))
 
         lower : HasNumbers table history column (λ v. AreNear low high k own (range_with_len 0 known.n) v × ((value v +ℤ pos k) ≤ℤ value own))
         lower =
@@ -146,7 +167,8 @@ module _ (laws : ColumnLaws) (small : SpannedOrMovedBySmall) (fixed : FixedTotal
             let less = lowers k up.0 (sum_over moves.0 whole.set) up.2 in
             let before = whole.is own in
             let after = whole.is (moved_by (times often moves.0) own) in
-            may_have _ (moved_by (times often moves.0) own) (gives often) (near known.n known.width known.reach k own moves.0 often moves.2 size low high inside far, omega (arith, ints))
+            may_have _ (moved_by (times often moves.0) own) (gives often)
+            (near known.n known.width known.reach k own moves.0 often moves.2 size low high inside far, omega (arith, ints))
 
   -- ---- maxima
 
@@ -164,7 +186,8 @@ module _ (laws : ColumnLaws) (small : SpannedOrMovedBySmall) (fixed : FixedTotal
           | inr (v, gives, here, others) ↦ may_have _ v
               (record { one_each = gives.one_each; same = by_kind Max known.kind (sym maxima) v known.answers gives.same }) (
                 all_rows (λ r. InRange (number_at v r) r) known.n (λ r l. elim (cases_eq r row) [
-                  | inl same ↦ subst (λ q. InRange (number_at v q) q) (sym same) (subst (λ z. InRange z row) (sym here) (omega (arith, ints), omega (arith, ints)))
+                  | inl same ↦ subst (λ q. InRange (number_at v q) q) (sym same)
+                      (subst (λ z. InRange z row) (sym here) (omega (arith, ints), omega (arith, ints)))
                   | inr other ↦
                       let first = (each_row (λ q. InRange (number_at own q) q) known.n r inside l).0 in
                       let ends = others r l other in
@@ -183,7 +206,8 @@ module _ (laws : ColumnLaws) (small : SpannedOrMovedBySmall) (fixed : FixedTotal
       (let near = (moves sums guarded).2.near in let all = length-places_from 0 (moves sums guarded).0 in omega arith),
       λ low high k inside far. (higher sums guarded low high k inside far, lower sums guarded low high k inside far),
     );
-    maxima = λ row low high x row_below alone maxima inside x_above x_under x_below. anything maxima row low high x row_below alone inside x_above x_under x_below;
+    maxima = λ row low high x row_below alone maxima inside x_above x_under x_below. anything maxima row low high x row_below alone inside x_above x_under
+        x_below;
   }
 
 pub legal_stays_open : ColumnLaws → SpannedOrMovedBySmall → FixedTotalsBySpan → LoneOrAny → LegalStaysOpen

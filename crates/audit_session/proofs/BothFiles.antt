@@ -47,8 +47,10 @@ module _ {B E : Type 0} (bench : Ghosts B) (spare : Ghosts E) (old new : B) (spa
       )
 
   pub spare_call_failed : IsQuiet bench old → stands_of secret.shape (bench.file old) history → new ≡ old
-      → LeavesOnly spare spare_old spare_new (UnsentInGroup (IsReplyOf (secret_table secret protected)) (stands_of secret.shape) history plans (spare.sent spare_old))
-      → ((image : List ℕ) → spare.moment spare_old ≤ spare.moment spare_new → spare.leaves spare_new image → spare.since spare_new (spare.moment spare_old) image (spare.sent spare_new))
+      → LeavesOnly spare spare_old spare_new (UnsentInGroup (IsReplyOf (secret_table secret protected)) (stands_of secret.shape) history plans
+      (spare.sent spare_old))
+      → ((image : List ℕ) → spare.moment spare_old ≤ spare.moment spare_new → spare.leaves spare_new image →
+      spare.since spare_new (spare.moment spare_old) image (spare.sent spare_new))
       → (image other : List ℕ) → bench.leaves new image → spare.leaves spare_new other → Both image other
   spare_call_failed quiet stands same moments here image other left spare_left =
       by (moments.each other (spare.sent spare_new) (here other moments.later spare_left))

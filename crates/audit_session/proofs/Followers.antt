@@ -95,7 +95,8 @@ followers_stay stay base later history database are follows numbers keeps legal 
       setting = setting_of (over m later.secret.shape) (record (protection_among m later.protected) { groups = base.protected.groups });
       secrets = map (take m) later.secret.lists;
     }) history =
-    subst (λ (p : Protection). IsLegal (record { setting = setting_of (over m later.secret.shape) p; secrets = map (take m) later.secret.lists }) history) keeps.1
+    subst (λ (p : Protection). IsLegal (record { setting = setting_of (over m later.secret.shape) p; secrets = map (take m) later.secret.lists }) history)
+    keeps.1
     same_numbers in
     let front : IsLegal (first_rows m table) history =
     fewer_groups (over m later.secret.shape) (protection_among m later.protected) base.protected.groups (map (take m) later.secret.lists) history keeps.0

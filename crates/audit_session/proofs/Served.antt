@@ -55,7 +55,8 @@ pub record Served {P B : Type 0} (source : SourceGhosts P) (bench : Ghosts B) (c
   pub is : IsStore store
   pub as_left : bench.told → IsAsLeft (bench.file at) store
   pub quiet : bench.told → IsQuiet bench first → IsQuiet bench at
-  pub answered : AnsweredLines source.told (base_of columns public first_store.protected first_store.secret) batch first_store.history (source.left first_source)
+  pub answered : AnsweredLines source.told (base_of columns public first_store.protected first_store.secret) batch first_store.history
+      (source.left first_source)
       (lines.pending ++ source.left from) lines.ended store.history
   pub sent_is : bench.told → bench.sent at ≡ bench.sent first ++ bytes_of answered.replies
   pub calls : bench.told → bench.moment at ≡ bench.moment first + length answered.lines + 4 * commits batch answered.replies
@@ -95,7 +96,8 @@ first_moments told bench columns public batch store all at only_now quiet stands
       before = λ t image bytes le was. inl was;
     }
 
-abbrev pub nothing_served : {P B : Type 0} (source : SourceGhosts P) (bench : Ghosts B) (columns : List Column) (public : PublicView) (batch : ℕ) (lines : Cutter)
+abbrev pub nothing_served : {P B : Type 0} (source : SourceGhosts P) (bench : Ghosts B) (columns : List Column) (public : PublicView) (batch : ℕ)
+    (lines : Cutter)
     (store : StoreContents) (from : P) (at : B)
     → (lines.taken ≡ 0) × (lines.pending ≡ []) × (lines.ended ≡ false) → store.usable ≡ true → IsStore store → (bench.told → IsAsLeft (bench.file at) store)
     → ((image bytes : List ℕ) → bench.since at (bench.moment at) image bytes → bench.leaves at image × (bytes ≡ bench.sent at))

@@ -22,7 +22,8 @@ whole_lists n lists all =
 whole_entry : (column place n m : ℕ) (list : List ℕ) → m ≡ n → list ≢ [] →
     entry_of column place n list ≡ record { column = column; place = place; rows = record { n = m; list = list } } ∷ []
 whole_entry column place n m [] same some = absurd (some refl)
-whole_entry column place n m (r ∷ rows) same some = ap (λ k. record { column = column; place = place; rows = record { n = k; list = r ∷ rows } } ∷ []) (sym same)
+whole_entry column place n m (r ∷ rows) same some = ap (λ k. record { column = column; place = place; rows = record { n = k; list = r ∷ rows } } ∷ [])
+    (sym same)
 
 whole_groups : (shape : Shape) (protected : List Protected) → All (IsProtected shape) protected → groups_among shape.rows protected ≡ protected
 whole_groups shape [] fit = refl
@@ -36,7 +37,8 @@ whole_groups shape (p ∷ protected) fit =
 
 whole_protection : (shape : Shape) (protected : Protection) → IsPlainFor shape protected → protection_among shape.rows protected ≡ protected
 whole_protection shape protected fit =
-    plain_among shape.rows protected fit.1 ∙ ap (λ groups. against_outsiders groups [] protected.width protected.reach) (whole_groups shape protected.groups fit.0.0) ∙ sym fit.1
+    plain_among shape.rows protected fit.1 ∙ ap (λ groups. against_outsiders groups [] protected.width protected.reach)
+    (whole_groups shape protected.groups fit.0.0) ∙ sym fit.1
 
 pub whole_table : (table : Table) → AreSecrets table.setting.shape table.secrets → IsPlainFor table.setting.shape table.setting.protected →
     first_rows table.setting.shape.rows table ≡ table

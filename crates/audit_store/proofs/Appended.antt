@@ -66,7 +66,8 @@ module _ {D : Type 0} (bench : Ghosts D) (missing : List Answered) (old : D) (fi
     pub counted : journal.count ≡ first.count + at
     pub stands : (history : List Answered) → bench.told → StandsAt (bench.file old) first.shape history first.gate → length history ≡ first.count
         → StandsAt (bench.file now) journal.shape (history ++ take at missing) journal.gate
-    pub moments : (history : List Answered) → bench.told → StandsAt (bench.file old) first.shape history first.gate → length history ≡ first.count → IsQuiet bench old
+    pub moments : (history : List Answered) → bench.told → StandsAt (bench.file old) first.shape history first.gate → length history ≡ first.count →
+        IsQuiet bench old
         → LeavesOnly bench old now (IsBroughtUp first.shape history missing (bench.sent old))
     pub quiet : bench.told → IsQuiet bench old → IsQuiet bench now
     pub sent : bench.sent now ≡ bench.sent old
@@ -76,7 +77,8 @@ module _ {D : Type 0} (bench : Ghosts D) (missing : List Answered) (old : D) (fi
     pub ticks : bench.told → bench.moment now ≡ bench.moment old + 4 * groups
 
   -- none yet
-  pub none_appended : ((image sent : List ℕ) → bench.since old (bench.moment old) image sent → bench.leaves old image × (sent ≡ bench.sent old)) → first.usable ≡ true → AreAppended 0 old first
+  pub none_appended : ((image sent : List ℕ) → bench.since old (bench.moment old) image sent → bench.leaves old image × (sent ≡ bench.sent old)) → first.usable
+      ≡ true → AreAppended 0 old first
   none_appended only_now usable = record {
     within = omega arith;
     usable = usable;
@@ -94,7 +96,8 @@ module _ {D : Type 0} (bench : Ghosts D) (missing : List Answered) (old : D) (fi
 
   module _ (at end : ℕ) (mid new : D) (journal next : JournalContents) (so_far : AreAppended at mid journal) (le : at ≤ end) (group : List Answered)
       (group_is : group ≡ take (end - at) (drop at missing))
-      (keeps : (history : List Answered) → bench.told → StandsAt (bench.file mid) journal.shape history journal.gate → length history ≡ journal.count → IsQuiet bench mid
+      (keeps : (history : List Answered) → bench.told → StandsAt (bench.file mid) journal.shape history journal.gate → length history ≡ journal.count →
+      IsQuiet bench mid
       → LeavesOnly bench mid new (IsBeforeOrAfter journal.shape history group (bench.sent mid))) where
     -- the history so far, as long as the journal counts
     pub as_counted : (history : List Answered) → length history ≡ first.count → length (history ++ take at missing) ≡ journal.count
@@ -108,7 +111,8 @@ module _ {D : Type 0} (bench : Ghosts D) (missing : List Answered) (old : D) (fi
         ∙ ap (λ (l : List Answered). history ++ l) (ap (λ (l : List Answered). take at missing ++ l) group_is ∙ front_and_next missing at end le)
 
     -- while one group more is appended
-    pub one_more_moments : (history : List Answered) → bench.told → StandsAt (bench.file old) first.shape history first.gate → length history ≡ first.count → IsQuiet bench old
+    pub one_more_moments : (history : List Answered) → bench.told → StandsAt (bench.file old) first.shape history first.gate → length history ≡ first.count →
+        IsQuiet bench old
         → LeavesOnly bench old new (IsBroughtUp first.shape history missing (bench.sent old))
     one_more_moments history told stands many quiet =
         let before = history ++ take at missing in
@@ -118,13 +122,18 @@ module _ {D : Type 0} (bench : Ghosts D) (missing : List Answered) (old : D) (fi
           is.0 ∙ so_far.sent,
           ⊎_elim
               (λ was. (at, subst (λ (s : Shape). StandsFor image s before) so_far.shape was))
-              (λ more. (end, subst (λ (h : List Answered). StandsFor image first.shape h) (up_to_end history) (subst (λ (s : Shape). StandsFor image s (before ++ group)) so_far.shape more)))
+              (λ more. (
+                end,
+                subst (λ (h : List Answered). StandsFor image first.shape h) (up_to_end history)
+                    (subst (λ (s : Shape). StandsFor image s (before ++ group)) so_far.shape more),
+              ))
               is.1,
         ))
         (keeps before told (so_far.stands history told stands many) (as_counted history many) (so_far.quiet told quiet)))
 
     -- it was
-    pub one_more : end ≡ min (length missing) (at + 64) → at < length missing → next.usable ≡ true → next.shape ≡ journal.shape → next.count ≡ journal.count + length group
+    pub one_more : end ≡ min (length missing) (at + 64) → at < length missing → next.usable ≡ true → next.shape ≡ journal.shape → next.count
+        ≡ journal.count + length group
         → ((history : List Answered) → bench.told → StandsAt (bench.file mid) journal.shape history journal.gate → length history ≡ journal.count
         → StandsAt (bench.file new) next.shape (history ++ group) next.gate)
         → (bench.told → IsQuiet bench mid → IsQuiet bench new) → bench.sent new ≡ bench.sent mid → bench.faults new ≡ bench.faults mid

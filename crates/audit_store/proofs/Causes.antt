@@ -51,7 +51,8 @@ cause_in_file file shape history gate table (OtherShape kept now) stands cause =
     (history, (gate, subst (λ s. StandsAt file s history gate) (sym cause.0) stands), (cause.1, cause.2))
 cause_in_file file shape history gate table (Untrue place kept now) stands cause =
     (history, (gate, subst (λ s. StandsAt file s history gate) cause.0 stands), cause.1)
-cause_in_file file shape history gate table (Illegal place group) stands cause = (history, (gate, subst (λ s. StandsAt file s history gate) cause.0 stands), cause.1)
+cause_in_file file shape history gate table (Illegal place group) stands cause =
+    (history, (gate, subst (λ s. StandsAt file s history gate) cause.0 stands), cause.1)
 cause_in_file file shape history gate table Failed stands cause = absurd cause
 cause_in_file file shape history gate table NoMemory stands cause = tt
 
@@ -89,8 +90,10 @@ module _ (table : Table) (history : List Answered) where
           | inr from ↦ let place : b ≡ a = omega arith in
               let same : q.at ≡ p.at = same_Some q.at p.at (sym q.stands ∙ ap (slice_get history) place ∙ p.stands) in
               let blamed : Blames table.setting (take a history) (asked_in p.at) h =
-              subst (λ r. Blames table.setting (take a history) (asked_in r) h) same (subst (λ k. Blames table.setting (take k history) (asked_in q.at) h) place q.blamed) in
-              ap (λ k. Illegal k h) place ∙ ap (λ k. Illegal a k) (one_blame table.setting.protected.groups (IsReleasedWith table.setting (take a history) (asked_in p.at)) h g blamed p.blamed)
+              subst (λ r. Blames table.setting (take a history) (asked_in r) h) same
+              (subst (λ k. Blames table.setting (take k history) (asked_in q.at) h) place q.blamed) in
+              ap (λ k. Illegal k h) place ∙ ap (λ k. Illegal a k)
+              (one_blame table.setting.protected.groups (IsReleasedWith table.setting (take a history) (asked_in p.at)) h g blamed p.blamed)
         ]
       ]
 
@@ -130,7 +133,8 @@ module _ (shape : Shape) (history : List Answered) (table : Table) where
   legal_has_no_cause (Damaged at) same legal cause = absurd cause
   legal_has_no_cause (OtherShape kept now) same legal cause = other_shape kept now cause same
   legal_has_no_cause (Untrue place kept now) same legal cause =
-      let first = cause.1 in first.differ (first.kept_is ∙ ap (stated_answer table first.at) (legal.each place first.at first.stands).true_answer ∙ sym first.now_is)
+      let first = cause.1 in first.differ (first.kept_is ∙ ap (stated_answer table first.at) (legal.each place first.at first.stands).true_answer
+      ∙ sym first.now_is)
   legal_has_no_cause (Illegal place group) same legal cause = let first = cause.1 in first.denied (legal.each place first.at first.stands).released
   legal_has_no_cause Failed same legal cause = absurd cause
   legal_has_no_cause NoMemory same legal cause = tt

@@ -38,7 +38,8 @@ grow_cause_of_reading file table back.Failed unmade damaged = tt
 grow_cause_of_reading file table back.NoMemory unmade damaged = tt
 
 -- a history over fewer rows in the file
-pub fewer_in_file : (file : List ℕ) (shape : Shape) (history : List Answered) (gate : ℕ) (table : Table) → StandsAt file shape history gate → IsFewer shape table →
+pub fewer_in_file : (file : List ℕ) (shape : Shape) (history : List Answered) (gate : ℕ) (table : Table) → StandsAt file shape history gate →
+    IsFewer shape table →
     StandsFor file (over shape.rows table.setting.shape) history
 fewer_in_file file shape history gate table stands fewer = (gate, subst (λ (s : Shape). StandsAt file s history gate) fewer.columns stands)
 
@@ -95,7 +96,8 @@ module _ (shape : Shape) (history : List Answered) (table : Table) where
   cant kept now is can = subst (λ (s : Shape). CantGrow kept s) is can
 
   -- one cause at most holds of a history
-  pub one_grow_cause : (due fault : GrowFault) → (GivesUpGrowing due → ⊥) → GrowHistoryCause due shape history table → GrowHistoryCause fault shape history table →
+  pub one_grow_cause : (due fault : GrowFault) → (GivesUpGrowing due → ⊥) → GrowHistoryCause due shape history table →
+      GrowHistoryCause fault shape history table →
       (fault ≡ due) ⊎ GivesUpGrowing fault
   one_grow_cause NotMade fault some cause other = absurd cause
   one_grow_cause (Damaged at) fault some cause other = absurd cause

@@ -51,19 +51,23 @@ next_is_true table list place at stands is before i r lt here = elim (cases_lt i
 ]
 
 -- a record after the first ones of a legal history may follow them
-pub legal_record_after : (table : Table) (history list : List Answered) (k : ℕ) (r : Answered) → IsLegal table (history ++ list) → k < length list → r ≡ get_or list k r →
+pub legal_record_after : (table : Table) (history list : List Answered) (k : ℕ) (r : Answered) → IsLegal table (history ++ list) → k < length list → r
+    ≡ get_or list k r →
     IsLegalRecord table (history ++ take k list) r
 legal_record_after table history list k r legal inside is =
     let long : length (history ++ list) ≡ length history + length list = length-append history list in
     let here : slice_get (history ++ list) (length history + k) ≡ Some r =
-    slice_get_read (history ++ list) (length (history ++ list)) (length history + k) r refl (omega (arith, long, inside)) (is ∙ sym (get_or-append-add history list k r)) in
+    slice_get_read (history ++ list) (length (history ++ list)) (length history + k) r refl (omega (arith, long, inside))
+    (is ∙ sym (get_or-append-add history list k r)) in
     subst (λ (h : List Answered). IsLegalRecord table h r) (take-append-add history list k) (legal.each (length history + k) r here)
 
 -- the records after the first ones of a legal history fit
-pub legal_fits_after : (table : Table) (history list : List Answered) → IsLegal table (history ++ list) → All (λ r. FitsShape table.setting.shape r.column r.rows) list
+pub legal_fits_after : (table : Table) (history list : List Answered) → IsLegal table (history ++ list) →
+    All (λ r. FitsShape table.setting.shape r.column r.rows) list
 legal_fits_after table history list legal k d lt =
     (legal.each (length history + k) (get_or list k d)
-    (slice_get-get_or (history ++ list) (length history + k) d (omega (arith, length-append history list, lt)) ∙ ap (λ x. Some x) (get_or-append-add history list k d))).fits
+    (slice_get-get_or (history ++ list) (length history + k) d (omega (arith, length-append history list, lt))
+    ∙ ap (λ x. Some x) (get_or-append-add history list k d))).fits
 
 -- what is told of the first record that wasn't to be released is the cause in the history
 pub cause_of_illegal : (table : Table) (list : List Answered) (place : ℕ) (r : Answered) → AreTrue table list → slice_get list place ≡ Some r →

@@ -41,14 +41,17 @@ module _ (kind : Kind) (counts : List ℕ) (some : AllByRecursion (λ count. 0 <
 
   -- so if people agree with answers, their lines do
   same_of_lines : (people : People) → map length people ≡ counts → (answers : List Answer) → AllByRecursion (λ a. AreRows (length counts) a.rows) answers →
-      AllByRecursion (λ a. told kind (of_lines people a.rows) ≡ a.value) answers → AllByRecursion (λ a. truth kind (map (told kind) people) a.rows ≡ a.value) answers
+      AllByRecursion (λ a. told kind (of_lines people a.rows) ≡ a.value) answers →
+      AllByRecursion (λ a. truth kind (map (told kind) people) a.rows ≡ a.value) answers
   same_of_lines people counted [] are same = tt
   same_of_lines people counted (a ∷ answers) are same = (lines_tell people counted a.rows are.0 ∙ same.0, same_of_lines people counted answers are.1 same.1)
 
   same_of_people : (people : People) → map length people ≡ counts → (answers : List Answer) → AllByRecursion (λ a. AreRows (length counts) a.rows) answers →
-      AllByRecursion (λ a. truth kind (map (told kind) people) a.rows ≡ a.value) answers → AllByRecursion (λ a. told kind (of_lines people a.rows) ≡ a.value) answers
+      AllByRecursion (λ a. truth kind (map (told kind) people) a.rows ≡ a.value) answers →
+      AllByRecursion (λ a. told kind (of_lines people a.rows) ≡ a.value) answers
   same_of_people people counted [] are same = tt
-  same_of_people people counted (a ∷ answers) are same = (sym (lines_tell people counted a.rows are.0) ∙ same.0, same_of_people people counted answers are.1 same.1)
+  same_of_people people counted (a ∷ answers) are same =
+      (sym (lines_tell people counted a.rows are.0) ∙ same.0, same_of_people people counted answers are.1 same.1)
 
   -- people for all numbers of lines
   module _ (w : List ℤ) (long : length w ≡ length counts) where
@@ -80,7 +83,8 @@ module _ (kind : Kind) (counts : List ℕ) (some : AllByRecursion (λ count. 0 <
       let as_many : length (of_line people line) ≡ 1 = sym (get_or-map length people line [] 1 (omega arith)) ∙ ap (λ c. count_at c line) counted ∙ one in
       sym (single kind (of_line people line) as_many) ∙ sym (get_or-map (told kind) people line [] (pos 0) (omega arith))
 
-  module _ (answers : List Answer) (rows : List ℕ) (answer_rows : AllByRecursion (λ a. AreRows (length counts) a.rows) answers) (are : AreRows (length counts) rows) where
+  module _ (answers : List Answer) (rows : List ℕ) (answer_rows : AllByRecursion (λ a. AreRows (length counts) a.rows) answers)
+      (are : AreRows (length counts) rows) where
     -- from lines to people
     shared_test : (line : ℕ) → line < length counts → has_row (shared_of counts) line ≡ nat_lt 1 (count_at counts line)
     shared_test line below = has-rows_that (λ k. nat_lt 1 (count_at counts k)) (length counts) line below
@@ -118,7 +122,8 @@ module _ (kind : Kind) (counts : List ℕ) (some : AllByRecursion (λ count. 0 <
                 agrees = record { one_each = long; same = same_of_lines others agree.counted answers answer_rows agree.same };
                 same = lines_tell others agree.counted rows are ∙ same ∙ sym (lines_tell people counted rows are) ∙ ap (λ w. truth kind w rows) tells;
               } in
-              alone others agree.counted found.0 found.1 found.2 ∙ sym (found.3 v) ∙ danger.disclosed v gives (subst (λ own. AreSameAt own danger.w v) (sym nobody) tt) ∙ found.3 danger.w
+              alone others agree.counted found.0 found.1 found.2 ∙ sym (found.3 v) ∙ danger.disclosed v gives
+              (subst (λ own. AreSameAt own danger.w v) (sym nobody) tt) ∙ found.3 danger.w
               ∙ ap (λ w. number_at w found.0) (sym tells) ∙ sym (alone people counted found.0 found.1 found.2);
         }
 
@@ -141,7 +146,8 @@ module _ (kind : Kind) (counts : List ℕ) (some : AllByRecursion (λ count. 0 <
           let others = slice_set danger.people danger.line other.numbers in
           let counted : map length others ≡ counts =
           map-set_same length danger.people danger.line other.numbers [] (other.long ∙ sym as_many) ∙ danger.agree.counted in
-          let tells : map (told kind) others ≡ map (told kind) danger.people = map-set_same (told kind) danger.people danger.line other.numbers [] other.tells in
+          let tells : map (told kind) others ≡ map (told kind) danger.people = map-set_same
+          (told kind) danger.people danger.line other.numbers [] other.tells in
           let agree : AgreeOver kind counts answers others = record {
             counted = counted;
             same = same_of_people others counted answers answer_rows
@@ -149,7 +155,8 @@ module _ (kind : Kind) (counts : List ℕ) (some : AllByRecursion (λ count. 0 <
                 (same_of_lines danger.people danger.agree.counted answers answer_rows danger.agree.same));
           } in
           let same = sym (lines_tell others counted rows are) ∙ ap (λ v. truth kind v rows) tells ∙ lines_tell danger.people danger.agree.counted rows are in
-          other.differs (ap (λ l. number_at l danger.person) (sym (get_or-set_same danger.people danger.line other.numbers [] inside)) ∙ danger.disclosed others agree same)
+          other.differs (ap (λ l. number_at l danger.person) (sym (get_or-set_same danger.people danger.line other.numbers [] inside))
+          ∙ danger.disclosed others agree same)
 
       one : count_at counts danger.line ≡ 1
       one = elim (cases_lt 1 (count_at counts danger.line)) [
@@ -180,7 +187,8 @@ module _ (kind : Kind) (counts : List ℕ) (some : AllByRecursion (λ count. 0 <
               same = same_of_people others counted answers answer_rows
                   (subst (λ u. AllByRecursion (λ a. truth kind u a.rows ≡ a.value) answers) (sym tells) gives.agrees.same);
             } in
-            let same = sym (lines_tell others counted rows are) ∙ ap (λ u. truth kind u rows) tells ∙ gives.same ∙ lines_tell danger.people danger.agree.counted rows are in
+            let same = sym (lines_tell others counted rows are) ∙ ap (λ u. truth kind u rows) tells ∙ gives.same
+            ∙ lines_tell danger.people danger.agree.counted rows are in
             let there = danger.disclosed others agree same in
             ap (λ u. number_at u danger.line) (sym tells) ∙ sym (alone others counted danger.line danger.line_below one)
             ∙ ap (number_at (of_line others danger.line)) (sym first) ∙ there ∙ ap (number_at (of_line danger.people danger.line)) first

@@ -51,7 +51,8 @@ module _ (people : People) where
   number_told : (kind : Kind) (line : ℕ) → line < length people → number_at (map (told kind) people) line ≡ told kind (of_line people line)
   number_told kind line below = get_or-map (told kind) people line [] (pos 0) below
 
-  sum_over_people : (lines : List ℕ) → AllByRecursion (λ line. line < length people) lines → sum_over (map (told Sum) people) lines ≡ told Sum (of_lines people lines)
+  sum_over_people : (lines : List ℕ) → AllByRecursion (λ line. line < length people) lines → sum_over (map (told Sum) people) lines
+      ≡ told Sum (of_lines people lines)
   sum_over_people [] below = refl
   sum_over_people (line ∷ lines) below =
       let here = number_told Sum line below.0 in
@@ -68,10 +69,12 @@ module _ (people : People) where
     greatest_from [] a below = refl
     greatest_from (line ∷ lines) a below =
         fold-append int_max a (of_line people line) (of_lines people lines)
-        ∙ ap (λ z. fold int_max z (of_lines people lines)) (one_line a (of_line people line) (somebody line below.0) ∙ ap (int_max a) (sym (number_told Max line below.0)))
+        ∙ ap (λ z. fold int_max z (of_lines people lines))
+        (one_line a (of_line people line) (somebody line below.0) ∙ ap (int_max a) (sym (number_told Max line below.0)))
         ∙ greatest_from lines (int_max a (number_at (map (told Max) people) line)) below.1
 
-    greatest_over_people : (lines : List ℕ) → AllByRecursion (λ line. line < length people) lines → greatest_over (map (told Max) people) lines ≡ told Max (of_lines people lines)
+    greatest_over_people : (lines : List ℕ) → AllByRecursion (λ line. line < length people) lines → greatest_over (map (told Max) people) lines
+        ≡ told Max (of_lines people lines)
     greatest_over_people [] below = refl
     greatest_over_people (line ∷ lines) below =
         sym (greatest_from lines (number_at (map (told Max) people) line) below.1)
@@ -140,7 +143,8 @@ sum-mark (suc place) x (suc n) below = let rest = sum-mark place x n (omega arit
 max-mark : (place : ℕ) (x v : ℤ) (n : ℕ) → x ≤ℤ v → fold int_max v (mark place x v n) ≡ v
 max-mark place x v zero low = refl
 max-mark zero x v (suc n) low = ap (λ z. fold int_max z (replicate n v)) (let top : int_max v x ≡ v = omega (arith, ints, clamps) in top) ∙ max_same n v
-max-mark (suc place) x v (suc n) low = ap (λ z. fold int_max z (mark place x v n)) (let same : int_max v v ≡ v = omega (arith, ints, clamps) in same) ∙ max-mark place x v n low
+max-mark (suc place) x v (suc n) low = ap (λ z. fold int_max z (mark place x v n)) (let same : int_max v v ≡ v = omega (arith, ints, clamps) in same)
+    ∙ max-mark place x v n low
 
 -- n people of whom this is told, and of whom one hasn't this number
 pub record IsOther (kind : Kind) (n : ℕ) (v : ℤ) (person : ℕ) (old : ℤ) : Type 0 where
@@ -205,7 +209,8 @@ module _ (shape : Shape) (counts : List ℕ) (secrets : Secrets) (everyone : Lis
 
   as_many : length (of_line (people_in everyone column) line) ≡ count_at counts line
   as_many =
-      sym (get_or-map length (people_in everyone column) line [] 1 (subst (λ n. line < n) (sym long) line_below)) ∙ ap (λ c. count_at c line) (behind.counted column column_below)
+      sym (get_or-map length (people_in everyone column) line [] 1 (subst (λ n. line < n) (sym long) line_below))
+      ∙ ap (λ c. count_at c line) (behind.counted column column_below)
 
   tells_line : told (kind_at shape column) (of_line (people_in everyone column) line) ≡ number_at (list_of secrets column) line
   tells_line =
@@ -268,7 +273,8 @@ module _ (shape : Shape) (counts : List ℕ) (secrets : Secrets) (all : AreSecre
   pub people_there : (column : ℕ) → column < columns shape → people_in all_people column ≡ column_people column
   people_there column below = get_or-map-range_with_len column_people 0 (columns shape) column column [] below (omega arith)
 
-  pub line_there : (column line : ℕ) → line < length counts → of_line (column_people column) line ≡ line_people (kind_at shape column) (list_of secrets column) line
+  pub line_there : (column line : ℕ) → line < length counts → of_line (column_people column) line
+      ≡ line_people (kind_at shape column) (list_of secrets column) line
   line_there column line below =
       get_or-map-range_with_len (line_people (kind_at shape column) (list_of secrets column)) 0 (length counts) line line [] below (omega arith)
 
@@ -311,22 +317,28 @@ module _ (shape : Shape) (counts : List ℕ) (secrets : Secrets) (all : AreSecre
       first Max = refl
 
 pub undisclosed_hides_people : UndisclosedHidesPeople
-undisclosed_hides_people table history counts secrets agree rows some several undisclosed everyone column line person behind column_below line_below person_below =
-    elim (cases_lt 1 (count_at counts line)) [ inl more ↦ shared more | inr one ↦ own (let least = all-get_or (λ count. 0 < count) counts line 1 some line_below in omega arith) ]
+undisclosed_hides_people table history counts secrets agree rows some several undisclosed everyone column line person behind column_below line_below
+    person_below =
+    elim (cases_lt 1 (count_at counts line))
+    [ inl more ↦ shared more | inr one ↦ own (let least = all-get_or (λ count. 0 < count) counts line 1 some line_below in omega arith) ]
   where
     shared : 1 < count_at counts line → HasOtherPeople table history counts everyone column line person
     shared more =
-        let other = other_told (kind_at table.setting.shape column) (count_at counts line) (told (kind_at table.setting.shape column) (of_line (people_in everyone column) line))
+        let other = other_told (kind_at table.setting.shape column) (count_at counts line)
+        (told (kind_at table.setting.shape column) (of_line (people_in everyone column) line))
         person (number_at (of_line (people_in everyone column) line) person) more person_below in
         let as_many = as_many table.setting.shape counts table.secrets everyone behind column line column_below line_below in
         record {
-          others = others table.setting.shape counts table.secrets everyone behind column line column_below line_below other.numbers (other.long ∙ sym as_many) other.tells;
+          others = others table.setting.shape counts table.secrets everyone behind column line column_below line_below other.numbers
+              (other.long ∙ sym as_many) other.tells;
           twin = table.secrets;
           are_secrets = secrets;
-          behind = still_behind table.setting.shape counts table.secrets everyone behind column line column_below line_below other.numbers (other.long ∙ sym as_many) other.tells;
+          behind = still_behind table.setting.shape counts table.secrets everyone behind column line column_below line_below other.numbers
+              (other.long ∙ sym as_many) other.tells;
           agree = agree;
           differs = λ e. other.differs (sym (ap (λ l. number_at l person)
-              (new_there table.setting.shape counts table.secrets everyone behind column line column_below line_below other.numbers (other.long ∙ sym as_many) other.tells)) ∙ e);
+              (new_there table.setting.shape counts table.secrets everyone behind column line column_below line_below other.numbers
+              (other.long ∙ sym as_many) other.tells)) ∙ e);
         }
 
     not_shared : count_at counts line ≡ 1 → (b : Bool) → has_row table.setting.protected.shared line ≡ b → has_row table.setting.protected.shared line ≡ false
@@ -348,6 +360,7 @@ undisclosed_hides_people table history counts secrets agree rows some several un
           are_secrets = twin.are_secrets;
           behind = all_behind table.setting.shape counts twin.twin twin.are_secrets rows some;
           agree = twin.agree;
-          differs = λ e. twin.differs (sym after ∙ ap (number_at (of_line (people_in (all_people table.setting.shape counts twin.twin twin.are_secrets rows some) column) line)) (sym first)
+          differs = λ e. twin.differs (sym after ∙ ap
+              (number_at (of_line (people_in (all_people table.setting.shape counts twin.twin twin.are_secrets rows some) column) line)) (sym first)
               ∙ e ∙ ap (number_at (of_line (people_in everyone column) line)) first ∙ before);
         }

@@ -80,6 +80,7 @@ compact_wants (Err compact.Bench) before after absent rose none fine = absurd (n
 compact_wants (Err compact.NoMemory) before after absent rose none fine = inr refl
 
 -- what follows holds of the same refusals
-pub unsent_so : {X P Q : Type 0} (ended : Result X CompactFault) → (P → Q) → OnErr ended (ended ≢ Err compact.Bench → P) → OnErr ended (ended ≢ Err compact.Bench → Q)
+pub unsent_so : {X P Q : Type 0} (ended : Result X CompactFault) → (P → Q) → OnErr ended (ended ≢ Err compact.Bench → P) →
+    OnErr ended (ended ≢ Err compact.Bench → Q)
 unsent_so (Ok done) follows unsent = tt
 unsent_so (Err fault) follows unsent = λ other. follows (unsent other)

@@ -59,7 +59,8 @@ file_refusal (opening.Table (file.Bad f)) = search (rules, not_both)
 file_refusal (opening.Table fault) = search rules
 
 -- so a command that stands on the files is refused, by what opening them says
-module _ {P B X : Type 0} (files : source.Ghosts P) (bench : Ghosts B) (asked : Command) (schema later_schema table later_table : P) (at : B) (fault : OpenFault)
+module _ {P B X : Type 0} (files : source.Ghosts P) (bench : Ghosts B) (asked : Command) (schema later_schema table later_table : P) (at : B)
+    (fault : OpenFault)
     (stands_on : reads_files asked ≡ true) (meaning : List Column → List ℕ → Result X TableFault)
     (unopened : LeavesUnopened files meaning fault schema later_schema table later_table) where
   pub files_refused : (files.told → reads_secrets asked ≡ true → (meant : SchemaView) → schema_of (files.left schema) ≡ Ok meant →
@@ -96,9 +97,11 @@ pub gives_up_over : (fault : OpenFault) (schema table : List ℕ) (base : Databa
     SchemaCause (open_status fault) (schema_of schema) →
     ((meant : SchemaView) → schema_of schema ≡ Ok meant → TableCause (open_status fault) (table_of meant.columns table)) → GivesUp (open_status fault)
 gives_up_over fault schema table base given schema_cause table_cause =
-    (file_refusal fault).gives_up TableView (record { columns = base.columns; guards = given.guards }) (record { public = whole base.public; secret = base.secret })
+    (file_refusal fault).gives_up TableView (record { columns = base.columns; guards = given.guards })
+    (record { public = whole base.public; secret = base.secret })
     (subst (λ (r : Result SchemaView SchemaFault). SchemaCause (open_status fault) r) given.schema_is schema_cause)
-    (subst (λ (r : Result TableView TableFault). TableCause (open_status fault) r) (means_read given.table_means) (table_cause (record { columns = base.columns; guards = given.guards }) given.schema_is))
+    (subst (λ (r : Result TableView TableFault). TableCause (open_status fault) r) (means_read given.table_means)
+    (table_cause (record { columns = base.columns; guards = given.guards }) given.schema_is))
 
 pub gives_up_public : (fault : OpenFault) (schema table : List ℕ) (columns : List Column) (index : IndexView) → ArePublicFilesOf schema table columns index →
     SchemaCause (open_status fault) (schema_of schema) →
@@ -106,4 +109,5 @@ pub gives_up_public : (fault : OpenFault) (schema table : List ℕ) (columns : L
 gives_up_public fault schema table columns index given schema_cause table_cause =
     (file_refusal fault).gives_up PublicView (record { columns = columns; guards = given.guards }) (whole index.public)
     (subst (λ (r : Result SchemaView SchemaFault). SchemaCause (open_status fault) r) given.schema_is schema_cause)
-    (subst (λ (r : Result PublicView TableFault). TableCause (open_status fault) r) given.public_is (table_cause (record { columns = columns; guards = given.guards }) given.schema_is))
+    (subst (λ (r : Result PublicView TableFault). TableCause (open_status fault) r) given.public_is
+    (table_cause (record { columns = columns; guards = given.guards }) given.schema_is))

@@ -91,7 +91,8 @@ module _ {P B : Type 0} (files : source.Ghosts P) (bench : Ghosts B) (asked : Co
         table = λ ptold reads other is. says.table _ _ (table_ok ptold reads other is);
         public = λ ptold simulates other is. says.table _ _ (public_ok ptold simulates other is);
         groups = λ ptold reads other is.
-            subst (λ (v : SchemaView). GroupCause (index_status fault) v.columns v.guards) (same_ok (schema_of (files.left schema)) read other (schema_is ptold) is)
+            subst (λ (v : SchemaView). GroupCause (index_status fault) v.columns v.guards)
+            (same_ok (schema_of (files.left schema)) read other (schema_is ptold) is)
             (group_cause fault read.columns read.guards bad);
         file = λ ptold told base given sound. says.journal asked (bench.file at) (table_in base);
         own_schema_fault = λ is. subst EndsGroups is says.ends;

@@ -82,7 +82,8 @@ later_so before after opened opening input bench spare = record {
 
 -- ---- a store that was opened
 
-module _ {B : Type 0} (bench : Ghosts B) (at opened : B) (store : StoreContents) (is : IsOpened bench opened store) (same : bench.file opened ≡ bench.file at) where
+module _ {B : Type 0} (bench : Ghosts B) (at opened : B) (store : StoreContents) (is : IsOpened bench opened store)
+    (same : bench.file opened ≡ bench.file at) where
   pub stands_so : bench.told → IsAsLeft (bench.file at) store
   stands_so told = subst (λ (bytes : List ℕ). IsAsLeft bytes store) same (is.left told)
 
@@ -90,6 +91,7 @@ module _ {B : Type 0} (bench : Ghosts B) (at opened : B) (store : StoreContents)
   holds_so told = (store.history, (store.journal.gate, stands_so told), is.is.legal)
 
 -- what it holds it holds over every table that the files mean
-pub holds_over : OneListOfEntries → (schema table file : List ℕ) (seen base : Database) → AreSoundFilesOf schema table seen → AreSoundFilesOf schema table base →
+pub holds_over : OneListOfEntries → (schema table file : List ℕ) (seen base : Database) → AreSoundFilesOf schema table seen →
+    AreSoundFilesOf schema table base →
     HoldsLegal file (table_in seen) → HoldsLegal file (table_in base)
 holds_over law schema table file seen base are also = subst (λ (b : Database). HoldsLegal file (table_in b)) (one_base law schema table seen base are also)

@@ -70,7 +70,8 @@ pub lacks_step : {Y : Type 0} (step : Command → Bool) (asked : Option Command)
 lacks_step step asked one another is also none taken = takes_step step asked another one also is taken none
 
 -- the spare failed, so the command calls it
-pub spare_called : {Y : Type 0} (asked : Option Command) (one : Command) (status : Status) → asked ≡ Some one → calls_spare one ≡ false → WordCause status asked →
+pub spare_called : {Y : Type 0} (asked : Option Command) (one : Command) (status : Status) → asked ≡ Some one → calls_spare one ≡ false →
+    WordCause status asked →
     status ≡ SpareFault → Y
 spare_called asked one status is none words failed =
     absurd (true≢false (sym (subst (λ (s : Status). WordCause s (Some one)) failed (subst (λ (k : Option Command). WordCause status k) is words)) ∙ none))

@@ -45,7 +45,8 @@ same_files schema table a b first second =
     same_ok (schema_of schema) _ _ first.schema_is second.schema_is in (
       one,
       same_ok (table_of b.columns table) _ _
-          (subst (λ (v : SchemaView). table_of v.columns table ≡ Ok (record { public = whole a.public; secret = a.secret })) one (means_read first.table_means)) (means_read second.table_means),
+          (subst (λ (v : SchemaView). table_of v.columns table ≡ Ok (record { public = whole a.public; secret = a.secret })) one (means_read first.table_means))
+          (means_read second.table_means),
     )
 
 -- so they have one secret part

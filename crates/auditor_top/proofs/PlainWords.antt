@@ -38,7 +38,8 @@ EachDigit P = P 48 × P 49 × P 50 × P 51 × P 52 × P 53 × P 54 × P 55 × P 
 
 each_digit : (P : ℕ → Type 0) → EachDigit P → (x : ℕ) → 48 ≤ x → x ≤ 57 → P x
 each_digit P each =
-    from 48 each.0 (from 49 each.1 (from 50 each.2 (from 51 each.3 (from 52 each.4 (from 53 each.5 (from 54 each.6 (from 55 each.7 (from 56 each.8 (from 57 each.9
+    from 48 each.0 (from 49 each.1 (from 50 each.2
+    (from 51 each.3 (from 52 each.4 (from 53 each.5 (from 54 each.6 (from 55 each.7 (from 56 each.8 (from 57 each.9
     (λ x least most. absurd (omega (arith, least, most))))))))))))
   where
     from : (k : ℕ) → P k → ((x : ℕ) → k + 1 ≤ x → x ≤ 57 → P x) → (x : ℕ) → k ≤ x → x ≤ 57 → P x

@@ -87,7 +87,8 @@ restore_faults (Err restore.MainFailed) before bench spare own rose same spare_r
 restore_faults (Err restore.SpareFailed) before bench spare own rose same spare_rose spare_same =
     (spare_rose refl, ap (λ (n : ℕ). record before { bench = n; spare = spare }) (same (search rules)))
 restore_faults (Err (restore.Main fault)) before bench spare own rose same spare_rose spare_same =
-    subst (λ (after : FaultCounts). FaultCause (start_status fault) before after) (sym (both_same before bench spare (same (search rules)) (spare_same (search rules))))
+    subst (λ (after : FaultCounts). FaultCause (start_status fault) before after)
+    (sym (both_same before bench spare (same (search rules)) (spare_same (search rules))))
     (start_steady fault before (own_fault fault own))
 restore_faults ended before bench spare own rose same spare_rose spare_same = both_same before bench spare (same (search rules)) (spare_same (search rules))
 

@@ -22,7 +22,8 @@ module _ {B : Type 0} (bench : Ghosts B) (at opened later : B) (reads : OnlyRead
       ServeEnds batch status seen kept (record { input = text; sent = bench.sent opened; file = bench.file at }) after →
       ServeEnds batch status base history (record { input = text; sent = bench.sent at; file = bench.file at }) after
   ends_so status after ends =
-      carried (λ (b : Database) (h : List Answered). ServeEnds batch status b h (record { input = text; sent = bench.sent at; file = bench.file at }) after) seen
+      carried (λ (b : Database) (h : List Answered). ServeEnds batch status b h (record { input = text; sent = bench.sent at; file = bench.file at }) after)
+      seen
       base kept history same
       (subst (λ (sent : List ℕ). ServeEnds batch status seen kept (record { input = text; sent = sent; file = bench.file at }) after) reads.sent ends)
 
@@ -53,5 +54,6 @@ module _ {B : Type 0} (bench : Ghosts B) (at opened later : B) (reads : OnlyRead
   pub calls_so : bench.moment opened ≡ bench.moment at + 2 → TakesCalls seen kept batch (counted_lines text) (bench.moment opened) (bench.moment later) →
       TakesCalls base history batch (counted_lines text) (bench.moment at + 2) (bench.moment later)
   calls_so two session =
-      carried (λ (b : Database) (h : List Answered). TakesCalls b h batch (counted_lines text) (bench.moment at + 2) (bench.moment later)) seen base kept history
+      carried (λ (b : Database) (h : List Answered). TakesCalls b h batch (counted_lines text) (bench.moment at + 2) (bench.moment later)) seen base kept
+      history
       same (subst (λ (n : ℕ). TakesCalls seen kept batch (counted_lines text) n (bench.moment later)) two session)

@@ -27,11 +27,15 @@ same_public : (P : List Column → IndexView → Type 0) (base other : Database)
 same_public P base other same = same_said (λ (d : Database). P d.columns (public_part d)) (record base { secret = other.secret }) other same
 
 -- a report says the same of both, by each status
-same_report : (status : Status) (base other : Database) (history : List Answered) → audit_over other history ≡ audit_over base history → (before after : List ℕ) →
+same_report : (status : Status) (base other : Database) (history : List Answered) → audit_over other history ≡ audit_over base history →
+    (before after : List ℕ) →
     AuditEnds status base history before after ↔ AuditEnds status other history before after
-same_report Done base other history same before after = same_said (λ (a : Audit). Reports a before after) (audit_over base history) (audit_over other history) same
-same_report BenchFault base other history same before after = same_said (λ (a : Audit). ReportsFront a before after) (audit_over base history) (audit_over other history) same
-same_report NoMemory base other history same before after = same_said (λ (a : Audit). ReportsFront a before after) (audit_over base history) (audit_over other history) same
+same_report Done base other history same before after = same_said (λ (a : Audit). Reports a before after) (audit_over base history)
+    (audit_over other history) same
+same_report BenchFault base other history same before after = same_said (λ (a : Audit). ReportsFront a before after) (audit_over base history)
+    (audit_over other history) same
+same_report NoMemory base other history same before after = same_said (λ (a : Audit). ReportsFront a before after) (audit_over base history)
+    (audit_over other history) same
 same_report (SourceFault Input) base other history same before after = (λ x. x, λ x. x)
 same_report status base other history same before after = (λ x. x, λ x. x)
 
@@ -48,8 +52,10 @@ twins_alike base other history twins =
       meanwhile = λ file before image sent. same_said (λ (a : Audit). SendsMeanwhile a (subjects a.shape) file before image sent)
           (audit_over base history) (audit_over other history) audit;
       certificates = λ asked lines. same_public (λ cs i. AreExplained cs i history asked lines) base other twins.0;
-      compacted = λ status spare before after. same_said (λ (s : Shape). CompactEnds status s history spare before after) base.secret.shape other.secret.shape twins.1;
-      compacting = λ file before image sent. same_said (λ (s : Shape). SendsCounts s history file before image sent) base.secret.shape other.secret.shape twins.1;
+      compacted = λ status spare before after. same_said (λ (s : Shape). CompactEnds status s history spare before after) base.secret.shape other.secret.shape
+          twins.1;
+      compacting = λ file before image sent. same_said (λ (s : Shape). SendsCounts s history file before image sent) base.secret.shape other.secret.shape
+          twins.1;
       files = λ schema table file begun. same_public (λ cs i. SimulatesOver schema table file cs i begun) base other twins.0;
       verdicts = λ begun lines verdicts. same_public (λ cs i. AreVerdicts cs i begun lines verdicts) base other twins.0;
     }

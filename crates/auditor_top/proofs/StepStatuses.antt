@@ -76,7 +76,8 @@ memory_no_source which is = cc
 -- ---- the command didn't go on
 
 -- what holds at each status with which opening gives up
-pub by_giving_up : (P : Status → Type 0) (status : Status) → GivesUp status → P (SourceFault Schema) → P (SourceFault Table) → P BenchFault → P NoMemory → P status
+pub by_giving_up : (P : Status → Type 0) (status : Status) → GivesUp status → P (SourceFault Schema) → P (SourceFault Table) → P BenchFault → P NoMemory →
+    P status
 by_giving_up P (SourceFault Schema) gave_up schema table bench memory = schema
 by_giving_up P (SourceFault Table) gave_up schema table bench memory = table
 by_giving_up P BenchFault gave_up schema table bench memory = bench

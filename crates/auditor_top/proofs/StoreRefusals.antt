@@ -173,7 +173,8 @@ module _ {P B : Type 0} (files : source.Ghosts P) (bench : Ghosts B) (law : OneL
 pub same_journal : {X Y : Type 0} (a b : StartFault) → ◌≡◌ {A = Result X NotStarted} (Err (began.Journal a)) (Err (began.Journal b)) → IsErrOf {T = Y} (Err a) b
 same_journal a b is = cc
 
-pub same_start : {X Y : Type 0} (a : StartFault) → IsErrOf {T = X} (Err a) start.Failed → ◌≡◌ {A = Result Y NotStarted} (Err (began.Journal a)) (Err (began.Journal start.Failed))
+pub same_start : {X Y : Type 0} (a : StartFault) → IsErrOf {T = X} (Err a) start.Failed →
+    ◌≡◌ {A = Result Y NotStarted} (Err (began.Journal a)) (Err (began.Journal start.Failed))
 same_start a is = cc
 
 pub not_started : {P B X : Type 0} (files : source.Ghosts P) (bench : Ghosts B) (law : OneListOfEntries) (asked : Command)
@@ -182,7 +183,8 @@ pub not_started : {P B X : Type 0} (files : source.Ghosts P) (bench : Ghosts B) 
     (same_schema : files.faults later_schema ≡ files.faults schema) (same_table : files.faults later_table ≡ files.faults table) (fault : NotStarted) →
     ((found : GuardPart) → ◌≡◌ {A = Result X NotStarted} (Err fault) (Err (began.Groups (index.Bad found))) → IsFirstBad read.columns read.guards found) →
     ((f : StartFault) → ◌≡◌ {A = Result X NotStarted} (Err fault) (Err (began.Journal f)) → (public : PublicView) × (protected : Protection) ×
-    (whole public ≡ meant.public) × Protects read.columns public read.guards protected × (bench.told → StartCause f (bench.file at) (secret_table meant.secret protected) ×
+    (whole public ≡ meant.public) × Protects read.columns public read.guards protected ×
+    (bench.told → StartCause f (bench.file at) (secret_table meant.secret protected) ×
     ((history : List Answered) → StandsFor (bench.file at) meant.secret.shape history → IsLegal (secret_table meant.secret protected) history →
     starting.GivesUp f))) → TellsFault bench at later (IsErrOf {T = X} (Err fault) (began.Journal start.Failed)) →
     ((f : IndexFault) → ◌≡◌ {A = Result X NotStarted} (Err fault) (Err (began.Groups f)) → later ≡ at) →
@@ -191,7 +193,8 @@ not_started {P} {B} {X} files bench law asked schema later_schema table later_ta
     (began.Groups f) bad cause tells uncalled =
     let first = λ (found : GuardPart) (is : f ≡ index.Bad found). bad found (ap (λ (g : IndexFault). Err (began.Groups g)) is) in
     subst (λ b. Refuses files bench asked (index_status f) schema later_schema table later_table at b) (sym (uncalled f refl))
-    (groups_refused files bench asked schema later_schema table later_table at (opens_groups asked (opens_too asked opens)) read schema_is same_schema same_table f first
+    (groups_refused files bench asked schema later_schema table later_table at
+    (opens_groups asked (opens_too asked opens)) read schema_is same_schema same_table f first
     (λ ptold reads other is. table_is_ok (λ (cs : List Column). table_of cs (files.left table)) (files.left schema) read other meant (schema_is ptold)
     (table_is ptold) is)
     (λ ptold simulates. not_public asked (opens_too asked opens) simulates)
@@ -204,7 +207,8 @@ not_started {P} {B} {X} files bench law asked schema later_schema table later_ta
 not_started {P} {B} {X} files bench law asked schema later_schema table later_table at later opens read meant schema_is table_is same_schema same_table
     (began.Journal f) bad cause tells uncalled =
     let all = cause f refl in
-    store_refused files bench law asked schema later_schema table later_table at later opens read meant schema_is table_is same_schema same_table {X = X} f all.0
+    store_refused files bench law asked schema later_schema table later_table at later opens read meant schema_is table_is same_schema same_table {X = X} f
+    all.0
     all.1 all.2 all.3 all.4 (record {
       later = tells.later;
       failed = λ is. tells.failed (same_start f is);

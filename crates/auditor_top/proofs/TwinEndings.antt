@@ -119,7 +119,8 @@ twin_faults (twin.Main fault) before bench spare own rose same spare_rose spare_
 twin_faults fault before bench spare own rose same spare_rose spare_same = both_same before bench spare (same (λ is. cc)) (spare_same (λ is. cc))
 
 -- if the files keep together, a call failed or memory ran out, and nothing was sent
-pub twin_gave_up : (fault : TwinFault) (batch : ℕ) (base : Database) (main other whole : List Answered) (before after : Outside) (spare : List ℕ) → TwinGivesUp fault →
+pub twin_gave_up : (fault : TwinFault) (batch : ℕ) (base : Database) (main other whole : List Answered) (before after : Outside) (spare : List ℕ) →
+    TwinGivesUp fault →
     (fault ≡ twin.NoMemory → BothCatchUp base main other whole before.sent after.sent after.file spare) →
     TwinEnds batch (twin_status fault) base main other whole before after spare
 twin_gave_up (twin.Main fault) batch base main other whole before after spare gave catch = absurd gave
@@ -129,7 +130,8 @@ twin_gave_up twin.MainFailed batch base main other whole before after spare gave
 twin_gave_up twin.SpareFailed batch base main other whole before after spare gave catch = tt
 twin_gave_up twin.NoMemory batch base main other whole before after spare gave catch = inl (catch refl)
 
-pub twin_wants : (fault : TwinFault) (before after : FaultCounts) → TwinGivesUp fault → FaultCause (twin_status fault) before after → NothingFailed before after →
+pub twin_wants : (fault : TwinFault) (before after : FaultCounts) → TwinGivesUp fault → FaultCause (twin_status fault) before after →
+    NothingFailed before after →
     (Rose before.spare after.spare → ⊥) → IsDoneOrWants (twin_status fault)
 twin_wants twin.MainFailed before after gave rose none fine = absurd (none.bench rose.0)
 twin_wants twin.SpareFailed before after gave rose none fine = absurd (fine rose.0)
@@ -146,7 +148,8 @@ front_is_legal table file spare whole keeps =
       main,
       all.main_stands,
       subst (λ (h : List Answered). IsLegal table h)
-          (ap (λ (h : List Answered). take (length main) h) all.main_front.is ∙ take-append-le (length main) main all.main_front.rest (omega arith) ∙ take_all (length main) main (omega arith))
+          (ap (λ (h : List Answered). take (length main) h) all.main_front.is ∙ take-append-le (length main) main all.main_front.rest (omega arith)
+          ∙ take_all (length main) main (omega arith))
           (legal_front table whole (length main) all.legal),
     )
 
@@ -199,7 +202,8 @@ twins_faults ended before input bench spare input_rose input_same bench_rose ben
     all_same before input bench spare (input_same (λ is. cc)) (bench_same (λ is. cc)) (spare_same (λ is. cc))
 
 -- which lines were answered, and that both files stand for their records
-pub twins_end : {X : Type 0} (ended : Result X TwinEnd) (base : Database) (batch : ℕ) (main other whole now : List Answered) (before after : Outside) (spare : List ℕ) →
+pub twins_end : {X : Type 0} (ended : Result X TwinEnd) (base : Database) (batch : ℕ) (main other whole now : List Answered) (before after : Outside)
+    (spare : List ℕ) →
     OnOk ended (Serves base whole (counted_lines before.input) now before.sent after.sent) →
     (ended ≡ Err end.Input → ServesWhole base whole batch before.input after.input now before.sent after.sent) →
     (ended ≡ Err end.Limit → ServesWhole base whole batch (limited before.input) [] now before.sent after.sent) →
@@ -224,7 +228,8 @@ twins_reads (Err end.Input) before after read within failed limit = failed refl
 twins_reads (Err end.Limit) before after read within failed limit = limit refl
 twins_reads ended before after read within failed limit = tt
 
-pub twins_want : {X : Type 0} (ended : Result X TwinEnd) (before after : FaultCounts) (input left : List ℕ) → FaultCause (twin_session_status ended) before after →
+pub twins_want : {X : Type 0} (ended : Result X TwinEnd) (before after : FaultCounts) (input left : List ℕ) →
+    FaultCause (twin_session_status ended) before after →
     NothingFailed before after → (Rose before.spare after.spare → ⊥) → InputCause (twin_session_status ended) input left → length input ≤ most_input →
     IsDoneOrWants (twin_session_status ended)
 twins_want (Ok done) before after input left rose none fine cause within = inl refl

@@ -24,11 +24,13 @@ use Rattle.certificate_lines.specs.Laws.{CanBeExplained}
 module _ (proofs : CanonicalProofsAreOne) (plans : OnePlanIsMade) (fits : AskedQuestionsFit) (decisions : OneDecisionIsMade) where
   module _ (setting : Setting) (history : List Answered) (fit : IsPlainFor setting.shape setting.protected) (legal : IsLegalIn setting history) where
     -- a denial has one certificate
-    one_certificate : (take : Take) (asked : Asked) → FitsShape setting.shape asked.column asked.rows → IsDecisionAfter setting history asked.column asked.rows.list DeniedUnsafe
+    one_certificate : (take : Take) (asked : Asked) → FitsShape setting.shape asked.column asked.rows →
+        IsDecisionAfter setting history asked.column asked.rows.list DeniedUnsafe
         → (a b : List ℕ) → IsCertificate setting history take asked a → IsCertificate setting history take asked b → a ≡ b
     one_certificate take asked question denied a b (inl first) (inl second) =
         first.line_is
-        ∙ ap (λ (p : Proof). proof_line take p) (proofs setting history asked first.proof second.proof fit legal question denied first.canonical second.canonical)
+        ∙ ap (λ (p : Proof). proof_line take p)
+        (proofs setting history asked first.proof second.proof fit legal question denied first.canonical second.canonical)
         ∙ sym second.line_is
     one_certificate take asked question denied a b (inl first) (inr second) = absurd (first.narrow second.0)
     one_certificate take asked question denied a b (inr first) (inl second) = absurd (second.narrow first.0)
@@ -50,7 +52,8 @@ module _ (proofs : CanonicalProofsAreOne) (plans : OnePlanIsMade) (fits : AskedQ
     one_of (Ask take asked) question a b (inl first) (inr second) = absurd (omega (arith, first.0, second.room))
     one_of (Ask take asked) question a b (inr first) (inl second) = absurd (omega (arith, second.0, first.room))
     one_of (Ask take asked) question a b (inr first) (inr second) =
-        let same : second.verdict ≡ first.verdict = decisions setting history asked.column asked.rows.list second.verdict first.verdict second.decided first.decided in
+        let same : second.verdict ≡ first.verdict = decisions setting history asked.column asked.rows.list second.verdict first.verdict second.decided
+        first.decided in
         one_for take asked first.verdict (question take asked refl) first.decided a b first.line_for
         (subst (λ (v : Verdict). IsLineFor setting history take asked v b) same second.line_for)
 
@@ -62,9 +65,11 @@ module _ (proofs : CanonicalProofsAreOne) (plans : OnePlanIsMade) (fits : AskedQ
     pub one_line : (asked : CountedLine) (a b : List ℕ) → IsExplained columns index history asked a → IsExplained columns index history asked b → a ≡ b
     one_line asked a b first second =
         one_of setting_is history can.fit can.legal first.plan
-        (λ take question is. fits columns index.public asked take question can.schema (subst (λ (p : Plan). IsPlan columns index.public asked p) is first.planned))
+        (λ take question is. fits columns index.public asked take question can.schema
+        (subst (λ (p : Plan). IsPlan columns index.public asked p) is first.planned))
         a b first.line_of
-        (subst (λ (p : Plan). IsLineOf setting_is history p b) (plans columns index.public asked second.plan first.plan second.planned first.planned) second.line_of)
+        (subst (λ (p : Plan). IsLineOf setting_is history p b) (plans columns index.public asked second.plan first.plan second.planned first.planned)
+        second.line_of)
 
     -- and so have all
     pub same_lines : (asked : List CountedLine) (lines others : List (List ℕ)) → AreExplained columns index history asked lines →

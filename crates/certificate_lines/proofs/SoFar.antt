@@ -172,7 +172,8 @@ module _ {P B : Type 0} (source : SourceGhosts P) (bench : Ghosts B) (columns : 
     pub wants_memory : (after : P) → source.faults after ≡ source.faults from →
         Explains source bench columns index history first_source after first at (Err fault.NoMemory)
     wants_memory after steady =
-        ends after (Err fault.NoMemory) (search rules) (first_lines source first_source from cutter asked so_far.read) so_far.sends.sent (λ t told. tt) (λ t. tt)
+        ends after (Err fault.NoMemory) (search rules) (first_lines source first_source from cutter asked so_far.read) so_far.sends.sent (λ t told. tt)
+        (λ t. tt)
         (omega (arith, steady)) (λ is. absurd (search rules)) (λ is. absurd (search rules)) (λ other. steady)
 
     module _ (new : Cutter) (after : P) (cuts : Cuts source cutter new from after) where

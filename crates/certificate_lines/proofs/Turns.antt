@@ -29,7 +29,8 @@ pub record Turn {P B : Type 0} (source : SourceGhosts P) (bench : Ghosts B) (col
 
 module _ {P B : Type 0} (source : SourceGhosts P) (bench : Ghosts B) (columns : List Column) (index : IndexView) (history : List Answered)
     (first_source : P) (first : B) (cutter : Cutter) (from : P) (at : B)
-    (turn : Turn source bench columns index history first_source first cutter from at) (new : Cutter) (after : P) (cuts : Cuts source cutter new from after) where
+    (turn : Turn source bench columns index history first_source first cutter from at) (new : Cutter) (after : P)
+    (cuts : Cuts source cutter new from after) where
   -- ---- a line
 
   module _ (plan : Plan) (gives : GivesPlan source cutter new from after columns index.public plan) where
@@ -40,7 +41,8 @@ module _ {P B : Type 0} (source : SourceGhosts P) (bench : Ghosts B) (columns : 
 
     module _ (line : List ℕ) (line_of : IsLineOf (setting_of (shape_of columns index.public.rows) index.protected) history plan line) (sending : B)
         (file : bench.file sending ≡ bench.file at) (crash : (image : List ℕ) → bench.leaves sending image → bench.leaves at image)
-        (time : Elapses (bench.moment at) (bench.moment sending) (bench.since at) (bench.since sending) (Sending (bench.leaves sending) (bench.sent at) line)) where
+        (time : Elapses (bench.moment at) (bench.moment sending) (bench.since at) (bench.since sending)
+        (Sending (bench.leaves sending) (bench.sent at) line)) where
       explained : IsExplained columns index history gives.line line
       explained = record { plan = plan; planned = gives.planned; line_of = line_of }
 

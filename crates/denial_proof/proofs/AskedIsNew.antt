@@ -41,7 +41,8 @@ pub record LegalLaws : Type 0 where
   pub fixed : FixedTotalsBySpan
   pub dangerous : DangerousByPins
 
-module _ (laws : LegalLaws) (table : Table) (history : List Answered) (secrets : AreSecrets table.setting.shape table.secrets) (protected : IsPlainFor table.setting.shape table.setting.protected)
+module _ (laws : LegalLaws) (table : Table) (history : List Answered) (secrets : AreSecrets table.setting.shape table.secrets)
+    (protected : IsPlainFor table.setting.shape table.setting.protected)
     (legal : IsLegal table history) where
   -- the table's own secrets agree with each front of the history
   front_agrees : (i : ℕ) → i ≤ length history → AgreeWithHistory table.setting (take i history) table.secrets
@@ -70,19 +71,24 @@ module _ (laws : LegalLaws) (table : Table) (history : List Answered) (secrets :
     pub own_agrees : Agrees (known_sum table.setting.shape.rows (answers_of column history)) (list_of table.secrets column)
     own_agrees =
         as_sums (list_of table.secrets column)
-        (subst (λ (h : List Answered). AgreeWithHistory table.setting h table.secrets) (take_all (length history) history (omega arith)) (front_agrees (length history) (omega arith)) column below)
+        (subst (λ (h : List Answered). AgreeWithHistory table.setting h table.secrets) (take_all (length history) history (omega arith))
+        (front_agrees (length history) (omega arith)) column below)
 
     module _ (are : AllByRecursion (AreRows table.setting.shape.rows) (map (λ a. a.rows) (answers_of column history))) where
       -- no protected total is fixed
-      pub group_open : (group : List ℕ) → Contains (groups_of column table.setting.protected.groups) group → AreRows table.setting.shape.rows group → group ≢ [] →
+      pub group_open : (group : List ℕ) → Contains (groups_of column table.setting.protected.groups) group → AreRows table.setting.shape.rows group →
+          group ≢ [] →
           ¬ (InSpan (map (set_row table.setting.shape.rows) (map (λ a. a.rows) (answers_of column history))) (set_row table.setting.shape.rows group))
       group_open group guarded rows some span =
           let hit = some_row group some in
-          let twin = laws.undisclosed table history secrets protected.0 legal column [] (λ w. sum_over w group) below (tt, omega arith, tt) (total group hit.0 guarded hit.1 refl) in
+          let twin = laws.undisclosed table history secrets protected.0 legal column [] (λ w. sum_over w group) below (tt, omega arith, tt)
+          (total group hit.0 guarded hit.1 refl) in
           let fixed = (laws.fixed table.setting.shape.rows (answers_of column history) group are rows (list_of table.secrets column, own_agrees)).1 span in
-          twin.differs (fixed (list_of twin.twin column) (list_of table.secrets column) (as_sums (list_of twin.twin column) (twin.agree column below)) own_agrees)
+          twin.differs (fixed (list_of twin.twin column) (list_of table.secrets column)
+          (as_sums (list_of twin.twin column) (twin.agree column below)) own_agrees)
 
-      pub asked_new : (rows : List ℕ) → AreRows table.setting.shape.rows rows → All (λ group. AreRows table.setting.shape.rows group × (group ≢ [])) (groups_of column table.setting.protected.groups) →
+      pub asked_new : (rows : List ℕ) → AreRows table.setting.shape.rows rows →
+          All (λ group. AreRows table.setting.shape.rows group × (group ≢ [])) (groups_of column table.setting.protected.groups) →
           IsDangerous (known_of table.setting history column) rows →
           ¬ (InSpan (map (set_row table.setting.shape.rows) (map (λ a. a.rows) (answers_of column history))) (set_row table.setting.shape.rows rows))
       asked_new rows own groups danger span =
@@ -94,20 +100,25 @@ module _ (laws : LegalLaws) (table : Table) (history : List Answered) (secrets :
           let of_sums : IsDangerous known rows = subst (λ k. IsDangerous k rows) (plain_sums table.setting history column protected.1 sums) danger in
           let with_asked = all-push (AreRows n) sets rows are own in
           let group_rows = All-weaker (λ group. AreRows n group × (group ≢ [])) (AreRows n) (λ group is. is.0) groups_are groups in
-          elim (plain_danger known (sets ++ rows ∷ []) refl refl ((laws.dangerous n answers [] [] groups_are 0 table.setting.protected.width table.setting.protected.reach rows with_asked group_rows (list_of table.secrets column, own_agrees)).0 of_sums)) [
+          elim (plain_danger known (sets ++ rows ∷ []) refl refl
+          ((laws.dangerous n answers [] [] groups_are 0 table.setting.protected.width table.setting.protected.reach rows with_asked group_rows
+          (list_of table.secrets column, own_agrees)).0 of_sums)) [
             | inl (i, pinned) ↦
-                laws.pins_nothing table history column i secrets protected.0 legal below sums (ap (λ (p : Protection). has_row p.shared i) protected.1) (record {
+                laws.pins_nothing table history column i secrets protected.0 legal below sums (ap (λ (p : Protection). has_row p.shared i) protected.1)
+                (record {
                   below = pinned.below;
                   still = λ d direction. pinned.still d (record {
                     one_each = direction.one_each;
-                    zero_sums = all-push (λ s. sum_over d s ≡ pos 0) sets rows direction.zero_sums (still_in_span n sets rows d are own direction.zero_sums span);
+                    zero_sums = all-push (λ s. sum_over d s ≡ pos 0) sets rows direction.zero_sums
+                        (still_in_span n sets rows d are own direction.zero_sums span);
                   });
                 })
             | inr (group, guarded, spanned) ↦
                 let of_group = in_all (λ group. AreRows n group × (group ≢ [])) groups_are group groups guarded in
                 let whole : map (set_row n) (sets ++ rows ∷ []) ≡ map (set_row n) sets ++ set_row n rows ∷ [] = map-append (set_row n) sets (rows ∷ []) in
                 group_open group guarded of_group.0 of_group.1
-                (span_with (map (set_row n) sets) (set_row n rows) (set_row n group) span (subst (λ (all : List (List ℤ)). InSpan all (set_row n group)) whole spanned))
+                (span_with (map (set_row n) sets) (set_row n rows) (set_row n group) span
+                (subst (λ (all : List (List ℤ)). InSpan all (set_row n group)) whole spanned))
           ]
         where
           in_all : (P : List ℕ → Type 0) (xs : List (List ℕ)) (x : List ℕ) → All P xs → Contains xs x → P x

@@ -13,14 +13,17 @@ use Rattle.denial_proof.specs.declared.proof_parts.ProveFault.{ProveFault}
 use Rattle.denial_proof.specs.Certificates.{IsProof}
 use Rattle.denial_proof.specs.Canonical.{IsSumProof, IsMaxProof, IsCanonical, IsSumTooWide, IsTooWide}
 
-module _ (setting : Setting) (history : List Answered) (asked : Asked) (n : ℕ) (records : List Answered) (same_n : n ≡ setting.shape.rows) (same : records ≡ history) where
+module _ (setting : Setting) (history : List Answered) (asked : Asked) (n : ℕ) (records : List Answered) (same_n : n ≡ setting.shape.rows)
+    (same : records ≡ history) where
   module _ (entries : List Protected) (same_entries : entries ≡ setting.protected.groups) where
     -- what holds of the column's rows, the lent records and the lent entries, holds of those of the table
     pub of_table : (P : ℕ → List Answered → List Protected → Type 0) → P n records entries → P setting.shape.rows history setting.protected.groups
-    of_table P holds = subst (λ k. P k history setting.protected.groups) same_n (subst (λ list. P n list setting.protected.groups) same (subst (P n records) same_entries holds))
+    of_table P holds = subst (λ k. P k history setting.protected.groups) same_n
+        (subst (λ list. P n list setting.protected.groups) same (subst (P n records) same_entries holds))
 
     pub of_column : (P : ℕ → List Answered → List Protected → Type 0) → P setting.shape.rows history setting.protected.groups → P n records entries
-    of_column P holds = subst (λ k. P k records entries) (sym same_n) (subst (λ list. P setting.shape.rows list entries) (sym same) (subst (P setting.shape.rows history) (sym same_entries) holds))
+    of_column P holds = subst (λ k. P k records entries) (sym same_n)
+        (subst (λ list. P setting.shape.rows list entries) (sym same) (subst (P setting.shape.rows history) (sym same_entries) holds))
 
     module _ (sums : kind_at setting.shape asked.column ≡ kind.Sum) where
       by_sum : (result : Result Proof ProveFault) → IfOk result (IsSumProof setting.shape.rows history setting.protected.groups asked) →
@@ -33,7 +36,8 @@ module _ (setting : Setting) (history : List Answered) (asked : Asked) (n : ℕ)
           IfOk result (IsCanonical setting history asked) × IfOk result (IsProof setting history asked)
       sum_is result is = by_sum result (of_table (λ k list groups. IfOk result (IsSumProof k list groups asked)) is)
 
-      pub sum_is_narrow : (result : Result Proof ProveFault) → IfOk result (λ proof. ¬ (IsSumTooWide n records entries asked)) → IfOk result (λ proof. ¬ (IsTooWide setting history asked))
+      pub sum_is_narrow : (result : Result Proof ProveFault) → IfOk result (λ proof. ¬ (IsSumTooWide n records entries asked)) →
+          IfOk result (λ proof. ¬ (IsTooWide setting history asked))
       sum_is_narrow (Ok proof) none = λ wide. none (of_column (λ k list groups. IsSumTooWide k list groups asked) wide.1)
       sum_is_narrow (Err fault) none = tt
 

@@ -40,8 +40,10 @@ module _ (n m : ℕ) (sets : List (List ℕ)) (form : List (List ℤ)) (target :
       let factor = are.divided.factor in
       let whole : are.common ≡ factor *ℤ times = let parts = are.divided.is_multiple in cc in
       let rest : are.numbers ≡ map (λ x. factor *ℤ x) numbers = let parts = are.divided.is_multiple in cc in
-      let over : IsReducedForm (n + length sets) (marked_rows n (length sets) 0 sets) form = subst (λ k. IsReducedForm (n + k) (marked_rows n k 0 sets) form) (sym count) reduced in
-      let read = read_off n sets independent form over target are.common are.read.taken are.numbers span are.read.are_taken (λ k l. are.read.exact k (omega arith)) in
+      let over : IsReducedForm (n + length sets) (marked_rows n (length sets) 0 sets) form =
+      subst (λ k. IsReducedForm (n + k) (marked_rows n k 0 sets) form) (sym count) reduced in
+      let read = read_off n sets independent form over target are.common are.read.taken are.numbers span are.read.are_taken
+      (λ k l. are.read.exact k (omega arith)) in
       record {
         positive = positive_factor times factor are.divided.positive (subst (λ z. pos 0 <ℤ z) (whole ∙ *ℤ_comm factor times) are.positive);
         one_each = sym (length-map numbers (λ x. factor *ℤ x)) ∙ ap length (sym rest) ∙ are.read.one_each ∙ sym count;
@@ -51,28 +53,33 @@ module _ (n m : ℕ) (sets : List (List ℕ)) (form : List (List ℤ)) (target :
       }
 
 -- a list of multipliers isn't empty
-pub head_and_tail : (form : List (List ℤ)) (target : List ℤ) (n m : ℕ) (list : List ℤ) → AreMultipliers form target n m list → (rest : List ℤ) × (list ≡ number_at list 0 ∷ rest)
+pub head_and_tail : (form : List (List ℤ)) (target : List ℤ) (n m : ℕ) (list : List ℤ) → AreMultipliers form target n m list → (rest : List ℤ) ×
+    (list ≡ number_at list 0 ∷ rest)
 head_and_tail form target n m [] are = absurd (let parts = are.divided.is_multiple in cc)
 head_and_tail form target n m (x ∷ rest) are = (rest, refl)
 
 -- ---- the terms
 
 -- what holds of all places holds of those of the terms
-pub terms_hold : (P : ℕ → Type 0) (places : List ℕ) (numbers : List ℤ) → AllByRecursion P places → AllByRecursion (λ (t : Term). P t.place) (terms_of places numbers)
+pub terms_hold : (P : ℕ → Type 0) (places : List ℕ) (numbers : List ℤ) → AllByRecursion P places →
+    AllByRecursion (λ (t : Term). P t.place) (terms_of places numbers)
 terms_hold P [] numbers all = tt
 terms_hold P (p ∷ places) [] all = tt
 terms_hold P (p ∷ places) (x ∷ numbers) all = go (is_zero x) (terms_hold P places numbers all.1)
   where
-    go : (b : Bool) → AllByRecursion (λ (t : Term). P t.place) (terms_of places numbers) → AllByRecursion (λ (t : Term). P t.place) (cond b (terms_of places numbers) (record { place = p; times = x } ∷ terms_of places numbers))
+    go : (b : Bool) → AllByRecursion (λ (t : Term). P t.place) (terms_of places numbers) →
+        AllByRecursion (λ (t : Term). P t.place) (cond b (terms_of places numbers) (record { place = p; times = x } ∷ terms_of places numbers))
     go true rest = rest
     go false rest = (all.0, rest)
 
-terms_ascend : (low end : ℕ) (places : List ℕ) (numbers : List ℤ) → AscendsFrom low end places → AscendsFrom low end (map (λ (t : Term). t.place) (terms_of places numbers))
+terms_ascend : (low end : ℕ) (places : List ℕ) (numbers : List ℤ) → AscendsFrom low end places →
+    AscendsFrom low end (map (λ (t : Term). t.place) (terms_of places numbers))
 terms_ascend low end [] numbers ascends = tt
 terms_ascend low end (p ∷ places) [] ascends = tt
 terms_ascend low end (p ∷ places) (x ∷ numbers) ascends = go (is_zero x) (terms_ascend (p + 1) end places numbers ascends.2)
   where
-    go : (b : Bool) → AscendsFrom (p + 1) end (map (λ (t : Term). t.place) (terms_of places numbers)) → AscendsFrom low end (map (λ (t : Term). t.place) (cond b (terms_of places numbers) (record { place = p; times = x } ∷ terms_of places numbers)))
+    go : (b : Bool) → AscendsFrom (p + 1) end (map (λ (t : Term). t.place) (terms_of places numbers)) →
+        AscendsFrom low end (map (λ (t : Term). t.place) (cond b (terms_of places numbers) (record { place = p; times = x } ∷ terms_of places numbers)))
     go true rest = let order = ascends.0 in from_lower low (p + 1) end (map (λ (t : Term). t.place) (terms_of places numbers)) (omega arith) rest
     go false rest = (ascends.0, ascends.1, rest)
 
@@ -82,7 +89,8 @@ terms_counted [] numbers = tt
 terms_counted (p ∷ places) [] = tt
 terms_counted (p ∷ places) (x ∷ numbers) = go (is_zero x) refl (terms_counted places numbers)
   where
-    go : (b : Bool) → is_zero x ≡ b → AllByRecursion (λ (t : Term). t.times ≢ pos 0) (terms_of places numbers) → AllByRecursion (λ (t : Term). t.times ≢ pos 0) (cond b (terms_of places numbers) (record { place = p; times = x } ∷ terms_of places numbers))
+    go : (b : Bool) → is_zero x ≡ b → AllByRecursion (λ (t : Term). t.times ≢ pos 0) (terms_of places numbers) →
+        AllByRecursion (λ (t : Term). t.times ≢ pos 0) (cond b (terms_of places numbers) (record { place = p; times = x } ∷ terms_of places numbers))
     go true e rest = rest
     go false e rest = (not_zero_from_test x e, rest)
 
@@ -92,22 +100,26 @@ terms_few [] numbers = omega arith
 terms_few (p ∷ places) [] = omega arith
 terms_few (p ∷ places) (x ∷ numbers) = go (is_zero x) (terms_few places numbers)
   where
-    go : (b : Bool) → length (terms_of places numbers) ≤ length places → length (cond b (terms_of places numbers) (record { place = p; times = x } ∷ terms_of places numbers)) ≤ suc (length places)
+    go : (b : Bool) → length (terms_of places numbers) ≤ length places → length
+        (cond b (terms_of places numbers) (record { place = p; times = x } ∷ terms_of places numbers)) ≤ suc (length places)
     go true rest = omega arith
     go false rest = omega arith
 
 -- what holds of all numbers holds of how often the terms are counted
-pub terms_numbers : (P : ℤ → Type 0) (places : List ℕ) (numbers : List ℤ) → AllByRecursion P numbers → AllByRecursion P (map (λ (t : Term). t.times) (terms_of places numbers))
+pub terms_numbers : (P : ℤ → Type 0) (places : List ℕ) (numbers : List ℤ) → AllByRecursion P numbers →
+    AllByRecursion P (map (λ (t : Term). t.times) (terms_of places numbers))
 terms_numbers P [] numbers all = tt
 terms_numbers P (p ∷ places) [] all = tt
 terms_numbers P (p ∷ places) (x ∷ numbers) all = go (is_zero x) (terms_numbers P places numbers all.1)
   where
-    go : (b : Bool) → AllByRecursion P (map (λ (t : Term). t.times) (terms_of places numbers)) → AllByRecursion P (map (λ (t : Term). t.times) (cond b (terms_of places numbers) (record { place = p; times = x } ∷ terms_of places numbers)))
+    go : (b : Bool) → AllByRecursion P (map (λ (t : Term). t.times) (terms_of places numbers)) →
+        AllByRecursion P (map (λ (t : Term). t.times) (cond b (terms_of places numbers) (record { place = p; times = x } ∷ terms_of places numbers)))
     go true rest = rest
     go false rest = (all.0, rest)
 
 -- what holds of 0, of how often the terms are counted and of the last number holds of all numbers
-pub all_from_terms : (P : ℤ → Type 0) → P (pos 0) → (places : List ℕ) (numbers : List ℤ) → length numbers ≡ length places + 1 → AllByRecursion P (map (λ (t : Term). t.times) (terms_of places numbers)) →
+pub all_from_terms : (P : ℤ → Type 0) → P (pos 0) → (places : List ℕ) (numbers : List ℤ) → length numbers ≡ length places + 1 →
+    AllByRecursion P (map (λ (t : Term). t.times) (terms_of places numbers)) →
     P (number_at numbers (length places)) → AllByRecursion P numbers
 all_from_terms P none [] [] size all last = absurd (omega arith)
 all_from_terms P none [] (x ∷ []) size all last = (last, tt)
@@ -116,7 +128,8 @@ all_from_terms P none (p ∷ places) [] size all last = absurd (omega arith)
 all_from_terms P none (p ∷ places) (x ∷ numbers) size all last = go (is_zero x) refl (λ rest. all_from_terms P none places numbers (omega arith) rest last) all
   where
     go : (b : Bool) → is_zero x ≡ b → (AllByRecursion P (map (λ (t : Term). t.times) (terms_of places numbers)) → AllByRecursion P numbers) →
-        AllByRecursion P (map (λ (t : Term). t.times) (cond b (terms_of places numbers) (record { place = p; times = x } ∷ terms_of places numbers))) → AllByRecursion P (x ∷ numbers)
+        AllByRecursion P (map (λ (t : Term). t.times) (cond b (terms_of places numbers) (record { place = p; times = x } ∷ terms_of places numbers))) →
+        AllByRecursion P (x ∷ numbers)
     go true e later h = (subst P (sym (zero_from_test x e)) none, later h)
     go false e later h = (h.0, later h.1)
 
@@ -127,7 +140,8 @@ terms_add_up n history [] numbers j l = sym (combined-none numbers j)
 terms_add_up n history (p ∷ places) [] j l = refl
 terms_add_up n history (p ∷ places) (x ∷ numbers) j l = go (is_zero x) refl (terms_add_up n history places numbers j l)
   where
-    go : (b : Bool) → is_zero x ≡ b → sum_at (map (weight_of history) (terms_of places numbers)) j ≡ combined numbers (map (set_row n) (map (rows_at history) places)) j →
+    go : (b : Bool) → is_zero x ≡ b → sum_at (map (weight_of history) (terms_of places numbers)) j
+        ≡ combined numbers (map (set_row n) (map (rows_at history) places)) j →
         sum_at (map (weight_of history) (cond b (terms_of places numbers) (record { place = p; times = x } ∷ terms_of places numbers))) j
         ≡ x *ℤ number_at (set_row n (rows_at history p)) j +ℤ combined numbers (map (set_row n) (map (rows_at history) places)) j
     go true e rest =
@@ -139,8 +153,10 @@ terms_add_up n history (p ∷ places) (x ∷ numbers) j l = go (is_zero x) refl 
 
 -- ---- the canonical proof
 
-pub canonical_sum : (n : ℕ) (history : List Answered) (protected : List Protected) (asked : Asked) (places : List ℕ) (target : Target) (times : ℤ) (numbers : List ℤ) → AreKept n asked.column history places →
-    IsFirstTarget n protected asked.column (sets_with_asked history asked) target → ComeTo n (kept_sets history places asked.rows.list) (set_row n (rows_of protected target)) times numbers →
+pub canonical_sum : (n : ℕ) (history : List Answered) (protected : List Protected) (asked : Asked) (places : List ℕ) (target : Target) (times : ℤ)
+    (numbers : List ℤ) → AreKept n asked.column history places →
+    IsFirstTarget n protected asked.column (sets_with_asked history asked) target →
+    ComeTo n (kept_sets history places asked.rows.list) (set_row n (rows_of protected target)) times numbers →
     IsCanonicalSum n history protected asked target times (terms_of places numbers) (number_at numbers (length places))
 canonical_sum n history protected asked places target times numbers kept first come =
     let rows = asked.rows.list in
@@ -161,8 +177,10 @@ canonical_sum n history protected asked places target times numbers kept first c
           let last = chosen (has_row rows j) own ∙ ap (λ z. own *ℤ z) (sym (number_at-set_row n rows j l)) in
           let due = chosen (has_row (rows_of protected target) j) times ∙ ap (λ z. times *ℤ z) (sym (number_at-set_row n (rows_of protected target) j l)) in
           let whole = come.add_up j l in
-          let split : combined numbers (map (set_row n) (sets ++ rows ∷ [])) j ≡ combined numbers (map (set_row n) sets) j +ℤ own *ℤ number_at (set_row n rows) j
-          = ap (λ (more : List (List ℤ)). combined numbers more j) (map-append (set_row n) sets (rows ∷ [])) ∙ combined-push numbers (map (set_row n) sets) (set_row n rows) j
+          let split : combined numbers (map (set_row n) (sets ++ rows ∷ [])) j ≡ combined numbers (map (set_row n) sets) j +ℤ own *ℤ number_at
+          (set_row n rows) j
+          = ap (λ (more : List (List ℤ)). combined numbers more j) (map-append (set_row n) sets (rows ∷ []))
+          ∙ combined-push numbers (map (set_row n) sets) (set_row n rows) j
           ∙ ap (λ i. combined numbers (map (set_row n) sets) j +ℤ number_at numbers i *ℤ number_at (set_row n rows) j) (length-map sets (set_row n) ∙ count) in
           omega (arith, ints);
       divided = record {

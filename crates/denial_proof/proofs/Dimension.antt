@@ -28,20 +28,24 @@ abbrev cleared : (ℕ → ℤ) → ℕ → (ℕ → ℤ) → ℕ → ℤ
 cleared f p g j = f p *ℤ g j +ℤ neg_ℤ (g p *ℤ f j)
 
 -- what products of sums are
-spread : (c fp gj gp fj rest_j rest_p : ℤ) → c *ℤ (fp *ℤ gj +ℤ neg_ℤ (gp *ℤ fj)) +ℤ (fp *ℤ rest_j +ℤ neg_ℤ (rest_p *ℤ fj)) ≡ fp *ℤ (c *ℤ gj +ℤ rest_j) +ℤ neg_ℤ ((c *ℤ gp +ℤ rest_p) *ℤ fj)
+spread : (c fp gj gp fj rest_j rest_p : ℤ) → c *ℤ (fp *ℤ gj +ℤ neg_ℤ (gp *ℤ fj)) +ℤ (fp *ℤ rest_j +ℤ neg_ℤ (rest_p *ℤ fj))
+    ≡ fp *ℤ (c *ℤ gj +ℤ rest_j) +ℤ neg_ℤ ((c *ℤ gp +ℤ rest_p) *ℤ fj)
 spread c fp gj gp fj rest_j rest_p =
     let one = times-add c (fp *ℤ gj) (neg_ℤ (gp *ℤ fj)) in
     let two = times-add fp (c *ℤ gj) rest_j in
     let three = add-times (c *ℤ gp) rest_p fj in
     let four : c *ℤ (fp *ℤ gj) ≡ fp *ℤ (c *ℤ gj) = sym (times_assoc c fp gj) ∙ ap (λ z. z *ℤ gj) (*ℤ_comm c fp) ∙ times_assoc fp c gj in
-    let five : c *ℤ neg_ℤ (gp *ℤ fj) ≡ neg_ℤ ((c *ℤ gp) *ℤ fj) = *ℤ_comm c (neg_ℤ (gp *ℤ fj)) ∙ neg-times (gp *ℤ fj) c ∙ ap neg_ℤ (*ℤ_comm (gp *ℤ fj) c ∙ sym (times_assoc c gp fj)) in
+    let five : c *ℤ neg_ℤ (gp *ℤ fj) ≡ neg_ℤ ((c *ℤ gp) *ℤ fj) = *ℤ_comm c (neg_ℤ (gp *ℤ fj)) ∙ neg-times (gp *ℤ fj) c
+    ∙ ap neg_ℤ (*ℤ_comm (gp *ℤ fj) c ∙ sym (times_assoc c gp fj)) in
     omega (arith, ints)
 
 -- the rows cleared come to what the rows come to, cleared
-sum-cleared : (f : ℕ → ℤ) (p : ℕ) (a : List ℤ) (rows : List (ℕ → ℤ)) (j : ℕ) → sum_of a (map (cleared f p) rows) j ≡ f p *ℤ sum_of a rows j +ℤ neg_ℤ (sum_of a rows p *ℤ f j)
+sum-cleared : (f : ℕ → ℤ) (p : ℕ) (a : List ℤ) (rows : List (ℕ → ℤ)) (j : ℕ) → sum_of a (map (cleared f p) rows) j
+    ≡ f p *ℤ sum_of a rows j +ℤ neg_ℤ (sum_of a rows p *ℤ f j)
 sum-cleared f p [] rows j = let one = *ℤ-zero (f p) in let two = zero-*ℤ (f j) in omega (arith, ints)
 sum-cleared f p (c ∷ a) [] j = let one = *ℤ-zero (f p) in let two = zero-*ℤ (f j) in omega (arith, ints)
-sum-cleared f p (c ∷ a) (g ∷ rows) j = ap (λ z. c *ℤ cleared f p g j +ℤ z) (sum-cleared f p a rows j) ∙ spread c (f p) (g j) (g p) (f j) (sum_of a rows j) (sum_of a rows p)
+sum-cleared f p (c ∷ a) (g ∷ rows) j = ap (λ z. c *ℤ cleared f p g j +ℤ z) (sum-cleared f p a rows j)
+    ∙ spread c (f p) (g j) (g p) (f j) (sum_of a rows j) (sum_of a rows p)
 
 -- column n stands in the place of column p
 abbrev moved : ℕ → ℕ → ℕ → ℕ

@@ -31,14 +31,18 @@ not_only history column place numbers row r there none (s, own, only) =
 
 -- ---- the heights
 
-pub height_lowered : (answers : List Answer) (rows : List ℕ) (answer : ℤ) (row : ℕ) → has_row rows row ≡ true → least_of answer (upper_bound answers row) ≡ bound_or_zero (upper_bound (and_answer answers rows answer) row)
+pub height_lowered : (answers : List Answer) (rows : List ℕ) (answer : ℤ) (row : ℕ) → has_row rows row ≡ true → least_of answer (upper_bound answers row)
+    ≡ bound_or_zero (upper_bound (and_answer answers rows answer) row)
 height_lowered answers rows answer row holds =
-    let is : upper_bound (and_answer answers rows answer) row ≡ Some (least_of answer (upper_bound answers row)) = upper_bound-push answers (record { rows = rows; value = answer }) row ∙ rw holds refl in
+    let is : upper_bound (and_answer answers rows answer) row ≡ Some (least_of answer (upper_bound answers row)) =
+    upper_bound-push answers (record { rows = rows; value = answer }) row ∙ rw holds refl in
     sym (ap bound_or_zero is)
 
-pub height_kept : (answers : List Answer) (rows : List ℕ) (answer : ℤ) (row : ℕ) → has_row rows row ≡ false → bound_or_zero (upper_bound answers row) ≡ bound_or_zero (upper_bound (and_answer answers rows answer) row)
+pub height_kept : (answers : List Answer) (rows : List ℕ) (answer : ℤ) (row : ℕ) → has_row rows row ≡ false → bound_or_zero (upper_bound answers row)
+    ≡ bound_or_zero (upper_bound (and_answer answers rows answer) row)
 height_kept answers rows answer row none =
-    let is : upper_bound (and_answer answers rows answer) row ≡ upper_bound answers row = upper_bound-push answers (record { rows = rows; value = answer }) row ∙ rw none refl in
+    let is : upper_bound (and_answer answers rows answer) row ≡ upper_bound answers row = upper_bound-push answers (record { rows = rows; value = answer }) row
+    ∙ rw none refl in
     sym (ap bound_or_zero is)
 
 -- the heights of the first rows
@@ -52,10 +56,12 @@ heights_end n answers list far =
     same_rows list (highest n answers) size (λ k. elim (cases_lt k n) [
       | inl inside ↦ far.each k inside ∙ sym (number_at-highest n answers k inside)
       | inr past ↦
-          get_or_past list k (pos 0) (let all = far.one_each in omega arith) ∙ sym (get_or_past (highest n answers) k (pos 0) (let all = length-highest n answers in omega arith))
+          get_or_past list k (pos 0) (let all = far.one_each in omega arith) ∙ sym
+          (get_or_past (highest n answers) k (pos 0) (let all = length-highest n answers in omega arith))
     ])
 
-pub heights_push : (answers : List Answer) (row : ℕ) (list : List ℤ) (x : ℤ) → AreHeightsSoFar answers row list → x ≡ bound_or_zero (upper_bound answers row) → AreHeightsSoFar answers (row + 1) (list ++ x ∷ [])
+pub heights_push : (answers : List Answer) (row : ℕ) (list : List ℤ) (x : ℤ) → AreHeightsSoFar answers row list → x ≡ bound_or_zero (upper_bound answers row) →
+    AreHeightsSoFar answers (row + 1) (list ++ x ∷ [])
 heights_push answers row list x far is = record {
   one_each = let all = far.one_each in grind (arith, common_steps);
   each = λ k l. elim (cases_lt k row) [
@@ -71,18 +77,23 @@ heights_push answers row list x far is = record {
 -- ---- the answer
 
 -- what a trial tells
-pub lone_some : (answers : List Answer) (lone : Option ℕ) → IsConsistent answers → IsLeastLone answers lone → IfSome lone (λ row. IsConsistent answers × IsLeastLone answers (Some row))
+pub lone_some : (answers : List Answer) (lone : Option ℕ) → IsConsistent answers → IsLeastLone answers lone →
+    IfSome lone (λ row. IsConsistent answers × IsLeastLone answers (Some row))
 lone_some answers None consistent least = tt
 lone_some answers (Some row) consistent least = (consistent, least)
 
-pub lone_none : (n : ℕ) (answers : List Answer) (rows : List ℕ) (answer : ℤ) (lone : Option ℕ) → IsLeastLone (and_answer answers rows answer) lone → IfNone lone (¬ (LeavesLoneRow (known_max n answers) rows answer))
+pub lone_none : (n : ℕ) (answers : List Answer) (rows : List ℕ) (answer : ℤ) (lone : Option ℕ) → IsLeastLone (and_answer answers rows answer) lone →
+    IfNone lone (¬ (LeavesLoneRow (known_max n answers) rows answer))
 lone_none n answers rows answer None least = λ leaves. least leaves.row leaves.lone
 lone_none n answers rows answer (Some row) least = tt
 
 -- a later candidate is greater
-greater_later : (list : List ℤ) → ((k : ℕ) → k + 1 < length list → slice_index_or list k (pos 0) <ℤ slice_index_or list (k + 1) (pos 0)) → (i d : ℕ) → i + d < length list →
+greater_later : (list : List ℤ) → ((k : ℕ) → k + 1 < length list → slice_index_or list k (pos 0) <ℤ slice_index_or list (k + 1) (pos 0)) → (i d : ℕ) →
+    i + d < length list →
     slice_index_or list i (pos 0) ≤ℤ slice_index_or list (i + d) (pos 0)
-greater_later list ascending i zero l = let same : slice_index_or list (i + 0) (pos 0) ≡ slice_index_or list i (pos 0) = ap (λ k. slice_index_or list k (pos 0)) (omega arith) in omega (arith, ints)
+greater_later list ascending i zero l =
+    let same : slice_index_or list (i + 0) (pos 0) ≡ slice_index_or list i (pos 0) = ap (λ k. slice_index_or list k (pos 0)) (omega arith) in
+    omega (arith, ints)
 greater_later list ascending i (suc d) l =
     let rest = greater_later list ascending i d (omega arith) in
     let step = ascending (i + d) (omega arith) in
@@ -105,7 +116,8 @@ module _ (n : ℕ) (answers : List Answer) (rows : List ℕ) (list : List ℤ) (
   at_place k x below is = same_default list k x (pos 0) below ∙ is
 
   -- so a candidate that does is the least
-  pub first_found : (i : ℕ) (answer : ℤ) (row : ℕ) → i < length list → slice_index_or list i answer ≡ answer → NoneBefore i → IsConsistent (and_answer answers rows answer) →
+  pub first_found : (i : ℕ) (answer : ℤ) (row : ℕ) → i < length list → slice_index_or list i answer ≡ answer → NoneBefore i →
+      IsConsistent (and_answer answers rows answer) →
       IsLeastLone (and_answer answers rows answer) (Some row) → IsFirstAnswer (known_max n answers) rows answer
   first_found i answer row below is none possible least = record {
     candidate = (are.each answer).0 (i, below, is);
@@ -118,7 +130,8 @@ module _ (n : ℕ) (answers : List Answer) (rows : List ℕ) (list : List ℤ) (
           | inl earlier ↦ none found.0 earlier (subst (LeavesLoneRow (known_max n answers) rows) (sym there) leaves)
           | inr later ↦
               let order = greater_later list are.ascending i (found.0 - i) (omega arith) in
-              let same : slice_index_or list (i + (found.0 - i)) (pos 0) ≡ slice_index_or list found.0 (pos 0) = ap (λ k. slice_index_or list k (pos 0)) (omega arith) in
+              let same : slice_index_or list (i + (found.0 - i)) (pos 0) ≡ slice_index_or list found.0 (pos 0) =
+              ap (λ k. slice_index_or list k (pos 0)) (omega arith) in
               absurd (omega (arith, ints))
         ];
   }

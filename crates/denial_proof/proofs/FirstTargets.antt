@@ -10,13 +10,15 @@ use Rattle.sum_basis.specs.Basis.{Echelon}
 use Rattle.denial_proof.specs.Targets.{SpansGroup}
 
 -- an entry of another column, or one whose row lies outside of the span, isn't given away
-pub not_own : (form : Echelon) (protected : List Protected) (column place : ℕ) (p : Protected) → slice_get protected place ≡ Some p → (p.column ≡ column → ⊥) → ¬ (SpansGroup form protected column place)
+pub not_own : (form : Echelon) (protected : List Protected) (column place : ℕ) (p : Protected) → slice_get protected place ≡ Some p → (p.column ≡ column → ⊥) →
+    ¬ (SpansGroup form protected column place)
 not_own form protected column place p there other spans =
     let one : Some p ≡ Some spans.entry = sym there ∙ spans.there in
     let same : p ≡ spans.entry = cc in
     other (ap (λ (q : Protected). q.column) same ∙ spans.own)
 
-pub not_spanned : (form : Echelon) (protected : List Protected) (column place : ℕ) (p : Protected) → slice_get protected place ≡ Some p → ¬ (InSpan form.rows (set_row form.n p.rows.list)) →
+pub not_spanned : (form : Echelon) (protected : List Protected) (column place : ℕ) (p : Protected) → slice_get protected place ≡ Some p →
+    ¬ (InSpan form.rows (set_row form.n p.rows.list)) →
     ¬ (SpansGroup form protected column place)
 not_spanned form protected column place p there outside spans =
     let one : Some spans.entry ≡ Some p = sym spans.there ∙ there in

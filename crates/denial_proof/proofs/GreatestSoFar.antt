@@ -11,7 +11,8 @@ pub record IsGreatestSoFar (w : List ℤ) (rows rest : List ℕ) (so_far : ℤ) 
   pub within : AllByRecursion (λ q. q < length w) rest
   pub leads : fold int_max so_far (map (number_at w) rest) ≡ greatest_over w rows
 
-pub greatest_begins : (w : List ℤ) (n : ℕ) (rows rest : List ℕ) (first : ℕ) → AreRows n rows → n ≤ length w → rows ≡ first ∷ rest → IsGreatestSoFar w rows rest (number_at w first)
+pub greatest_begins : (w : List ℤ) (n : ℕ) (rows rest : List ℕ) (first : ℕ) → AreRows n rows → n ≤ length w → rows ≡ first ∷ rest →
+    IsGreatestSoFar w rows rest (number_at w first)
 greatest_begins w n rows rest first are most is = record {
   within = (subst (AllByRecursion (λ q. q < length w)) is (rows_within 0 n (length w) rows most are)).1;
   leads = ap (greatest_over w) (sym is);

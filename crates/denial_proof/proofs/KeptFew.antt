@@ -18,21 +18,26 @@ use Rattle.denial_proof.proofs.Dimension.{at_most, as_sum}
 pub independent_few : (n : ℕ) (sets : List (List ℕ)) → AreIndependent n sets → length sets ≤ n
 independent_few n sets independent =
     let count : length (map number_at (map (set_row n) sets)) ≡ length sets = length-map (map (set_row n) sets) number_at ∙ length-map sets (set_row n) in
-    let most = at_most n (map number_at (map (set_row n) sets)) (λ a nothing k l. independent a (λ j m. as_sum a (map (set_row n) sets) j ∙ nothing j m) k (omega arith)) in
+    let most = at_most n (map number_at (map (set_row n) sets))
+    (λ a nothing k l. independent a (λ j m. as_sum a (map (set_row n) sets) j ∙ nothing j m) k (omega arith)) in
     omega arith
 
 module _ (n column : ℕ) (history : List Answered) (places : List ℕ) (kept : AreKept n column history places) where
   -- what lies in the span of the kept sets lies in that of all of the column
-  pub spanned_by_all : (row : List ℤ) → InSpan (map (set_row n) (map (rows_at history) places)) row → InSpan (map (set_row n) (sets_before column history (length history))) row
+  pub spanned_by_all : (row : List ℤ) → InSpan (map (set_row n) (map (rows_at history) places)) row →
+      InSpan (map (set_row n) (sets_before column history (length history))) row
   spanned_by_all row span =
       span_trans (map (set_row n) (sets_before column history (length history))) (map (set_row n) (map (rows_at history) places)) row
-      (spanned_before n column history places kept (length history) (omega arith) places (rows_within 0 (length history) (length history) places (omega arith) kept.ascending)
+      (spanned_before n column history places kept (length history) (omega arith) places
+      (rows_within 0 (length history) (length history) places (omega arith) kept.ascending)
       (all_kept n column history places kept)) span
 
   -- with a set outside of their span they are independent
-  pub independent_with : (rows : List ℕ) → ¬ (InSpan (map (set_row n) (sets_before column history (length history))) (set_row n rows)) → AreIndependent n (map (rows_at history) places ++ rows ∷ [])
+  pub independent_with : (rows : List ℕ) → ¬ (InSpan (map (set_row n) (sets_before column history (length history))) (set_row n rows)) →
+      AreIndependent n (map (rows_at history) places ++ rows ∷ [])
   independent_with rows outside =
-      independent_push n (map (rows_at history) places) rows (kept_independent n column history places kept) (λ span. outside (spanned_by_all (set_row n rows) span))
+      independent_push n (map (rows_at history) places) rows (kept_independent n column history places kept)
+      (λ span. outside (spanned_by_all (set_row n rows) span))
 
   pub kept_few : (rows : List ℕ) → ¬ (InSpan (map (set_row n) (sets_before column history (length history))) (set_row n rows)) → length places + 1 ≤ n
   kept_few rows outside =

@@ -40,18 +40,21 @@ module _ (n : ℕ) where
   all_spanned [] = tt
   all_spanned (a ∷ answers) = (
     span_first (set_row n a.rows) (map (set_row n) (map (λ b. b.rows) answers)),
-    all-weaker (λ b. InSpan (map (set_row n) (map (λ d. d.rows) answers)) (set_row n b.rows)) (λ b. InSpan (map (set_row n) (map (λ d. d.rows) (a ∷ answers))) (set_row n b.rows))
+    all-weaker (λ b. InSpan (map (set_row n) (map (λ d. d.rows) answers)) (set_row n b.rows))
+        (λ b. InSpan (map (set_row n) (map (λ d. d.rows) (a ∷ answers))) (set_row n b.rows))
         (λ b span. span_more (set_row n a.rows) (set_row n b.rows) (map (set_row n) (map (λ d. d.rows) answers)) span) answers (all_spanned answers),
   )
 
   -- so the set of a record lies in the span of the column's sets before any later place
-  spanned_later : (column : ℕ) (history : List Answered) (early late : ℕ) (r : Answered) → IsOwnRecord history column early r → early < late → late ≤ length history →
+  spanned_later : (column : ℕ) (history : List Answered) (early late : ℕ) (r : Answered) → IsOwnRecord history column early r → early < late →
+      late ≤ length history →
       InSpan (map (set_row n) (sets_before column history late)) (set_row n r.rows.list)
   spanned_later column history early late r is order within =
       let answers = answers_of column (take late history) in
       let size : length (take late history) ≡ late = length-take-le late history within in
       let at : r ≡ get_or (take late history) early r = sym (get_or-take late history early r order ∙ get_or_from_slice_get history early r r is.there) in
-      own_answer (λ a. InSpan (map (set_row n) (map (λ b. b.rows) answers)) (set_row n a.rows)) column (take late history) early r (omega arith) at is.own (all_spanned answers)
+      own_answer (λ a. InSpan (map (set_row n) (map (λ b. b.rows) answers)) (set_row n a.rows)) column (take late history) early r (omega arith) at is.own
+      (all_spanned answers)
 
 -- places that ascend from a number are no less
 at_least : (low end : ℕ) (places : List ℕ) (k : ℕ) → AscendsFrom low end places → k < length places → low ≤ get_or places k 0
@@ -60,7 +63,8 @@ at_least low end (p ∷ places) zero ascends l = ascends.0
 at_least low end (p ∷ places) (suc k) ascends l = let rest = at_least (p + 1) end places k ascends.2 (omega arith) in let first = ascends.0 in omega arith
 
 -- places that ascend are before a later one
-earlier_places : (low end : ℕ) (places : List ℕ) (k : ℕ) → AscendsFrom low end places → k < length places → AllByRecursion (λ p. p < get_or places k 0) (take k places)
+earlier_places : (low end : ℕ) (places : List ℕ) (k : ℕ) → AscendsFrom low end places → k < length places →
+    AllByRecursion (λ p. p < get_or places k 0) (take k places)
 earlier_places low end [] k ascends l = absurd (omega arith)
 earlier_places low end (p ∷ places) zero ascends l = tt
 earlier_places low end (p ∷ places) (suc k) ascends l =
@@ -69,7 +73,10 @@ earlier_places low end (p ∷ places) (suc k) ascends l =
 -- what holds of each place that a list has holds of its items
 pub all_held : (P : ℕ → Type 0) (places : List ℕ) → ((q : ℕ) → has_row places q ≡ true → P q) → AllByRecursion P places
 all_held P [] each = tt
-all_held P (p ∷ places) each = (each p (or_left (p == p) (has_row places p) (eq-eqb p p refl)), all_held P places (λ q there. each q (or_right (p == q) (has_row places q) there)))
+all_held P (p ∷ places) each = (
+  each p (or_left (p == p) (has_row places p) (eq-eqb p p refl)),
+  all_held P places (λ q there. each q (or_right (p == q) (has_row places q) there)),
+)
 
 take_map : (f : ℕ → List ℕ) (k : ℕ) (places : List ℕ) → take k (map f places) ≡ map f (take k places)
 take_map f zero [] = refl
@@ -85,11 +92,13 @@ take_none (s ∷ sets) = refl
 -- the rows of a record that is there
 pub rows_of_record : (history : List Answered) (column place : ℕ) (r : Answered) → IsOwnRecord history column place r → rows_at history place ≡ r.rows.list
 rows_of_record history column place r is =
-    get_or-map (λ (x : Answered). x.rows.list) history place r [] (slice_get_within history place r is.there) ∙ ap (λ (x : Answered). x.rows.list) (get_or_from_slice_get history place r r is.there)
+    get_or-map (λ (x : Answered). x.rows.list) history place r [] (slice_get_within history place r is.there)
+    ∙ ap (λ (x : Answered). x.rows.list) (get_or_from_slice_get history place r r is.there)
 
 module _ (n column : ℕ) (history : List Answered) (places : List ℕ) (are : AreKept n column history places) where
   -- the sets at these places, all before a later one
-  pub spanned_before : (late : ℕ) → late ≤ length history → (some : List ℕ) → AllByRecursion (λ q. q < late) some → AllByRecursion (IsKept n column history) some →
+  pub spanned_before : (late : ℕ) → late ≤ length history → (some : List ℕ) → AllByRecursion (λ q. q < late) some →
+      AllByRecursion (IsKept n column history) some →
       AllByRecursion (InSpan (map (set_row n) (sets_before column history late))) (map (set_row n) (map (rows_at history) some))
   spanned_before late within [] early kept = tt
   spanned_before late within (q ∷ some) early kept = (
@@ -103,15 +112,20 @@ module _ (n column : ℕ) (history : List Answered) (places : List ℕ) (are : A
   all_kept = all_held (IsKept n column history) places (λ q there. (are.each q).0 there)
 
   -- a set isn't in the span of those before it
-  outside_front : (k : ℕ) → k < length places → ¬ (InSpan (map (set_row n) (take k (map (rows_at history) places))) (set_row n (get_or (map (rows_at history) places) k [])))
+  outside_front : (k : ℕ) → k < length places → ¬
+      (InSpan (map (set_row n) (take k (map (rows_at history) places))) (set_row n (get_or (map (rows_at history) places) k [])))
   outside_front k l span =
       let place = get_or places k 0 in
       let kept = all-get_or (IsKept n column history) places k 0 all_kept l in
-      let rows : get_or (map (rows_at history) places) k [] ≡ kept.r.rows.list = get_or-map (rows_at history) places k 0 [] l ∙ rows_of_record history column place kept.r kept.own in
+      let rows : get_or (map (rows_at history) places) k [] ≡ kept.r.rows.list = get_or-map (rows_at history) places k 0 [] l
+      ∙ rows_of_record history column place kept.r kept.own in
       let within : place < length history = slice_get_within history place kept.r kept.own.there in
-      let all = spanned_before place (omega arith) (take k places) (earlier_places 0 (length history) places k are.ascending l) (all-take (IsKept n column history) k places all_kept) in
-      let of_front = subst (λ (sets : List (List ℕ)). AllByRecursion (InSpan (map (set_row n) (sets_before column history place))) (map (set_row n) sets)) (sym (take_map (rows_at history) k places)) all in
-      kept.new (span_trans (map (set_row n) (sets_before column history place)) (map (set_row n) (take k (map (rows_at history) places))) (set_row n kept.r.rows.list) of_front
+      let all = spanned_before place (omega arith) (take k places) (earlier_places 0 (length history) places k are.ascending l)
+      (all-take (IsKept n column history) k places all_kept) in
+      let of_front = subst (λ (sets : List (List ℕ)). AllByRecursion (InSpan (map (set_row n) (sets_before column history place))) (map (set_row n) sets))
+      (sym (take_map (rows_at history) k places)) all in
+      kept.new (span_trans (map (set_row n) (sets_before column history place)) (map (set_row n) (take k (map (rows_at history) places)))
+      (set_row n kept.r.rows.list) of_front
       (subst (λ set. InSpan (map (set_row n) (take k (map (rows_at history) places))) (set_row n set)) rows span))
 
   -- the first ones are independent
@@ -120,10 +134,12 @@ module _ (n column : ℕ) (history : List Answered) (places : List ℕ) (are : A
   front_independent (suc k) l =
       let count = length-map places (rows_at history) in
       let more = take_more (map (rows_at history) places) k [] (omega arith) in
-      let next = independent_push n (take k (map (rows_at history) places)) (get_or (map (rows_at history) places) k []) (front_independent k (omega arith)) (outside_front k (omega arith)) in
+      let next = independent_push n (take k (map (rows_at history) places)) (get_or (map (rows_at history) places) k []) (front_independent k (omega arith))
+      (outside_front k (omega arith)) in
       subst (λ i. AreIndependent n (take i (map (rows_at history) places))) (add-one k) (subst (AreIndependent n) (sym more) next)
 
   -- the kept sets are
   pub kept_independent : AreIndependent n (map (rows_at history) places)
   kept_independent =
-      subst (AreIndependent n) (take_all (length places) (map (rows_at history) places) (let count = length-map places (rows_at history) in omega arith)) (front_independent (length places) (omega arith))
+      subst (AreIndependent n) (take_all (length places) (map (rows_at history) places) (let count = length-map places (rows_at history) in omega arith))
+      (front_independent (length places) (omega arith))

@@ -23,37 +23,50 @@ use Rattle.denial_proof.proofs.KeptIndependent.{span_first, span_more, rows_of_r
 use Rattle.audit_core.specs.FrontLaws.{sets_after_own, sets_after_other}
 
 -- a set of these places lies in the span of their sets
-member_spanned : (n : ℕ) (history : List Answered) (places : List ℕ) (q : ℕ) → has_row places q ≡ true → InSpan (map (set_row n) (map (rows_at history) places)) (set_row n (rows_at history q))
+member_spanned : (n : ℕ) (history : List Answered) (places : List ℕ) (q : ℕ) → has_row places q ≡ true →
+    InSpan (map (set_row n) (map (rows_at history) places)) (set_row n (rows_at history q))
 member_spanned n history [] q there = absurd (true≢false (sym there))
 member_spanned n history (p ∷ places) q there = elim (or_cases (p == q) (has_row places q) there) [
   | inl here ↦
       subst (λ k. InSpan (map (set_row n) (map (rows_at history) (p ∷ places))) (set_row n (rows_at history k))) (eqb-true p q here)
       (span_first (set_row n (rows_at history p)) (map (set_row n) (map (rows_at history) places)))
-  | inr later ↦ span_more (set_row n (rows_at history p)) (set_row n (rows_at history q)) (map (set_row n) (map (rows_at history) places)) (member_spanned n history places q later)
+  | inr later ↦ span_more (set_row n (rows_at history p)) (set_row n (rows_at history q)) (map (set_row n) (map (rows_at history) places))
+      (member_spanned n history places q later)
 ]
 
 -- the sum of a direction over a set in the span of its sets is 0
-pub still_in_span : (n : ℕ) (sets : List (List ℕ)) (rows : List ℕ) (d : List ℤ) → AllByRecursion (AreRows n) sets → AreRows n rows → AllByRecursion (λ s. sum_over d s ≡ pos 0) sets →
+pub still_in_span : (n : ℕ) (sets : List (List ℕ)) (rows : List ℕ) (d : List ℤ) → AllByRecursion (AreRows n) sets → AreRows n rows →
+    AllByRecursion (λ s. sum_over d s ≡ pos 0) sets →
     InSpan (map (set_row n) sets) (set_row n rows) → sum_over d rows ≡ pos 0
 still_in_span n sets rows d are own zeros span =
     sym (product-set_row d n rows own) ∙ product-span (number_at d) n (map (set_row n) sets) (set_row n rows) (products_from_sums n d sets are zeros) span
 
-module _ (decided : SpannedOrMoved) (n column : ℕ) (history : List Answered) (fit : AllByRecursion (λ (r : Answered). AreRows n r.rows.list) history) (places : List ℕ) (kept : AreKept n column history places) where
+module _ (decided : SpannedOrMoved) (n column : ℕ) (history : List Answered) (fit : AllByRecursion (λ (r : Answered). AreRows n r.rows.list) history)
+    (places : List ℕ) (kept : AreKept n column history places) where
   pub sets_are_rows : (i : ℕ) → AllByRecursion (AreRows n) (sets_before column history i)
   sets_are_rows i =
       all-map (λ (a : Answer). a.rows) (AreRows n) (answers_of column (take i history))
-      (all-map answer_in (λ a. AreRows n a.rows) _ (all-filter (λ (r : Answered). AreRows n r.rows.list) (λ r. r.column == column) (take i history) (all-take (λ (r : Answered). AreRows n r.rows.list) i history fit)))
+      (all-map answer_in (λ a. AreRows n a.rows) _
+      (all-filter (λ (r : Answered). AreRows n r.rows.list) (λ r. r.column == column) (take i history)
+      (all-take (λ (r : Answered). AreRows n r.rows.list) i history fit)))
 
   -- the set of a record of the column, if all sets before it lie in the span
   own_spanned : (i : ℕ) (r : Answered) → IsOwnRecord history column i r → AreRows n r.rows.list →
       AllByRecursion (InSpan (map (set_row n) (map (rows_at history) places))) (map (set_row n) (sets_before column history i)) →
       (b : Bool) → has_row places i ≡ b → InSpan (map (set_row n) (map (rows_at history) places)) (set_row n r.rows.list)
   own_spanned i r own are before true there =
-      subst (λ rows. InSpan (map (set_row n) (map (rows_at history) places)) (set_row n rows)) (rows_of_record history column i r own) (member_spanned n history places i there)
+      subst (λ rows. InSpan (map (set_row n) (map (rows_at history) places)) (set_row n rows)) (rows_of_record history column i r own)
+      (member_spanned n history places i there)
   own_spanned i r own are before false absent = elim (decided n (sets_before column history i) r.rows.list (sets_are_rows i) are) [
-    | inl span ↦ span_trans (map (set_row n) (map (rows_at history) places)) (map (set_row n) (sets_before column history i)) (set_row n r.rows.list) before span
+    | inl span ↦ span_trans (map (set_row n) (map (rows_at history) places)) (map (set_row n) (sets_before column history i))
+        (set_row n r.rows.list) before span
     | inr (d, direction, moved) ↦
-        let new : IsKept n column history i = record { r = r; own = own; new = λ span. moved (still_in_span n (sets_before column history i) r.rows.list d (sets_are_rows i) are direction.zero_sums span) } in
+        let new : IsKept n column history i = record {
+          r = r;
+          own = own;
+          new = λ span. moved
+              (still_in_span n (sets_before column history i) r.rows.list d (sets_are_rows i) are direction.zero_sums span);
+        } in
         absurd (true≢false (sym ((kept.each i).1 new) ∙ absent))
   ]
 
@@ -69,7 +82,8 @@ module _ (decided : SpannedOrMoved) (n column : ℕ) (history : List Answered) (
         (all-push (InSpan (map (set_row n) (map (rows_at history) places))) (map (set_row n) (sets_before column history i)) (set_row n r.rows.list) before
         (own_spanned i r (record { there = there; own = own }) are before (has_row places i) refl))
     | inr other ↦
-        subst (λ (sets : List (List ℕ)). AllByRecursion (InSpan (map (set_row n) (map (rows_at history) places))) (map (set_row n) sets)) (sym (sets_after_other column history i r within is other)) before
+        subst (λ (sets : List (List ℕ)). AllByRecursion (InSpan (map (set_row n) (map (rows_at history) places))) (map (set_row n) sets))
+        (sym (sets_after_other column history i r within is other)) before
   ]
 
   pub all_in_span : ((i : ℕ) (r : Answered) → slice_get history i ≡ Some r → AreRows n r.rows.list) → (i : ℕ) → i ≤ length history →

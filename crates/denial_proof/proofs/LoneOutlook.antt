@@ -41,7 +41,8 @@ module _ (n : ℕ) (answers : List Answer) (rows : List ℕ) (outlook : Outlook)
     | inr (a, one, held, value) ↦ by_lt_z x a.value
         (λ less.
         let lost = higher_loses answers rows x a one less in
-        let found = some_row (outside rows (extremes answers a)) (subst (λ (l : List ℕ). 0 < length l) lost (some_extreme a (one_of_front answers (asked answers rows x) a one))) in
+        let found = some_row (outside rows (extremes answers a))
+        (subst (λ (l : List ℕ). 0 < length l) lost (some_extreme a (one_of_front answers (asked answers rows x) a one))) in
         absurd (held found.0 found.1))
         (λ more. omega (arith, ints))
   ]
@@ -49,14 +50,16 @@ module _ (n : ℕ) (answers : List Answer) (rows : List ℕ) (outlook : Outlook)
   -- some row of the set reaches it
   reached : x ≤ℤ outlook.reach.top
   reached =
-      let found = some_row (extremes (with_asked answers rows x) (asked answers rows x)) (some_extreme (asked answers rows x) (one_of_last answers (asked answers rows x))) in
+      let found = some_row (extremes (with_asked answers rows x) (asked answers rows x))
+      (some_extreme (asked answers rows x) (one_of_last answers (asked answers rows x))) in
       let there = has_asked answers rows x found.0 found.1 in
       let most = is.reach.top found.0 there.0 in
       let least = reach_up x (upper_bound answers found.0) near there.1 in
       omega (arith, ints)
 
   -- an earlier answer has a lone row because it had it before, or because it is above the new one and has one row left
-  of_earlier : (a : Answer) → IsOneOf a answers → extremes (with_asked answers rows x) a ≡ leaves.row ∷ [] → IsTrue outlook.is_lone ⊎ ((x <ℤ outlook.holding.stranded) ⊎ (outlook.reach.next <ℤ x))
+  of_earlier : (a : Answer) → IsOneOf a answers → extremes (with_asked answers rows x) a ≡ leaves.row ∷ [] → IsTrue outlook.is_lone ⊎
+      ((x <ℤ outlook.holding.stranded) ⊎ (outlook.reach.next <ℤ x))
   of_earlier a one only = by_lt_z x a.value
       (λ less.
       let left : outside rows (extremes answers a) ≡ leaves.row ∷ [] = sym (higher_loses answers rows x a one less) ∙ only in
@@ -70,7 +73,8 @@ module _ (n : ℕ) (answers : List Answer) (rows : List ℕ) (outlook : Outlook)
       (λ more. inl (is.lone leaves.row (a, one, sym (lower_keeps answers rows x a one (omega (arith, ints))) ∙ only)))
 
   -- the new one because no two rows of the set reach it
-  of_asked : extremes (with_asked answers rows x) (asked answers rows x) ≡ leaves.row ∷ [] → IsTrue outlook.is_lone ⊎ ((x <ℤ outlook.holding.stranded) ⊎ (outlook.reach.next <ℤ x))
+  of_asked : extremes (with_asked answers rows x) (asked answers rows x) ≡ leaves.row ∷ [] → IsTrue outlook.is_lone ⊎
+      ((x <ℤ outlook.holding.stranded) ⊎ (outlook.reach.next <ℤ x))
   of_asked only = by_lt_z outlook.reach.next x
       (λ less. inr (inr less))
       (λ more. elim is.reach.next [

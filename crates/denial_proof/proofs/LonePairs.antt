@@ -76,12 +76,14 @@ module _ (n : ℕ) (answers : List Answer) (formed : IsWellFormed (known_max n a
   lone_below row (a, one, is) = row_below n a.rows row (rows_of a one) (only_from_lone a one row is).at.holds
 
 -- the first record of one kind is the first of the other
-pub first_is_lone : (n : ℕ) (history : List Answered) (asked : Asked) (answer : ℤ) (row : ℕ) (least : Option ℕ) → IsWellFormed (known_max n (answers_after history asked answer)) →
+pub first_is_lone : (n : ℕ) (history : List Answered) (asked : Asked) (answer : ℤ) (row : ℕ) (least : Option ℕ) →
+    IsWellFormed (known_max n (answers_after history asked answer)) →
     IsLeast (IsOnlyAt history asked.column (highest n (answers_after history asked answer)) row) least → IsLeast (IsLoneAt history asked answer row) least
 first_is_lone n history asked answer row least formed is = by least is
   where
     among : (place : ℕ) (r : Answered) → IsOwnRecord history asked.column place r → IsOneOf (answer_in r) (answers_after history asked answer)
-    among place r own = one_of_front (answers_of asked.column history) (record { rows = asked.rows.list; value = answer }) (answer_in r) (record_is_one history asked.column place r own)
+    among place r own = one_of_front (answers_of asked.column history) (record { rows = asked.rows.list; value = answer }) (answer_in r)
+        (record_is_one history asked.column place r own)
 
     lone_at : (place : ℕ) → IsOnlyAt history asked.column (highest n (answers_after history asked answer)) row place → IsLoneAt history asked answer row place
     lone_at place (r, own, only) = (r, own, lone_from_only n (answers_after history asked answer) formed (answer_in r) (among place r own) row only)
@@ -89,30 +91,36 @@ first_is_lone n history asked answer row least formed is = by least is
     only_at : (place : ℕ) → IsLoneAt history asked answer row place → IsOnlyAt history asked.column (highest n (answers_after history asked answer)) row place
     only_at place (r, own, lone) = (r, own, only_from_lone n (answers_after history asked answer) formed (answer_in r) (among place r own) row lone)
 
-    by : (some : Option ℕ) → IsLeast (IsOnlyAt history asked.column (highest n (answers_after history asked answer)) row) some → IsLeast (IsLoneAt history asked answer row) some
+    by : (some : Option ℕ) → IsLeast (IsOnlyAt history asked.column (highest n (answers_after history asked answer)) row) some →
+        IsLeast (IsLoneAt history asked answer row) some
     by None none = λ place lone. none place (only_at place lone)
     by (Some place) (here, before) = (lone_at place here, λ q l lone. before q l (only_at q lone))
 
 -- with the asked set the answers are over sets of rows of the table
-pub formed_after : (n : ℕ) (before : List Answer) (rows : List ℕ) (answer : ℤ) → IsWellFormed (known_max n before) → AreRows n rows → rows ≢ [] → IsWellFormed (known_max n (and_answer before rows answer))
+pub formed_after : (n : ℕ) (before : List Answer) (rows : List ℕ) (answer : ℤ) → IsWellFormed (known_max n before) → AreRows n rows → rows ≢ [] →
+    IsWellFormed (known_max n (and_answer before rows answer))
 formed_after n before rows answer formed are some = record {
   are_rows = all-push (λ a. AreRows n a.rows) before (record { rows = rows; value = answer }) formed.are_rows are;
   some = all-push (λ a. a.rows ≢ []) before (record { rows = rows; value = answer }) formed.some some;
 }
 
 -- what was found is the canonical proof
-pub canonical_from : HighestAgrees → (n : ℕ) (history : List Answered) (asked : Asked) (before : List Answer) (answer : ℤ) (row : ℕ) (place : Option ℕ) (high : List ℤ) → before ≡ answers_of asked.column history →
+pub canonical_from : HighestAgrees → (n : ℕ) (history : List Answered) (asked : Asked) (before : List Answer) (answer : ℤ) (row : ℕ) (place : Option ℕ)
+    (high : List ℤ) → before ≡ answers_of asked.column history →
     IsWellFormed (known_max n before) → AreRows n asked.rows.list → asked.rows.list ≢ [] → IsFirstAnswer (known_max n before) asked.rows.list answer →
-    IsLeastLone (and_answer before asked.rows.list answer) (Some row) → high ≡ highest n (and_answer before asked.rows.list answer) → IsLeast (IsOnlyAt history asked.column high row) place →
+    IsLeastLone (and_answer before asked.rows.list answer) (Some row) → high ≡ highest n (and_answer before asked.rows.list answer) →
+    IsLeast (IsOnlyAt history asked.column high row) place →
     IsCanonicalMax n history asked answer row place high × ShowsRow n history asked answer row place high
 canonical_from agrees n history asked before answer row place high same formed are some first least highest_is pairs =
     let own = subst (λ (b : List Answer). IsWellFormed (known_max n b)) same formed in
     let all = formed_after n (answers_of asked.column history) asked.rows.list answer own are some in
-    let high_is : high ≡ highest n (answers_after history asked answer) = highest_is ∙ ap (λ (b : List Answer). highest n (and_answer b asked.rows.list answer)) same in
+    let high_is : high ≡ highest n (answers_after history asked answer) = highest_is
+    ∙ ap (λ (b : List Answer). highest n (and_answer b asked.rows.list answer)) same in
     let canonical : IsCanonicalMax n history asked answer row place high = record {
       first_answer = subst (λ (b : List Answer). IsFirstAnswer (known_max n b) asked.rows.list answer) same first;
       least_row = subst (λ (b : List Answer). IsLeastLone (and_answer b asked.rows.list answer) (Some row)) same least;
-      first_pair = first_is_lone n history asked answer row place all (subst (λ (h : List ℤ). IsLeast (IsOnlyAt history asked.column h row) place) high_is pairs);
+      first_pair = first_is_lone n history asked answer row place all
+          (subst (λ (h : List ℤ). IsLeast (IsOnlyAt history asked.column h row) place) high_is pairs);
       highest_is = high_is;
     } in
     (canonical, highest_shows agrees n history asked answer row place high all canonical)

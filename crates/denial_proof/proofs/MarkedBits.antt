@@ -32,11 +32,14 @@ small_from : (bits : List ℕ) → ((j : ℕ) → j < length bits → get_or bit
 small_from [] h = tt
 small_from (b ∷ bits) h = (h 0 (omega arith), small_from bits (λ j l. h (suc j) (omega arith)))
 
-pub bits_small : (n : ℕ) (rows bits : List ℕ) (at : ℕ) → ((j : ℕ) → j < length bits → get_or bits j 0 ≡ bit_of n rows j) → AllByRecursion (λ b. b ≤ 1) (set bits at 1)
+pub bits_small : (n : ℕ) (rows bits : List ℕ) (at : ℕ) → ((j : ℕ) → j < length bits → get_or bits j 0 ≡ bit_of n rows j) →
+    AllByRecursion (λ b. b ≤ 1) (set bits at 1)
 bits_small n rows bits at written =
-    all-set (λ b. b ≤ 1) bits at 1 (small_from bits (λ j l. let is = written j l in let small = bit_small (nat_lt j n && has_row rows j) in omega arith)) (omega arith)
+    all-set (λ b. b ≤ 1) bits at 1 (small_from bits (λ j l. let is = written j l in let small = bit_small (nat_lt j n && has_row rows j) in omega arith))
+    (omega arith)
 
-module _ (n m mark : ℕ) (rows bits : List ℕ) (size : length bits ≡ n + m) (within : mark < m) (written : (j : ℕ) → j < length bits → get_or bits j 0 ≡ bit_of n rows j) where
+module _ (n m mark : ℕ) (rows bits : List ℕ) (size : length bits ≡ n + m) (within : mark < m)
+    (written : (j : ℕ) → j < length bits → get_or bits j 0 ≡ bit_of n rows j) where
   -- the columns of the table
   at_rows : (j : ℕ) → j < n → number_at (map pos (set bits (n + mark) 1)) j ≡ number_at (marked_row n m mark rows) j
   at_rows j l =
@@ -53,7 +56,8 @@ module _ (n m mark : ℕ) (rows bits : List ℕ) (size : length bits ≡ n + m) 
   at_marks : (i : ℕ) → i < m → number_at (map pos (set bits (n + mark) 1)) (n + i) ≡ number_at (marked_row n m mark rows) (n + i)
   at_marks i l = elim (cases_eq i mark) [
     | inl here ↦
-        number_at-bits (set bits (n + mark) 1) (n + i) ∙ ap (λ k. pos (get_or (set bits (n + mark) 1) (n + k) 0)) here ∙ ap pos (get_or-set_same bits (n + mark) 1 0 (omega arith))
+        number_at-bits (set bits (n + mark) 1) (n + i) ∙ ap (λ k. pos (get_or (set bits (n + mark) 1) (n + k) 0)) here
+        ∙ ap pos (get_or-set_same bits (n + mark) 1 0 (omega arith))
         ∙ sym (ap (λ k. number_at (marked_row n m mark rows) (n + k)) here ∙ at_own_mark n m mark rows within)
     | inr other ↦
         let test : nat_lt (n + i) n ≡ false = false_from_ne_true (nat_lt (n + i) n) (λ e. let less = ltb-true (n + i) n e in absurd (omega arith)) in
@@ -67,7 +71,8 @@ module _ (n m mark : ℕ) (rows bits : List ℕ) (size : length bits ≡ n + m) 
   marked_written = same_rows (map pos (set bits (n + mark) 1)) (marked_row n m mark rows) lengths entries
     where
       whole : length (marked_row n m mark rows) ≡ n + m
-      whole = length-append (set_row n rows) (set_row m (mark ∷ [])) ∙ ap (λ k. k + length (set_row m (mark ∷ []))) (length-set_row n rows) ∙ ap (λ k. n + k) (length-set_row m (mark ∷ []))
+      whole = length-append (set_row n rows) (set_row m (mark ∷ [])) ∙ ap (λ k. k + length (set_row m (mark ∷ []))) (length-set_row n rows)
+          ∙ ap (λ k. n + k) (length-set_row m (mark ∷ []))
 
       written_size : length (map pos (set bits (n + mark) 1)) ≡ n + m
       written_size = length-map (set bits (n + mark) 1) pos ∙ length-set bits (n + mark) 1 ∙ size

@@ -19,7 +19,8 @@ take_from n m mark [] k at is l = absurd (omega arith)
 take_from n m mark (s ∷ sets) zero at is l = let same : mark ≡ at = omega arith in ap (λ i. marked_row n m i s ∷ []) same
 take_from n m mark (s ∷ sets) (suc k) at is l = ap (λ rows. marked_row n m mark s ∷ rows) (take_from n m (mark + 1) sets k at (omega arith) (omega arith))
 
-pub take_marked : (n m : ℕ) (sets : List (List ℕ)) (k : ℕ) → k < length sets → take (k + 1) (marked_rows n m 0 sets) ≡ take k (marked_rows n m 0 sets) ++ marked_row n m k (get_or sets k []) ∷ []
+pub take_marked : (n m : ℕ) (sets : List (List ℕ)) (k : ℕ) → k < length sets → take (k + 1) (marked_rows n m 0 sets)
+    ≡ take k (marked_rows n m 0 sets) ++ marked_row n m k (get_or sets k []) ∷ []
 take_marked n m sets k l = rw add-one (take_from n m 0 sets k k (omega arith) l)
 
 -- there is a marked row for each set
@@ -31,13 +32,16 @@ pub length-marked_rows : (n m : ℕ) (sets : List (List ℕ)) → length (marked
 length-marked_rows n m sets = length_from n m 0 sets
 
 -- the set at a place of a place
-pub set_at : (history : List Answered) (places : List ℕ) (k : ℕ) (r : Answered) → k < length places → get_or places k 0 < length history → r ≡ get_or history (get_or places k 0) r →
+pub set_at : (history : List Answered) (places : List ℕ) (k : ℕ) (r : Answered) → k < length places → get_or places k 0 < length history → r
+    ≡ get_or history (get_or places k 0) r →
     get_or (map (rows_at history) places) k [] ≡ r.rows.list
 set_at history places k r l within is =
-    get_or-map (rows_at history) places k 0 [] l ∙ get_or-map (λ (x : Answered). x.rows.list) history (get_or places k 0) r [] within ∙ ap (λ (x : Answered). x.rows.list) (sym is)
+    get_or-map (rows_at history) places k 0 [] l ∙ get_or-map (λ (x : Answered). x.rows.list) history (get_or places k 0) r [] within
+    ∙ ap (λ (x : Answered). x.rows.list) (sym is)
 
 -- what holds of a front with the next marked row holds of the next front
-pub front_step : (Q : ℕ → List (List ℤ) → Type 0) (n : ℕ) (history : List Answered) (places : List ℕ) (k : ℕ) (r : Answered) (form : Echelon) → k < length places → get_or places k 0 < length history →
+pub front_step : (Q : ℕ → List (List ℤ) → Type 0) (n : ℕ) (history : List Answered) (places : List ℕ) (k : ℕ) (r : Answered) (form : Echelon) →
+    k < length places → get_or places k 0 < length history →
     r ≡ get_or history (get_or places k 0) r → r.rows.n ≡ n → form.n ≡ n + (length places + 1) →
     IsReducedForm (n + (length places + 1)) (take k (marked_rows n (length places + 1) 0 (map (rows_at history) places))) form.rows →
     MarksNext form r.rows k (Q form.n) → Q (n + (length places + 1)) (take (k + 1) (marked_rows n (length places + 1) 0 (map (rows_at history) places)))
@@ -80,7 +84,8 @@ wide_front_push n rows row (k, most, wide) =
 pub wide_front_whole : (n : ℕ) (rows : List (List ℤ)) → HasWideFormOf n rows → HasWideFront n rows
 wide_front_whole n rows wide = (length rows, omega arith, subst (HasWideFormOf n) (sym (take_all (length rows) rows (omega arith))) wide)
 
-pub narrow_push : FormsAreUnique → (n : ℕ) (rows : List (List ℤ)) (row : List ℤ) (form : List (List ℤ)) → ¬ (HasWideFront n rows) → IsReducedForm n (rows ++ row ∷ []) form → IsNarrow most_width form →
+pub narrow_push : FormsAreUnique → (n : ℕ) (rows : List (List ℤ)) (row : List ℤ) (form : List (List ℤ)) → ¬ (HasWideFront n rows) →
+    IsReducedForm n (rows ++ row ∷ []) form → IsNarrow most_width form →
     ¬ (HasWideFront n (rows ++ row ∷ []))
 narrow_push unique n rows row form before reduced narrow (k, most, wide) = elim (cases_lt (length rows) k) [
   | inr front ↦ before (k, front, subst (HasWideFormOf n) (take-append-le k rows (row ∷ []) front) wide)
@@ -90,15 +95,18 @@ narrow_push unique n rows row form before reduced narrow (k, most, wide) = elim 
 ]
 
 -- the marked rows of one set more
-push_from : (n m mark at : ℕ) (sets : List (List ℕ)) (s : List ℕ) → at ≡ mark + length sets → marked_rows n m mark (sets ++ s ∷ []) ≡ marked_rows n m mark sets ++ marked_row n m at s ∷ []
+push_from : (n m mark at : ℕ) (sets : List (List ℕ)) (s : List ℕ) → at ≡ mark + length sets → marked_rows n m mark (sets ++ s ∷ [])
+    ≡ marked_rows n m mark sets ++ marked_row n m at s ∷ []
 push_from n m mark at [] s is = let same : mark ≡ at = omega arith in ap (λ i. marked_row n m i s ∷ []) same
 push_from n m mark at (t ∷ sets) s is = ap (λ rows. marked_row n m mark t ∷ rows) (push_from n m (mark + 1) at sets s (omega arith))
 
-pub marked_rows-push : (n m at : ℕ) (sets : List (List ℕ)) (s : List ℕ) → at ≡ length sets → marked_rows n m 0 (sets ++ s ∷ []) ≡ marked_rows n m 0 sets ++ marked_row n m at s ∷ []
+pub marked_rows-push : (n m at : ℕ) (sets : List (List ℕ)) (s : List ℕ) → at ≡ length sets → marked_rows n m 0 (sets ++ s ∷ [])
+    ≡ marked_rows n m 0 sets ++ marked_row n m at s ∷ []
 marked_rows-push n m at sets s is = push_from n m 0 at sets s (omega arith)
 
 -- with the marked row of the asked set
-pub marked_with_asked : FormsAreUnique → (n : ℕ) (history : List Answered) (places : List ℕ) (rows : Rows) (old new : Echelon) → rows.n ≡ n → IsMarked n (length places + 1) (map (rows_at history) places) old →
+pub marked_with_asked : FormsAreUnique → (n : ℕ) (history : List Answered) (places : List ℕ) (rows : Rows) (old new : Echelon) → rows.n ≡ n →
+    IsMarked n (length places + 1) (map (rows_at history) places) old →
     new.n ≡ old.n → new.width ≡ old.width → IsNarrow most_width new.rows → MarksNext old rows (length places) (λ whole. IsReducedForm old.n whole new.rows) →
     IsMarked n (length places + 1) (kept_sets history places rows.list) new
 marked_with_asked unique n history places rows old new same_n marked same same_width narrow next =
@@ -111,7 +119,8 @@ marked_with_asked unique n history places rows old new same_n marked same same_w
     let over_old : IsReducedForm old.n (front ++ marked_row rows.n m (length places) rows.list ∷ []) new.rows
     = next m (marked.columns ∙ ap (λ x. x + m) (sym same_n)) front (subst (λ c. IsReducedForm c front old.rows) (sym marked.columns) marked.reduced) in
     let over_n : IsReducedForm (n + m) (front ++ row ∷ []) new.rows
-    = subst (λ c. IsReducedForm c (front ++ row ∷ []) new.rows) marked.columns (subst (λ x. IsReducedForm old.n (front ++ marked_row x m (length places) rows.list ∷ []) new.rows) same_n over_old) in
+    = subst (λ c. IsReducedForm c (front ++ row ∷ []) new.rows) marked.columns
+    (subst (λ x. IsReducedForm old.n (front ++ marked_row x m (length places) rows.list ∷ []) new.rows) same_n over_old) in
     record {
       columns = same ∙ marked.columns;
       width = same_width ∙ marked.width;
@@ -120,8 +129,10 @@ marked_with_asked unique n history places rows old new same_n marked same same_w
     }
 
 -- or without it, if the form isn't narrow
-pub wide_with_asked : (n : ℕ) (history : List Answered) (places : List ℕ) (rows : Rows) (old : Echelon) → rows.n ≡ n → IsMarked n (length places + 1) (map (rows_at history) places) old →
-    MarksNext old rows (length places) (HasWideFormOf old.n) → HasWideFront (n + (length places + 1)) (marked_rows n (length places + 1) 0 (kept_sets history places rows.list))
+pub wide_with_asked : (n : ℕ) (history : List Answered) (places : List ℕ) (rows : Rows) (old : Echelon) → rows.n ≡ n →
+    IsMarked n (length places + 1) (map (rows_at history) places) old →
+    MarksNext old rows (length places) (HasWideFormOf old.n) → HasWideFront (n + (length places + 1))
+    (marked_rows n (length places + 1) 0 (kept_sets history places rows.list))
 wide_with_asked n history places rows old same_n marked next =
     let m = length places + 1 in
     let sets = map (rows_at history) places in
@@ -132,11 +143,13 @@ wide_with_asked n history places rows old same_n marked next =
     let over_old : HasWideFormOf old.n (front ++ marked_row rows.n m (length places) rows.list ∷ [])
     = next m (marked.columns ∙ ap (λ x. x + m) (sym same_n)) front (subst (λ c. IsReducedForm c front old.rows) (sym marked.columns) marked.reduced) in
     let over_n : HasWideFormOf (n + m) (front ++ row ∷ [])
-    = subst (λ c. HasWideFormOf c (front ++ row ∷ [])) marked.columns (subst (λ x. HasWideFormOf old.n (front ++ marked_row x m (length places) rows.list ∷ [])) same_n over_old) in
+    = subst (λ c. HasWideFormOf c (front ++ row ∷ [])) marked.columns
+    (subst (λ x. HasWideFormOf old.n (front ++ marked_row x m (length places) rows.list ∷ [])) same_n over_old) in
     subst (HasWideFront (n + m)) (sym whole) (wide_front_whole (n + m) (front ++ row ∷ []) over_n)
 
 -- the marks of the kept sets alone, as a front of all
-pub wide_without_asked : (n : ℕ) (history : List Answered) (places rows : List ℕ) → HasWideFront (n + (length places + 1)) (marked_rows n (length places + 1) 0 (map (rows_at history) places)) →
+pub wide_without_asked : (n : ℕ) (history : List Answered) (places rows : List ℕ) →
+    HasWideFront (n + (length places + 1)) (marked_rows n (length places + 1) 0 (map (rows_at history) places)) →
     HasWideFront (n + (length places + 1)) (marked_rows n (length places + 1) 0 (kept_sets history places rows))
 wide_without_asked n history places rows wide =
     let m = length places + 1 in
@@ -145,8 +158,10 @@ wide_without_asked n history places rows wide =
     subst (HasWideFront (n + m)) (sym whole) (wide_front_push (n + m) (marked_rows n m 0 sets) (marked_row n m (length places) rows) wide)
 
 -- as many sets are marked as there are marks
-pub marks_wide : (n : ℕ) (history : List Answered) (places rows : List ℕ) → HasWideFront (n + (length places + 1)) (marked_rows n (length places + 1) 0 (kept_sets history places rows)) →
+pub marks_wide : (n : ℕ) (history : List Answered) (places rows : List ℕ) →
+    HasWideFront (n + (length places + 1)) (marked_rows n (length places + 1) 0 (kept_sets history places rows)) →
     HasWideMarks n (kept_sets history places rows)
 marks_wide n history places rows wide =
-    let count : length places + 1 ≡ length (kept_sets history places rows) = sym (length-append (map (rows_at history) places) (rows ∷ []) ∙ ap (λ k. k + 1) (length-map places (rows_at history))) in
+    let count : length places + 1 ≡ length (kept_sets history places rows) =
+    sym (length-append (map (rows_at history) places) (rows ∷ []) ∙ ap (λ k. k + 1) (length-map places (rows_at history))) in
     subst (λ m. HasWideFront (n + m) (marked_rows n m 0 (kept_sets history places rows))) count wide

@@ -22,7 +22,8 @@ pub record AreReadSoFar (common : ℤ) (f : ℕ → ℤ) (mark : ℕ) (numbers :
   pub exact : (k : ℕ) → k < mark → number_at numbers (k + 1) ≡ f k
   pub small : AllByRecursion (λ x. unsigned_abs x ≤ 2 ^ 123) numbers
 
-pub read_push : (common : ℤ) (f : ℕ → ℤ) (mark : ℕ) (numbers : List ℤ) (x : ℤ) → AreReadSoFar common f mark numbers → x ≡ f mark → unsigned_abs x ≤ 2 ^ 123 → AreReadSoFar common f (mark + 1) (numbers ++ x ∷ [])
+pub read_push : (common : ℤ) (f : ℕ → ℤ) (mark : ℕ) (numbers : List ℤ) (x : ℤ) → AreReadSoFar common f mark numbers → x ≡ f mark → unsigned_abs x ≤ 2 ^ 123 →
+    AreReadSoFar common f (mark + 1) (numbers ++ x ∷ [])
 read_push common f mark numbers x before is small = record {
   one_each = length-append numbers (x ∷ []) ∙ ap (λ k. k + 1) before.one_each;
   first = get_or_append_left numbers (x ∷ []) (pos 0) 0 (let size = before.one_each in omega arith) ∙ before.first;
@@ -41,7 +42,8 @@ first_and_rest [] m size = absurd (omega arith)
 first_and_rest (x ∷ rest) m size = (rest, refl, omega arith)
 
 -- once they are divided, they are the multipliers
-pub multipliers_from : (form : List (List ℤ)) (target : List ℤ) (n m : ℕ) (common : ℤ) (taken old new : List ℤ) → pos 0 <ℤ common → unsigned_abs common ≤ 2 ^ 56 → AreTaken common (number_at target) form taken →
+pub multipliers_from : (form : List (List ℤ)) (target : List ℤ) (n m : ℕ) (common : ℤ) (taken old new : List ℤ) → pos 0 <ℤ common →
+    unsigned_abs common ≤ 2 ^ 56 → AreTaken common (number_at target) form taken →
     AllByRecursion IsTakenSmall taken → AreReadSoFar common (λ k. combined taken form (n + k)) m old → IsDivided old new → AreMultipliers form target n m new
 multipliers_from form target n m common taken old new positive small are few read divided =
     let split = first_and_rest old m read.one_each in

@@ -72,7 +72,8 @@ module _ (n : ℕ) (sets : List (List ℕ)) (target : List ℤ) (x y : ℤ) (f g
 
   pub one_way : AreIndependent n sets → x ∷ f ≡ y ∷ g
   one_way independent =
-      one_primitive y x (x ∷ f) (y ∷ g) second.positive first.positive (ap suc (first.one_each ∙ sym second.one_each)) first.content second.content (on_line independent)
+      one_primitive y x (x ∷ f) (y ∷ g) second.positive first.positive (ap suc (first.one_each ∙ sym second.one_each)) first.content second.content
+      (on_line independent)
 
 -- ---- numbers for terms
 
@@ -92,7 +93,8 @@ named_later p low end places (t ∷ terms) l ascends named =
     let other : (p == t.place) ≡ false = ne_eqb p t.place (λ e. omega arith) in
     (rw other at named.0, named_later p (t.place + 1) end places terms (omega arith) ascends.2 named.1)
 
-numbers_of : (low end : ℕ) (places : List ℕ) (terms : List Term) (own : ℤ) → AscendsFrom low end places → AscendsFrom low end (map (λ (t : Term). t.place) terms) →
+numbers_of : (low end : ℕ) (places : List ℕ) (terms : List Term) (own : ℤ) → AscendsFrom low end places →
+    AscendsFrom low end (map (λ (t : Term). t.place) terms) →
     AllByRecursion (λ (t : Term). has_row places t.place ≡ true) terms → AllByRecursion (λ (t : Term). t.times ≢ pos 0) terms → HasNumbers places terms own
 numbers_of low end [] [] own order ascends named counted = record { numbers = own ∷ []; one_each = refl; terms_are = refl; last = refl }
 numbers_of low end [] (t ∷ terms) own order ascends named counted = absurd (true≢false (sym named.0))
@@ -101,13 +103,15 @@ numbers_of low end (p ∷ places) [] own order ascends named counted =
     record { numbers = pos 0 ∷ rest.numbers; one_each = let all = rest.one_each in omega arith; terms_are = rest.terms_are; last = rest.last }
 numbers_of low end (p ∷ places) (t ∷ terms) own order ascends named counted = elim (cases_eq t.place p) [
   | inl here ↦
-      let later : AscendsFrom (p + 1) end (map (λ (s : Term). s.place) terms) = subst (λ k. AscendsFrom (k + 1) end (map (λ (s : Term). s.place) terms)) here ascends.2 in
+      let later : AscendsFrom (p + 1) end (map (λ (s : Term). s.place) terms) =
+      subst (λ k. AscendsFrom (k + 1) end (map (λ (s : Term). s.place) terms)) here ascends.2 in
       let rest = numbers_of (p + 1) end places terms own order.2 later (named_later p (p + 1) end places terms (omega arith) later named.1) counted.1 in
       let some = test_of_not_zero t.times counted.0 in
       record {
         numbers = t.times ∷ rest.numbers;
         one_each = let all = rest.one_each in omega arith;
-        terms_are = rw some (ap (λ k. record { place = k; times = t.times } ∷ terms_of places rest.numbers) (sym here) ∙ ap (λ (more : List Term). t ∷ more) rest.terms_are);
+        terms_are = rw some (ap (λ k. record { place = k; times = t.times } ∷ terms_of places rest.numbers) (sym here)
+            ∙ ap (λ (more : List Term). t ∷ more) rest.terms_are);
         last = rest.last;
       }
   | inr other ↦
@@ -141,12 +145,15 @@ module _ (n : ℕ) (history : List Answered) (protected : List Protected) (asked
         positive = canonical.positive;
         one_each = has_numbers.one_each ∙ sym (length-append sets (rows ∷ []) ∙ ap (λ k. k + 1) count);
         add_up = λ j l.
-            let sum = ap (λ (list : List Term). sum_at (map (weight_of history) list) j) (sym has_numbers.terms_are) ∙ terms_add_up n history places numbers j l in
+            let sum = ap (λ (list : List Term). sum_at (map (weight_of history) list) j) (sym has_numbers.terms_are)
+            ∙ terms_add_up n history places numbers j l in
             let last = chosen (has_row rows j) own ∙ ap (λ z. own *ℤ z) (sym (number_at-set_row n rows j l)) in
             let due = chosen (has_row (rows_of protected target) j) times ∙ ap (λ z. times *ℤ z) (sym (number_at-set_row n (rows_of protected target) j l)) in
             let whole = canonical.add_up j l in
-            let split : combined numbers (map (set_row n) (sets ++ rows ∷ [])) j ≡ combined numbers (map (set_row n) sets) j +ℤ own *ℤ number_at (set_row n rows) j
-            = ap (λ (more : List (List ℤ)). combined numbers more j) (map-append (set_row n) sets (rows ∷ [])) ∙ combined-push numbers (map (set_row n) sets) (set_row n rows) j
+            let split : combined numbers (map (set_row n) (sets ++ rows ∷ [])) j ≡ combined numbers (map (set_row n) sets) j +ℤ own *ℤ number_at
+            (set_row n rows) j
+            = ap (λ (more : List (List ℤ)). combined numbers more j) (map-append (set_row n) sets (rows ∷ []))
+            ∙ combined-push numbers (map (set_row n) sets) (set_row n rows) j
             ∙ ap (λ i. combined numbers (map (set_row n) sets) j +ℤ number_at numbers i *ℤ number_at (set_row n rows) j) (length-map sets (set_row n) ∙ count)
             ∙ ap (λ z. combined numbers (map (set_row n) sets) j +ℤ z *ℤ number_at (set_row n rows) j) has_numbers.last in
             omega (arith, ints);
@@ -155,7 +162,8 @@ module _ (n : ℕ) (history : List Answered) (protected : List Protected) (asked
           greatest = λ d all. canonical.divided.greatest d (
             all.0,
             (
-              subst (λ z. d ∣ unsigned_abs z) has_numbers.last (all-get_or (λ z. d ∣ unsigned_abs z) numbers (length places) (pos 0) all.1 (let size = has_numbers.one_each in omega arith)),
+              subst (λ z. d ∣ unsigned_abs z) has_numbers.last
+                  (all-get_or (λ z. d ∣ unsigned_abs z) numbers (length places) (pos 0) all.1 (let size = has_numbers.one_each in omega arith)),
               subst (λ (list : List Term). AllByRecursion (λ z. d ∣ unsigned_abs z) (map (λ (t : Term). t.times) list)) has_numbers.terms_are
                   (terms_numbers (λ z. d ∣ unsigned_abs z) places numbers all.1),
             ),
@@ -164,9 +172,11 @@ module _ (n : ℕ) (history : List Answered) (protected : List Protected) (asked
       }
 
 -- which records are kept follows from the history
-same_kept : (n column : ℕ) (history : List Answered) (places others : List ℕ) → AreKept n column history places → AreKept n column history others → places ≡ others
+same_kept : (n column : ℕ) (history : List Answered) (places others : List ℕ) → AreKept n column history places → AreKept n column history others → places
+    ≡ others
 same_kept n column history places others first second =
-    ascending_same 0 (length history) (length history) places others first.ascending second.ascending (λ place. same_test (has_row places place) (has_row others place)
+    ascending_same 0 (length history) (length history) places others first.ascending second.ascending
+    (λ place. same_test (has_row places place) (has_row others place)
     (λ there. (second.each place).1 ((first.each place).0 there)) (λ there. (first.each place).1 ((second.each place).0 there)))
   where
     same_test : (p q : Bool) → (p ≡ true → q ≡ true) → (q ≡ true → p ≡ true) → p ≡ q
@@ -175,7 +185,8 @@ same_kept n column history places others first second =
     same_test false false there back = refl
 
 -- two canonical proofs for one target are the same
-pub same_parts : (n : ℕ) (history : List Answered) (protected : List Protected) (asked : Asked) (target : Target) (times other : ℤ) (terms others : List Term) (own else : ℤ)
+pub same_parts : (n : ℕ) (history : List Answered) (protected : List Protected) (asked : Asked) (target : Target) (times other : ℤ) (terms others : List Term)
+    (own else : ℤ)
     (first : IsCanonicalSum n history protected asked target times terms own) → IsCanonicalSum n history protected asked target other others else →
     AreIndependent n (kept_sets history first.places asked.rows.list) → (times ≡ other) × (own ≡ else) × (terms ≡ others)
 same_parts n history protected asked target times other terms others own else first second independent =
@@ -186,18 +197,23 @@ same_parts n history protected asked target times other terms others own else fi
     let goal = set_row n (rows_of protected target) in
     let came = come n history protected asked target times terms own first in
     let moved : ComeTo n sets goal other two.numbers
-    = subst (λ (list : List ℕ). ComeTo n (kept_sets history list asked.rows.list) goal other two.numbers) places (come n history protected asked target other others else second) in
+    = subst (λ (list : List ℕ). ComeTo n (kept_sets history list asked.rows.list) goal other two.numbers) places
+    (come n history protected asked target other others else second) in
     let same : times ∷ one.numbers ≡ other ∷ two.numbers = one_way n sets goal times other one.numbers two.numbers came moved independent in
     let same_times : times ≡ other = cc in
     let numbers : one.numbers ≡ two.numbers = cc in
-    let same_own : own ≡ else = sym one.last ∙ ap (λ (list : List ℤ). number_at list (length first.places)) numbers ∙ ap (λ (list : List ℕ). number_at two.numbers (length list)) (sym places) ∙ two.last in
-    let same_terms : terms ≡ others = sym one.terms_are ∙ ap (terms_of first.places) numbers ∙ ap (λ (list : List ℕ). terms_of list two.numbers) (sym places) ∙ two.terms_are in
+    let same_own : own ≡ else = sym one.last ∙ ap (λ (list : List ℤ). number_at list (length first.places)) numbers
+    ∙ ap (λ (list : List ℕ). number_at two.numbers (length list)) (sym places) ∙ two.last in
+    let same_terms : terms ≡ others = sym one.terms_are ∙ ap (terms_of first.places) numbers ∙ ap (λ (list : List ℕ). terms_of list two.numbers) (sym places)
+    ∙ two.terms_are in
     (same_times, same_own, same_terms)
 
 -- so what holds of the numbers of one holds of those of the other
-same_numbers : (P : ℤ → Type 0) (n : ℕ) (history : List Answered) (protected : List Protected) (asked : Asked) (target : Target) (times other : ℤ) (terms others : List Term) (own else : ℤ)
+same_numbers : (P : ℤ → Type 0) (n : ℕ) (history : List Answered) (protected : List Protected) (asked : Asked) (target : Target) (times other : ℤ)
+    (terms others : List Term) (own else : ℤ)
     (first : IsCanonicalSum n history protected asked target times terms own) → IsCanonicalSum n history protected asked target other others else →
-    AreIndependent n (kept_sets history first.places asked.rows.list) → AllByRecursion P (times ∷ own ∷ map (λ (t : Term). t.times) terms) → AllByRecursion P (other ∷ else ∷ map (λ (t : Term). t.times) others)
+    AreIndependent n (kept_sets history first.places asked.rows.list) → AllByRecursion P (times ∷ own ∷ map (λ (t : Term). t.times) terms) →
+    AllByRecursion P (other ∷ else ∷ map (λ (t : Term). t.times) others)
 same_numbers P n history protected asked target times other terms others own else first second independent all =
     let same = same_parts n history protected asked target times other terms others own else first second independent in
     (subst P same.0 all.0, (subst P same.1 all.1.0, subst (λ (list : List Term). AllByRecursion P (map (λ (t : Term). t.times) list)) same.2 all.1.1))
@@ -220,32 +236,42 @@ pub same_target : (n : ℕ) (protected : List Protected) (column : ℕ) (sets : 
 same_target n protected column sets (Row row) (Row other) first second = ap Row (one_least (IsPinned n sets) row other first second)
 same_target n protected column sets (Row row) (Group place) (pinned, before) (none, least) = absurd (none (row, pinned))
 same_target n protected column sets (Group place) (Row row) (none, least) (pinned, before) = absurd (none (row, pinned))
-same_target n protected column sets (Group place) (Group other) (none, first) (no_row, least) = ap Group (one_least (IsSpannedGroup n protected column sets) place other first least)
+same_target n protected column sets (Group place) (Group other) (none, first) (no_row, least) =
+    ap Group (one_least (IsSpannedGroup n protected column sets) place other first least)
 
 -- each term is counted a small number of times
-small_terms : (history : List Answered) (column : ℕ) (terms : List Term) → AllByRecursion (IsTerm history column) terms → AllByRecursion IsSmall (map (λ (t : Term). t.times) terms)
+small_terms : (history : List Answered) (column : ℕ) (terms : List Term) → AllByRecursion (IsTerm history column) terms →
+    AllByRecursion IsSmall (map (λ (t : Term). t.times) terms)
 small_terms history column [] all = tt
 small_terms history column (t ∷ terms) all = (all.0.small, small_terms history column terms all.1)
 
-pub not_too_wide : (n : ℕ) (history : List Answered) (protected : List Protected) (asked : Asked) (places : List ℕ) (form : Echelon) → AreMarks n history asked places form →
-    AreIndependent n (kept_sets history places asked.rows.list) → (proof : Proof) → IsSumProof n history protected asked proof → ¬ (IsSumTooWide n history protected asked)
+pub not_too_wide : (n : ℕ) (history : List Answered) (protected : List Protected) (asked : Asked) (places : List ℕ) (form : Echelon) →
+    AreMarks n history asked places form →
+    AreIndependent n (kept_sets history places asked.rows.list) → (proof : Proof) → IsSumProof n history protected asked proof →
+    ¬ (IsSumTooWide n history protected asked)
 not_too_wide n history protected asked places form marks independent (Max answer row place high) none wide = absurd none
 not_too_wide n history protected asked places form marks independent (Sum target times terms own) (canonical, shows) (inl wide) =
     let sets = kept_sets history places asked.rows.list in
     let same = same_kept n asked.column history wide.places places wide.kept marks.kept in
-    let count : length sets ≡ length places + 1 = length-append (map (rows_at history) places) (asked.rows.list ∷ []) ∙ ap (λ k. k + 1) (length-map places (rows_at history)) in
-    let moved = subst (λ (list : List ℕ). HasWideFront (n + length (kept_sets history list asked.rows.list)) (marked_rows n (length (kept_sets history list asked.rows.list)) 0 (kept_sets history list asked.rows.list))) same wide.wide in
+    let count : length sets ≡ length places + 1 = length-append (map (rows_at history) places) (asked.rows.list ∷ [])
+    ∙ ap (λ k. k + 1) (length-map places (rows_at history)) in
+    let moved = subst (λ (list : List ℕ). HasWideFront (n + length (kept_sets history list asked.rows.list))
+    (marked_rows n (length (kept_sets history list asked.rows.list)) 0 (kept_sets history list asked.rows.list))) same wide.wide in
     marks.marked.narrow (subst (λ k. HasWideFront (n + k) (marked_rows n k 0 sets)) count moved)
 not_too_wide n history protected asked places form marks independent (Sum target times terms own) (canonical, shows) (inr wide) =
     let same = same_kept n asked.column history places canonical.places marks.kept canonical.kept in
-    let group : target ≡ Group wide.place = same_target n protected asked.column (sets_with_asked history asked) target (Group wide.place) canonical.first wide.canonical.first in
+    let group : target ≡ Group wide.place = same_target n protected asked.column (sets_with_asked history asked) target
+    (Group wide.place) canonical.first wide.canonical.first in
     let other = subst (λ (t : Target). IsCanonicalSum n history protected asked t wide.times wide.terms wide.own) (sym group) wide.canonical in
     wide.large (same_numbers IsSmall n history protected asked target times wide.times terms wide.terms own wide.own canonical other
-    (subst (λ (list : List ℕ). AreIndependent n (kept_sets history list asked.rows.list)) same independent) (shows.small_times, (shows.small_own, small_terms history asked.column terms shows.are_terms)))
+    (subst (λ (list : List ℕ). AreIndependent n (kept_sets history list asked.rows.list)) same independent)
+    (shows.small_times, (shows.small_own, small_terms history asked.column terms shows.are_terms)))
 
 -- so what was given a proof is not too wide
-pub none_too_wide : (n : ℕ) (history : List Answered) (protected : List Protected) (asked : Asked) (places : List ℕ) (form : Echelon) → AreMarks n history asked places form →
+pub none_too_wide : (n : ℕ) (history : List Answered) (protected : List Protected) (asked : Asked) (places : List ℕ) (form : Echelon) →
+    AreMarks n history asked places form →
     AreIndependent n (kept_sets history places asked.rows.list) → (result : Result Proof ProveFault) → IfOk result (IsSumProof n history protected asked) →
     IfOk result (λ proof. ¬ (IsSumTooWide n history protected asked))
-none_too_wide n history protected asked places form marks independent (Ok proof) is = not_too_wide n history protected asked places form marks independent proof is
+none_too_wide n history protected asked places form marks independent (Ok proof) is =
+    not_too_wide n history protected asked places form marks independent proof is
 none_too_wide n history protected asked places form marks independent (Err fault) is = tt

@@ -79,9 +79,12 @@ module _ (unsafe : DeniedSumsAreUnsafe) (setting : Setting) (history : List Answ
 
   pub same_proofs : (a b : Proof) → IsCanonical setting history asked a → IsCanonical setting history asked b → a ≡ b
   same_proofs (Sum target times terms own) (Sum goal other others else) (sums, first) (also, second) =
-      same_sums setting.shape.rows setting.protected.width history setting.protected.groups asked (unsafe setting history asked records_fit fit legal question sums denied) target goal times other terms
+      same_sums setting.shape.rows setting.protected.width history setting.protected.groups asked
+      (unsafe setting history asked records_fit fit legal question sums denied) target goal times other terms
       others own else first second
-  same_proofs (Sum target times terms own) (Max answer row place high) (sums, first) (maxima, second) = absurd (let both : kind.Sum ≡ kind.Max = sym sums ∙ maxima in cc)
-  same_proofs (Max answer row place high) (Sum target times terms own) (maxima, first) (sums, second) = absurd (let both : kind.Sum ≡ kind.Max = sym sums ∙ maxima in cc)
+  same_proofs (Sum target times terms own) (Max answer row place high) (sums, first) (maxima, second) =
+      absurd (let both : kind.Sum ≡ kind.Max = sym sums ∙ maxima in cc)
+  same_proofs (Max answer row place high) (Sum target times terms own) (maxima, first) (sums, second) =
+      absurd (let both : kind.Sum ≡ kind.Max = sym sums ∙ maxima in cc)
   same_proofs (Max answer row place high) (Max other else pair numbers) (maxima, first) (also, second) =
       same_maxima setting.shape.rows history asked answer other row else place pair high numbers first second

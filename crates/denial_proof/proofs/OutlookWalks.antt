@@ -53,7 +53,8 @@ not_before low n (x ∷ before) later r h =
     rw (apart, rest) refl
 
 -- the next row of a walk is none of those before it
-apart_from : (n : ℕ) (yielded left later rows : List ℕ) (r q : ℕ) → AreRows n rows → yielded ++ left ≡ rows → left ≡ r ∷ later → has_row yielded q ≡ true → q ≢ r
+apart_from : (n : ℕ) (yielded left later rows : List ℕ) (r q : ℕ) → AreRows n rows → yielded ++ left ≡ rows → left ≡ r ∷ later → has_row yielded q ≡ true →
+    q ≢ r
 apart_from n yielded left later rows r q are together first there same =
     let ascends : AscendsFrom 0 n (yielded ++ r ∷ later) = subst (AreRows n) (sym (ap (λ xs. yielded ++ xs) (sym first) ∙ together)) are in
     true≢false (sym there ∙ ap (has_row yielded) same ∙ not_before 0 n yielded later r ascends)
@@ -66,7 +67,8 @@ of_walk yielded left rows q together there =
 next_of_walk : (yielded left later rows : List ℕ) (r : ℕ) → yielded ++ left ≡ rows → left ≡ r ∷ later → has_row rows r ≡ true
 next_of_walk yielded left later rows r together first =
     subst (λ (l : List ℕ). has_row l r ≡ true) (ap (λ xs. yielded ++ xs) (sym first) ∙ together)
-    (list_any-append (λ x. x == r) yielded (r ∷ later) ∙ or_right (has_row yielded r) ((r == r) || has_row later r) (or_left (r == r) (has_row later r) (eq-eqb r r refl)))
+    (list_any-append (λ x. x == r) yielded (r ∷ later) ∙ or_right (has_row yielded r) ((r == r) || has_row later r)
+    (or_left (r == r) (has_row later r) (eq-eqb r r refl)))
 
 -- ---- extreme rows outside
 
@@ -82,7 +84,8 @@ module _ (answers : List Answer) (rows : List ℕ) (a : Answer) where
 
   -- a row that isn't left
   pub left_passed : (found : Bool) (yielded : List ℕ) (r : ℕ) → IsLeftSoFar found yielded → is_left r ≡ false → IsLeftSoFar found (yielded ++ r ∷ [])
-  left_passed false yielded r before not_left = λ q there. elim (has-push yielded r q there) [ inl front ↦ before q front | inr same ↦ ap is_left (sym same) ∙ not_left ]
+  left_passed false yielded r before not_left = λ q there. elim (has-push yielded r q there)
+      [ inl front ↦ before q front | inr same ↦ ap is_left (sym same) ∙ not_left ]
   left_passed true yielded r before not_left = (before.0, has-front yielded r before.0 before.1, before.2)
 
   -- the first that is
@@ -93,7 +96,8 @@ module _ (answers : List Answer) (rows : List ℕ) (a : Answer) where
   is_outside : (r : ℕ) → has_row a.rows r ≡ true → is_left r ≡ true → has_row (outside rows (extremes answers a)) r ≡ true
   is_outside r there left =
       has-filter (λ q. not (has_row rows q)) (extremes answers a) r
-      (has-filter (λ q. is_bound (upper_bound answers q) a.value) a.rows r there (and_parts (not (has_row rows r)) (is_bound (upper_bound answers r) a.value) left).1)
+      (has-filter (λ q. is_bound (upper_bound answers q) a.value) a.rows r there
+      (and_parts (not (has_row rows r)) (is_bound (upper_bound answers r) a.value) left).1)
       (and_parts (not (has_row rows r)) (is_bound (upper_bound answers r) a.value) left).0
 
   -- and there are no others
@@ -108,7 +112,8 @@ module _ (answers : List Answer) (rows : List ℕ) (a : Answer) where
       let found = outside_is r there in
       true≢false (sym found.1 ∙ none r (subst (λ (l : List ℕ). has_row l r ≡ true) (sym all) found.0))
 
-  pub two_outside : (n : ℕ) (yielded left later : List ℕ) (r : ℕ) → AreRows n a.rows → yielded ++ left ≡ a.rows → left ≡ r ∷ later → IsLeftSoFar true yielded → is_left r ≡ true → HasTwoOutside answers rows a
+  pub two_outside : (n : ℕ) (yielded left later : List ℕ) (r : ℕ) → AreRows n a.rows → yielded ++ left ≡ a.rows → left ≡ r ∷ later → IsLeftSoFar true yielded →
+      is_left r ≡ true → HasTwoOutside answers rows a
   two_outside n yielded left later r are together first before is = record {
     one = before.0;
     other = r;
@@ -118,15 +123,18 @@ module _ (answers : List Answer) (rows : List ℕ) (a : Answer) where
   }
 
 -- the walk over the answers, with one more
-pub holding_step : (answers : List Answer) (rows : List ℕ) (seen : List Answer) (x : Answer) (left : Left) (old new : Holding) → IsOneOf x answers → IsLeftOutside answers rows x left →
+pub holding_step : (answers : List Answer) (rows : List ℕ) (seen : List Answer) (x : Answer) (left : Left) (old new : Holding) → IsOneOf x answers →
+    IsLeftOutside answers rows x left →
     HoldsAfter old left x.value new → IsHolding answers rows seen old → IsHolding answers rows (seen ++ x ∷ []) new
 holding_step answers rows seen x left old new one is after before = by_left left is after
   where
     -- the others still have two outside, or are not above a number that is no less
-    others : old.stranded ≤ℤ new.stranded → HasTwoOutside answers rows x ⊎ (x.value ≤ℤ new.stranded) → AllByRecursion (λ a. HasTwoOutside answers rows a ⊎ (a.value ≤ℤ new.stranded)) (seen ++ x ∷ [])
+    others : old.stranded ≤ℤ new.stranded → HasTwoOutside answers rows x ⊎ (x.value ≤ℤ new.stranded) →
+        AllByRecursion (λ a. HasTwoOutside answers rows a ⊎ (a.value ≤ℤ new.stranded)) (seen ++ x ∷ [])
     others more own =
         all-push (λ a. HasTwoOutside answers rows a ⊎ (a.value ≤ℤ new.stranded)) seen x
-        (all-weaker (λ (a : Answer). HasTwoOutside answers rows a ⊎ (a.value ≤ℤ old.stranded)) (λ (a : Answer). HasTwoOutside answers rows a ⊎ (a.value ≤ℤ new.stranded))
+        (all-weaker (λ (a : Answer). HasTwoOutside answers rows a ⊎ (a.value ≤ℤ old.stranded))
+        (λ (a : Answer). HasTwoOutside answers rows a ⊎ (a.value ≤ℤ new.stranded))
         (λ a told. elim told [ inl two ↦ inl two | inr most ↦ inr (omega (arith, ints)) ]) seen before.others) own
 
     Whole : ℤ → Type 0
@@ -163,7 +171,8 @@ pub record IsReachSoFar (answers : List Answer) (yielded : List ℕ) (reach : Re
 pub reach_begins : (answers : List Answer) (reach : Reach) → reach.top ≤ℤ below_all → reach.next ≤ℤ below_all → IsReachSoFar answers [] reach
 reach_begins answers reach top next = record { topped = inl top; is = record { top = λ r there. absurd (true≢false (sym there)); next = inl next } }
 
-module _ (answers : List Answer) (n : ℕ) (yielded left later rows : List ℕ) (r : ℕ) (are : AreRows n rows) (together : yielded ++ left ≡ rows) (first : left ≡ r ∷ later)
+module _ (answers : List Answer) (n : ℕ) (yielded left later rows : List ℕ) (r : ℕ) (are : AreRows n rows) (together : yielded ++ left ≡ rows)
+    (first : left ≡ r ∷ later)
     (old new : Reach) (before : IsReachSoFar answers yielded old) where
   abbrev reach : ℤ
   reach = reach_of (upper_bound answers r)

@@ -51,19 +51,24 @@ group_there (x ∷ protected) zero p there = let same : x ≡ p = cc in ap (λ (
 group_there (x ∷ protected) (suc place) p there = group_there protected place p there
 
 -- a record that is there fits
-fits_there : (shape : Shape) (history : List Answered) (place : ℕ) (r : Answered) → All (λ q. FitsShape shape q.column q.rows) history → slice_get history place ≡ Some r →
+fits_there : (shape : Shape) (history : List Answered) (place : ℕ) (r : Answered) → All (λ q. FitsShape shape q.column q.rows) history → slice_get history place
+    ≡ Some r →
     FitsShape shape r.column r.rows
 fits_there shape history place r fits there =
-    subst (λ (q : Answered). FitsShape shape q.column q.rows) (get_or_from_slice_get history place r r there) (fits place r (slice_get_within history place r there))
+    subst (λ (q : Answered). FitsShape shape q.column q.rows) (get_or_from_slice_get history place r r there)
+    (fits place r (slice_get_within history place r there))
 
 -- so does an entry
-entry_fits : (shape : Shape) (protected : List Protected) (place : ℕ) (p : Protected) → All (λ q. FitsShape shape q.column q.rows) protected → slice_get protected place ≡ Some p →
+entry_fits : (shape : Shape) (protected : List Protected) (place : ℕ) (p : Protected) → All (λ q. FitsShape shape q.column q.rows) protected →
+    slice_get protected place ≡ Some p →
     FitsShape shape p.column p.rows
 entry_fits shape protected place p fits there =
-    subst (λ (q : Protected). FitsShape shape q.column q.rows) (get_or_from_slice_get protected place p p there) (fits place p (slice_get_within protected place p there))
+    subst (λ (q : Protected). FitsShape shape q.column q.rows) (get_or_from_slice_get protected place p p there)
+    (fits place p (slice_get_within protected place p there))
 
 -- the rows of an entry of a column are one of its groups
-group_of_column : (protected : List Protected) (place column : ℕ) (p : Protected) → slice_get protected place ≡ Some p → p.column ≡ column → Contains (groups_of column protected) p.rows.list
+group_of_column : (protected : List Protected) (place column : ℕ) (p : Protected) → slice_get protected place ≡ Some p → p.column ≡ column →
+    Contains (groups_of column protected) p.rows.list
 group_of_column [] place column p there own = absurd cc
 group_of_column (x ∷ protected) zero column p there own =
     let same : x ≡ p = cc in
@@ -73,7 +78,8 @@ group_of_column (x ∷ protected) (suc place) column p there own =
     later (x.column == column) x.rows.list (group_of_column protected place column p there own)
   where
     later : (b : Bool) (rows : List ℕ) → Contains (groups_of column protected) p.rows.list →
-        Contains (map (λ (q : Protected). q.rows.list) (cond b (x ∷ filter (λ (q : Protected). q.column == column) protected) (filter (λ (q : Protected). q.column == column) protected))) p.rows.list
+        Contains (map (λ (q : Protected). q.rows.list)
+        (cond b (x ∷ filter (λ (q : Protected). q.column == column) protected) (filter (λ (q : Protected). q.column == column) protected))) p.rows.list
     later true rows (k, below, is) = (suc k, omega arith, is)
     later false rows found = found
 
@@ -95,15 +101,20 @@ module _ (shape : Shape) (history : List Answered) (protected : List Protected) 
   known = known_as kind.Sum
 
   -- the counted sets are sets of rows of the table
-  terms_are_rows : (terms : List Term) → AllByRecursion (IsTerm history asked.column) terms → AllByRecursion (λ w. AreRows shape.rows w.rows) (map (weight_of history) terms)
+  terms_are_rows : (terms : List Term) → AllByRecursion (IsTerm history asked.column) terms →
+      AllByRecursion (λ w. AreRows shape.rows w.rows) (map (weight_of history) terms)
   terms_are_rows [] are = tt
   terms_are_rows (t ∷ terms) are =
       let r = are.0.named.0 in
-      let there = are.0.named.1.there in
-      (subst (AreRows shape.rows) (sym (rows_there history t.place r there)) (rows_fit shape r.column r.rows (fits_there shape history t.place r records there)), terms_are_rows terms are.1)
+      let there = are.0.named.1.there in (
+        subst (AreRows shape.rows) (sym (rows_there history t.place r there))
+            (rows_fit shape r.column r.rows (fits_there shape history t.place r records there)),
+        terms_are_rows terms are.1,
+      )
 
   -- lists that give the same answers have the same sums over them
-  same_over_term : (v u : List ℤ) → Agrees known v → Agrees known u → (t : Term) → IsTerm history asked.column t → sum_over v (rows_at history t.place) ≡ sum_over u (rows_at history t.place)
+  same_over_term : (v u : List ℤ) → Agrees known v → Agrees known u → (t : Term) → IsTerm history asked.column t → sum_over v (rows_at history t.place)
+      ≡ sum_over u (rows_at history t.place)
   same_over_term v u first second t is =
       let r = is.named.0 in
       let there = is.named.1.there in
@@ -127,7 +138,8 @@ module _ (shape : Shape) (history : List Answered) (protected : List Protected) 
       subst (AreRows shape.rows) (sym (group_there protected place p there)) (rows_fit shape p.column p.rows (entry_fits shape protected place p entries there))
 
   -- so they have the same total over the target
-  same_over_target : (target : Target) (times : ℤ) (terms : List Term) (own : ℤ) → ShowsTotal shape.rows history protected asked target times terms own → (w v : List ℤ) → Agrees known w →
+  same_over_target : (target : Target) (times : ℤ) (terms : List Term) (own : ℤ) → ShowsTotal shape.rows history protected asked target times terms own →
+      (w v : List ℤ) → Agrees known w →
       GivesSameAnswers known asked.rows.list w v → sum_over v (rows_of protected target) ≡ sum_over w (rows_of protected target)
   same_over_target target times terms own shown w v agrees same =
       same_total v w shape.rows (weights_of history asked.rows.list own terms) (rows_of protected target) times
@@ -136,14 +148,19 @@ module _ (shape : Shape) (history : List Answered) (protected : List Protected) 
       (same.same, same_over_terms v w same.agrees agrees terms shown.are_terms)
 
   -- what a target discloses is guarded
-  target_is_guarded : (target : Target) → IsTarget shape.rows protected asked.column target → (value : List ℤ → ℤ) × IsGuarded known [] value × ((v : List ℤ) → value v ≡ sum_over v (rows_of protected target))
+  target_is_guarded : (target : Target) → IsTarget shape.rows protected asked.column target → (value : List ℤ → ℤ) × IsGuarded known [] value ×
+      ((v : List ℤ) → value v ≡ sum_over v (rows_of protected target))
   target_is_guarded (Row row) is = ((λ v. number_at v row), number row is refl refl, λ v. omega (arith, ints))
   target_is_guarded (Group place) (p, there, own) =
-      let hit = some_row p.rows.list (entry_fits shape protected place p entries there).some in
-      ((λ v. sum_over v p.rows.list), total p.rows.list hit.0 (group_of_column protected place asked.column p there own) hit.1 refl, λ v. ap (sum_over v) (sym (group_there protected place p there)))
+      let hit = some_row p.rows.list (entry_fits shape protected place p entries there).some in (
+        (λ v. sum_over v p.rows.list),
+        total p.rows.list hit.0 (group_of_column protected place asked.column p there own) hit.1 refl,
+        λ v. ap (sum_over v) (sym (group_there protected place p there)),
+      )
 
   -- a number or a protected total could be given away
-  sums_show_danger : (target : Target) (times : ℤ) (terms : List Term) (own : ℤ) → ShowsTotal shape.rows history protected asked target times terms own → IsPossible known →
+  sums_show_danger : (target : Target) (times : ℤ) (terms : List Term) (own : ℤ) → ShowsTotal shape.rows history protected asked target times terms own →
+      IsPossible known →
       IsDangerous known asked.rows.list
   sums_show_danger target times terms own shown (w, agrees) =
       let guarded = target_is_guarded target shown.target_is in record {
@@ -166,17 +183,20 @@ module _ (shape : Shape) (history : List Answered) (protected : List Protected) 
   abbrev IsSet : Answer → Type 0
   IsSet a = AreRows shape.rows a.rows × (a.rows ≢ [])
 
-  sets_of_records : (more : List Answered) → AllByRecursion (λ r. FitsShape shape r.column r.rows) more → AllByRecursion (λ (r : Answered). IsSet (answer_in r)) more
+  sets_of_records : (more : List Answered) → AllByRecursion (λ r. FitsShape shape r.column r.rows) more →
+      AllByRecursion (λ (r : Answered). IsSet (answer_in r)) more
   sets_of_records [] fit = tt
   sets_of_records (r ∷ more) fit = ((rows_fit shape r.column r.rows fit.0, fit.0.some), sets_of_records more fit.1)
 
   sets_after : (answer : ℤ) → AllByRecursion IsSet (answers_with answer)
   sets_after answer =
       all-push IsSet (answers_of asked.column history) (record { rows = asked.rows.list; value = answer })
-      (all-map answer_in IsSet _ (all-filter (λ (r : Answered). IsSet (answer_in r)) (λ r. r.column == asked.column) history (sets_of_records history (recursion_from_All _ history records))))
+      (all-map answer_in IsSet _ (all-filter (λ (r : Answered). IsSet (answer_in r)) (λ r. r.column == asked.column) history
+      (sets_of_records history (recursion_from_All _ history records))))
       (rows_fit shape asked.column asked.rows question, question.some)
 
-  maxima_show_danger : GreatestIsBoundAndReached → (answer : ℤ) (row : ℕ) (place : Option ℕ) (high : List ℤ) → ShowsRow shape.rows history asked answer row place high →
+  maxima_show_danger : GreatestIsBoundAndReached → (answer : ℤ) (row : ℕ) (place : Option ℕ) (high : List ℤ) →
+      ShowsRow shape.rows history asked answer row place high →
       IsDangerous (known_as kind.Max) asked.rows.list
   maxima_show_danger greatest answer row place high shown =
       let last : Answer = record { rows = asked.rows.list; value = answer } in
@@ -207,9 +227,11 @@ proofs_show_danger greatest setting history asked (Sum target times terms own) r
     let known = known_as setting.shape history setting.protected.groups setting.protected.width setting.protected.reach asked records entries question in
     let same : known kind.Sum ≡ known_of setting history asked.column = ap known (sym sums) ∙ sym (plain_known setting history asked.column plain) in
     subst (λ (k : Known). IsDangerous k asked.rows.list) same
-    (sums_show_danger setting.shape history setting.protected.groups setting.protected.width setting.protected.reach asked records entries question target times terms own shown (subst IsPossible (sym same) possible))
+    (sums_show_danger setting.shape history setting.protected.groups setting.protected.width setting.protected.reach asked records entries question target times
+    terms own shown (subst IsPossible (sym same) possible))
 proofs_show_danger greatest setting history asked (Max answer row place high) records entries plain question possible (maxima, shown) =
     let known = known_as setting.shape history setting.protected.groups setting.protected.width setting.protected.reach asked records entries question in
     let same : known kind.Max ≡ known_of setting history asked.column = ap known (sym maxima) ∙ sym (plain_known setting history asked.column plain) in
     subst (λ (k : Known). IsDangerous k asked.rows.list) same
-    (maxima_show_danger setting.shape history setting.protected.groups setting.protected.width setting.protected.reach asked records entries question greatest answer row place high shown)
+    (maxima_show_danger setting.shape history setting.protected.groups setting.protected.width setting.protected.reach asked records entries question greatest
+    answer row place high shown)

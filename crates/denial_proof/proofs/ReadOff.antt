@@ -34,13 +34,17 @@ zero_before row j h = zero_from_test (number_at row j) (not-false (is_zero (numb
 not_lost : (m : ℕ) (x : ℤ) → 0 < m → pos m *ℤ x ≡ pos 0 → x ≡ pos 0
 not_lost m x p e = zero_factor x (pos m) (*ℤ_comm x (pos m) ∙ e) (omega (arith, ints))
 
-module _ (n : ℕ) (sets : List (List ℕ)) (independent : AreIndependent n sets) (form : List (List ℤ)) (reduced : IsReducedForm (n + length sets) (marked_rows n (length sets) 0 sets) form) where
+module _ (n : ℕ) (sets : List (List ℕ)) (independent : AreIndependent n sets) (form : List (List ℤ))
+    (reduced : IsReducedForm (n + length sets) (marked_rows n (length sets) 0 sets) form) where
   -- a row that is 0 over the columns is 0 at the marks too
-  nothing_at_marks : (row : List ℤ) → InSpan (marked_rows n (length sets) 0 sets) row → ((j : ℕ) → j < n → number_at row j ≡ pos 0) → (k : ℕ) → k < length sets → number_at row (n + k) ≡ pos 0
+  nothing_at_marks : (row : List ℤ) → InSpan (marked_rows n (length sets) 0 sets) row → ((j : ℕ) → j < n → number_at row j ≡ pos 0) → (k : ℕ) →
+      k < length sets → number_at row (n + k) ≡ pos 0
   nothing_at_marks row span none k l =
       let zero_columns : (j : ℕ) → j < n → combined span.coefficients (map (set_row n) sets) j ≡ pos 0
-      = λ j m. sym (combined_columns n (length sets) 0 span.coefficients sets j m) ∙ sym (span.is j) ∙ ap (λ z. pos span.multiple *ℤ z) (none j m) ∙ *ℤ-zero (pos span.multiple) in
-      not_lost span.multiple (number_at row (n + k)) span.positive (span.is (n + k) ∙ coefficient_at n span.coefficients sets k l ∙ independent span.coefficients zero_columns k l)
+      = λ j m. sym (combined_columns n (length sets) 0 span.coefficients sets j m) ∙ sym (span.is j) ∙ ap (λ z. pos span.multiple *ℤ z) (none j m)
+      ∙ *ℤ-zero (pos span.multiple) in
+      not_lost span.multiple (number_at row (n + k)) span.positive
+      (span.is (n + k) ∙ coefficient_at n span.coefficients sets k l ∙ independent span.coefficients zero_columns k l)
 
   -- so the pivots stand among the columns
   pivot_among_columns : (row : List ℤ) → IsPrimitive (n + length sets) row → InSpan (marked_rows n (length sets) 0 sets) row → pivot row < n
@@ -53,12 +57,14 @@ module _ (n : ℕ) (sets : List (List ℕ)) (independent : AreIndependent n sets
         absurd (positive_not_zero (pivot_entry row) primitive.leading (sym (ap (number_at row) place) ∙ none))
   ]
 
-  pub pivots_among_columns : (rows : List (List ℤ)) → AllByRecursion (IsPrimitive (n + length sets)) rows → AllByRecursion (InSpan (marked_rows n (length sets) 0 sets)) rows → AllByRecursion (λ row. pivot row < n) rows
+  pub pivots_among_columns : (rows : List (List ℤ)) → AllByRecursion (IsPrimitive (n + length sets)) rows →
+      AllByRecursion (InSpan (marked_rows n (length sets) 0 sets)) rows → AllByRecursion (λ row. pivot row < n) rows
   pivots_among_columns [] primitive within = tt
   pivots_among_columns (row ∷ rows) primitive within = (pivot_among_columns row primitive.0 within.0, pivots_among_columns rows primitive.1 within.1)
 
   -- the numbers that are read off for a target that lies in the span of the sets come to the target, `common` times
-  pub read_off : (target : List ℤ) (common : ℤ) (taken numbers : List ℤ) → InSpan (map (set_row n) sets) target → AreTaken common (number_at target) form taken →
+  pub read_off : (target : List ℤ) (common : ℤ) (taken numbers : List ℤ) → InSpan (map (set_row n) sets) target →
+      AreTaken common (number_at target) form taken →
       ((k : ℕ) → k < length sets → number_at numbers k ≡ combined taken form (n + k)) →
       (j : ℕ) → j < n → combined numbers (map (set_row n) sets) j ≡ common *ℤ number_at target j
   read_off target common taken numbers span are read j l =
@@ -71,12 +77,17 @@ module _ (n : ℕ) (sets : List (List ℕ)) (independent : AreIndependent n sets
       let at_pivots : AllByRecursion (λ row. combined a rows (pivot row) ≡ q *ℤ number_at target (pivot row)) form
       = all-weaker (λ row. pivot row < n) (λ row. combined a rows (pivot row) ≡ q *ℤ number_at target (pivot row)) (λ row b. whole (pivot row) b) form below in
       let leading = all-weaker (IsPrimitive (n + length sets)) (λ row. pos 0 <ℤ pivot_entry row) (λ row p. p.leading) form reduced.primitive in
-      let all = expansion common (combined a rows) form (times q taken) reduced.echelon leading spanned (taken_times q common (number_at target) (combined a rows) form taken at_pivots are) in
+      let all = expansion common (combined a rows) form (times q taken) reduced.echelon leading spanned
+      (taken_times q common (number_at target) (combined a rows) form taken at_pivots are) in
       let same : (k : ℕ) → k < length sets → number_at (times q numbers) k ≡ number_at (times common a) k
-      = λ k m. number_at-times q numbers k ∙ ap (λ z. q *ℤ z) (read k m) ∙ sym (combined-times q taken form (n + k)) ∙ sym (all (n + k)) ∙ ap (λ z. common *ℤ z) (coefficient_at n a sets k m)
+      = λ k m. number_at-times q numbers k ∙ ap (λ z. q *ℤ z) (read k m) ∙ sym (combined-times q taken form (n + k)) ∙ sym (all (n + k))
+      ∙ ap (λ z. common *ℤ z) (coefficient_at n a sets k m)
       ∙ sym (number_at-times common a k) in
-      let counted : (k : ℕ) → k < length (map (set_row n) sets) → number_at (times q numbers) k ≡ number_at (times common a) k = λ k m. same k (omega (arith, length-map sets (set_row n))) in
+      let counted : (k : ℕ) → k < length (map (set_row n) sets) → number_at (times q numbers) k ≡ number_at (times common a) k =
+      λ k m. same k (omega (arith, length-map sets (set_row n))) in
       let multiples : q *ℤ combined numbers (map (set_row n) sets) j ≡ q *ℤ (common *ℤ number_at target j)
-      = sym (combined-times q numbers (map (set_row n) sets) j) ∙ same_combination (times q numbers) (times common a) (map (set_row n) sets) j counted ∙ combined-times common a (map (set_row n) sets) j
-      ∙ ap (λ z. common *ℤ z) (sym (span.is j)) ∙ sym (times_assoc common q (number_at target j)) ∙ ap (λ z. z *ℤ number_at target j) (*ℤ_comm common q) ∙ times_assoc q common (number_at target j) in
+      = sym (combined-times q numbers (map (set_row n) sets) j) ∙ same_combination (times q numbers) (times common a) (map (set_row n) sets) j counted
+      ∙ combined-times common a (map (set_row n) sets) j
+      ∙ ap (λ z. common *ℤ z) (sym (span.is j)) ∙ sym (times_assoc common q (number_at target j)) ∙ ap (λ z. z *ℤ number_at target j) (*ℤ_comm common q)
+      ∙ times_assoc q common (number_at target j) in
       cancelled q (combined numbers (map (set_row n) sets) j) (common *ℤ number_at target j) (let some = span.positive in omega (arith, ints)) multiples

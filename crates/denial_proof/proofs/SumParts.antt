@@ -34,9 +34,11 @@ sets_at_end column history = ap (λ (h : List Answered). map (λ a. a.rows) (ans
 
 -- what rows span, they span with one more
 span_longer : (rows : List (List ℤ)) (row other : List ℤ) → InSpan rows other → InSpan (rows ++ row ∷ []) other
-span_longer rows row other span = span_trans (rows ++ row ∷ []) rows other (all-front (InSpan (rows ++ row ∷ [])) rows row (span_self (rows ++ row ∷ []))).0 span
+span_longer rows row other span = span_trans (rows ++ row ∷ []) rows other
+    (all-front (InSpan (rows ++ row ∷ [])) rows row (span_self (rows ++ row ∷ []))).0 span
 
-module _ (decided : SpannedOrMoved) (n : ℕ) (history : List Answered) (asked : Asked) (fit : AllByRecursion (λ (r : Answered). AreRows n r.rows.list) history) (places : List ℕ)
+module _ (decided : SpannedOrMoved) (n : ℕ) (history : List Answered) (asked : Asked) (fit : AllByRecursion (λ (r : Answered). AreRows n r.rows.list) history)
+    (places : List ℕ)
     (kept : AreKept n asked.column history places) where
   -- a record's rows are rows of the table
   each_fits : (i : ℕ) (r : Answered) → slice_get history i ≡ Some r → AreRows n r.rows.list
@@ -45,19 +47,23 @@ module _ (decided : SpannedOrMoved) (n : ℕ) (history : List Answered) (asked :
       (all-get_or (λ (q : Answered). AreRows n q.rows.list) history i r fit (slice_get_within history i r there))
 
   -- so what all sets and the asked one span, the kept ones and it do
-  pub spanned_by_kept : (row : List ℤ) → InSpan (map (set_row n) (sets_with_asked history asked)) row → InSpan (map (set_row n) (kept_sets history places asked.rows.list)) row
+  pub spanned_by_kept : (row : List ℤ) → InSpan (map (set_row n) (sets_with_asked history asked)) row →
+      InSpan (map (set_row n) (kept_sets history places asked.rows.list)) row
   spanned_by_kept row span =
       let sets : List (List ℕ) = map (λ a. a.rows) (answers_of asked.column history) in
       let few : List (List ℕ) = map (rows_at history) places in
       let own = set_row n asked.rows.list in
       let all = subst (λ (some : List (List ℕ)). AllByRecursion (InSpan (map (set_row n) few)) (map (set_row n) some)) (sets_at_end asked.column history)
       (all_in_span decided n asked.column history fit places kept each_fits (length history) (omega arith)) in
-      let longer = all-weaker (InSpan (map (set_row n) few)) (InSpan (map (set_row n) few ++ own ∷ [])) (λ r spanned. span_longer (map (set_row n) few) own r spanned) (map (set_row n) sets) all in
-      let with_own = all-push (InSpan (map (set_row n) few ++ own ∷ [])) (map (set_row n) sets) own longer (all-front (InSpan (map (set_row n) few ++ own ∷ [])) (map (set_row n) few) own (span_self (map (set_row n) few ++ own ∷ []))).1 in
+      let longer = all-weaker (InSpan (map (set_row n) few)) (InSpan (map (set_row n) few ++ own ∷ []))
+      (λ r spanned. span_longer (map (set_row n) few) own r spanned) (map (set_row n) sets) all in
+      let with_own = all-push (InSpan (map (set_row n) few ++ own ∷ [])) (map (set_row n) sets) own longer
+      (all-front (InSpan (map (set_row n) few ++ own ∷ [])) (map (set_row n) few) own (span_self (map (set_row n) few ++ own ∷ []))).1 in
       let before : map (set_row n) (sets ++ asked.rows.list ∷ []) ≡ map (set_row n) sets ++ own ∷ [] = map-append (set_row n) sets (asked.rows.list ∷ []) in
       let after : map (set_row n) (few ++ asked.rows.list ∷ []) ≡ map (set_row n) few ++ own ∷ [] = map-append (set_row n) few (asked.rows.list ∷ []) in
       subst (λ (rows : List (List ℤ)). InSpan rows row) (sym after)
-      (span_trans (map (set_row n) few ++ own ∷ []) (map (set_row n) sets ++ own ∷ []) row with_own (subst (λ (rows : List (List ℤ)). InSpan rows row) before span))
+      (span_trans (map (set_row n) few ++ own ∷ []) (map (set_row n) sets ++ own ∷ []) row with_own
+      (subst (λ (rows : List (List ℤ)). InSpan rows row) before span))
 
 -- what the proof of a target needs, once the target is found in the form of the sets
 pub record TargetParts (n : ℕ) (history : List Answered) (protected : List Protected) (asked : Asked) (places : List ℕ) (target : Target) : Type 0 where
@@ -66,7 +72,8 @@ pub record TargetParts (n : ℕ) (history : List Answered) (protected : List Pro
   pub first : IsFirstTarget n protected asked.column (sets_with_asked history asked) target
   pub spanned : InSpan (map (set_row n) (kept_sets history places asked.rows.list)) (set_row n (rows_of protected target))
 
-module _ (by_form : PinnedByForm) (n : ℕ) (history : List Answered) (protected : List Protected) (asked : Asked) (own : AreRows n asked.rows.list) (answers : List Answer)
+module _ (by_form : PinnedByForm) (n : ℕ) (history : List Answered) (protected : List Protected) (asked : Asked) (own : AreRows n asked.rows.list)
+    (answers : List Answer)
     (same : answers ≡ answers_of asked.column history) (are : AllByRecursion (AreRows n) (map (λ a. a.rows) answers)) (basis : Echelon) (same_n : basis.n ≡ n)
     (reduced : Reduced n (map (λ a. a.rows) answers ++ asked.rows.list ∷ []) basis.rows) where
   all_rows : AllByRecursion (AreRows n) (sets_with_asked history asked)
@@ -77,11 +84,14 @@ module _ (by_form : PinnedByForm) (n : ℕ) (history : List Answered) (protected
   form_is : Reduced n (sets_with_asked history asked) basis.rows
   form_is = subst (λ (list : List Answer). Reduced n (map (λ a. a.rows) list ++ asked.rows.list ∷ []) basis.rows) same reduced
 
-  pub target_parts : SpannedOrMoved → AllByRecursion (λ (r : Answered). AreRows n r.rows.list) history → (places : List ℕ) → AreKept n asked.column history places →
-      ¬ (InSpan (map (set_row n) (sets_before asked.column history (length history))) (set_row n asked.rows.list)) → (target : Target) → IsSpannedTarget basis protected asked.column target →
+  pub target_parts : SpannedOrMoved → AllByRecursion (λ (r : Answered). AreRows n r.rows.list) history → (places : List ℕ) →
+      AreKept n asked.column history places →
+      ¬ (InSpan (map (set_row n) (sets_before asked.column history (length history))) (set_row n asked.rows.list)) → (target : Target) →
+      IsSpannedTarget basis protected asked.column target →
       TargetParts n history protected asked places target
   target_parts decided fit places kept new target found =
-      let over_n = subst (λ (k : ℕ). IsSpannedTarget (record { n = k; width = basis.width; rows = basis.rows }) protected asked.column target) same_n found in record {
+      let over_n = subst (λ (k : ℕ). IsSpannedTarget (record { n = k; width = basis.width; rows = basis.rows }) protected asked.column target) same_n found in
+      record {
         independent = independent_with n asked.column history places kept asked.rows.list new;
         is_target = target_is by_form n basis.width protected asked.column (sets_with_asked history asked) basis.rows all_rows form_is target over_n;
         first = first_of_sets by_form n basis.width protected asked.column (sets_with_asked history asked) basis.rows all_rows form_is target over_n;
@@ -90,7 +100,8 @@ module _ (by_form : PinnedByForm) (n : ℕ) (history : List Answered) (protected
       }
 
   -- and there is one if the sets are dangerous
-  pub target_there : PinSomeRow n (sets_with_asked history asked) ⊎ ((place : ℕ) × IsSpannedGroup n protected asked.column (sets_with_asked history asked) place) →
+  pub target_there : PinSomeRow n (sets_with_asked history asked) ⊎
+      ((place : ℕ) × IsSpannedGroup n protected asked.column (sets_with_asked history asked) place) →
       ¬ (SpansNothing basis protected asked.column)
   target_there dangerous nothing =
       some_target by_form n basis.width protected asked.column (sets_with_asked history asked) basis.rows all_rows form_is dangerous

@@ -46,19 +46,23 @@ pub as_asked : (form : List (List ℤ)) (n k : ℕ) (group list : List ℕ) (pla
     AreMultipliers form (set_row k list) k (kept + 1) numbers → AreMultipliers form (set_row n group) n (places + 1) numbers
 as_asked form n k group list places kept numbers same_n same_rows mark are =
     subst (λ (p : ℕ). AreMultipliers form (set_row n group) n (p + 1) numbers) mark
-    (subst (λ (l : List ℕ). AreMultipliers form (set_row n l) n (kept + 1) numbers) same_rows (subst (λ (m : ℕ). AreMultipliers form (set_row m list) m (kept + 1) numbers) same_n are))
+    (subst (λ (l : List ℕ). AreMultipliers form (set_row n l) n (kept + 1) numbers) same_rows
+    (subst (λ (m : ℕ). AreMultipliers form (set_row m list) m (kept + 1) numbers) same_n are))
 
 -- numbers without a common factor are no larger than with one
 divided_small : (factor : ℤ) (list : List ℤ) → pos 0 <ℤ factor → AllByRecursion IsSmall (map (λ x. factor *ℤ x) list) → AllByRecursion IsSmall list
 divided_small factor list positive all =
-    all-weaker (λ x. IsSmall (factor *ℤ x)) IsSmall (λ x small. let more = size_of_factor factor x (positive_not_zero factor positive) in omega arith) list (all-unmap (λ x. factor *ℤ x) IsSmall list all)
+    all-weaker (λ x. IsSmall (factor *ℤ x)) IsSmall (λ x small. let more = size_of_factor factor x (positive_not_zero factor positive) in omega arith) list
+    (all-unmap (λ x. factor *ℤ x) IsSmall list all)
 
-module _ (n : ℕ) (history : List Answered) (protected : List Protected) (asked : Asked) (places : List ℕ) (form : Echelon) (target : Target) (marks : AreMarks n history asked places form)
+module _ (n : ℕ) (history : List Answered) (protected : List Protected) (asked : Asked) (places : List ℕ) (form : Echelon) (target : Target)
+    (marks : AreMarks n history asked places form)
     (independent : AreIndependent n (kept_sets history places asked.rows.list)) where
   count : length (kept_sets history places asked.rows.list) ≡ length places + 1
   count = length-append (map (rows_at history) places) (asked.rows.list ∷ []) ∙ ap (λ k. k + 1) (length-map places (rows_at history))
 
-  over_sets : IsReducedForm (n + length (kept_sets history places asked.rows.list)) (marked_rows n (length (kept_sets history places asked.rows.list)) 0 (kept_sets history places asked.rows.list)) form.rows
+  over_sets : IsReducedForm (n + length (kept_sets history places asked.rows.list))
+      (marked_rows n (length (kept_sets history places asked.rows.list)) 0 (kept_sets history places asked.rows.list)) form.rows
   over_sets = subst (λ k. IsReducedForm (n + k) (marked_rows n k 0 (kept_sets history places asked.rows.list)) form.rows) (sym count) marks.marked.reduced
 
   -- the pivots stand among the columns of the table
@@ -69,28 +73,33 @@ module _ (n : ℕ) (history : List Answered) (protected : List Protected) (asked
   few = let most = independent_few n (kept_sets history places asked.rows.list) independent in let all = count in omega arith
 
   -- the multipliers for one row are small
-  small_for_row : AllByRecursion (IsWithin (2 ^ 56)) form.rows → (row : ℕ) (list : List ℤ) → AreMultipliers form.rows (set_row n (row ∷ [])) n (length places + 1) list → AllByRecursion IsSmall list
+  small_for_row : AllByRecursion (IsWithin (2 ^ 56)) form.rows → (row : ℕ) (list : List ℤ) →
+      AreMultipliers form.rows (set_row n (row ∷ [])) n (length places + 1) list → AllByRecursion IsSmall list
   small_for_row within row list are =
       let reduced = marks.marked.reduced in
       let leading = all-weaker (IsPrimitive (n + (length places + 1))) (λ r. pos 0 <ℤ pivot_entry r) (λ r p. p.leading) form.rows reduced.primitive in
       let entries : (j : ℕ) → AllByRecursion (λ r. unsigned_abs (number_at r j) ≤ 2 ^ 56) form.rows
-      = λ j. all-weaker (λ (r : List ℤ). AllByRecursion (λ x. unsigned_abs x ≤ 2 ^ 56) r) (λ r. unsigned_abs (number_at r j) ≤ 2 ^ 56) (λ r small. small_at r j small) form.rows within in
+      = λ j. all-weaker (λ (r : List ℤ). AllByRecursion (λ x. unsigned_abs x ≤ 2 ^ 56) r) (λ r. unsigned_abs (number_at r j) ≤ 2 ^ 56)
+      (λ r small. small_at r j small) form.rows within in
       let each : (k : ℕ) → IsSmall (number_at are.numbers k) = λ k. elim (cases_lt k (length are.numbers)) [
         | inl inside ↦
             let read = are.read.exact k (let all = are.read.one_each in omega arith) in
-            let small = number_small are.common (number_at (set_row n (row ∷ []))) row (λ j other. zero_elsewhere n row j other) form.rows are.read.taken (n + k) reduced.echelon leading are.read.are_taken are.read.small (entries (n + k)) in
+            let small = number_small are.common (number_at (set_row n (row ∷ []))) row (λ j other. zero_elsewhere n row j other) form.rows are.read.taken
+            (n + k) reduced.echelon leading are.read.are_taken are.read.small (entries (n + k)) in
             subst IsSmall (sym read) small
         | inr past ↦ subst IsSmall (sym (get_or_past are.numbers k (pos 0) past)) (let none : unsigned_abs (pos 0) ≤ 2 ^ 112 = omega arith in none)
       ] in
       let first = are.small in
       let common : IsSmall are.common = omega arith in
-      divided_small are.divided.factor list are.divided.positive (subst (AllByRecursion IsSmall) are.divided.is_multiple (common, all_by_number IsSmall are.numbers each))
+      divided_small are.divided.factor list are.divided.positive
+      (subst (AllByRecursion IsSmall) are.divided.is_multiple (common, all_by_number IsSmall are.numbers each))
 
   module _ (first : IsFirstTarget n protected asked.column (sets_with_asked history asked) target) (is_target : IsTarget n protected asked.column target)
       (span : InSpan (map (set_row n) (kept_sets history places asked.rows.list)) (set_row n (rows_of protected target))) (times : ℤ) (numbers : List ℤ)
       (are : AreMultipliers form.rows (set_row n (rows_of protected target)) n (length places + 1) (times ∷ numbers)) where
     come : ComeTo n (kept_sets history places asked.rows.list) (set_row n (rows_of protected target)) times numbers
-    come = come_to n (length places + 1) (kept_sets history places asked.rows.list) form.rows (set_row n (rows_of protected target)) count independent marks.marked.reduced span times numbers are
+    come = come_to n (length places + 1) (kept_sets history places asked.rows.list) form.rows
+        (set_row n (rows_of protected target)) count independent marks.marked.reduced span times numbers are
 
     canonical : IsCanonicalSum n history protected asked target times (terms_of places numbers) (number_at numbers (length places))
     canonical = canonical_sum n history protected asked places target times numbers marks.kept first come
@@ -102,7 +111,8 @@ module _ (n : ℕ) (history : List Answered) (protected : List Protected) (asked
     terms_are : AllByRecursion IsSmall numbers → AllByRecursion (IsTerm history asked.column) (terms_of places numbers)
     terms_are small = both (terms_of places numbers) canonical.named (terms_numbers IsSmall places numbers small)
       where
-        both : (terms : List Term) → AllByRecursion (λ (t : Term). has_row canonical.places t.place ≡ true) terms → AllByRecursion IsSmall (map (λ (t : Term). t.times) terms) →
+        both : (terms : List Term) → AllByRecursion (λ (t : Term). has_row canonical.places t.place ≡ true) terms →
+            AllByRecursion IsSmall (map (λ (t : Term). t.times) terms) →
             AllByRecursion (IsTerm history asked.column) terms
         both [] named all = tt
         both (t ∷ terms) named all = (
@@ -128,14 +138,19 @@ module _ (n : ℕ) (history : List Answered) (protected : List Protected) (asked
     )
 
 -- if some number isn't small, the target is a group whose canonical numbers are too wide
-pub too_wide : (n : ℕ) (history : List Answered) (protected : List Protected) (asked : Asked) (places : List ℕ) (form : Echelon) (target : Target) (marks : AreMarks n history asked places form)
-    (independent : AreIndependent n (kept_sets history places asked.rows.list)) → IsFirstTarget n protected asked.column (sets_with_asked history asked) target →
-    InSpan (map (set_row n) (kept_sets history places asked.rows.list)) (set_row n (rows_of protected target)) → AllByRecursion (IsWithin (2 ^ 56)) form.rows → (times : ℤ) (numbers : List ℤ) →
-    AreMultipliers form.rows (set_row n (rows_of protected target)) n (length places + 1) (times ∷ numbers) → ¬ (AllByRecursion IsSmall (times ∷ numbers)) → AreNumbersWide n history protected asked
+pub too_wide : (n : ℕ) (history : List Answered) (protected : List Protected) (asked : Asked) (places : List ℕ) (form : Echelon) (target : Target)
+    (marks : AreMarks n history asked places form)
+    (independent : AreIndependent n (kept_sets history places asked.rows.list)) →
+    IsFirstTarget n protected asked.column (sets_with_asked history asked) target →
+    InSpan (map (set_row n) (kept_sets history places asked.rows.list)) (set_row n (rows_of protected target)) → AllByRecursion (IsWithin (2 ^ 56)) form.rows →
+    (times : ℤ) (numbers : List ℤ) →
+    AreMultipliers form.rows (set_row n (rows_of protected target)) n (length places + 1) (times ∷ numbers) → ¬ (AllByRecursion IsSmall (times ∷ numbers)) →
+    AreNumbersWide n history protected asked
 too_wide n history protected asked places form (Row row) marks independent first span within times numbers are large =
     absurd (large (small_for_row n history protected asked places form (Row row) marks independent within row (times ∷ numbers) are))
 too_wide n history protected asked places form (Group place) marks independent first span within times numbers are large =
-    let came = come_to n (length places + 1) (kept_sets history places asked.rows.list) form.rows (set_row n (rows_of protected (Group place))) (count n history protected asked places form (Group place) marks independent)
+    let came = come_to n (length places + 1) (kept_sets history places asked.rows.list) form.rows (set_row n (rows_of protected (Group place)))
+    (count n history protected asked places form (Group place) marks independent)
     independent marks.marked.reduced span times numbers are in
     let numbered : length numbers ≡ length places + 1 = came.one_each ∙ count n history protected asked places form (Group place) marks independent in
     record {
@@ -144,7 +159,11 @@ too_wide n history protected asked places form (Group place) marks independent f
       terms = terms_of places numbers;
       own = number_at numbers (length places);
       canonical = canonical_sum n history protected asked places (Group place) times numbers marks.kept first came;
-      large = λ all. large (all.0, all_from_terms IsSmall (let none : unsigned_abs (pos 0) ≤ 2 ^ 112 = omega arith in none) places numbers numbered all.1.1 all.1.0);
+      large = λ all. large (
+        all.0,
+        all_from_terms IsSmall (let none : unsigned_abs (pos 0) ≤ 2 ^ 112 = omega arith in none) places numbers numbered all.1.1
+            all.1.0,
+      );
     }
 
 -- a list from its second entry on

@@ -38,15 +38,18 @@ module _ (setting : Setting) (protected : IsPlainFor setting.shape setting.prote
   -- an entry that is there fits
   entry_fits : (place : ℕ) (p : Protected) → slice_get setting.protected.groups place ≡ Some p → IsProtected setting.shape p
   entry_fits place p there =
-      subst (IsProtected setting.shape) (get_or_from_slice_get setting.protected.groups place p p there) (protected.0.0 place p (slice_get_within setting.protected.groups place p there))
+      subst (IsProtected setting.shape) (get_or_from_slice_get setting.protected.groups place p p there)
+      (protected.0.0 place p (slice_get_within setting.protected.groups place p there))
 
   -- groups are sets of rows of the table, none empty
   groups_are_rows : (column : ℕ) → All (λ group. AreRows setting.shape.rows group × (group ≢ [])) (groups_of column setting.protected.groups)
   groups_are_rows column = λ k d within.
       let group = get_or (groups_of column setting.protected.groups) k d in
-      let found = entry_of_group setting.protected.groups column group (k, within, get_or_default (groups_of column setting.protected.groups) k group d within) in
+      let found = entry_of_group setting.protected.groups column group
+      (k, within, get_or_default (groups_of column setting.protected.groups) k group d within) in
       let fits = (entry_fits found.place found.entry found.there).0 in
-      subst (λ group. AreRows setting.shape.rows group × (group ≢ [])) found.rows_are (subst (λ n. AreRows n found.entry.rows.list) fits.same_n fits.are_rows, fits.some)
+      subst (λ group. AreRows setting.shape.rows group × (group ≢ [])) found.rows_are
+      (subst (λ n. AreRows n found.entry.rows.list) fits.same_n fits.are_rows, fits.some)
 
   -- a column of maxima has none
   no_groups : (column : ℕ) → kind_at setting.shape column ≡ Max → groups_of column setting.protected.groups ≡ []
@@ -55,13 +58,15 @@ module _ (setting : Setting) (protected : IsPlainFor setting.shape setting.prote
       go : (groups : List (List ℕ)) → groups_of column setting.protected.groups ≡ groups → groups_of column setting.protected.groups ≡ []
       go [] e = e
       go (group ∷ groups) e =
-          let found = entry_of_group setting.protected.groups column group (subst (λ (list : List (List ℕ)). Contains list group) (sym e) (0, omega arith, refl)) in
+          let found = entry_of_group setting.protected.groups column group
+          (subst (λ (list : List (List ℕ)). Contains list group) (sym e) (0, omega arith, refl)) in
           let both : Sum ≡ Max = sym (entry_fits found.place found.entry found.there).1 ∙ ap (kind_at setting.shape) found.own ∙ maxima in
           absurd cc
 
 -- entries are over the rows of the table
 pub entries_same_n : (shape : Shape) (list : List Protected) → All (IsProtected shape) list → AllByRecursion (λ (p : Protected). p.rows.n ≡ shape.rows) list
-entries_same_n shape list fit = all-weaker (IsProtected shape) (λ (p : Protected). p.rows.n ≡ shape.rows) (λ p fits. fits.0.same_n) list (recursion_from_All (IsProtected shape) list fit)
+entries_same_n shape list fit = all-weaker (IsProtected shape) (λ (p : Protected). p.rows.n ≡ shape.rows) (λ p fits. fits.0.same_n) list
+    (recursion_from_All (IsProtected shape) list fit)
 
 -- ---- the answers before
 
@@ -69,21 +74,25 @@ module _ (setting : Setting) (history : List Answered) (fit : All (λ (r : Answe
   -- what holds of each record that fits
   each_record : (P : Answered → Type 0) → ((r : Answered) → FitsShape setting.shape r.column r.rows → P r) → AllByRecursion P history
   each_record P holds =
-      all-weaker (λ (r : Answered). FitsShape setting.shape r.column r.rows) P holds history (recursion_from_All (λ (r : Answered). FitsShape setting.shape r.column r.rows) history fit)
+      all-weaker (λ (r : Answered). FitsShape setting.shape r.column r.rows) P holds history
+      (recursion_from_All (λ (r : Answered). FitsShape setting.shape r.column r.rows) history fit)
 
   pub records_same_n : AllByRecursion (λ (r : Answered). r.rows.n ≡ setting.shape.rows) history
   records_same_n = each_record (λ (r : Answered). r.rows.n ≡ setting.shape.rows) (λ r fits. fits.same_n)
 
   pub records_are_rows : AllByRecursion (λ (r : Answered). AreRows setting.shape.rows r.rows.list) history
-  records_are_rows = each_record (λ (r : Answered). AreRows setting.shape.rows r.rows.list) (λ r fits. subst (λ n. AreRows n r.rows.list) fits.same_n fits.are_rows)
+  records_are_rows = each_record (λ (r : Answered). AreRows setting.shape.rows r.rows.list)
+      (λ r fits. subst (λ n. AreRows n r.rows.list) fits.same_n fits.are_rows)
 
   sets_are_rows : (column : ℕ) → AllByRecursion (λ (a : Answer). AreRows setting.shape.rows a.rows) (answers_of column history)
   sets_are_rows column =
-      all-map answer_in (λ a. AreRows setting.shape.rows a.rows) _ (all-filter (λ (r : Answered). AreRows setting.shape.rows r.rows.list) (λ r. r.column == column) history records_are_rows)
+      all-map answer_in (λ a. AreRows setting.shape.rows a.rows) _
+      (all-filter (λ (r : Answered). AreRows setting.shape.rows r.rows.list) (λ r. r.column == column) history records_are_rows)
 
   sets_have_rows : (column : ℕ) → AllByRecursion (λ (a : Answer). a.rows ≢ []) (answers_of column history)
   sets_have_rows column =
-      all-map answer_in (λ a. a.rows ≢ []) _ (all-filter (λ (r : Answered). r.rows.list ≢ []) (λ r. r.column == column) history (each_record (λ (r : Answered). r.rows.list ≢ []) (λ r fits. fits.some)))
+      all-map answer_in (λ a. a.rows ≢ []) _ (all-filter (λ (r : Answered). r.rows.list ≢ []) (λ r. r.column == column) history
+      (each_record (λ (r : Answered). r.rows.list ≢ []) (λ r fits. fits.some)))
 
   all_sets : (column : ℕ) → AllByRecursion (AreRows setting.shape.rows) (map (λ a. a.rows) (answers_of column history))
   all_sets column = all-map (λ (a : Answer). a.rows) (AreRows setting.shape.rows) (answers_of column history) (sets_are_rows column)
@@ -93,7 +102,8 @@ module _ (setting : Setting) (history : List Answered) (fit : All (λ (r : Answe
       InSpan (map (set_row setting.shape.rows) (map (λ a. a.rows) (answers_of column history))) row
   at_end column row span = subst (λ (sets : List (List ℕ)). InSpan (map (set_row setting.shape.rows) sets) row) (sets_at_end column history) span
 
-  pub open_sums : LegalIsNarrow → PinnedByUnitRow → LegalPinsNothing → IsPlainFor setting.shape setting.protected → IsLegalIn setting history → 0 < setting.shape.rows → (column : ℕ) →
+  pub open_sums : LegalIsNarrow → PinnedByUnitRow → LegalPinsNothing → IsPlainFor setting.shape setting.protected → IsLegalIn setting history →
+      0 < setting.shape.rows → (column : ℕ) →
       column < columns setting.shape → kind_at setting.shape column ≡ Sum → AreOpenSums setting.shape.rows column history
   open_sums narrow by_unit_row pins_nothing protected legal some column below sums =
       let n = setting.shape.rows in
@@ -104,7 +114,8 @@ module _ (setting : Setting) (history : List Answered) (fit : All (λ (r : Answe
             (narrow table history column place protected.0 legal.legal sums within);
         leaves_open = λ span.
             let pinned = (by_unit_row n sets 0 (all_sets column) some).1 (at_end column (set_row n (0 ∷ [])) span) in
-            pins_nothing table history column 0 legal.are_secrets protected.0 legal.legal below sums (ap (λ (p : Protection). has_row p.shared 0) protected.1) pinned;
+            pins_nothing table history column 0 legal.are_secrets protected.0 legal.legal below sums
+            (ap (λ (p : Protection). has_row p.shared 0) protected.1) pinned;
       }
 
   -- ---- the question
@@ -115,13 +126,16 @@ module _ (setting : Setting) (history : List Answered) (fit : All (λ (r : Answe
     own_rows : AreRows setting.shape.rows asked.rows.list
     own_rows = subst (λ n. AreRows n asked.rows.list) question.same_n question.are_rows
 
-    pub bad_candidate : DangerousByCandidates → kind_at setting.shape asked.column ≡ Max → HasBadCandidate (known_max setting.shape.rows (answers_of asked.column history)) asked.rows.list
+    pub bad_candidate : DangerousByCandidates → kind_at setting.shape asked.column ≡ Max →
+        HasBadCandidate (known_max setting.shape.rows (answers_of asked.column history)) asked.rows.list
     bad_candidate by_candidates maxima =
-        let formed : IsWellFormed (known_max setting.shape.rows (answers_of asked.column history)) = record { are_rows = sets_are_rows asked.column; some = sets_have_rows asked.column } in
+        let formed : IsWellFormed (known_max setting.shape.rows (answers_of asked.column history)) =
+        record { are_rows = sets_are_rows asked.column; some = sets_have_rows asked.column } in
         let known = known_max setting.shape.rows (answers_of asked.column history) in
         let danger =
         dangerous_from known setting.protected.width setting.protected.reach asked.rows.list
-        (subst (λ k. IsDangerous k asked.rows.list) (plain_maxima setting history asked.column protected.1 maxima (no_groups setting protected asked.column maxima)) denied.1) in
+        (subst (λ k. IsDangerous k asked.rows.list)
+        (plain_maxima setting history asked.column protected.1 maxima (no_groups setting protected asked.column maxima)) denied.1) in
         (by_candidates setting.shape.rows (answers_of asked.column history) [] asked.rows.list formed own_rows question.some).0 danger
 
     module _ (laws : LegalLaws) (legal : IsLegalIn setting history) (sums : kind_at setting.shape asked.column ≡ Sum) where
@@ -137,10 +151,13 @@ module _ (setting : Setting) (history : List Answered) (fit : All (λ (r : Answe
           let answers = answers_of asked.column history in
           let agrees = own_agrees laws table history legal.are_secrets protected legal.legal asked.column question.column_below sums in
           let with_asked = all-push (AreRows n) (map (λ a. a.rows) answers) asked.rows.list (all_sets asked.column) own_rows in
-          let group_rows = All-weaker (λ group. AreRows n group × (group ≢ [])) (AreRows n) (λ group is. is.0) groups (groups_are_rows setting protected asked.column) in
+          let group_rows = All-weaker (λ group. AreRows n group × (group ≢ [])) (AreRows n) (λ group is. is.0) groups
+          (groups_are_rows setting protected asked.column) in
           let danger = subst (λ k. IsDangerous k asked.rows.list) (plain_sums setting history asked.column protected.1 sums) denied.1 in
-          let told = plain_danger (with_groups (with_bounds (known_sum n answers) setting.protected.width setting.protected.reach) groups) (sets_with_asked history asked) refl refl
-          ((laws.dangerous n answers [] [] groups 0 setting.protected.width setting.protected.reach asked.rows.list with_asked group_rows (list_of legal.secrets asked.column, agrees)).0 danger) in
+          let told = plain_danger (with_groups (with_bounds (known_sum n answers) setting.protected.width setting.protected.reach) groups)
+          (sets_with_asked history asked) refl refl
+          ((laws.dangerous n answers [] [] groups 0 setting.protected.width setting.protected.reach asked.rows.list with_asked group_rows
+          (list_of legal.secrets asked.column, agrees)).0 danger) in
           elim told [
             | inl pinned ↦ inl pinned
             | inr (group, guarded, spanned) ↦
@@ -159,9 +176,11 @@ module _ (setting : Setting) (history : List Answered) (fit : All (λ (r : Answe
       pub unsafe_sum : IsUnsafeSum setting.shape.rows setting.protected.width history setting.protected.groups asked
       unsafe_sum = record {
         new = λ span.
-            asked_new laws table history legal.are_secrets protected legal.legal asked.column question.column_below sums (all_sets asked.column) asked.rows.list own_rows
+            asked_new laws table history legal.are_secrets protected legal.legal asked.column question.column_below sums
+            (all_sets asked.column) asked.rows.list own_rows
             (groups_are_rows setting protected asked.column) denied.1 (at_end asked.column (set_row setting.shape.rows asked.rows.list) span);
-        narrow = narrow_within (with_groups (with_bounds (known_sum setting.shape.rows (answers_of asked.column history)) setting.protected.width setting.protected.reach)
+        narrow = narrow_within (with_groups (with_bounds (known_sum setting.shape.rows (answers_of asked.column history)) setting.protected.width
+            setting.protected.reach)
             (groups_of asked.column setting.protected.groups)) asked.rows.list
             (subst (λ k. IsWithinWidth k asked.rows.list) (plain_sums setting history asked.column protected.1 sums) denied.0);
         gives_away = gives_away;

@@ -23,7 +23,8 @@ pub record IsSoFar (shape : Shape) (list : List Answered) (at : ℕ) (bytes : Li
   pub bytes_are : bytes ≡ named shape ++ texts groups
 
 pub nothing_yet : (shape : Shape) (list : List Answered) (bytes : List ℕ) → bytes ≡ named shape → IsSoFar shape list 0 bytes
-nothing_yet shape list bytes is = record { within = omega arith; groups = []; of_records = tt; list_is = refl; full = inl refl; bytes_are = is ∙ sym (append-nil (named shape)) }
+nothing_yet shape list bytes is = record
+    { within = omega arith; groups = []; of_records = tt; list_is = refl; full = inl refl; bytes_are = is ∙ sym (append-nil (named shape)) }
 
 texts-push : (groups : List Written) (w : Written) → texts (groups ++ w ∷ []) ≡ texts groups ++ 1 ∷ w.text
 texts-push groups w = flat_map-append (λ (group : Written). 1 ∷ group.text) groups (w ∷ []) ∙ ap (λ l. texts groups ++ l) (append-nil (1 ∷ w.text))
@@ -34,7 +35,8 @@ records-push groups w = flat_map-append (λ (group : Written). group.list) group
 take-more : (list : List Answered) (at k : ℕ) → at ≤ length list → take (at + k) list ≡ take at list ++ take k (drop at list)
 take-more list at k within =
     let long : length (take at list) ≡ at = omega (arith, within, length-take at list) in
-    ap (take (at + k)) (sym (take-append-drop at list)) ∙ ap (λ n. take (n + k) (take at list ++ drop at list)) (sym long) ∙ take-append-add (take at list) (drop at list) k
+    ap (take (at + k)) (sym (take-append-drop at list)) ∙ ap (λ n. take (n + k) (take at list ++ drop at list)) (sym long)
+    ∙ take-append-add (take at list) (drop at list) k
 
 -- another group is full, or the last
 filled : (count at next total : ℕ) → (64 * count ≡ at) ⊎ ((at ≡ total) × (64 * count < at + 64)) → at < total → next ≡ min total (at + 64) →
@@ -45,8 +47,10 @@ filled count at next total (inl full) more is = elim (cases_lt total (at + 64)) 
   | inr rest ↦ inl (omega (arith, rest, is, full))
 ]
 
-pub one_group_more : (shape : Shape) (list : List Answered) (at next : ℕ) (bytes now text : List ℕ) (group : List Answered) → IsSoFar shape list at bytes → at < length list →
-    next ≡ min (length list) (at + 64) → group ≡ take (next - at) (drop at list) → IsGroup shape text group → now ≡ bytes ++ 1 ∷ text → IsSoFar shape list next now
+pub one_group_more : (shape : Shape) (list : List Answered) (at next : ℕ) (bytes now text : List ℕ) (group : List Answered) → IsSoFar shape list at bytes →
+    at < length list →
+    next ≡ min (length list) (at + 64) → group ≡ take (next - at) (drop at list) → IsGroup shape text group → now ≡ bytes ++ 1 ∷ text →
+    IsSoFar shape list next now
 one_group_more shape list at next bytes now text group so_far more next_is group_is is now_is = record {
   within = omega arith;
   groups = so_far.groups ++ record { text = text; list = group; rows = shape.rows } ∷ [];
@@ -55,8 +59,10 @@ one_group_more shape list at next bytes now text group so_far more next_is group
       ap (λ n. take n list) between ∙ take-more list at (next - at) so_far.within ∙ ap (λ l. l ++ take (next - at) (drop at list)) so_far.list_is
       ∙ ap (λ l. records so_far.groups ++ l) (sym group_is) ∙ sym (records-push so_far.groups (record { text = text; list = group; rows = shape.rows }));
   full =
-      let longer : length (so_far.groups ++ record { text = text; list = group; rows = shape.rows } ∷ []) ≡ length so_far.groups + 1 = length-append so_far.groups (record { text = text; list = group; rows = shape.rows } ∷ []) in
-      subst (λ n. (64 * n ≡ next) ⊎ ((next ≡ length list) × (64 * n < next + 64))) (sym longer) (filled (length so_far.groups) at next (length list) so_far.full more next_is);
+      let longer : length (so_far.groups ++ record { text = text; list = group; rows = shape.rows } ∷ []) ≡ length so_far.groups + 1 =
+      length-append so_far.groups (record { text = text; list = group; rows = shape.rows } ∷ []) in
+      subst (λ n. (64 * n ≡ next) ⊎ ((next ≡ length list) × (64 * n < next + 64))) (sym longer)
+      (filled (length so_far.groups) at next (length list) so_far.full more next_is);
   bytes_are =
       now_is ∙ ap (λ l. l ++ (1 ∷ text)) so_far.bytes_are ∙ append_assoc (named shape) (texts so_far.groups) (1 ∷ text)
       ∙ ap (λ l. named shape ++ l) (sym (texts-push so_far.groups (record { text = text; list = group; rows = shape.rows })));

@@ -59,7 +59,8 @@ module _ (answers : List Answer) where
   pub highest_more : (rows : List ℕ) (highest : Option ℤ) (r : ℕ) (bound : ℤ) → IsHighestSoFar rows highest → upper_bound answers r ≡ Some bound →
       IsHighestBound answers (rows ++ r ∷ []) (higher_of highest bound)
   highest_more rows None r bound so_far is =
-      with_row rows r bound (bounded_more answers rows bound r (none_above rows bound so_far) (bound, is, omega (arith, ints))) (the_last rows r bound bound is refl)
+      with_row rows r bound (bounded_more answers rows bound r (none_above rows bound so_far) (bound, is, omega (arith, ints)))
+      (the_last rows r bound bound is refl)
   highest_more rows (Some highest) r bound so_far is =
       with_row rows r (int_max highest bound)
       (bounded_more answers rows (int_max highest bound) r (higher_bound rows highest (int_max highest bound) (omega (arith, ints, clamps)) so_far.bounded)

@@ -31,7 +31,8 @@ AllOrOther xs ys = ((r : ℕ) → has_row xs r ≡ true → has_row ys r ≡ tru
 
 one_more_row : (x : ℕ) (xs ys : List ℕ) (b : Bool) → has_row ys x ≡ b → AllOrOther xs ys → AllOrOther (x ∷ xs) ys
 one_more_row x xs ys false e rest = inr (x, has_first x xs, e)
-one_more_row x xs ys true e (inl all) = inl (λ r there. elim (first_or_later x r xs there) [ inl same ↦ ap (has_row ys) (sym same) ∙ e | inr later ↦ all r later ])
+one_more_row x xs ys true e (inl all) = inl
+    (λ r there. elim (first_or_later x r xs there) [ inl same ↦ ap (has_row ys) (sym same) ∙ e | inr later ↦ all r later ])
 one_more_row x xs ys true e (inr (r, there, not)) = inr (r, has_later x r xs there, not)
 
 all_or_other : (xs ys : List ℕ) → AllOrOther xs ys
@@ -40,7 +41,8 @@ all_or_other (x ∷ xs) ys = one_more_row x xs ys (has_row ys x) refl (all_or_ot
 
 -- numbers are equal or not
 same_or_not : (x y : ℤ) → (x ≡ y) ⊎ (x ≢ y)
-same_or_not x y = by_lt_z x y (λ less. inr (λ e. omega (arith, ints))) (λ rest. by_lt_z y x (λ more. inr (λ e. omega (arith, ints))) (λ not. inl (omega (arith, ints))))
+same_or_not x y = by_lt_z x y (λ less. inr (λ e. omega (arith, ints)))
+    (λ rest. by_lt_z y x (λ more. inr (λ e. omega (arith, ints))) (λ not. inl (omega (arith, ints))))
 
 -- a bound, or this number if there is none
 abbrev bound_or : ℤ → Option ℤ → ℤ
@@ -149,7 +151,8 @@ module _ (greatest : GreatestIsBoundAndReached) (bounds : UpperBoundIsLeast) whe
           let low = bound.2 in
           let has_it = reached.2 in
           let same : bound.0 ≡ e.value = omega (arith, ints) in
-          let extreme = has-filter (λ r. is_bound (upper_bound answers r) e.value) e.rows q reached.1 (bound_is (upper_bound answers q) bound.0 e.value bound.1 same) in
+          let extreme = has-filter (λ r. is_bound (upper_bound answers r) e.value) e.rows q reached.1
+          (bound_is (upper_bound answers q) bound.0 e.value bound.1 same) in
           let equal = t.reached.same in
           greatest_is w a.rows a.value q some
           (λ r there. let b = t.bounded r there in let under = at_most_bound w agrees r b.0 b.1 in let least = b.2 in omega (arith, ints))

@@ -60,9 +60,11 @@ module _ (laws : FormLaws) (n : ℕ) where
   push_alike sets others rows alike form = (moved sets others rows form (λ f. (alike f).0), moved others sets rows form (λ f. (alike f).1))
 
   -- a set in the span leaves the form as it is
-  with_spanned : (sets : List (List ℕ)) (rows : List ℕ) (form : List (List ℤ)) → InSpan (map (set_row n) sets) (set_row n rows) → Reduced n sets form → Reduced n (sets ++ rows ∷ []) form
+  with_spanned : (sets : List (List ℕ)) (rows : List ℕ) (form : List (List ℤ)) → InSpan (map (set_row n) sets) (set_row n rows) → Reduced n sets form →
+      Reduced n (sets ++ rows ∷ []) form
   with_spanned sets rows form span is =
-      subst (λ l. IsReducedForm n l form) (sym (map-append (set_row n) sets (rows ∷ []))) (laws.span_keeps n (map (set_row n) sets) form (set_row n rows) is span)
+      subst (λ l. IsReducedForm n l form) (sym (map-append (set_row n) sets (rows ∷ [])))
+      (laws.span_keeps n (map (set_row n) sets) form (set_row n rows) is span)
 
   span_alike : (sets : List (List ℕ)) (rows : List ℕ) → InSpan (map (set_row n) sets) (set_row n rows) → AreAlike n (sets ++ rows ∷ []) sets
   span_alike sets rows span form = (
@@ -157,13 +159,17 @@ module _ (n : ℕ) (protected : Protection) (groups : List (List ℕ)) where
       near = λ value told changes.
           changes_alike laws n (sets_of answers) (sets_of others) rows same.alike same.are same.others_are form protected.reach value
           (within.near value (guarded Sum others answers [] told)
-          (changes_alike laws n (sets_of others) (sets_of answers) rows (λ f. ((same.alike f).1, (same.alike f).0)) same.others_are same.are form n value changes));
+          (changes_alike laws n (sets_of others) (sets_of answers) rows (λ f. ((same.alike f).1, (same.alike f).0)) same.others_are same.are form n value
+          changes));
     }
 
     within_width : (kind : Kind) (answers others : List Answer) (rows : List ℕ) → (kind ≡ Sum → AreSame answers others) →
         IsWithinWidthFor kind (knows n protected groups kind answers) rows → IsWithinWidthFor kind (knows n protected groups kind others) rows
-    within_width Sum answers others rows same (form, reduced, within) =
-        (form, (push_alike laws n (sets_of answers) (sets_of others) rows (same refl).alike form).0 reduced, within_bounds answers others rows (same refl) form within)
+    within_width Sum answers others rows same (form, reduced, within) = (
+      form,
+      (push_alike laws n (sets_of answers) (sets_of others) rows (same refl).alike form).0 reduced,
+      within_bounds answers others rows (same refl) form within,
+    )
     within_width Max answers others rows same has = has
 
     too_wide : (kind : Kind) (answers others : List Answer) (rows : List ℕ) → (kind ≡ Sum → AreSame answers others) →
@@ -178,7 +184,8 @@ module _ (n : ℕ) (protected : Protection) (groups : List (List ℕ)) where
     -- a question is decided after some answers as after others
     decided : (kind : Kind) (answers others : List Answer) (rows : List ℕ) (verdict : Verdict) →
         ((w : List ℤ) → Agrees (knows n protected groups kind answers) w ↔ Agrees (knows n protected groups kind others) w) →
-        (kind ≡ Sum → AreSame answers others) → IsDecision (knows n protected groups kind answers) rows verdict → IsDecision (knows n protected groups kind others) rows verdict
+        (kind ≡ Sum → AreSame answers others) → IsDecision (knows n protected groups kind answers) rows verdict →
+        IsDecision (knows n protected groups kind others) rows verdict
     decided kind answers others rows DeniedWide lists same is = too_wide kind answers others rows same is
     decided kind answers others rows DeniedUnsafe lists same is = (
       within_width kind answers others rows same is.0,
@@ -190,7 +197,8 @@ module _ (n : ℕ) (protected : Protection) (groups : List (List ℕ)) where
     )
 
 -- the set of a record of the column, after those before it
-sets_push : (column : ℕ) (before : List Answered) (r : Answered) → r.column ≡ column → sets_in column (before ++ r ∷ []) ≡ sets_in column before ++ r.rows.list ∷ []
+sets_push : (column : ℕ) (before : List Answered) (r : Answered) → r.column ≡ column → sets_in column (before ++ r ∷ [])
+    ≡ sets_in column before ++ r.rows.list ∷ []
 sets_push column before r own =
     ap (map (λ (a : Answer). a.rows)) (own_answers column before r own) ∙ map-append (λ (a : Answer). a.rows) (answers_of column before) (answer_in r ∷ [])
 
@@ -212,7 +220,8 @@ module _ (laws : LegalLaws) (table : Table) (secrets : AreSecrets table.setting.
       (λ i r here. let fits = (legal.each i r here).fits in subst (λ m. AreRows m r.rows.list) fits.same_n fits.are_rows))
 
   -- some list gives the sums of a legal history with one more
-  sums_possible : (column : ℕ) (before : List Answered) (r : Answered) → IsLegal table (before ++ r ∷ []) → column < columns table.setting.shape → kind_at table.setting.shape column ≡ Sum →
+  sums_possible : (column : ℕ) (before : List Answered) (r : Answered) → IsLegal table (before ++ r ∷ []) → column < columns table.setting.shape →
+      kind_at table.setting.shape column ≡ Sum →
       r.column ≡ column → IsPossible (with_answer (known_sum rows_in (answers_of column before)) r.rows.list r.answer)
   sums_possible column before r legal below is own =
       let possible = laws.possible table (before ++ r ∷ []) secrets legal in
@@ -222,7 +231,8 @@ module _ (laws : LegalLaws) (table : Table) (secrets : AreSecrets table.setting.
       (list_of possible.0 column, subst (λ l. Agrees (known_sum rows_in l) (list_of possible.0 column)) (own_answers column before r own) of_sums)
 
   -- an implied sum of a legal history has its row in the span of those before it
-  in_span : (column : ℕ) (before : List Answered) (r : Answered) → IsLegal table (before ++ r ∷ []) → column < columns table.setting.shape → kind_at table.setting.shape column ≡ Sum →
+  in_span : (column : ℕ) (before : List Answered) (r : Answered) → IsLegal table (before ++ r ∷ []) → column < columns table.setting.shape →
+      kind_at table.setting.shape column ≡ Sum →
       r.column ≡ column → IsImpliedBy table.setting.shape before r → InSpan (map (set_row rows_in) (sets_in column before)) (set_row rows_in r.rows.list)
   in_span column before r legal below is own implied =
       let fits = (legal_last table before r legal).fits in
@@ -232,7 +242,8 @@ module _ (laws : LegalLaws) (table : Table) (secrets : AreSecrets table.setting.
       (subst (λ m. AreRows m r.rows.list) fits.same_n fits.are_rows) (sums_possible column before r legal below is own)).0 of_sums
 
   module _ (column : ℕ) (below : column < columns table.setting.shape) (is : kind_at table.setting.shape column ≡ Sum) where
-    forms : {history kept : List Answered} → IsKeptOf table.setting.shape history kept → IsLegal table history → AreAlike rows_in (sets_in column history) (sets_in column kept)
+    forms : {history kept : List Answered} → IsKeptOf table.setting.shape history kept → IsLegal table history →
+        AreAlike rows_in (sets_in column history) (sets_in column kept)
     forms none legal form = (λ f. f, λ f. f)
     forms (left_out {before} {kept} r so_far implied) legal form =
         let rest = forms so_far (legal_front table before r legal) form in
@@ -241,7 +252,8 @@ module _ (laws : LegalLaws) (table : Table) (secrets : AreSecrets table.setting.
               let span = span_alike laws.forms rows_in (sets_in column before) r.rows.list (in_span column before r legal below is own implied) form in
               let pushed = sets_push column before r own in
               subst (λ l. Reduced rows_in l form ↔ Reduced rows_in (sets_in column kept) form) (sym pushed) (λ f. rest.0 (span.0 f), λ f. span.1 (rest.1 f))
-          | inr apart ↦ subst (λ l. Reduced rows_in (map (λ a. a.rows) l) form ↔ Reduced rows_in (sets_in column kept) form) (sym (other_answers column before r apart)) rest
+          | inr apart ↦ subst (λ l. Reduced rows_in (map (λ a. a.rows) l) form ↔ Reduced rows_in (sets_in column kept) form)
+              (sym (other_answers column before r apart)) rest
         ]
     forms (stays {before} {kept} r so_far new) legal form =
         let rest = forms so_far (legal_front table before r legal) in
@@ -249,8 +261,10 @@ module _ (laws : LegalLaws) (table : Table) (secrets : AreSecrets table.setting.
           | inl own ↦ subst (λ l. Reduced rows_in l form ↔ Reduced rows_in (sets_in column (kept ++ r ∷ [])) form) (sym (sets_push column before r own))
               (subst (λ l. Reduced rows_in (sets_in column before ++ r.rows.list ∷ []) form ↔ Reduced rows_in l form) (sym (sets_push column kept r own))
               (push_alike laws.forms rows_in (sets_in column before) (sets_in column kept) r.rows.list rest form))
-          | inr apart ↦ subst (λ l. Reduced rows_in (map (λ a. a.rows) l) form ↔ Reduced rows_in (sets_in column (kept ++ r ∷ [])) form) (sym (other_answers column before r apart))
-              (subst (λ l. Reduced rows_in (sets_in column before) form ↔ Reduced rows_in (map (λ a. a.rows) l) form) (sym (other_answers column kept r apart)) (rest form))
+          | inr apart ↦ subst (λ l. Reduced rows_in (map (λ a. a.rows) l) form ↔ Reduced rows_in (sets_in column (kept ++ r ∷ [])) form)
+              (sym (other_answers column before r apart))
+              (subst (λ l. Reduced rows_in (sets_in column before) form ↔ Reduced rows_in (map (λ a. a.rows) l) form) (sym (other_answers column kept r apart))
+              (rest form))
         ]
 
   -- the kept sets are rows of the table too
@@ -263,14 +277,16 @@ module _ (laws : LegalLaws) (table : Table) (secrets : AreSecrets table.setting.
       let fits = (legal_last table before r legal).fits in
       elim (cases_eq r.column column) [
         | inl own ↦ subst (AllByRecursion (λ b. AreRows rows_in b.rows)) (sym (own_answers column kept r own))
-            (all-push (λ (b : Answer). AreRows rows_in b.rows) (answers_of column kept) (answer_in r) rest (subst (λ m. AreRows m r.rows.list) fits.same_n fits.are_rows))
+            (all-push (λ (b : Answer). AreRows rows_in b.rows) (answers_of column kept) (answer_in r) rest
+            (subst (λ m. AreRows m r.rows.list) fits.same_n fits.are_rows))
         | inr apart ↦ subst (AllByRecursion (λ b. AreRows rows_in b.rows)) (sym (other_answers column kept r apart)) rest
       ]
 
   as_sets : (answers : List Answer) → AllByRecursion (λ b. AreRows rows_in b.rows) answers → AllByRecursion (AreRows rows_in) (sets_of answers)
   as_sets answers are = all-map (λ (b : Answer). b.rows) (AreRows rows_in) answers are
 
-  decisions : {history kept : List Answered} → IsKeptOf table.setting.shape history kept → IsLegal table history → (column : ℕ) (rows : List ℕ) (verdict : Verdict) → column < columns table.setting.shape →
+  decisions : {history kept : List Answered} → IsKeptOf table.setting.shape history kept → IsLegal table history →
+      (column : ℕ) (rows : List ℕ) (verdict : Verdict) → column < columns table.setting.shape →
       IsDecisionAfter table.setting history column rows verdict ↔ IsDecisionAfter table.setting kept column rows verdict
   decisions {history} {kept} is legal column rows verdict below =
       let kind = kind_at table.setting.shape column in

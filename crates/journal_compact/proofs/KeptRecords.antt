@@ -50,12 +50,14 @@ module _ (setting : Setting) (column : ℕ) (w : List ℤ) where
   }
 
   -- an implied record's answer is given, whichever groups are protected
-  implied_given : (before : List Answered) (r : Answered) → r.column ≡ column → IsImpliedBy setting.shape before r → Agrees (known_of setting before column) w → Gives (answer_in r)
+  implied_given : (before : List Answered) (r : Answered) → r.column ≡ column → IsImpliedBy setting.shape before r → Agrees (known_of setting before column) w →
+      Gives (answer_in r)
   implied_given before r own implied agrees =
       let own_column : Agrees (known_of setting before r.column) w = subst (λ c. Agrees (known_of setting before c) w) (sym own) agrees in
       subst (λ c. truth (kind_at setting.shape c) w r.rows.list ≡ r.answer) own (implied w (record { one_each = own_column.one_each; same = own_column.same }))
 
-  pub same_lists : {history kept : List Answered} → IsKeptOf setting.shape history kept → Agrees (known_of setting history column) w ↔ Agrees (known_of setting kept column) w
+  pub same_lists : {history kept : List Answered} → IsKeptOf setting.shape history kept →
+      Agrees (known_of setting history column) w ↔ Agrees (known_of setting kept column) w
   same_lists none = (λ agrees. agrees, λ agrees. agrees)
   same_lists (left_out {before} {kept} r so_far implied) =
       let rest = same_lists so_far in

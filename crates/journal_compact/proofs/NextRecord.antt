@@ -37,7 +37,8 @@ pub taken : (h : List Answered) (k : ℕ) (r : Answered) → k < length h → r 
 taken h k r inside is = take_more h k r inside ∙ ap (λ x. take k h ++ x ∷ []) (sym is)
 
 -- what the records of a history imply, those that are kept of it do, and back
-implied_alike : (shape : Shape) (before kept : List Answered) (r : Answered) → IsKeptOf shape before kept → IsImpliedBy shape kept r → IsImpliedBy shape before r
+implied_alike : (shape : Shape) (before kept : List Answered) (r : Answered) → IsKeptOf shape before kept → IsImpliedBy shape kept r →
+    IsImpliedBy shape before r
 implied_alike shape before kept r is implied w agrees = implied w ((same_lists (setting_of shape no_groups) r.column w is).0 agrees)
 
 implied_back : (shape : Shape) (before kept : List Answered) (r : Answered) → IsKeptOf shape before kept → IsImpliedBy shape before r → IsImpliedBy shape kept r
@@ -50,7 +51,8 @@ pub record NextLaws : Type 0 where
   pub possible : LegalIsPossible
   pub grows : LegalGrows
 
-module _ (laws : NextLaws) (shape : Shape) (h : List Answered) (some : IsLegalForSome shape h) (setting : Setting) (setting_is : setting ≡ setting_of shape no_groups)
+module _ (laws : NextLaws) (shape : Shape) (h : List Answered) (some : IsLegalForSome shape h) (setting : Setting)
+    (setting_is : setting ≡ setting_of shape no_groups)
     (k : ℕ) (r : Answered) (inside : k < length h) (is : r ≡ get_or h k r) (kept : List Answered) (keeps : IsKeptOf shape (take k h) kept) where
   -- the same table without protected groups, of which the core knows none
   abbrev table : Table
@@ -77,7 +79,8 @@ module _ (laws : NextLaws) (shape : Shape) (h : List Answered) (some : IsLegalFo
       record {
         fits = last.fits;
         true_answer = last.true_answer;
-        released = (laws.decisions table (take k h) kept r.column r.rows.list Released some.are_secrets front kept_of_table last.fits.column_below).0 last.released;
+        released = (laws.decisions table (take k h) kept r.column r.rows.list Released some.are_secrets front kept_of_table last.fits.column_below).0
+            last.released;
       }
 
   pub fits : FitsShape setting.shape r.column r.rows
@@ -91,13 +94,15 @@ module _ (laws : NextLaws) (shape : Shape) (h : List Answered) (some : IsLegalFo
       let front = legal_front table (take k h) r with_it in
       let kept_legal = laws.legal table (take k h) kept some.are_secrets front kept_of_table in
       let few : length kept < 65536 = omega (arith, no_more table.setting.shape kept_of_table, room_before table (take k h) r with_it) in
-      subst (λ s. IsPossibleHistory s (kept ++ r ∷ [])) same_setting (laws.possible table (kept ++ r ∷ []) some.are_secrets (laws.grows table kept r kept_legal few may_follow))
+      subst (λ s. IsPossibleHistory s (kept ++ r ∷ [])) same_setting
+      (laws.possible table (kept ++ r ∷ []) some.are_secrets (laws.grows table kept r kept_legal few may_follow))
 
   -- and it stays if the kept ones don't imply it
   pub one_stays : ¬ (IsImpliedBy setting.shape kept r) → IsKeptOf shape (take (k + 1) h) (kept ++ r ∷ [])
   one_stays new =
       subst (λ l. IsKeptOf shape l (kept ++ r ∷ [])) (sym (taken h k r inside is))
-      (stays r keeps (λ implied. new (subst (λ (s : Setting). IsImpliedBy s.shape kept r) (sym setting_is) (implied_back shape (take k h) kept r keeps implied))))
+      (stays r keeps (λ implied. new (subst (λ (s : Setting). IsImpliedBy s.shape kept r) (sym setting_is)
+      (implied_back shape (take k h) kept r keeps implied))))
 
   -- and is left out if they do
   pub one_left_out : IsImpliedBy setting.shape kept r → IsKeptOf shape (take (k + 1) h) kept

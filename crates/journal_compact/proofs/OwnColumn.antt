@@ -56,7 +56,8 @@ maximum_follows audited column rows known part answers same =
       λ follows. subst (λ l. IsForcedToOne l rows) (sym is) (subst Told part.own_kind follows),
     )
 
-module _ (audited : Audited) (r : Answered) (fits : FitsShape audited.setting.shape r.column r.rows) (possible : IsPossibleHistory audited.setting (audited.history ++ r ∷ [])) where
+module _ (audited : Audited) (r : Answered) (fits : FitsShape audited.setting.shape r.column r.rows)
+    (possible : IsPossibleHistory audited.setting (audited.history ++ r ∷ [])) where
   -- what the column knows
   abbrev own : List Answer
   own = answers_of r.column audited.history
@@ -81,7 +82,8 @@ module _ (audited : Audited) (r : Answered) (fits : FitsShape audited.setting.sh
         w,
         subst P is (record {
           one_each = agrees.one_each;
-          same = subst (AllByRecursion (λ a. truth (kind_at audited.setting.shape r.column) w a.rows ≡ a.value)) (own_answers r.column audited.history r refl) agrees.same;
+          same = subst (AllByRecursion (λ a. truth (kind_at audited.setting.shape r.column) w a.rows ≡ a.value))
+              (own_answers r.column audited.history r refl) agrees.same;
         }),
       )
 
@@ -94,18 +96,21 @@ module _ (audited : Audited) (r : Answered) (fits : FitsShape audited.setting.sh
       InSpan form (set_row n r.rows.list) ↔ IsImpliedBy audited.setting.shape audited.history r
   sums_show law known part are form n same reduced =
       let sets = subst (λ l. AllByRecursion (λ (a : Answer). AreRows size a.rows) l) part.answers
-      (all-unmap (λ (a : Answer). a.rows) (AreRows size) known.answers (subst (λ m. AllByRecursion (AreRows m) (map (λ (a : Answer). a.rows) known.answers)) part.n are)) in
+      (all-unmap (λ (a : Answer). a.rows) (AreRows size) known.answers
+      (subst (λ m. AllByRecursion (AreRows m) (map (λ (a : Answer). a.rows) known.answers)) part.n are)) in
       let both = law size own (answer_in r) sets rows_are (own_possible Sum part.own_kind) in
       let spans = spans_show audited r.column r.rows.list known part form n same reduced in (
         λ span. subst ImpliedAs (sym part.own_kind) (both.1 (spans.0 span)),
         λ implied. spans.1 (both.0 (subst ImpliedAs part.own_kind implied)),
       )
 
-  pub maxima_show : ImpliedByExtremes → (known : Known) → HasItsPart audited r.column Max known → IsWellFormed known → (answers : List Answer) → answers ≡ known.answers →
+  pub maxima_show : ImpliedByExtremes → (known : Known) → HasItsPart audited r.column Max known → IsWellFormed known → (answers : List Answer) → answers
+      ≡ known.answers →
       IsForced answers (answer_in r) ↔ IsImpliedBy audited.setting.shape audited.history r
   maxima_show law known part well answers same =
       let P : ℕ → List Answer → Type 0 = λ m l. IsWellFormed (known_max m l) in
-      let formed : IsWellFormed (known_max size own) = subst (λ m. P m own) part.n (subst (P known.n) part.answers (record { are_rows = well.are_rows; some = well.some })) in
+      let formed : IsWellFormed (known_max size own) = subst (λ m. P m own) part.n
+      (subst (P known.n) part.answers (record { are_rows = well.are_rows; some = well.some })) in
       let both = law size own (answer_in r) formed rows_are fits.some (own_possible Max part.own_kind) in
       let is : answers ≡ own = same ∙ part.answers in (
         λ told. subst ImpliedAs (sym part.own_kind) (both.1 (subst (λ l. IsForced l (answer_in r)) is told)),

@@ -90,7 +90,8 @@ module _ (known : Known) (rows : List ℕ) (well : IsWellFormed known) (are : Ar
     forced_over : (value : ℤ) → IsForced known.answers (answer_over rows value) → IsForcedOver known.answers rows value
     forced_over value forced =
         let e = forced.reached.answer in
-        let one = some_row (extremes known.answers e) (all_at (λ (b : Answer). 0 < length (extremes known.answers b)) known.answers e all_reached forced.reached.one) in
+        let one = some_row (extremes known.answers e)
+        (all_at (λ (b : Answer). 0 < length (extremes known.answers b)) known.answers e all_reached forced.reached.one) in
         let found = filter-has (λ r. is_bound (upper_bound known.answers r) e.value) e.rows one.0 one.1 in
         record {
           highest = record {

@@ -18,7 +18,8 @@ use Rattle.journal_compact.specs.declared.whole.Found.TheVariants.{Closed, Short
 use Rattle.journal_compact.proofs.WholeJournals.{stands_whole}
 
 -- a file that isn't made, left alone
-pub untouched_unmade : (shape : Shape) (list : List Answered) (file before : List ℕ) → (IsMade file → ⊥) → (image sent : List ℕ) → IsUntouched file before image sent →
+pub untouched_unmade : (shape : Shape) (list : List Answered) (file before : List ℕ) → (IsMade file → ⊥) → (image sent : List ℕ) →
+    IsUntouched file before image sent →
     IsUnmadeOrWhole shape list before image sent
 untouched_unmade shape list file before unmade image sent (same, is) = (
   same,
@@ -43,7 +44,8 @@ module _ (shape : Shape) (list : List Answered) (behind : List ℕ) (few : lengt
       LeavesOnly bench mid new (IsUnmadeOrOpened behind (bench.sent mid)) → LeavesOnly bench old new (IsUnmadeOrWhole shape list (bench.sent old))
   all_moments bench old mid new unmade looked quiet wrote =
       after_reads bench old mid new (IsUnmadeOrWhole shape list) (untouched_unmade shape list (bench.file old) (bench.sent old) unmade) looked quiet
-      (weakens bench mid new (IsUnmadeOrOpened behind (bench.sent mid)) (IsUnmadeOrWhole shape list (bench.sent mid)) (λ image sent. whole_or_unmade (bench.sent mid) image sent) wrote)
+      (weakens bench mid new (IsUnmadeOrOpened behind (bench.sent mid)) (IsUnmadeOrWhole shape list (bench.sent mid))
+      (λ image sent. whole_or_unmade (bench.sent mid) image sent) wrote)
 
   -- what is appended to a closed gate at the front stands for the list
   pub stands_appended : (file new : List ℕ) → new ≡ appended 0 behind file → StandsFor new shape list

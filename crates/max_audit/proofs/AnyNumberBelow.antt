@@ -36,7 +36,7 @@ least_is high b o e h = rw e (omega (arith, ints, clamps))
 
 module _ (n : ℕ) (answers : List Answer) (w : List ℤ) (i : ℕ) (high x : ℤ) (well : IsWellFormed (known_max n answers)) (agrees : Agrees (known_max n answers) w)
     (below : i < n) (under : (r : ℕ) → r < n → number_at w r ≤ℤ high) (x_under : x ≤ℤ high)
-        (x_below : AllByRecursion (λ a. has_row a.rows i ≡ true → x ≤ℤ a.value) answers) where
+    (x_below : AllByRecursion (λ a. has_row a.rows i ≡ true → x ≤ℤ a.value) answers) where
   -- x at row i, and each other row at its bound, as far as the high end lets it
   abbrev number_of : ℕ → ℤ
   number_of r = cond (r == i) x (least_of high (upper_bound answers r))
@@ -72,7 +72,7 @@ module _ (n : ℕ) (answers : List Answer) (w : List ℤ) (i : ℕ) (high x : �
     | inr other ↦
         let bound = bound_below answers a r one there in
         subst (λ z. z ≤ℤ a.value) (sym (number_there r (row_below n a.rows r (rows_of a one) there) other))
-            (least_below high bound.0 a.value (upper_bound answers r) bound.1 bound.2)
+        (least_below high bound.0 a.value (upper_bound answers r) bound.1 bound.2)
   ]
 
   gives : (a : Answer) → IsOneOf a answers → extremes answers a ≢ i ∷ [] → 0 < length (extremes answers a) → greatest_over raised a.rows ≡ a.value

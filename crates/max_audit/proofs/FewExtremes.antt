@@ -129,7 +129,7 @@ module _ (n : ℕ) (answers : List Answer) (rows : List ℕ) (well : IsWellForme
         let too : has_row (extremes (with_asked answers rows x) a) s ≡ true = ap (λ l. has_row l s) only ∙ has_later r s (s ∷ []) (has_first s []) in
         let order : r < s = two_ascend (subst (AscendsFrom 0 n) only
         (filter-ascends 0 n (λ q. is_bound (upper_bound (with_asked answers rows x) q) a.value) a.rows
-            (all_at (λ b. AreRows n b.rows) (with_asked answers rows x) a (still_well x).are_rows one))) in
+        (all_at (λ b. AreRows n b.rows) (with_asked answers rows x) a (still_well x).are_rows one))) in
         let below_s = row_of a one s too in
         elim (lone_or_lowered n (with_asked answers rows x) s (still_well x) possible below_s) [
           | inl lone ↦ from_lone s lone
@@ -170,7 +170,7 @@ module _ (n : ℕ) (answers : List Answer) (rows : List ℕ) (well : IsWellForme
     from_few : HasFewExtremes 2 (with_asked answers rows x) → IsDangerousFor (known_max n answers) rows
     from_few (a, one, few) =
         elim (one_or_two (extremes (with_asked answers rows x) a)
-            (all_at (λ b. 0 < length (extremes (with_asked answers rows x) b)) (with_asked answers rows x) a possible one) few) [
+        (all_at (λ b. 0 < length (extremes (with_asked answers rows x) b)) (with_asked answers rows x) a possible one) few) [
           | inl (r, only) ↦ from_lone r (a, one, only)
           | inr (r, s, only) ↦ from_two a one r s only
         ]
@@ -212,10 +212,10 @@ module _ (most : ℕ) (answers : List Answer) (rows : List ℕ) where
     highest_from : length (extremes (with_asked answers rows x) (asked answers rows x)) ≤ most → HasFewHighest most (upper_bound answers) rows
     highest_from few =
         let hit = some_row (extremes (with_asked answers rows x) (asked answers rows x))
-                (still (asked answers rows x) (one_of_last answers (asked answers rows x))) in
+        (still (asked answers rows x) (one_of_last answers (asked answers rows x))) in
         let own = has_asked answers rows x hit.0 hit.1 in
         let grows = filter_grows (λ q. not (is_below_bound (upper_bound answers q) (upper_bound answers hit.0)))
-                (λ q. is_bound (upper_bound (with_asked answers rows x) q) x) rows
+        (λ q. is_bound (upper_bound (with_asked answers rows x) q) x) rows
         (λ q there high. (filter-has (λ s. is_bound (upper_bound (with_asked answers rows x) s) x) rows q
         (asked_has answers rows x q there (at_least_too x (upper_bound answers q) (upper_bound answers hit.0) own.1 (not_true _ high)))).1) in
         (hit.0, own.0, omega (arith, grows, few))
@@ -254,8 +254,12 @@ module _ (most : ℕ) (answers : List Answer) (rows : List ℕ) where
       few_stays : HasFewExtremes most answers → LeavesFew most (known_max n answers) rows x
       few_stays (a, one, few) = record {
         possible = top_possible n answers [] rows are some consistent x top;
-        few = (a, one_of_front answers (asked answers rows x) a one, subst (λ l. length l ≤ most)
-            (sym (top_keeps n answers [] rows are some consistent x top a one)) few);
+        few = (
+          a,
+          one_of_front answers (asked answers rows x) a one,
+          subst (λ l. length l ≤ most)
+              (sym (top_keeps n answers [] rows are some consistent x top a one)) few,
+        );
       }
 
       -- a row at least the greatest answer isn't below another row
@@ -274,7 +278,7 @@ module _ (most : ℕ) (answers : List Answer) (rows : List ℕ) where
       few_highest : HasFewHighest most (upper_bound answers) rows → LeavesFew most (known_max n answers) rows x
       few_highest (r, there, few) =
           let grows = filter_grows (λ q. is_bound (upper_bound (with_asked answers rows x) q) x)
-                  (λ q. not (is_below_bound (upper_bound answers q) (upper_bound answers r))) rows
+          (λ q. not (is_below_bound (upper_bound answers q) (upper_bound answers r))) rows
           (λ q q_there reaches.
           let parts = has_asked answers rows x q (has_filter_of q q_there reaches) in
           ap not (not_below_top r q there q_there (upper_bound answers q) (upper_bound answers r) refl refl parts.1)) in
@@ -316,8 +320,12 @@ module _ (most : ℕ) (answers : List Answer) (rows : List ℕ) where
             possible = all-push (λ a. 0 < length (extremes (with_asked answers rows x) a)) answers (asked answers rows x)
                 (all_from (λ a. 0 < length (extremes (with_asked answers rows x) a)) answers still_some)
                 (not_empty (extremes (with_asked answers rows x) (asked answers rows x)) e (asked_has answers rows x e in_set high_row));
-            few = (p, one_of_front answers (asked answers rows x) p held.one, subst (λ l. length l ≤ most)
-                (sym (higher_loses answers rows x p held.one less)) held.few_left);
+            few = (
+              p,
+              one_of_front answers (asked answers rows x) p held.one,
+              subst (λ l. length l ≤ most)
+                  (sym (higher_loses answers rows x p held.one less)) held.few_left,
+            );
           }
 
     from_cause : HasFewExtremes most answers ⊎
@@ -403,7 +411,7 @@ module _ (n : ℕ) (answers : List Answer) (rows : List ℕ) where
       disclosed = λ v alike same.
           danger.disclosed v (alike_out danger.w v alike)
           (get_or_past v danger.q (pos 0) (let all = alike.agrees.one_each in omega arith)
-              ∙ sym (get_or_past danger.w danger.q (pos 0) (let all = danger.agrees.one_each in omega arith)));
+          ∙ sym (get_or_past danger.w danger.q (pos 0) (let all = danger.agrees.one_each in omega arith)));
     }
   ]
 

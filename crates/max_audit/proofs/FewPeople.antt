@@ -48,7 +48,7 @@ module _ (n : ℕ) (answers : List Answer) (shared several : List ℕ) (q i : �
     scarce.one,
     few_among (extremes answers scarce.answer)
         (filter-ascends 0 n (λ r. is_bound (upper_bound answers r) scarce.answer.value) scarce.answer.rows
-            (all_at (λ b. AreRows n b.rows) answers scarce.answer well.are_rows scarce.one))
+        (all_at (λ b. AreRows n b.rows) answers scarce.answer well.are_rows scarce.one))
         scarce.extreme scarce.only,
   )
 
@@ -168,7 +168,7 @@ module _ (n : ℕ) (answers : List Answer) (shared several rows : List ℕ) (wel
               } in
               let own : number_at w s ≢ a.value = λ e.
               let less = get_or-set_same (highest n whole) s (number_at (highest n whole) s -ℤ pos 1) (pos 0)
-                      (omega (arith, length-highest n whole, below_s)) in
+              (omega (arith, length-highest n whole, below_s)) in
               let high = number_at-highest n whole s below_s in
               let bound = bound_from (upper_bound whole s) a.value (filter-has (λ q. is_bound (upper_bound whole q) a.value) a.rows s too).1 in
               absurd (omega (arith, ints)) in
@@ -181,7 +181,7 @@ module _ (n : ℕ) (answers : List Answer) (shared several rows : List ℕ) (wel
                 guarded = number r (row_of n answers rows well are some x possible a one r here) (ap (λ b. b || false) (ne_eqb s r apart)) r_one;
                 disclosed = λ v alike same.
                     scarce_tells n whole v s r scarce formed (agree_too n answers rows well are some x possible w v agrees (alike_out w v alike))
-                        (λ e. own (sym same.0 ∙ e))
+                    (λ e. own (sym same.0 ∙ e))
                     ∙ sym (scarce_tells n whole w s r scarce formed agrees own);
               }
         ]

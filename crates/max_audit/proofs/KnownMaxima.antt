@@ -225,7 +225,7 @@ scarce_is_few n answers q i well scarce = (
   scarce.one,
   among_two 0 n i q (extremes answers scarce.answer)
       (filter-ascends 0 n (λ r. is_bound (upper_bound answers r) scarce.answer.value) scarce.answer.rows
-          (all_at (λ b. AreRows n b.rows) answers scarce.answer well.are_rows scarce.one))
+      (all_at (λ b. AreRows n b.rows) answers scarce.answer well.are_rows scarce.one))
       scarce.only,
 )
 

@@ -114,7 +114,7 @@ module _ (answers : List Answer) (counts : List ℕ) (fewest : ℕ) (sets : List
                     (λ r there.
                     let found = filter-has (λ q. not (has_row rows q)) e.rows r there in
                     let among = ap (λ l. has_row l r) (sym only.1) ∙ has-filter (λ q. not (has_row rows q)) (extremes answers a) r
-                            (cover.3 r found.0) found.1 in
+                    (cover.3 r found.0) found.1 in
                     elim (first_or_later only.0 r [] among) [ inl same ↦ same | inr later ↦ absurd (true≢false (sym later)) ]),
                 only.2,
               );
@@ -184,7 +184,7 @@ no_more_among low n (x ∷ few) [] p q all = absurd (true≢false (sym (all x (h
 no_more_among low n (x ∷ few) (y ∷ many) p q all = elim (first_or_later y x many (all x (has_first x few))) [
   | inl same ↦
       let rest = no_more_among (x + 1) n few many p.2 (subst (λ k. AscendsFrom (k + 1) n many) same q.2)
-              (λ r there. elim (first_or_later y r many (all r (has_later x r few there))) [
+      (λ r there. elim (first_or_later y r many (all r (has_later x r few there))) [
         | inl is ↦ absurd (let after = from_row (x + 1) n few r p.2 there in omega arith)
         | inr later ↦ later
       ]) in omega arith
@@ -264,12 +264,12 @@ module _ (most : ℕ) (answers : List Answer) (counts : List ℕ) (fewest : ℕ)
                 absurd (omega (arith, ints));
             few_left =
                 let fewer = no_more_among 0 n (outside rows e.rows) (outside rows (extremes answers a))
-                        (filter-ascends 0 n (λ r. not (has_row rows r)) e.rows (kept_rows e cover.1))
+                (filter-ascends 0 n (λ r. not (has_row rows r)) e.rows (kept_rows e cover.1))
                 (filter-ascends 0 n (λ r. not (has_row rows r)) (extremes answers a)
                 (filter-ascends 0 n (λ r. is_bound (upper_bound answers r) a.value) a.rows (all_at (λ b. AreRows n b.rows) answers a are held.one)))
                 (λ r there.
                 let found = filter-has (λ q. not (has_row rows q)) e.rows r there in has-filter (λ q. not (has_row rows q)) (extremes answers a) r
-                        (cover.3 r found.0) found.1) in
+                (cover.3 r found.0) found.1) in
                 let few = held.few_left in
                 omega arith;
             lower = λ b one none.

@@ -105,7 +105,7 @@ module _ (bound : ℕ → Option ℤ) where
       is = refl;
       counted = counted-push (has_it bound (bound q)) seen q 0
           (ap length (sym (filter-none (has_it bound (bound q)) seen
-              (λ p there. apart_bounds (bound p) (bound q) (λ same. never_below (bound p) (bound q) same (lower p there))))))
+          (λ p there. apart_bounds (bound p) (bound q) (λ same. never_below (bound p) (bound q) same (lower p there))))))
           (same_bounds (bound q) (bound q) refl);
     }
       where

@@ -105,7 +105,7 @@ lost_after shared seen [] rows top lost h not low = subst (λ l. IsLost shared l
 lost_after shared seen (x ∷ rest) rows top lost h not low =
     subst (λ l. IsLost shared l rows lost) (append_assoc seen (x ∷ []) rest)
     (lost_after shared (seen ++ x ∷ []) rest rows top lost
-        (lost_passed shared seen rows x lost h (λ matters. not (matters_above lost x.value top low.0 matters))) not low.1)
+    (lost_passed shared seen rows x lost h (λ matters. not (matters_above lost x.value top low.0 matters))) not low.1)
 
 -- no set lies within if neither one before nor the last does
 pub within-push : (seen : List Answer) (x : Answer) (rows : List ℕ) (value : ℤ) → (HasWithin seen rows value → ⊥) → (IsWithin rows value x → ⊥) →

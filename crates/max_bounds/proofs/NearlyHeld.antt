@@ -28,7 +28,7 @@ abbrev pub FewSoFar : ℕ → List Answer → List ℕ → Option ℤ → Type 0
 FewSoFar most seen rows None = (b : Answer) → IsOneOf b seen → most < length (left_of rows b)
 FewSoFar most seen rows (Some v) =
     ((a : Answer) × IsOneOf a seen × (length (left_of rows a) ≤ most) × (a.value ≡ v)) ×
-        ((b : Answer) → IsOneOf b seen → length (left_of rows b) ≤ most → b.value ≤ℤ v)
+    ((b : Answer) → IsOneOf b seen → length (left_of rows b) ≤ most → b.value ≤ℤ v)
 
 -- and none is held whole
 pub record AreSeen (most : ℕ) (seen : List Answer) (rows : List ℕ) (few : Option ℤ) : Type 0 where

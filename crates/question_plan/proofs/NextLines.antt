@@ -45,7 +45,8 @@ module _ {P : Type 0} (source : Ghosts P) (old new : Cutter) (before after : P) 
 
   pub gives_next : OneLineIsRead → (answered : Result Next LineStop)
       → (source.told → IfOk answered (λ given. Answers given (old.pending ++ source.left before) new (source.left after)))
-      → (source.told → IfOk answered (λ given. Counts given (counted_lines (old.pending ++ source.left before)) new.text (counted_lines (new.pending ++ source.left after))))
+      → (source.told → IfOk answered (λ given. Counts given (counted_lines (old.pending ++ source.left before)) new.text
+      (counted_lines (new.pending ++ source.left after))))
       → IfOk answered (Advances old new) → ShowsText answered new.text → (answered ≢ refused_by stop.Input → source.faults after ≡ source.faults before)
       → IfOk answered (GivesNext source old new before after)
   gives_next one (Ok given) answer counted advances shows steady = gave one given answer counted advances shows (steady (search rules))

@@ -56,7 +56,8 @@ listed None g schema bounds is = absurd (cc)
 listed (Some cs) g schema bounds is = some_public cs g schema (has_public cs) bounds refl is
 
 -- a number is read only within its bounds
-number_read : (low high absent : ℕ) (d : Option Data) (n : ℕ) → low ≤ absent → absent ≤ high → unwrap_or (option_map (number_within low high) d) (Some absent) ≡ Some n →
+number_read : (low high absent : ℕ) (d : Option Data) (n : ℕ) → low ≤ absent → absent ≤ high → unwrap_or (option_map (number_within low high) d) (Some absent)
+    ≡ Some n →
     (low ≤ n) × (n ≤ high)
 number_read low high absent None n above below is = let same : absent ≡ n = cc in subst (λ k. (low ≤ k) × (k ≤ high)) same (above, below)
 number_read low high absent (Some d) n above below is = read (option_and_then as_u64 (as_number d)) is

@@ -20,7 +20,8 @@ pushed (Ok u) old new value fine items = items
 pushed (Err e) old new value fine items = absurd (true≢false fine)
 
 -- a group more, after the others
-entries_more : (columns : List Column) (public : PublicView) (from : ℕ) (groups : List Group) (group : Group) (protected : List Protected) (column : ℕ) (t : Tree) →
+entries_more : (columns : List Column) (public : PublicView) (from : ℕ) (groups : List Group) (group : Group) (protected : List Protected) (column : ℕ)
+    (t : Tree) →
     AreEntries columns public from groups protected → IsGroup columns group column t →
     AreEntries columns public from (groups ++ group ∷ []) (protected ++ entry_of column (from + length groups) public.rows (meaning public t))
 entries_more columns public from [] group protected column t none is =
@@ -47,11 +48,14 @@ entries_more columns public from (g ∷ gs) group protected column t (c, u, rest
 
 -- what the group at a place gives
 abbrev pub GivesEntry : List Column → PublicView → ℕ → Group → List Protected → Type 0
-GivesEntry columns public place group found = (column : ℕ) × (t : Tree) × IsGroup columns group column t × (found ≡ entry_of column place public.rows (meaning public t))
+GivesEntry columns public place group found = (column : ℕ) × (t : Tree) × IsGroup columns group column t ×
+    (found ≡ entry_of column place public.rows (meaning public t))
 
 -- the entry of the group at a place, after those of the groups before it
-pub entries_at : (columns : List Column) (public : PublicView) (groups : List Group) (place : ℕ) (protected found new : List Protected) → place < length groups →
-    AreEntries columns public 0 (take place groups) protected → ((group : Group) → slice_get groups place ≡ Some group → GivesEntry columns public place group found) →
+pub entries_at : (columns : List Column) (public : PublicView) (groups : List Group) (place : ℕ) (protected found new : List Protected) →
+    place < length groups →
+    AreEntries columns public 0 (take place groups) protected →
+    ((group : Group) → slice_get groups place ≡ Some group → GivesEntry columns public place group found) →
     new ≡ protected ++ found → AreEntries columns public 0 (take (place + 1) groups) new
 entries_at columns public groups place protected found new low entries gives is =
     let d : Group = record { column = []; condition = [] } in
@@ -62,16 +66,19 @@ entries_at columns public groups place protected found new low entries gives is 
         let so_many : 0 + length (take place groups) ≡ place = omega (arith, low, length-take place groups) in
         subst (λ gs. AreEntries columns public 0 gs new) (sym (take_more groups place d low))
         (subst (AreEntries columns public 0 (take place groups ++ get_or groups place d ∷ []))
-        (ap (λ k. protected ++ entry_of column k public.rows (meaning public t)) so_many ∙ ap (λ (xs : List Protected). protected ++ xs) (sym found_is) ∙ sym is)
+        (ap (λ k. protected ++ entry_of column k public.rows (meaning public t)) so_many ∙ ap (λ (xs : List Protected). protected ++ xs) (sym found_is)
+        ∙ sym is)
         (entries_more columns public 0 (take place groups) (get_or groups place d) protected column t entries group))
 
 -- groups that have entries have no fault
-pub entries_sound : (columns : List Column) (public : PublicView) (from : ℕ) (groups : List Group) (protected : List Protected) → AreEntries columns public from groups protected →
+pub entries_sound : (columns : List Column) (public : PublicView) (from : ℕ) (groups : List Group) (protected : List Protected) →
+    AreEntries columns public from groups protected →
     (i : ℕ) (group : Group) → slice_get groups i ≡ Some group → HasNoFault columns group
 entries_sound columns public from [] protected none i group is = absurd (cc)
 entries_sound columns public from (g ∷ gs) protected (c, u, rest, was, before, more) zero group is =
     let same : g ≡ group = cc in subst (HasNoFault columns) same (c, u, was)
-entries_sound columns public from (g ∷ gs) protected (c, u, rest, was, before, more) (suc i) group is = entries_sound columns public (from + 1) gs rest more i group is
+entries_sound columns public from (g ∷ gs) protected (c, u, rest, was, before, more) (suc i) group is =
+    entries_sound columns public (from + 1) gs rest more i group is
 
 -- a fault after groups that have entries is the first
 pub first_bad : (columns : List Column) (public : PublicView) (groups : List Group) (place : ℕ) (protected : List Protected) → place < length groups →

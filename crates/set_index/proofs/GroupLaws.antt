@@ -30,7 +30,8 @@ some_one : (a b : ℕ) (o : Option ℕ) → o ≡ Some a → o ≡ Some b → a 
 some_one a b o first second = ap (λ x. unwrap_or x a) (sym first ∙ second)
 
 -- groups have at most one list of entries
-one_list : OneMeaning → (columns : List Column) (public : PublicView) (from : ℕ) (groups : List Group) (a b : List Protected) → AreEntries columns public from groups a →
+one_list : OneMeaning → (columns : List Column) (public : PublicView) (from : ℕ) (groups : List Group) (a b : List Protected) →
+    AreEntries columns public from groups a →
     AreEntries columns public from groups b → a ≡ b
 one_list means columns public from [] a b x y = x ∙ sym y
 one_list means columns public from (g ∷ gs) a b (c, t, rest, is, a_is, more) (d, u, others, was, b_is, again) =
@@ -43,11 +44,14 @@ one_list means columns public from (g ∷ gs) a b (c, t, rest, is, a_is, more) (
     ∙ sym b_is
 
 -- groups without fault have one
-some_list : (columns : List Column) (public : PublicView) (from : ℕ) (groups : List Group) → ((i : ℕ) (group : Group) → slice_get groups i ≡ Some group → HasNoFault columns group) → (protected : List Protected) × AreEntries columns public from groups protected
+some_list : (columns : List Column) (public : PublicView) (from : ℕ) (groups : List Group) →
+    ((i : ℕ) (group : Group) → slice_get groups i ≡ Some group → HasNoFault columns group) → (protected : List Protected) ×
+    AreEntries columns public from groups protected
 some_list columns public from [] sound = ([], refl)
 some_list columns public from (g ∷ gs) sound = by (sound 0 g refl) (some_list columns public (from + 1) gs (λ i group is. sound (suc i) group is))
   where
-    by : HasNoFault columns g → ((rest : List Protected) × AreEntries columns public (from + 1) gs rest) → (protected : List Protected) × AreEntries columns public from (g ∷ gs) protected
+    by : HasNoFault columns g → ((rest : List Protected) × AreEntries columns public (from + 1) gs rest) → (protected : List Protected) ×
+        AreEntries columns public from (g ∷ gs) protected
     by (c, t, is) (rest, more) = (entry_of c from public.rows (meaning public t) ++ rest, (c, t, rest, is, refl, more))
 
 -- the rows that may be asked of are one set
@@ -75,7 +79,8 @@ sound_only columns None public asks = tt
 sound_only columns (Some text) public (t, short, is, asks) = (t, short, is)
 
 -- and they protect in one way
-one_way : OneMeaning → (columns : List Column) (public : PublicView) (guards : Guards) (a b : Protection) → Protects columns public guards a → Protects columns public guards b → a ≡ b
+one_way : OneMeaning → (columns : List Column) (public : PublicView) (guards : Guards) (a b : Protection) → Protects columns public guards a →
+    Protects columns public guards b → a ≡ b
 one_way means columns public guards a b first second =
     let entries = one_list means columns public 0 guards.groups a.groups b.groups first.0 second.0 in
     first.1 ∙ ap (λ groups. against_outsiders groups [] guards.width guards.reach) entries ∙ sym second.1
@@ -111,7 +116,8 @@ sums_at : PlacesAreColumns → (columns : List Column) (group : Group) (column :
     IsSecretOf columns (Some Sum) column
 sums_at places columns group column t are is = by (place_of group.column columns) is.sums is.place
   where
-    by : (o : Option ℕ) → option_and_then (role_at columns) o ≡ Some Sum → option_and_then (secret_place columns) o ≡ Some column → IsSecretOf columns (Some Sum) column
+    by : (o : Option ℕ) → option_and_then (role_at columns) o ≡ Some Sum → option_and_then (secret_place columns) o ≡ Some column →
+        IsSecretOf columns (Some Sum) column
     by None sums place = absurd (cc)
     by (Some p) sums place = subst (λ r. IsSecretOf columns r column) sums (places columns p column are place)
 
@@ -122,22 +128,27 @@ fits_sums columns column place rows [] secret are = (All-nil (IsProtected (shape
 fits_sums columns column place rows (r ∷ list) secret are =
     let shape = shape_of columns rows in
     let p : Protected = record { column = column; place = place; rows = record { n = rows; list = r ∷ list } } in
-    let fits : FitsShape shape column p.rows = record { column_below = secret.has.below rows; same_n = refl; are_rows = are; some = λ none. cc } in
-    (All-cons (IsProtected shape) p [] (fits, secret.has.of_kind rows ∙ sym (same_Some kind.Sum secret.kind secret.named)) (All-nil (IsProtected shape)), omega arith)
+    let fits : FitsShape shape column p.rows = record { column_below = secret.has.below rows; same_n = refl; are_rows = are; some = λ none. cc } in (
+      All-cons (IsProtected shape) p [] (fits, secret.has.of_kind rows ∙ sym (same_Some kind.Sum secret.kind secret.named)) (All-nil (IsProtected shape)),
+      omega arith,
+    )
 
 -- the entries of groups fit the table, and are no more than the groups
-entries_fit : PlacesAreColumns → (columns : List Column) (public : PublicView) (from : ℕ) (groups : List Group) (protected : List Protected) → AreColumns columns →
+entries_fit : PlacesAreColumns → (columns : List Column) (public : PublicView) (from : ℕ) (groups : List Group) (protected : List Protected) →
+    AreColumns columns →
     AreEntries columns public from groups protected →
     All (IsProtected (shape_of columns public.rows)) protected × (length protected ≤ length groups)
 entries_fit places columns public from [] protected are none =
-    subst (λ xs. All (IsProtected (shape_of columns public.rows)) xs × (length xs ≤ 0)) (sym none) (All-nil (IsProtected (shape_of columns public.rows)), omega arith)
+    subst (λ xs. All (IsProtected (shape_of columns public.rows)) xs × (length xs ≤ 0)) (sym none)
+    (All-nil (IsProtected (shape_of columns public.rows)), omega arith)
 entries_fit places columns public from (g ∷ gs) protected are (c, t, rest, is, protected_is, more) =
     let shape = shape_of columns public.rows in
     let entry = entry_of c from public.rows (meaning public t) in
     let first = fits_sums columns c from public.rows (meaning public t) (sums_at places columns g c t are is) (AreRows-rows_that _ public.rows) in
     let others = entries_fit places columns public (from + 1) gs rest are more in
     let few : length (entry ++ rest) ≤ length (g ∷ gs) = omega (arith, first.1, others.1, length-append entry rest) in
-    subst (λ xs. All (IsProtected shape) xs × (length xs ≤ length (g ∷ gs))) (sym protected_is) (All-append (IsProtected shape) entry rest first.0 others.0, few)
+    subst (λ xs. All (IsProtected shape) xs × (length xs ≤ length (g ∷ gs))) (sym protected_is)
+    (All-append (IsProtected shape) entry rest first.0 others.0, few)
 
 pub entries_are_protected : PlacesAreColumns → EntriesFit
 entries_are_protected places columns public guards protected are is guarded protects =

@@ -57,7 +57,8 @@ met_more p place m i ls l old one new inside is same met here added =
 
 -- ---- what the parts mean, the whole means
 
-pub not_meant : (p : PublicView) (t : Tree) (m : ℕ) (old new : List ℕ) → old ≡ satisfying p t → m ≡ p.rows → new ≡ complement m old → new ≡ satisfying p (negation t)
+pub not_meant : (p : PublicView) (t : Tree) (m : ℕ) (old new : List ℕ) → old ≡ satisfying p t → m ≡ p.rows → new ≡ complement m old → new
+    ≡ satisfying p (negation t)
 not_meant p t m old new meant same flipped =
     flipped ∙ ap (λ n. complement n old) same ∙ ap (complement p.rows) meant ∙ complement_of p.rows (λ r. satisfies (row_at p r) t)
 
@@ -82,7 +83,8 @@ only_meant p t m only rows new meant same cut =
     (λ r low. ap (λ b. has_row only r && b) (has-rows_that (λ q. satisfies (row_at p q) t) p.rows r low))
 
 -- so the rows of a condition are those of a search, of those that may be asked of
-pub asked_meant : (p : PublicView) (t : Tree) (only : Option Rows) (n : ℕ) (rows result : List ℕ) → p.only ≡ option_map (λ set. set.list) only → rows ≡ satisfying p t →
+pub asked_meant : (p : PublicView) (t : Tree) (only : Option Rows) (n : ℕ) (rows result : List ℕ) → p.only ≡ option_map (λ set. set.list) only → rows
+    ≡ satisfying p t →
     n ≡ p.rows → (only ≡ None → result ≡ rows) → IfSome only (λ set. result ≡ intersection n set.list rows) → result ≡ meaning p t
 asked_meant p t None n rows result is meant same all cut =
     all refl ∙ meant ∙ ap (λ o. rows_that (λ r. is_asked o r && satisfies (row_at p r) t) p.rows) (sym is)

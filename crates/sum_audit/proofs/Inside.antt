@@ -22,7 +22,8 @@ use Rattle.sum_audit.proofs.Reached.{within_bounds, out_of_bounds}
 use Rattle.sum_audit.proofs.DangerousByPins.{dangerous_by_pins}
 use Rattle.sum_audit.proofs.KnownNumbers.{pins_by_ties}
 
-module _ (law : TiesByForm) (n width reach : ℕ) (answers : List Answer) (rows : List ℕ) (are : AllByRecursion (AreRows n) (sets_of answers)) (last : AreRows n rows) where
+module _ (law : TiesByForm) (n width reach : ℕ) (answers : List Answer) (rows : List ℕ) (are : AllByRecursion (AreRows n) (sets_of answers))
+    (last : AreRows n rows) where
   abbrev inside : Known
   inside = with_askers (with_bounds (known_sum n answers) width reach) [] 1
 
@@ -37,8 +38,10 @@ module _ (law : TiesByForm) (n width reach : ℕ) (answers : List Answer) (rows 
       IsTrue tied ↔ ShowsTie form → IsJudgement inside rows (verdict_of_tie within tied)
   judged_by_tie form false tied reduced narrow reaches tells =
       (form, reduced, out_of_bounds inside sets form all reduced (All-nil _) (λ far. true≢false (sym (reaches.1 far))))
-  judged_by_tie form true true reduced narrow reaches tells =
-      ((form, reduced, within_bounds inside sets form all reduced narrow (reaches.0 refl)), inl ((pins_by_ties law n width reach answers sets form all reduced).1 (tells.0 refl)))
+  judged_by_tie form true true reduced narrow reaches tells = (
+    (form, reduced, within_bounds inside sets form all reduced narrow (reaches.0 refl)),
+    inl ((pins_by_ties law n width reach answers sets form all reduced).1 (tells.0 refl)),
+  )
   judged_by_tie form true false reduced narrow reaches tells = (
     (form, reduced, within_bounds inside sets form all reduced narrow (reaches.0 refl)),
     λ unsafe. elim unsafe [
@@ -56,7 +59,8 @@ module _ (law : TiesByForm) (n width reach : ℕ) (answers : List Answer) (rows 
         judged_by_tie new.rows within tied (subst (λ k. Reduced k sets new.rows) (same ∙ e) grown) (subst (λ k. IsNarrow k new.rows) (kept_width ∙ f) narrow)
         (subst (λ k. IsTrue within ↔ ReachesAll k reach [] [] new.rows) (same ∙ e) reaches) tells
 
-    judged_by_growth : (g : Grown) → ((l : List (List ℕ)) → Reduced old.n l old.rows → GrowsFor l rows old g new) → IsJudgement inside rows (verdict_inside g within tied)
+    judged_by_growth : (g : Grown) → ((l : List (List ℕ)) → Reduced old.n l old.rows → GrowsFor l rows old g new) →
+        IsJudgement inside rows (verdict_inside g within tied)
     judged_by_growth grown.Same grows = judged_by_new (grows (sets_of answers) (subst (λ k. Reduced k (sets_of answers) old.rows) (sym e) reduced))
     judged_by_growth grown.Added grows = judged_by_new (grows (sets_of answers) (subst (λ k. Reduced k (sets_of answers) old.rows) (sym e) reduced))
     judged_by_growth grown.Wide grows =
@@ -64,10 +68,12 @@ module _ (law : TiesByForm) (n width reach : ℕ) (answers : List Answer) (rows 
         (wide.form, subst (λ k. Reduced k sets wide.form) e wide.reduced, λ within. wide.wide (subst (λ k. IsNarrow k wide.form) (sym f) within.narrow))
 
   dangerous : IsPossible (with_bounds (known_sum n answers) width reach) → IsDangerous inside rows ↔ (PinSomeNumber inside sets ⊎ SpanSomeGroup inside sets)
-  dangerous possible = dangerous_by_pins n answers [] [] [] 1 width reach rows all (All-nil _) (possible.0, record { one_each = possible.1.one_each; same = possible.1.same })
+  dangerous possible = dangerous_by_pins n answers [] [] [] 1 width reach rows all (All-nil _)
+      (possible.0, record { one_each = possible.1.one_each; same = possible.1.same })
 
   -- after possible answers the judgement is the decision
-  decided_inside : (verdict : Verdict) → IsJudgement inside rows verdict → IsPossible (with_bounds (known_sum n answers) width reach) → IsDecision inside rows verdict
+  decided_inside : (verdict : Verdict) → IsJudgement inside rows verdict → IsPossible (with_bounds (known_sum n answers) width reach) →
+      IsDecision inside rows verdict
   decided_inside DeniedWide is possible = is
   decided_inside DeniedUnsafe is possible = (is.0, (dangerous possible).1 is.1)
   decided_inside Released is possible = (is.0, λ danger. is.1 ((dangerous possible).0 danger))
@@ -77,9 +83,12 @@ pub record IsRightInside (known : Known) (rows : List ℕ) (verdict : Verdict) :
   pub judged : IsJudgement (with_askers known [] 1) rows verdict
   pub decided : IsPossible known → IsDecision (with_askers known [] 1) rows verdict
 
-pub right_inside : TiesByForm → (n width reach : ℕ) (answers : List Answer) (known : Known) → with_bounds (known_sum n answers) width reach ≡ known → (rows : List ℕ) (m : ℕ) →
-    AllByRecursion (AreRows n) (sets_of answers) → AreRows m rows → m ≡ known.n → (old new : Echelon) (g : Grown) (within tied : Bool) → old.n ≡ n → new.n ≡ old.n →
-    old.width ≡ width → new.width ≡ old.width → Reduced n (sets_of answers) old.rows → ((l : List (List ℕ)) → Reduced old.n l old.rows → GrowsFor l rows old g new) → IsNarrow new.width new.rows →
+pub right_inside : TiesByForm → (n width reach : ℕ) (answers : List Answer) (known : Known) → with_bounds (known_sum n answers) width reach ≡ known →
+    (rows : List ℕ) (m : ℕ) →
+    AllByRecursion (AreRows n) (sets_of answers) → AreRows m rows → m ≡ known.n → (old new : Echelon) (g : Grown) (within tied : Bool) → old.n ≡ n → new.n
+    ≡ old.n →
+    old.width ≡ width → new.width ≡ old.width → Reduced n (sets_of answers) old.rows →
+    ((l : List (List ℕ)) → Reduced old.n l old.rows → GrowsFor l rows old g new) → IsNarrow new.width new.rows →
     IsTrue within ↔ ReachesAll new.n reach [] [] new.rows → IsTrue tied ↔ ShowsTie new.rows → IsRightInside known rows (verdict_inside g within tied)
 right_inside law n width reach answers known view rows m are last same old new g within tied e kept f kept_width reduced grows narrow reaches tells =
     let own = subst (λ k. AreRows k rows) (same ∙ sym (ap (λ k. k.n) view)) last in

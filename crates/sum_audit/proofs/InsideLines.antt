@@ -23,7 +23,8 @@ use Rattle.sum_audit.proofs.DangerousByPins.{dangerous_by_pins}
 use Rattle.sum_audit.proofs.KnownNumbers.{pins_by_ties_but}
 
 module _ (law : TiesByFormBut) (n width reach : ℕ) (answers : List Answer) (shared several : List ℕ)
-    (one_alone : (r : ℕ) → has_row several r ≡ false → has_row shared r ≡ false) (rows : List ℕ) (are : AllByRecursion (AreRows n) (sets_of answers)) (last : AreRows n rows) where
+    (one_alone : (r : ℕ) → has_row several r ≡ false → has_row shared r ≡ false) (rows : List ℕ) (are : AllByRecursion (AreRows n) (sets_of answers))
+    (last : AreRows n rows) where
   abbrev inside : Known
   inside = with_askers (guarding (with_bounds (known_sum n answers) width reach) shared []) several 1
 
@@ -35,11 +36,14 @@ module _ (law : TiesByFormBut) (n width reach : ℕ) (answers : List Answer) (sh
 
   -- a narrow form with the asked set, whether all is within reach of it, and whether it shows a tie
   judged_by_tie : (form : List (List ℤ)) (within tied : Bool) → Reduced n sets form → IsNarrow width form → IsTrue within ↔ ReachesAll n reach shared [] form →
-      IsTrue tied ↔ (HasOwnUnit (record { n = n; width = width; rows = form }) shared ⊎ ShowsTieBut several form) → IsJudgement inside rows (verdict_of_tie within tied)
+      IsTrue tied ↔ (HasOwnUnit (record { n = n; width = width; rows = form }) shared ⊎ ShowsTieBut several form) →
+      IsJudgement inside rows (verdict_of_tie within tied)
   judged_by_tie form false tied reduced narrow reaches tells =
       (form, reduced, out_of_bounds inside sets form all reduced (All-nil _) (λ far. true≢false (sym (reaches.1 far))))
-  judged_by_tie form true true reduced narrow reaches tells =
-      ((form, reduced, within_bounds inside sets form all reduced narrow (reaches.0 refl)), inl ((pins_by_ties_but law n width reach answers shared several [] sets form one_alone all reduced).1 (tells.0 refl)))
+  judged_by_tie form true true reduced narrow reaches tells = (
+    (form, reduced, within_bounds inside sets form all reduced narrow (reaches.0 refl)),
+    inl ((pins_by_ties_but law n width reach answers shared several [] sets form one_alone all reduced).1 (tells.0 refl)),
+  )
   judged_by_tie form true false reduced narrow reaches tells = (
     (form, reduced, within_bounds inside sets form all reduced narrow (reaches.0 refl)),
     λ unsafe. elim unsafe [
@@ -50,14 +54,18 @@ module _ (law : TiesByFormBut) (n width reach : ℕ) (answers : List Answer) (sh
 
   -- what the form became
   module _ (old new : Echelon) (within tied : Bool) (e : old.n ≡ n) (same : new.n ≡ old.n) (f : old.width ≡ width) (kept_width : new.width ≡ old.width)
-      (reduced : Reduced n (sets_of answers) old.rows) (narrow : IsNarrow new.width new.rows) (reaches : IsTrue within ↔ ReachesAll new.n reach shared [] new.rows)
+      (reduced : Reduced n (sets_of answers) old.rows) (narrow : IsNarrow new.width new.rows)
+      (reaches : IsTrue within ↔ ReachesAll new.n reach shared [] new.rows)
       (tells : IsTrue tied ↔ (HasOwnUnit new shared ⊎ ShowsTieBut several new.rows)) where
     judged_by_new : Reduced new.n sets new.rows → IsJudgement inside rows (verdict_of_tie within tied)
     judged_by_new grown =
         judged_by_tie new.rows within tied (subst (λ k. Reduced k sets new.rows) (same ∙ e) grown) (subst (λ k. IsNarrow k new.rows) (kept_width ∙ f) narrow)
-        (subst (λ k. IsTrue within ↔ ReachesAll k reach shared [] new.rows) (same ∙ e) reaches) (subst (λ k. IsTrue tied ↔ (HasOwnUnit (record { n = k; width = new.width; rows = new.rows }) shared ⊎ ShowsTieBut several new.rows)) (same ∙ e) tells)
+        (subst (λ k. IsTrue within ↔ ReachesAll k reach shared [] new.rows) (same ∙ e) reaches)
+        (subst (λ k. IsTrue tied ↔ (HasOwnUnit (record { n = k; width = new.width; rows = new.rows }) shared ⊎ ShowsTieBut several new.rows))
+        (same ∙ e) tells)
 
-    judged_by_growth : (g : Grown) → ((l : List (List ℕ)) → Reduced old.n l old.rows → GrowsFor l rows old g new) → IsJudgement inside rows (verdict_inside g within tied)
+    judged_by_growth : (g : Grown) → ((l : List (List ℕ)) → Reduced old.n l old.rows → GrowsFor l rows old g new) →
+        IsJudgement inside rows (verdict_inside g within tied)
     judged_by_growth grown.Same grows = judged_by_new (grows (sets_of answers) (subst (λ k. Reduced k (sets_of answers) old.rows) (sym e) reduced))
     judged_by_growth grown.Added grows = judged_by_new (grows (sets_of answers) (subst (λ k. Reduced k (sets_of answers) old.rows) (sym e) reduced))
     judged_by_growth grown.Wide grows =
@@ -65,10 +73,12 @@ module _ (law : TiesByFormBut) (n width reach : ℕ) (answers : List Answer) (sh
         (wide.form, subst (λ k. Reduced k sets wide.form) e wide.reduced, λ within. wide.wide (subst (λ k. IsNarrow k wide.form) (sym f) within.narrow))
 
   dangerous : IsPossible (with_bounds (known_sum n answers) width reach) → IsDangerous inside rows ↔ (PinSomeNumber inside sets ⊎ SpanSomeGroup inside sets)
-  dangerous possible = dangerous_by_pins n answers shared several [] 1 width reach rows all (All-nil _) (possible.0, record { one_each = possible.1.one_each; same = possible.1.same })
+  dangerous possible = dangerous_by_pins n answers shared several [] 1 width reach rows all (All-nil _)
+      (possible.0, record { one_each = possible.1.one_each; same = possible.1.same })
 
   -- after possible answers the judgement is the decision
-  decided_inside : (verdict : Verdict) → IsJudgement inside rows verdict → IsPossible (with_bounds (known_sum n answers) width reach) → IsDecision inside rows verdict
+  decided_inside : (verdict : Verdict) → IsJudgement inside rows verdict → IsPossible (with_bounds (known_sum n answers) width reach) →
+      IsDecision inside rows verdict
   decided_inside DeniedWide is possible = is
   decided_inside DeniedUnsafe is possible = (is.0, (dangerous possible).1 is.1)
   decided_inside Released is possible = (is.0, λ danger. is.1 ((dangerous possible).0 danger))
@@ -78,14 +88,19 @@ pub record IsRightAmong (known : Known) (shared several : List ℕ) (rows : List
   pub judged : IsJudgement (with_askers (guarding known shared []) several 1) rows verdict
   pub decided : IsPossible known → IsDecision (with_askers (guarding known shared []) several 1) rows verdict
 
-pub right_among : TiesByFormBut → (n width reach : ℕ) (answers : List Answer) (known : Known) → with_bounds (known_sum n answers) width reach ≡ known → (shared several : List ℕ) →
+pub right_among : TiesByFormBut → (n width reach : ℕ) (answers : List Answer) (known : Known) → with_bounds (known_sum n answers) width reach ≡ known →
+    (shared several : List ℕ) →
     ((r : ℕ) → has_row several r ≡ false → has_row shared r ≡ false) → (rows : List ℕ) (m : ℕ) →
-    AllByRecursion (AreRows n) (sets_of answers) → AreRows m rows → m ≡ known.n → (old new : Echelon) (g : Grown) (within tied : Bool) → old.n ≡ n → new.n ≡ old.n →
-    old.width ≡ width → new.width ≡ old.width → Reduced n (sets_of answers) old.rows → ((l : List (List ℕ)) → Reduced old.n l old.rows → GrowsFor l rows old g new) → IsNarrow new.width new.rows →
+    AllByRecursion (AreRows n) (sets_of answers) → AreRows m rows → m ≡ known.n → (old new : Echelon) (g : Grown) (within tied : Bool) → old.n ≡ n → new.n
+    ≡ old.n →
+    old.width ≡ width → new.width ≡ old.width → Reduced n (sets_of answers) old.rows →
+    ((l : List (List ℕ)) → Reduced old.n l old.rows → GrowsFor l rows old g new) → IsNarrow new.width new.rows →
     IsTrue within ↔ ReachesAll new.n reach shared [] new.rows → IsTrue tied ↔ (HasOwnUnit new shared ⊎ ShowsTieBut several new.rows) →
     IsRightAmong known shared several rows (verdict_inside g within tied)
-right_among law n width reach answers known view shared several one_alone rows m are last same old new g within tied e kept f kept_width reduced grows narrow reaches tells =
+right_among law n width reach answers known view shared several one_alone rows m are last same old new g within tied e kept f kept_width reduced grows narrow
+    reaches tells =
     let own = subst (λ k. AreRows k rows) (same ∙ sym (ap (λ k. k.n) view)) last in
-    let judged = judged_by_growth law n width reach answers shared several one_alone rows are own old new within tied e kept f kept_width reduced narrow reaches tells g grows in
+    let judged = judged_by_growth law n width reach answers shared several one_alone rows are own old new within tied e kept f kept_width reduced narrow reaches
+    tells g grows in
     subst (λ k. IsRightAmong k shared several rows (verdict_inside g within tied)) view
     (record { judged = judged; decided = decided_inside law n width reach answers shared several one_alone rows are own (verdict_inside g within tied) judged })

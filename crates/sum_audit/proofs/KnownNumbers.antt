@@ -50,7 +50,8 @@ combined-none : (a : List ℤ) (j : ℕ) → combined a [] j ≡ pos 0
 combined-none [] j = refl
 combined-none (c ∷ a) j = refl
 
-combined-push : (a : List ℤ) (rows : List (List ℤ)) (row : List ℤ) (j : ℕ) → combined a (rows ++ row ∷ []) j ≡ combined a rows j +ℤ number_at a (length rows) *ℤ number_at row j
+combined-push : (a : List ℤ) (rows : List (List ℤ)) (row : List ℤ) (j : ℕ) → combined a (rows ++ row ∷ []) j
+    ≡ combined a rows j +ℤ number_at a (length rows) *ℤ number_at row j
 combined-push [] rows row j = let none = zero-*ℤ (number_at row j) in omega (arith, ints)
 combined-push (c ∷ a) [] row j = let none = combined-none a j in omega (arith, ints)
 combined-push (c ∷ a) (r ∷ rows) row j = let rest = combined-push a rows row j in omega (arith, ints)
@@ -91,7 +92,8 @@ module _ (n : ℕ) (rows : List (List ℤ)) (q i : ℕ) (below : i < n) (apart :
   }
 
 -- what is spanned by the rows alone is spanned with one more
-with_more : (n : ℕ) (rows : List (List ℤ)) (more row : List ℤ) → InSpan rows row → AllByRecursion (InSpan (rows ++ more ∷ [])) rows → InSpan (rows ++ more ∷ []) row
+with_more : (n : ℕ) (rows : List (List ℤ)) (more row : List ℤ) → InSpan rows row → AllByRecursion (InSpan (rows ++ more ∷ [])) rows →
+    InSpan (rows ++ more ∷ []) row
 with_more n rows more row span own = span_trans (rows ++ more ∷ []) rows row own span
 
 -- ---- tied or moved
@@ -232,7 +234,8 @@ tied_below n rows p q lengths tied = elim (cases_lt p n) [
       (*ℤ_comm (number_at tied.row p) (pos tied.spanned.multiple) ∙ tied.spanned.is p ∙ none) (omega (arith, ints))))
 ]
 
-module _ (law : TiesByForm) (n width reach : ℕ) (answers : List Answer) (sets : List (List ℕ)) (form : List (List ℤ)) (are : AllByRecursion (AreRows n) sets) (reduced : Reduced n sets form) where
+module _ (law : TiesByForm) (n width reach : ℕ) (answers : List Answer) (sets : List (List ℕ)) (form : List (List ℤ)) (are : AllByRecursion (AreRows n) sets)
+    (reduced : Reduced n sets form) where
   shown_by : (i q : ℕ) → i < n → q ≢ i → IsStillFor n sets q i → ShowsTie form
   shown_by i q below apart fixed =
       (law n form reduced.primitive reduced.echelon).0 (i, q, apart, tied_in_form n sets form i q reduced (tied_by_still n sets q i are below apart fixed))
@@ -241,7 +244,8 @@ module _ (law : TiesByForm) (n width reach : ℕ) (answers : List Answer) (sets 
   pinned_shows : (own : List ℕ) → length own ≤ 1 → (i : ℕ) → IsPinnedFor n sets own i → ShowsTie form
   pinned_shows [] few i pin = shown_by i (suc i) pin.below (λ e. absurd (omega arith)) (λ d direction zero_there. pin.still d direction tt)
   pinned_shows (q ∷ []) few i pin =
-      shown_by i q pin.below (λ e. true≢false (sym (eq-eqb q i e) ∙ sym (or_false (q == i)) ∙ pin.other)) (λ d direction zero_there. pin.still d direction (zero_there, tt))
+      shown_by i q pin.below (λ e. true≢false (sym (eq-eqb q i e) ∙ sym (or_false (q == i)) ∙ pin.other))
+      (λ d direction zero_there. pin.still d direction (zero_there, tt))
   pinned_shows (q ∷ r ∷ own) few i pin = absurd (omega arith)
 
   -- a tie pins its column
@@ -291,7 +295,8 @@ pins_by_ties law n width reach answers sets form are reduced = pins_by_ties_here
 pinned_alone : (n : ℕ) (sets : List (List ℕ)) (i : ℕ) → IsPinnedFor n sets [] i → IsPinned n sets i
 pinned_alone n sets i pin = record { below = pin.below; still = λ d direction. pin.still d direction tt }
 
-module _ (law : TiesByFormBut) (n width reach : ℕ) (answers : List Answer) (shared several : List ℕ) (groups : List (List ℕ)) (sets : List (List ℕ)) (form : List (List ℤ))
+module _ (law : TiesByFormBut) (n width reach : ℕ) (answers : List Answer) (shared several : List ℕ) (groups : List (List ℕ)) (sets : List (List ℕ))
+    (form : List (List ℤ))
     (one_alone : (r : ℕ) → has_row several r ≡ false → has_row shared r ≡ false) (are : AllByRecursion (AreRows n) sets) (reduced : Reduced n sets form) where
   abbrev known : Known
   known = with_bounds (with_askers (guarding (known_sum n answers) shared groups) several 1) width reach
@@ -357,4 +362,5 @@ module _ (law : TiesByFormBut) (n width reach : ℕ) (answers : List Answer) (sh
   )
 
 pub pins_by_ties_but : TiesByFormBut → PinsByTiesBut
-pins_by_ties_but law n width reach answers shared several groups sets form one_alone are reduced = pins_but_here law n width reach answers shared several groups sets form one_alone are reduced
+pins_by_ties_but law n width reach answers shared several groups sets form one_alone are reduced =
+    pins_but_here law n width reach answers shared several groups sets form one_alone are reduced

@@ -39,7 +39,8 @@ module _ (n : ℕ) (sets : List (List ℕ)) (form : List (List ℤ)) (are : AllB
       direction = c.direction;
       still = record {
         one_each = c.along.one_each;
-        zero_sums = sums_from_products n c.direction sets are (products_in_span n (number_at c.direction) form (map (set_row n) sets) c.along.zeros reduced.spans);
+        zero_sums = sums_from_products n c.direction sets are
+            (products_in_span n (number_at c.direction) form (map (set_row n) sets) c.along.zeros reduced.spans);
       };
       column = c.column;
       only = c.along.only;

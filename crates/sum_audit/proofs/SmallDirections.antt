@@ -85,7 +85,8 @@ module _ (m : ℕ) (q : List ℤ → ℤ) where
   -- the product of u with the entries: the multiple of u at j, less the rows that are taken
   module _ (n j : ℕ) (below : j < n) (u : ℕ → ℤ) where
     pointwise : (row : List ℤ) (rows : List (List ℤ)) (r : ℕ) → entry_of rows j (pivot row) ≡ pos 0 → (b : Bool) → (r == pivot row) ≡ b →
-        u r *ℤ cond b (neg_ℤ (number_at row j *ℤ q row)) (entry_of rows j r) ≡ cond b (u r *ℤ neg_ℤ (number_at row j *ℤ q row)) (pos 0) +ℤ u r *ℤ entry_of rows j r
+        u r *ℤ cond b (neg_ℤ (number_at row j *ℤ q row)) (entry_of rows j r) ≡ cond b (u r *ℤ neg_ℤ (number_at row j *ℤ q row))
+        (pos 0) +ℤ u r *ℤ entry_of rows j r
     pointwise row rows r none true e =
         let here = ap (λ k. u r *ℤ entry_of rows j k) (eqb-true r (pivot row) e) ∙ ap (λ z. u r *ℤ z) none ∙ *ℤ-zero (u r) in omega (arith, ints)
     pointwise row rows r none false e = omega (arith, ints)
@@ -99,7 +100,8 @@ module _ (m : ℕ) (q : List ℤ → ℤ) where
     product_of_entries [] echelon within apart =
         let one = total-single (λ r. u r *ℤ cond (r == j) (pos m) (pos 0)) n j below
         (λ r l other. ap (λ z. u r *ℤ z) (by_test (r == j) (pos m) (pos 0) (pos 0) (λ e. absurd (other (eqb-true r j e))) (λ e. refl)) ∙ *ℤ-zero (u r)) in
-        let here = ap (λ z. u j *ℤ z) (by_test (j == j) (pos m) (pos 0) (pos m) (λ e. refl) (λ e. let same = eq-eqb j j refl in absurd cc)) ∙ *ℤ_comm (u j) (pos m) in
+        let here = ap (λ z. u j *ℤ z) (by_test (j == j) (pos m) (pos 0) (pos m) (λ e. refl) (λ e. let same = eq-eqb j j refl in absurd cc))
+        ∙ *ℤ_comm (u j) (pos m) in
         omega (arith, ints)
     product_of_entries (row ∷ rows) echelon within apart =
         let p = pivot row in
@@ -129,7 +131,8 @@ module _ (m : ℕ) (q : List ℤ → ℤ) where
   turn_over : (a b c : ℤ) → b *ℤ a ≡ pos m → (a *ℤ b) *ℤ c ≡ pos m *ℤ c
   turn_over a b c e = ap (λ z. z *ℤ c) (*ℤ_comm a b ∙ e)
 
-  takes_itself : (rows : List (List ℤ)) (j : ℕ) → IsEchelon rows → Goes rows → AllByRecursion (λ row. combined (taken (number_at row) rows) rows j ≡ pos m *ℤ number_at row j) rows
+  takes_itself : (rows : List (List ℤ)) (j : ℕ) → IsEchelon rows → Goes rows →
+      AllByRecursion (λ row. combined (taken (number_at row) rows) rows j ≡ pos m *ℤ number_at row j) rows
   takes_itself [] j echelon goes = tt
   takes_itself (row ∷ rows) j echelon goes = (
     let first = turn_over (pivot_entry row) (q row) (number_at row j) goes.0 in
@@ -148,7 +151,8 @@ module _ (m : ℕ) (q : List ℤ → ℤ) where
       )
 
   -- at the pivots the rows that are taken have the multiple of u
-  at_pivots : (u : ℕ → ℤ) (rows : List (List ℤ)) → IsEchelon rows → Goes rows → AllByRecursion (λ row. combined (taken u rows) rows (pivot row) ≡ pos m *ℤ u (pivot row)) rows
+  at_pivots : (u : ℕ → ℤ) (rows : List (List ℤ)) → IsEchelon rows → Goes rows →
+      AllByRecursion (λ row. combined (taken u rows) rows (pivot row) ≡ pos m *ℤ u (pivot row)) rows
   at_pivots u [] echelon goes = tt
   at_pivots u (row ∷ rows) echelon goes = (
     let first = times_assoc (u (pivot row)) (q row) (pivot_entry row) ∙ ap (λ z. u (pivot row) *ℤ z) goes.0 ∙ *ℤ_comm (u (pivot row)) (pos m) in
@@ -178,11 +182,13 @@ module _ (m : ℕ) (q : List ℤ → ℤ) where
     product_small : (x y : ℤ) → unsigned_abs x ≤ width → unsigned_abs y ≤ width → unsigned_abs (neg_ℤ (x *ℤ y)) ≤ width * width
     product_small x y h k = rw (size_negated (x *ℤ y)) (rw (unsigned_abs-mul x y) (mul-le-mul {n₂ = width} {m₂ = width} h k))
 
-    size_of_entry : (rows : List (List ℤ)) (j : ℕ) → AllByRecursion (AllByRecursion (λ x. unsigned_abs x ≤ width)) rows → AllByRecursion (λ row. unsigned_abs (q row) ≤ width) rows →
+    size_of_entry : (rows : List (List ℤ)) (j : ℕ) → AllByRecursion (AllByRecursion (λ x. unsigned_abs x ≤ width)) rows →
+        AllByRecursion (λ row. unsigned_abs (q row) ≤ width) rows →
         (r : ℕ) → unsigned_abs (entry_of rows j r) ≤ width * width
     size_of_entry [] j entries times r = of_choice (r == j) (pos m) (pos 0) multiple_small (omega arith)
     size_of_entry (row ∷ rows) j entries times r =
-        of_choice (r == pivot row) (neg_ℤ (number_at row j *ℤ q row)) (entry_of rows j r) (product_small (number_at row j) (q row) (at_number row entries.0 j) times.0)
+        of_choice (r == pivot row) (neg_ℤ (number_at row j *ℤ q row)) (entry_of rows j r)
+        (product_small (number_at row j) (q row) (at_number row entries.0 j) times.0)
         (size_of_entry rows j entries.1 times.1 r)
 
 -- ---- how often the pivot entries go into their common multiple
@@ -220,11 +226,13 @@ product_positive n (row ∷ rows) primitive = mul-pos (size_positive (pivot_entr
 
 -- the common multiple of the pivot entries isn't 0
 common_positive : (n m : ℕ) (rows : List (List ℤ)) → AllByRecursion (IsPrimitive n) rows → IsLeastCommonMultiple (pivot_entries rows) m → 0 < m
-common_positive n m rows primitive is = pos_of_dvd_of_pos (is.least (product_of (pivot_entries rows)) (divide_product (pivot_entries rows))) (product_positive n rows primitive)
+common_positive n m rows primitive is = pos_of_dvd_of_pos (is.least (product_of (pivot_entries rows)) (divide_product (pivot_entries rows)))
+    (product_positive n rows primitive)
 
 -- ---- the form of some sets
 
-module _ (width n : ℕ) (sets : List (List ℕ)) (are : AllByRecursion (AreRows n) sets) (form : List (List ℤ)) (reduced : Reduced n sets form) (narrow : IsNarrow width form) where
+module _ (width n : ℕ) (sets : List (List ℕ)) (are : AllByRecursion (AreRows n) sets) (form : List (List ℤ)) (reduced : Reduced n sets form)
+    (narrow : IsNarrow width form) where
   abbrev m : ℕ
   m = narrow.common
 
@@ -258,10 +266,13 @@ module _ (width n : ℕ) (sets : List (List ℕ)) (are : AllByRecursion (AreRows
 
   module _ (j : ℕ) (below : j < n) (free : is_pivot form j ≡ false) where
     -- the product of a row with it
-    product_along : (row : List ℤ) → product row (number_at (along j)) n +ℤ combined (taken m (quotient m) (number_at row) form) form j ≡ pos m *ℤ number_at row j
+    product_along : (row : List ℤ) → product row (number_at (along j)) n +ℤ combined (taken m (quotient m) (number_at row) form) form j
+        ≡ pos m *ℤ number_at row j
     product_along row =
-        let read = total-agree (λ r. number_at row r *ℤ number_at (along j) r) (λ r. number_at row r *ℤ entry_of m (quotient m) form j r) n (λ r l. ap (λ z. number_at row r *ℤ z) (number_along j r l)) in
-        let whole = product_of_entries m (quotient m) n j below (number_at row) form reduced.echelon (pivots_below n form reduced.primitive) (no_pivot form j free) in
+        let read = total-agree (λ r. number_at row r *ℤ number_at (along j) r) (λ r. number_at row r *ℤ entry_of m (quotient m) form j r) n
+        (λ r l. ap (λ z. number_at row r *ℤ z) (number_along j r l)) in
+        let whole = product_of_entries m (quotient m) n j below (number_at row) form reduced.echelon (pivots_below n form reduced.primitive)
+        (no_pivot form j free) in
         omega (arith, ints)
 
     orthogonal : (rows : List (List ℤ)) → AllByRecursion (λ row. combined (taken m (quotient m) (number_at row) form) form j ≡ pos m *ℤ number_at row j) rows →
@@ -295,7 +306,8 @@ module _ (width n : ℕ) (sets : List (List ℕ)) (are : AllByRecursion (AreRows
           let still = ap (λ b. cond b (pos 0) (sum_over (along j) u)) (sym free) ∙ none j below in
           omega (arith, ints)
       | inr past ↦
-          let zeros = combined_zero (taken m (quotient m) (number_at (set_row n u)) form) form j (past_all form (lengths_of_form n form reduced.primitive) past) in
+          let zeros = combined_zero (taken m (quotient m) (number_at (set_row n u)) form) form j
+          (past_all form (lengths_of_form n form reduced.primitive) past) in
           let here = ap (λ z. pos m *ℤ z) (get_or_past (set_row n u) j (pos 0) (let all = length-set_row n u in omega arith)) ∙ *ℤ-zero (pos m) in
           omega (arith, ints)
     ]
@@ -312,7 +324,8 @@ module _ (width n : ℕ) (sets : List (List ℕ)) (are : AllByRecursion (AreRows
       is = λ j. taken_at none j (is_pivot form j) refl;
     })
 
-    moves : (j : ℕ) (b : Bool) → is_pivot form j ≡ b → cond b (pos 0) (sum_over (along j) u) ≢ pos 0 → (is_pivot form j ≡ false) × (sum_over (along j) u ≢ pos 0)
+    moves : (j : ℕ) (b : Bool) → is_pivot form j ≡ b → cond b (pos 0) (sum_over (along j) u) ≢ pos 0 → (is_pivot form j ≡ false) ×
+        (sum_over (along j) u ≢ pos 0)
     moves j true e differs = absurd (differs refl)
     moves j false e differs = (e, differs)
 
@@ -336,7 +349,8 @@ module _ (width n : ℕ) (sets : List (List ℕ)) (are : AllByRecursion (AreRows
   -- ---- another direction of the same free column
 
   module _ (reach : ℕ) (value : List ℤ → ℤ) (none : (d : List ℤ) → ((i : ℕ) → number_at d i ≡ pos 0) → value d ≡ pos 0)
-      (times : (a b : ℤ) (d e : List ℤ) → ((i : ℕ) → a *ℤ number_at e i ≡ b *ℤ number_at d i) → a *ℤ value e ≡ b *ℤ value d) (c : Changes n sets form reach value) where
+      (times : (a b : ℤ) (d e : List ℤ) → ((i : ℕ) → a *ℤ number_at e i ≡ b *ℤ number_at d i) → a *ℤ value e ≡ b *ℤ value d)
+      (c : Changes n sets form reach value) where
     free_there : is_pivot form c.column ≡ false
     free_there = is_free n sets form are reduced reach value none c
 
@@ -378,7 +392,8 @@ module _ (width n : ℕ) (sets : List (List ℕ)) (are : AllByRecursion (AreRows
           let turned = *ℤ_comm a (pos m) in
           omega (arith, ints)
       | inr other ↦
-          ap (λ z. a *ℤ z +ℤ neg_ℤ (pos m) *ℤ number_at c.direction i) (only c.column i free other) ∙ ap (λ z. a *ℤ pos 0 +ℤ neg_ℤ (pos m) *ℤ z) (c.only i free other)
+          ap (λ z. a *ℤ z +ℤ neg_ℤ (pos m) *ℤ number_at c.direction i) (only c.column i free other)
+          ∙ ap (λ z. a *ℤ pos 0 +ℤ neg_ℤ (pos m) *ℤ z) (c.only i free other)
           ∙ ap (λ z. z +ℤ neg_ℤ (pos m) *ℤ pos 0) (*ℤ-zero a) ∙ ap (λ z. pos 0 +ℤ z) (*ℤ-zero (neg_ℤ (pos m)))
     ]
 

@@ -67,7 +67,8 @@ or_true false b e = e
 pub own_pivots : (form : List (List ℤ)) → AllByRecursion (λ row. is_pivot form (pivot row) ≡ true) form
 own_pivots form = go form form (λ i e. e)
   where
-    go : (rows some : List (List ℤ)) → ((i : ℕ) → is_pivot some i ≡ true → is_pivot rows i ≡ true) → AllByRecursion (λ row. is_pivot rows (pivot row) ≡ true) some
+    go : (rows some : List (List ℤ)) → ((i : ℕ) → is_pivot some i ≡ true → is_pivot rows i ≡ true) →
+        AllByRecursion (λ row. is_pivot rows (pivot row) ≡ true) some
     go rows [] keeps = tt
     go rows (row ∷ some) keeps = (
       keeps (pivot row) (pivot_first row some),
@@ -92,7 +93,8 @@ module _ (n : ℕ) (form : List (List ℤ)) (primitive : AllByRecursion (IsPrimi
   ]
 
   -- at a column where the row is 0 if it is a pivot, the product is 0, unless it is j
-  pub product_only : (row : List ℤ) → ((i : ℕ) → is_pivot form i ≡ true → number_at row i ≡ pos 0) → product row (number_at d) n ≡ number_at row j *ℤ number_at d j
+  pub product_only : (row : List ℤ) → ((i : ℕ) → is_pivot form i ≡ true → number_at row i ≡ pos 0) → product row (number_at d) n
+      ≡ number_at row j *ℤ number_at d j
   product_only row zeros = total-single (λ i. number_at row i *ℤ number_at d i) n j column_below (λ i l other. go (is_pivot form i) i other refl)
     where
       go : (b : Bool) (i : ℕ) → i ≢ j → is_pivot form i ≡ b → number_at row i *ℤ number_at d i ≡ pos 0
@@ -144,7 +146,8 @@ same_one false = refl
 extent_total : (d : List ℤ) → pos (extent d) ≡ total (some_at (number_at d)) (length d)
 extent_total [] = refl
 extent_total (x ∷ d) =
-    let step : extent (x ∷ d) ≡ one_if x + extent d = sum_by-cons (λ (z : ℤ). cond (not (is_zero z)) 1 0) x d ∙ ap (λ (m : ℕ). m + extent d) (same_one (is_zero x)) in
+    let step : extent (x ∷ d) ≡ one_if x + extent d = sum_by-cons (λ (z : ℤ). cond (not (is_zero z)) 1 0) x d
+    ∙ ap (λ (m : ℕ). m + extent d) (same_one (is_zero x)) in
     let sum : pos (one_if x + extent d) ≡ pos (one_if x) +ℤ pos (extent d) = omega (arith, ints) in
     ap pos step ∙ sum ∙ ap (λ z. pos (one_if x) +ℤ z) (extent_total d) ∙ sym (total-first (some_at (number_at (x ∷ d))) (length d))
 
@@ -169,7 +172,8 @@ total_by_pivots f n (row ∷ rows) p h =
     let rest = total_by_pivots f n rows p.1 h.1 in
     let here = total-without (off_pivots rows f) n (pivot row) (pivot_below n row p.0) in
     let value : off_pivots rows f (pivot row) ≡ f (pivot row) = ap (λ b. cond b (pos 0) (f (pivot row))) (first_only row rows h.0) in
-    let both = total-agree (without (off_pivots rows f) (pivot row)) (off_pivots (row ∷ rows) f) n (λ i l. one_more_off (pivot row == i) (is_pivot rows i) (f i)) in
+    let both = total-agree (without (off_pivots rows f) (pivot row)) (off_pivots (row ∷ rows) f) n
+    (λ i l. one_more_off (pivot row == i) (is_pivot rows i) (f i)) in
     omega (arith, ints)
 
 -- numbers that are 0 together count alike
@@ -197,7 +201,8 @@ module _ (n : ℕ) (form : List (List ℤ)) (primitive : AllByRecursion (IsPrimi
 
   rest_is_one : total (off_pivots form (some_at (number_at d))) n ≡ pos 1
   rest_is_one =
-      total-single (off_pivots form (some_at (number_at d))) n j (column_below n form primitive echelon j d along) (λ i l other. go (is_pivot form i) i other refl)
+      total-single (off_pivots form (some_at (number_at d))) n j (column_below n form primitive echelon j d along)
+      (λ i l other. go (is_pivot form i) i other refl)
       ∙ ap (λ b. cond b (pos 0) (some_at (number_at d) j)) along.free ∙ ap (λ b. pos (cond b 0 1)) (test_of_not_zero (number_at d j) along.some)
     where
       go : (b : Bool) (i : ℕ) → i ≢ j → is_pivot form i ≡ b → off_pivots form (some_at (number_at d)) i ≡ pos 0
@@ -305,6 +310,7 @@ module _ (n : ℕ) where
           AllByRecursion (λ r. product r (number_at list) n ≡ pos 0) rows
       all_zero [] z = tt
       all_zero (r ∷ rows) z = (
-        total-agree (λ i. number_at r i *ℤ number_at list i) (λ i. number_at r i *ℤ along_from n form j i) n (λ i m. ap (λ x. number_at r i *ℤ x) (listed i m)) ∙ z.0,
+        total-agree (λ i. number_at r i *ℤ number_at list i) (λ i. number_at r i *ℤ along_from n form j i) n (λ i m. ap (λ x. number_at r i *ℤ x) (listed i m))
+            ∙ z.0,
         all_zero rows z.1,
       )

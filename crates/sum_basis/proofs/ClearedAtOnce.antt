@@ -14,7 +14,8 @@ use Rattle.sum_basis.proofs.ClearedLists.{IsResult, result_is}
 use Rattle.sum_basis.proofs.OverDivisor.{entries_with, multiples, some_divisor}
 
 -- if each divisor of the pivot entry and of all values divides it, it is their content
-pub at_once : (n : ℕ) (r : SparseRow) (new made : List FreeEntry) (g : ℕ) (times p head : ℤ) → IsKept n r → IsPrimitive n (row_of n (entries_of r)) → IsNew n new
+pub at_once : (n : ℕ) (r : SparseRow) (new made : List FreeEntry) (g : ℕ) (times p head : ℤ) → IsKept n r → IsPrimitive n (row_of n (entries_of r)) →
+    IsNew n new
     → r.pivot < (get_or new 0 none).place → times ≡ entry_at r.free.items (get_or new 0 none).place → p ≡ (get_or new 0 none).value *ℤ r.head
     → IsListed 0 n made → ((j : ℕ) → pos g *ℤ entry_at made j ≡ (get_or new 0 none).value *ℤ entry_at r.free.items j -ℤ times *ℤ entry_at new j)
     → 0 < g → g ∣ unsigned_abs p

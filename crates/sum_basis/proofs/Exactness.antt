@@ -122,7 +122,8 @@ stands_for_rows old new v Wide g rows r = (g.2.0, of_rows old.n rows old.rows g.
 pub not_wide_with : (old : Echelon) (rows : List ℕ) → StaysNarrow old rows → ¬ (GrowsWide old (set_row old.n rows))
 not_wide_with old rows narrow wide =
     let of_sets = of_rows old.n (map (set_row old.n) narrow.0) old.rows wide.0 (set_row old.n rows) narrow.1 wide.1 in
-    (narrow_or_wide old.width old.n (narrow.0 ++ rows ∷ [])).1 narrow.2 (record { form = wide.0; reduced = more_sets old.n narrow.0 rows wide.0 of_sets; wide = wide.2 })
+    (narrow_or_wide old.width old.n (narrow.0 ++ rows ∷ [])).1 narrow.2
+    (record { form = wide.0; reduced = more_sets old.n narrow.0 rows wide.0 of_sets; wide = wide.2 })
 
 -- the same of the row as it was written, and of the form as it is seen
 pub not_wide_at : (form seen : Echelon) (row : List ℤ) (n : ℕ) (rows : List ℕ) → form ≡ seen → row ≡ set_row n rows → n ≡ seen.n → StaysNarrow seen rows →

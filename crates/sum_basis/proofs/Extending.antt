@@ -38,7 +38,13 @@ module _ (old : Echelon) (v left : List ℤ) (f : IsSmallForm old.n old.rows) (r
 
 -- the form with the new row is the form with the row of the set
 pub grows_to : (old new : Echelon) (v made : List ℤ) → IsNewRow old v made → GrowsTo old made new → GrowsTo old v new
-grows_to old new v made row g = record { n = g.n; width = g.width; reduced = other_row old.n old.rows new.rows made v row.there row.back g.reduced; narrow = g.narrow }
+grows_to old new v made row g = record {
+  n = g.n;
+  width = g.width;
+  reduced = other_row old.n old.rows new.rows made v row.there row.back g.reduced;
+  narrow =
+      g.narrow;
+}
 
 -- so is a wide one
 pub grows_wide : (old : Echelon) (v made : List ℤ) → IsNewRow old v made → GrowsWide old made → GrowsWide old v

@@ -54,8 +54,10 @@ module _ (form seen : Echelon) (row : List ℤ) (m : ℕ) (list : List ℕ) (vie
       IfOk r (λ within. (grown : List (List ℤ)) → IsGrownBy form new grown → IsTrue within ↔ ReachesAll form.n reach shared sets grown) →
       IfOk r (λ within. (other : Echelon) → GrowsTo seen (set_row seen.n list) other → IsTrue within ↔ ReachesAll seen.n reach shared sets other.rows)
   told_by r new reach shared sets grown told =
-      subst (λ (s : Echelon). IfOk r (λ within. (other : Echelon) → GrowsTo s (set_row s.n list) other → IsTrue within ↔ ReachesAll s.n reach shared sets other.rows)) view
-      (subst (λ (v : List ℤ). IfOk r (λ within. (other : Echelon) → GrowsTo form v other → IsTrue within ↔ ReachesAll form.n reach shared sets other.rows)) row_is
+      subst (λ (s : Echelon). IfOk r (λ within. (other : Echelon) → GrowsTo s (set_row s.n list) other →
+      IsTrue within ↔ ReachesAll s.n reach shared sets other.rows)) view
+      (subst (λ (v : List ℤ). IfOk r (λ within. (other : Echelon) → GrowsTo form v other → IsTrue within ↔ ReachesAll form.n reach shared sets other.rows))
+      row_is
       (IfOk-weaker r (λ within. (g : List (List ℤ)) → IsGrownBy form new g → IsTrue within ↔ ReachesAll form.n reach shared sets g)
       (λ within. (other : Echelon) → GrowsTo form row other → IsTrue within ↔ ReachesAll form.n reach shared sets other.rows)
       (λ within h other grows. h other.rows (grown other grows)) told))

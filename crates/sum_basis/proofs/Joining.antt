@@ -37,7 +37,8 @@ grows_same old v f narrow p = record {
   narrow = narrow;
 }
 
-pub foresees_same : (old : Echelon) (v : List ℤ) (p : Prospect) → IsSmallForm old.n old.rows → IsNarrow old.width old.rows → InSpan old.rows v → IsAsItIs old p →
+pub foresees_same : (old : Echelon) (v : List ℤ) (p : Prospect) → IsSmallForm old.n old.rows → IsNarrow old.width old.rows → InSpan old.rows v →
+    IsAsItIs old p →
     Foresees old v p
 foresees_same old v Wide f narrow p is = absurd is
 foresees_same old v Fixing f narrow p is = (old, grows_same old v f narrow p, is)
@@ -121,7 +122,8 @@ some_entry n (e ∷ list) p h = omega arith
 -- what is told of the list holds of the row, for the form as it is seen
 pub told : {width : ℕ} (seen : Echelon) (n : ℕ) (rows items : List SparseRow) (new list : List FreeEntry) (v : List ℤ) (p : Prospect) (room : ℕ)
     → record { n = n; width = width; rows = rows_of n items } ≡ seen → rows ≡ items → new ≡ list
-    → Foresees (record { n = n; width = width; rows = rows_of n rows }) (row_of n new) p → IsNew seen.n list × IsNewRow seen v (row_of seen.n list) × (seen.n ≤ room) →
+    → Foresees (record { n = n; width = width; rows = rows_of n rows }) (row_of n new) p → IsNew seen.n list × IsNewRow seen v (row_of seen.n list) ×
+    (seen.n ≤ room) →
     Foresees seen v p
 told {width} seen n rows items new list v p room view e f h left =
     let here = subst (λ (r : List SparseRow). Foresees (record { n = n; width = width; rows = rows_of n r }) (row_of n new) p) e h in
@@ -129,7 +131,8 @@ told {width} seen n rows items new list v p room view e f h left =
     foresees_from seen v (row_of seen.n list) p left.1 (subst (λ (s : Echelon). Foresees s (row_of s.n list) p) view there)
 
 -- the list of a new row is 0 at the form's pivots, for the form as it is seen
-pub zeros_of_list : {width : ℕ} (seen : Echelon) (n : ℕ) (rows items : List SparseRow) (new list : List FreeEntry) → record { n = n; width = width; rows = rows_of n items } ≡ seen
+pub zeros_of_list : {width : ℕ} (seen : Echelon) (n : ℕ) (rows items : List SparseRow) (new list : List FreeEntry) →
+    record { n = n; width = width; rows = rows_of n items } ≡ seen
     → rows ≡ items → new ≡ list
     → IsZeroAtPivots seen.rows (row_of seen.n list) → IsZeroAtPivots (rows_of n rows) (row_of n new)
 zeros_of_list seen n rows items new list view e f zeros =
@@ -145,7 +148,8 @@ not_grown_wide old v p h other wide =
     wide.2 (subst (IsNarrow old.width) same grown.1.narrow)
 
 -- the rows once the row has joined
-pub after_growth : (width : ℕ) (seen : Echelon) (n : ℕ) (items before grown : List SparseRow) (list : List FreeEntry) → record { n = n; width = width; rows = rows_of n items } ≡ seen
+pub after_growth : (width : ℕ) (seen : Echelon) (n : ℕ) (items before grown : List SparseRow) (list : List FreeEntry) →
+    record { n = n; width = width; rows = rows_of n items } ≡ seen
     → before ≡ items → IsWidth width
     → ¬ (GrowsWide seen (row_of seen.n list)) → IsReducedForm n (rows_of n before ++ row_of n list ∷ []) (rows_of n grown) → AllByRecursion (IsKept n) grown →
     IsJoined n width grown
@@ -154,7 +158,8 @@ after_growth width seen n items before grown list view g fits other reduced kept
     (subst (λ (r : List SparseRow). IsReducedForm n (rows_of n r ++ row_of n list ∷ []) (rows_of n grown)) g reduced) kept
 
 -- the rows of the form with the list, as the form was seen
-pub grown_rows : {width : ℕ} (seen : Echelon) (n : ℕ) (items before grown : List SparseRow) (list : List FreeEntry) → record { n = n; width = width; rows = rows_of n items } ≡ seen
+pub grown_rows : {width : ℕ} (seen : Echelon) (n : ℕ) (items before grown : List SparseRow) (list : List FreeEntry) →
+    record { n = n; width = width; rows = rows_of n items } ≡ seen
     → before ≡ items
     → IsReducedForm n (rows_of n before ++ row_of n list ∷ []) (rows_of n grown) → IsReducedForm seen.n (seen.rows ++ row_of seen.n list ∷ []) (rows_of n grown)
 grown_rows seen n items before grown list view g reduced =

@@ -70,7 +70,8 @@ module _ (n width : ℕ) (new : List FreeEntry) (is_new : IsNew n new) (one : le
               let least = size_of_factor line.1.over (number_at line.0 j) line.1.not_zero in
               let once = one-times (entry_at (entries_of r) j) in
               let gone = ap (λ z. neg_ℤ times *ℤ z) (elsewhere_nothing new j one other) ∙ *ℤ-zero (neg_ℤ times) in
-              let was = subst (λ z. unsigned_abs z ≤ width) (number_at-row_of 0 n (entries_of r) kept.listed j) (within_at width (row_of n (entries_of r)) j within) in
+              let was = subst (λ z. unsigned_abs z ≤ width) (number_at-row_of 0 n (entries_of r) kept.listed j)
+              (within_at width (row_of n (entries_of r)) j within) in
               omega (arith, ints)
         ] in
         (line.0, line.1.cleared, all_by_number (λ x. unsigned_abs x ≤ width) line.0 at)

@@ -135,7 +135,8 @@ heads_divide n new (r ∷ form) (row ∷ made) m cleared all = (
 )
 
 -- a lone new row that leaves all rows small fixes a number
-pub glanced_at_once : (n width : ℕ) (form : List (List ℤ)) (new : List ℤ) (made : List (List ℤ)) → AreCleared n new form made → AllByRecursion (IsWithin width) made →
+pub glanced_at_once : (n width : ℕ) (form : List (List ℤ)) (new : List ℤ) (made : List (List ℤ)) → AreCleared n new form made →
+    AllByRecursion (IsWithin width) made →
     IsLone new → IsGlanced n width form new (length form) true
 glanced_at_once n width form new made cleared small lone = record {
   made = made;
@@ -211,7 +212,8 @@ module _ (form : Echelon) (new : List ℤ) (f : IsFormWithin form.width form.n f
   looked_large k common fixing row h l is large = row_too_large form new f p z (too_large form.n form.width new form.rows k row h p f.primitive z is large)
 
   -- pivot entries whose multiple is too large
-  pub looked_multiple : (k : ℕ) (common : ℤ) (fixing : Bool) (row : List ℤ) (m : ℕ) → k < length form.rows → IsLooked form.n form.width form.rows new k common fixing
+  pub looked_multiple : (k : ℕ) (common : ℤ) (fixing : Bool) (row : List ℤ) (m : ℕ) → k < length form.rows →
+      IsLooked form.n form.width form.rows new k common fixing
       → IsCleared form.n new (get_or form.rows k []) row
       → IsLeastCommonMultiple (unsigned_abs common ∷ unsigned_abs (pivot_entry row) ∷ []) m → form.width < m → GrowsWide form new
   looked_multiple k common fixing row m h l is least more =
@@ -234,7 +236,8 @@ module _ (form : Echelon) (new : List ℤ) (f : IsFormWithin form.width form.n f
       )
 
   -- all rows were looked at
-  module _ (k : ℕ) (common : ℤ) (fixing : Bool) (past : length form.rows ≤ k) (l : IsLooked form.n form.width form.rows new k common fixing) (small : IsWithin form.width new) where
+  module _ (k : ℕ) (common : ℤ) (fixing : Bool) (past : length form.rows ≤ k) (l : IsLooked form.n form.width form.rows new k common fixing)
+      (small : IsWithin form.width new) where
     abbrev grown : List (List ℤ)
     grown = placed new l.made
 
@@ -245,7 +248,12 @@ module _ (form : Echelon) (new : List ℤ) (f : IsFormWithin form.width form.n f
     reduced = placed_is_reduced form.n form.rows l.made new f.primitive f.echelon p z cleared
 
     form_within : IsFormWithin form.width form.n grown
-    form_within = record { primitive = reduced.primitive; echelon = reduced.echelon; entries = all_placed (IsWithin form.width) new l.made small l.clears.within }
+    form_within = record {
+      primitive = reduced.primitive;
+      echelon = reduced.echelon;
+      entries =
+          all_placed (IsWithin form.width) new l.made small l.clears.within;
+    }
 
     least : IsLeastCommonMultiple (pivot_entries grown) (unsigned_abs common)
     least = record {
@@ -264,7 +272,13 @@ module _ (form : Echelon) (new : List ℤ) (f : IsFormWithin form.width form.n f
 
     -- the form with the new row is narrow
     pub looked_grows : GrowsTo form new foreseen
-    looked_grows = record { n = refl; width = refl; reduced = reduced; narrow = is_narrow form.n form.width (unsigned_abs common) grown form_within least l.within }
+    looked_grows = record {
+      n = refl;
+      width = refl;
+      reduced = reduced;
+      narrow =
+          is_narrow form.n form.width (unsigned_abs common) grown form_within least l.within;
+    }
 
     -- a lone row has a unit row in the span
     unit_of : (rows : List (List ℤ)) → AllByRecursion (InSpan grown) rows → AllByRecursion (IsPrimitive form.n) rows → SomeLone rows → HasUnitRow foreseen

@@ -41,7 +41,8 @@ some_by z fits n e = n (sym (to_z-of_z w128 z fits) ∙ e)
 pub negated : (z : ℤ) → unsigned_abs z ≤ 2 ^ 56 → FitsSigned w128 (pos 0 -ℤ z)
 negated z h = fits_signed_from_abs w128 (pos 0 -ℤ z) (omega (arith, ints))
 
-pub minus_is : (z : ℤ) → FitsSigned w128 z → unsigned_abs z ≤ 2 ^ 56 → to_z w128 (of_z w128 (pos 0 -ℤ to_z w128 (of_z w128 z))) ≡ neg_ℤ (to_z w128 (of_z w128 z))
+pub minus_is : (z : ℤ) → FitsSigned w128 z → unsigned_abs z ≤ 2 ^ 56 → to_z w128 (of_z w128 (pos 0 -ℤ to_z w128 (of_z w128 z)))
+    ≡ neg_ℤ (to_z w128 (of_z w128 z))
 minus_is z fits small = rw (to_z-of_z w128 z fits) (to_z-of_z w128 (pos 0 -ℤ z) (negated z small) ∙ minus z)
   where
     minus : (x : ℤ) → pos 0 -ℤ x ≡ neg_ℤ x

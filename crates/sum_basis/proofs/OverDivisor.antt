@@ -35,7 +35,8 @@ put_scaled g q v place out after some is e = elim (zero_or_not q) [
 ]
 
 -- what holds of 0 and of each value of a list holds of what it has at a column
-pub entries_with : (P : ℤ → Type 0) (from n : ℕ) (es : List FreeEntry) (j : ℕ) → P (pos 0) → AllByRecursion P (values es) → IsListed from n es → P (entry_at es j)
+pub entries_with : (P : ℤ → Type 0) (from n : ℕ) (es : List FreeEntry) (j : ℕ) → P (pos 0) → AllByRecursion P (values es) → IsListed from n es →
+    P (entry_at es j)
 entries_with P from n [] j none all h = none
 entries_with P from n (e ∷ es) j none all h = elim (cases_eq e.place j) [
   | inl same ↦
@@ -76,7 +77,8 @@ some_divisor g some = λ e. omega (arith, ints)
 
 -- what each common divisor divides, said of the numbers as the code passes them and as they are
 pub greatest_of : (g : ℕ) (head by times : ℤ) (first second : List FreeEntry) → FitsSigned w128 head → FitsSigned w128 by → FitsSigned w128 times
-    → ((d : ℕ) → d ∣ unsigned_abs (to_z w128 (of_z w128 head)) → ((j : ℕ) → d ∣ unsigned_abs (to_z w128 (of_z w128 by) *ℤ entry_at first j -ℤ to_z w128 (of_z w128 times) *ℤ entry_at second j)) → d ∣ g)
+    → ((d : ℕ) → d ∣ unsigned_abs (to_z w128 (of_z w128 head)) →
+    ((j : ℕ) → d ∣ unsigned_abs (to_z w128 (of_z w128 by) *ℤ entry_at first j -ℤ to_z w128 (of_z w128 times) *ℤ entry_at second j)) → d ∣ g)
     → (d : ℕ) → d ∣ unsigned_abs head → ((j : ℕ) → d ∣ unsigned_abs (by *ℤ entry_at first j -ℤ times *ℤ entry_at second j)) → d ∣ g
 greatest_of g head by times first second fh fb ft greatest d divides all =
     greatest d (subst (λ (z : ℤ). d ∣ unsigned_abs z) (sym (to_z-of_z w128 head fh)) divides)

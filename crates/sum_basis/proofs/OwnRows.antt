@@ -99,7 +99,8 @@ lone_in_form n form row f among inside spanned =
 
 -- one whose pivot's unit row is in the span of the form with a new row is lone, or has something at the new row's pivot
 module _ (n : ℕ) (form : List (List ℤ)) (r row : List ℤ) (f : IsSmallForm n form) (zeros : IsZeroAtPivots form r) (leading : pos 0 <ℤ pivot_entry r)
-    (among : IsRowOf row form) (inside : pivot row < n) (spanned : InSpan (form ++ r ∷ []) (unit_row n (pivot row))) (none_there : number_at row (pivot r) ≡ pos 0)
+    (among : IsRowOf row form) (inside : pivot row < n) (spanned : InSpan (form ++ r ∷ []) (unit_row n (pivot row)))
+    (none_there : number_at row (pivot r) ≡ pos 0)
     (r_there : number_at r (pivot row) ≡ pos 0) where
   abbrev pub both : List (List ℤ)
   both = form ++ r ∷ []
@@ -120,13 +121,15 @@ module _ (n : ℕ) (form : List (List ℤ)) (r row : List ℤ) (f : IsSmallForm 
       ∙ ap (λ z. pivot_entry row *ℤ z +ℤ neg_ℤ (pos 1) *ℤ number_at row (pivot r)) (unit_elsewhere n (pivot row) (pivot r) apart)
       ∙ ap (λ z. pivot_entry row *ℤ pos 0 +ℤ neg_ℤ (pos 1) *ℤ z) none_there
       ∙ ap (λ z. z +ℤ neg_ℤ (pos 1) *ℤ pos 0) (*ℤ-zero (pivot_entry row)) ∙ ap (λ z. pos 0 +ℤ z) (*ℤ-zero (neg_ℤ (pos 1))) in
-      let by_none : line.by ≡ pos 0 = zero_factor line.by (pivot_entry r) (sym (line.is (pivot r)) ∙ ap (λ z. pos line.multiple *ℤ z) nothing ∙ *ℤ-zero (pos line.multiple)) leading in
+      let by_none : line.by ≡ pos 0 = zero_factor line.by (pivot_entry r)
+      (sym (line.is (pivot r)) ∙ ap (λ z. pos line.multiple *ℤ z) nothing ∙ *ℤ-zero (pos line.multiple)) leading in
       lone_if_nothing n form both f of_form row among inside spanned
       (λ j. zero_factor (number_at d j) (pos line.multiple)
       (*ℤ_comm (number_at d j) (pos line.multiple) ∙ line.is j ∙ ap (λ z. z *ℤ number_at r j) by_none ∙ zero-*ℤ (number_at r j)) above)
 
 -- a number is the pivot of a row of the form, or of none
-pub pivot_or_none : (form : List (List ℤ)) (i : ℕ) → ((k : ℕ) × (k < length form) × (pivot (get_or form k []) ≡ i)) ⊎ AllByRecursion (λ other. pivot other ≢ i) form
+pub pivot_or_none : (form : List (List ℤ)) (i : ℕ) → ((k : ℕ) × (k < length form) × (pivot (get_or form k []) ≡ i)) ⊎
+    AllByRecursion (λ other. pivot other ≢ i) form
 pivot_or_none [] i = inr tt
 pivot_or_none (r ∷ form) i = elim (cases_eq (pivot r) i) [
   | inl same ↦ inl (0, omega arith, same)
@@ -139,9 +142,11 @@ unit_zeros n i [] none = tt
 unit_zeros n i (r ∷ form) none = (unit_elsewhere n i (pivot r) none.0, unit_zeros n i form none.1)
 
 -- it isn't in the form's span
-pub not_in_form : (n i : ℕ) (form : List (List ℤ)) → IsSmallForm n form → i < n → AllByRecursion (λ other. pivot other ≢ i) form → ¬ (InSpan form (unit_row n i))
+pub not_in_form : (n i : ℕ) (form : List (List ℤ)) → IsSmallForm n form → i < n → AllByRecursion (λ other. pivot other ≢ i) form →
+    ¬ (InSpan form (unit_row n i))
 not_in_form n i form f within none spanned =
-    let nothing = span_zero form (number_at (unit_row n i)) f.echelon (leads_from n form f.primitive) (spans_from form (unit_row n i) spanned) (unit_zeros n i form none) i in
+    let nothing = span_zero form (number_at (unit_row n i)) f.echelon (leads_from n form f.primitive) (spans_from form (unit_row n i) spanned)
+    (unit_zeros n i form none) i in
     let one = unit_here n i within in
     omega (arith, ints)
 
@@ -151,7 +156,8 @@ pub at_new_pivot : (n i : ℕ) (form : List (List ℤ)) (r : List ℤ) → IsSma
 at_new_pivot n i form r f zeros primitive within none spanned =
     let unit = unit_row n i in
     let line = on_line r unit (alone form r unit f.echelon (leads_from n form f.primitive) (unit_zeros n i form none) zeros spanned) in
-    sym (same_pivot n r unit primitive (λ nothing. let one = unit_here n i within in let at = nothing i in omega (arith, ints)) line) ∙ pivot-unit_row n i within
+    sym (same_pivot n r unit primitive (λ nothing. let one = unit_here n i within in let at = nothing i in omega (arith, ints)) line)
+    ∙ pivot-unit_row n i within
 
 -- row k of the form
 module _ (form : Echelon) (f : IsSmallForm form.n form.rows) (k : ℕ) (within : k < length form.rows) where
@@ -162,7 +168,8 @@ module _ (form : Echelon) (f : IsSmallForm form.n form.rows) (k : ℕ) (within :
   inside = pivot_below form.n row (All-from_recursion (IsPrimitive form.n) form.rows f.primitive k [] within)
 
   -- with other entries, its pivot's unit row isn't in the span of the form
-  pub not_alone : (entries : List FreeEntry) → IsFreeList form.n form.rows row entries → length entries ≢ 0 → ¬ (SpansAfter form None (unit_row form.n (pivot row)))
+  pub not_alone : (entries : List FreeEntry) → IsFreeList form.n form.rows row entries → length entries ≢ 0 →
+      ¬ (SpansAfter form None (unit_row form.n (pivot row)))
   not_alone entries free some span =
       not_lone form.n form.rows k entries within free some (lone_in_form form.n form.rows row f (row_among form.rows k within) inside span)
 
@@ -194,7 +201,8 @@ module _ (form : Echelon) (f : IsSmallForm form.n form.rows) (shared : List ℕ)
   none_at_all none span = not_in_form form.n i form.rows f within (no_pivot_is None none span) span
 
   -- and only that at the pivot of what was left in the span with it
-  pub only_at_left : (list : Vec FreeEntry Global) → IsLeftOver form list.items → NoneAtPivots form (Some list) shared → SpansAfter form (Some list) (unit_row form.n i) →
+  pub only_at_left : (list : Vec FreeEntry Global) → IsLeftOver form list.items → NoneAtPivots form (Some list) shared →
+      SpansAfter form (Some list) (unit_row form.n i) →
       pivot (row_of form.n list.items) ≡ i
   only_at_left list over none span =
       at_new_pivot form.n i form.rows (row_of form.n list.items) f over.1 over.0.primitive within (no_pivot_is (Some list) none span) span

@@ -1,7 +1,8 @@
 -- The points of columns that a form ties lie on one line, modulo a number without a divisor in common with the pivot entries.
 --
 -- The common multiple of the pivot entries times a row of the span is a combination of the form's rows with whole coefficients. So its products
--- with the two lists are multiples of the modulus, and so are those of the row itself. For a primitive row that is 0 but at p and q, of which these are x and y,
+-- with the two lists are multiples of the modulus, and so are those of the row itself. For a primitive row that is 0 but at p and q, of which these
+-- are x and y,
 -- x times the cross product of the points is a combination of the two products, and so is y times it; and x and y have no common divisor.
 use Rattle.std.proofs.Common.{◌≡◌, ◌≢◌, ℕ, zero, suc, ◌*◌, ◌<◌, ℤ, pos, List, [], ◌∷◌, map, length, sym, ap, ◌∙◌, subst, arith, inl, inr}
 use Rattle.std.specs.Prelude.{◌+ℤ◌, ◌-ℤ◌, ◌*ℤ◌, neg_ℤ, unsigned_abs, int_div}
@@ -91,7 +92,8 @@ module _ (m n : ℕ) (a : List ℤ) where
   multiple_combined [] rows h = multiple_same m (pos 0) _ (sym (total-zero _ n (λ j l. zero-*ℤ (number_at a j)))) (multiple_zero m)
   multiple_combined (c ∷ cs) [] h = multiple_same m (pos 0) _ (sym (total-zero _ n (λ j l. zero-*ℤ (number_at a j)))) (multiple_zero m)
   multiple_combined (c ∷ cs) (row ∷ rows) h =
-      let split = total-agree (λ j. (c *ℤ number_at row j +ℤ combined cs rows j) *ℤ number_at a j) (λ j. c *ℤ (number_at row j *ℤ number_at a j) +ℤ combined cs rows j *ℤ number_at a j) n
+      let split = total-agree (λ j. (c *ℤ number_at row j +ℤ combined cs rows j) *ℤ number_at a j)
+      (λ j. c *ℤ (number_at row j *ℤ number_at a j) +ℤ combined cs rows j *ℤ number_at a j) n
       (λ j l. add-times (c *ℤ number_at row j) (combined cs rows j) (number_at a j)
       ∙ ap (λ z. z +ℤ combined cs rows j *ℤ number_at a j) (times_assoc c (number_at row j) (number_at a j))) in
       let apart = total-add (λ j. c *ℤ (number_at row j *ℤ number_at a j)) (λ j. combined cs rows j *ℤ number_at a j) n in
@@ -140,10 +142,12 @@ module _ (common : ℕ) (y : ℕ → ℤ) where
     abbrev rest_of : ℕ → ℤ
     rest_of j = pos common *ℤ y j +ℤ neg_ℤ (pos 1) *ℤ combined found.cs form j
 
-    rest_zero : (some : List (List ℤ)) → AllByRecursion (λ row. pos common *ℤ y (pivot row) ≡ combined found.cs form (pivot row)) some → ZeroAtPivots rest_of some
+    rest_zero : (some : List (List ℤ)) → AllByRecursion (λ row. pos common *ℤ y (pivot row) ≡ combined found.cs form (pivot row)) some →
+        ZeroAtPivots rest_of some
     rest_zero [] is = tt
     rest_zero (row ∷ some) is = (
-      (let here = is.0 in let minus = neg-times (pos 1) (combined found.cs form (pivot row)) in let once = one-times (combined found.cs form (pivot row)) in omega (arith, ints)),
+      (let here = is.0 in let minus = neg-times (pos 1) (combined found.cs form (pivot row)) in let once = one-times (combined found.cs form (pivot row)) in
+          omega (arith, ints)),
       rest_zero some is.1,
     )
 
@@ -262,13 +266,15 @@ module _ (m n common : ℕ) (form : List (List ℤ)) (a b : List ℤ) (p q : ℕ
 
     -- x times the cross product
     at_p : IsMultiple m (cross *ℤ x)
-    at_p = multiple_same m (number_at b q *ℤ (x *ℤ number_at a p +ℤ y *ℤ number_at a q) +ℤ neg_ℤ (number_at a q) *ℤ (x *ℤ number_at b p +ℤ y *ℤ number_at b q)) _
+    at_p = multiple_same m (number_at b q *ℤ (x *ℤ number_at a p +ℤ y *ℤ number_at a q) +ℤ neg_ℤ (number_at a q) *ℤ (x *ℤ number_at b p +ℤ y *ℤ number_at b q))
+        _
         (first_cross x y (number_at a p) (number_at a q) (number_at b p) (number_at b q))
         (multiple_add m _ _ (multiple_times m (number_at b q) _ (two_products a first)) (multiple_times m (neg_ℤ (number_at a q)) _ (two_products b second)))
 
     -- and y times it
     at_q : IsMultiple m (cross *ℤ y)
-    at_q = multiple_same m (number_at a p *ℤ (x *ℤ number_at b p +ℤ y *ℤ number_at b q) +ℤ neg_ℤ (number_at b p) *ℤ (x *ℤ number_at a p +ℤ y *ℤ number_at a q)) _
+    at_q = multiple_same m (number_at a p *ℤ (x *ℤ number_at b p +ℤ y *ℤ number_at b q) +ℤ neg_ℤ (number_at b p) *ℤ (x *ℤ number_at a p +ℤ y *ℤ number_at a q))
+        _
         (second_cross x y (number_at a p) (number_at a q) (number_at b p) (number_at b q))
         (multiple_add m _ _ (multiple_times m (number_at a p) _ (two_products b second)) (multiple_times m (neg_ℤ (number_at b p)) _ (two_products a first)))
 
@@ -287,7 +293,8 @@ module _ (m n common : ℕ) (form : List (List ℤ)) (a b : List ℤ) (p q : ℕ
       | inr some ↦
           let content = scaled_content cross (size_above cross some) new in
           let same : content.0 ≡ 1 = eq-one_of_dvd-one (made.content.greatest content.0 content.1.divides) in
-          let whole = content.2.greatest m (all_by_number (λ z. m ∣ unsigned_abs z) (times cross new) (λ j. divides_multiple m (number_at (times cross new) j) (each j))) in
+          let whole = content.2.greatest m (all_by_number (λ z. m ∣ unsigned_abs z) (times cross new)
+          (λ j. divides_multiple m (number_at (times cross new) j) (each j))) in
           multiple_divided m cross (subst (λ s. m ∣ s) (ap (λ g. unsigned_abs cross * g) same ∙ omega arith) whole)
     ]
 

@@ -58,7 +58,8 @@ module _ (n : ℕ) (old : List (List ℤ)) (new : List FreeEntry) (grown : List 
   first_counts counts first = record { is = λ j. go j (is_pivot grown j) refl }
     where
       go : (j : ℕ) (b : Bool) → is_pivot grown j ≡ b → get_or counts j 0 ≡ cond (is_pivot grown j) 0 (one_if (rest_at new j) + 0)
-      go j true e = let start = first j in let none = ap one_if (rest_off j e) in let test = cond_true (is_pivot grown j) (one_if (rest_at new j) + 0) e in omega arith
+      go j true e = let start = first j in let none = ap one_if (rest_off j e) in let test = cond_true (is_pivot grown j) (one_if (rest_at new j) + 0) e in
+          omega arith
       go j false e = let start = first j in let test = cond_false (is_pivot grown j) (one_if (rest_at new j) + 0) e in omega arith
 
   pub more_counts : (k : ℕ) (counts next : List ℕ) (entries : List FreeEntry) → k < length old → IsFreeList n old (get_or old k []) entries →
@@ -182,7 +183,8 @@ module _ (n : ℕ) (old : List (List ℤ)) (new : List FreeEntry) (grown : List 
       ]
 
       go : (i : ℕ) → i < n → has_row shared i ≡ false → (b : Bool) → is_pivot grown i ≡ b → IsReached n reach grown (λ w. number_at w i)
-      go i l own false e = reached (λ w. number_at w i) (λ j. cond (i == j) (pos 1) (pos 0)) (column_value n old new grown g i l e) (spike_near i (columns i l own))
+      go i l own false e = reached (λ w. number_at w i) (λ j. cond (i == j) (pos 1) (pos 0)) (column_value n old new grown g i l e)
+          (spike_near i (columns i l own))
       go i l own true e = elim (pivot_cases i e) [
         | inl not_off ↦ new_case new g i not_off own at_new
         | inr is ↦

@@ -32,7 +32,8 @@ free_small form k es f l free = (
   free.listed,
   recursion_from_All (λ (e : FreeEntry). unsigned_abs e.value ≤ 2 ^ 56) es (λ i d within.
       subst (λ z. unsigned_abs z ≤ 2 ^ 56)
-      (sym (free.is (get_or es i d).place (All-from_recursion (λ (e : FreeEntry). AllByRecursion (λ other. pivot other ≢ e.place) form.rows) es free.free i d within))
+      (sym (free.is (get_or es i d).place (All-from_recursion (λ (e : FreeEntry). AllByRecursion (λ other. pivot other ≢ e.place) form.rows) es free.free i d
+      within))
       ∙ own_value 0 form.n es i d free.listed within)
       (small_at (get_or form.rows k []) (get_or es i d).place (All-from_recursion IsSmall form.rows f.entries k [] l))),
 )

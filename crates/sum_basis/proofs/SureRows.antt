@@ -21,7 +21,8 @@ module _ (n width : ℕ) (new : List FreeEntry) (is_new : IsNew n new) (most : �
   rest_stays_within (suc k) [] kept primitive within zeros bounded = ([], tt, tt)
   rest_stays_within (suc k) (r ∷ rows) kept primitive within zeros bounded = rest_stays_within k rows kept.1 primitive.1 within.1 zeros.1 bounded.1
   rest_stays_within zero (r ∷ rows) kept primitive within zeros bounded =
-      let first = stays_within n r new kept.0 primitive.0 is_new (nothing_at n r new kept.0 is_new zeros.0) most all (get_or new 0 none).value refl width within.0
+      let first = stays_within n r new kept.0 primitive.0 is_new (nothing_at n r new kept.0 is_new zeros.0) most all
+      (get_or new 0 none).value refl width within.0
       (within_limit width (unsigned_abs (get_or new 0 none).value) most sure r.most bounded.0 enough) in
       let rest = rest_stays_within zero rows kept.1 primitive.1 within.1 zeros.1 bounded.1 in
       (first.0 ∷ rest.0, (first.1, rest.1), (first.2, rest.2))

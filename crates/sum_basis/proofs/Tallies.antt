@@ -51,7 +51,8 @@ module _ (old counts : List ℕ) (es : List FreeEntry) (k : ℕ) (d : FreeEntry)
                 more ∙ ap (λ z. z +ℤ cond (nat_eq e.place j) e.value (pos 0)) (sym (ap (entry_at (take k es)) same) ∙ front)
                 ∙ ap (λ z. pos 0 +ℤ z) (here e j same) ∙ (omega (arith, ints)) in
                 let one : one_if (entry_at (take (k + 1) es) j) ≡ 1 =
-                ap (λ b. cond b 0 1) (test_of_not_zero (entry_at (take (k + 1) es) j) (λ z. (stands_within 0 (length old) es k d listed l).some (sym value ∙ z))) in
+                ap (λ b. cond b 0 1) (test_of_not_zero (entry_at (take (k + 1) es) j)
+                (λ z. (stands_within 0 (length old) es k d listed l).some (sym value ∙ z))) in
                 let at_old = ap (λ (i : ℕ). get_or old i 0) same in
                 omega arith
             | inr other ↦

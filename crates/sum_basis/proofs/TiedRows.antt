@@ -36,7 +36,8 @@ module _ (n : ℕ) (r : SparseRow) (kept : IsKept n r) where
   pub free_at : (j : ℕ) → j ≢ r.pivot → number_at line j ≡ entry_at r.free.items j
   free_at j apart =
       number_at-row_of 0 n (entries_of r) kept.listed j
-      ∙ ap (λ z. z +ℤ entry_at r.free.items j) (elsewhere (record { place = r.pivot; value = r.head }) j (λ e. apart (sym e))) ∙ +ℤ_idl (entry_at r.free.items j)
+      ∙ ap (λ z. z +ℤ entry_at r.free.items j) (elsewhere (record { place = r.pivot; value = r.head }) j (λ e. apart (sym e)))
+      ∙ +ℤ_idl (entry_at r.free.items j)
 
   -- and its list has nothing there
   pub nothing_at_pivot : entry_at r.free.items r.pivot ≡ pos 0
@@ -123,10 +124,12 @@ module _ (n from start : ℕ) (xs ys : List FreeEntry) (first : IsListed from n 
       by : (es fs : List FreeEntry) → xs ≡ es → ys ≡ fs → IsListed from n es → IsListed start n fs → AreLikeLists es fs
       by [] [] is are p q = absurd (let none = ap length are in omega arith)
       by [] (f ∷ fs) is are p q =
-          absurd (product_not_zero y f.value y_some q.2 (ap (λ z. y *ℤ z) (sym (first_value start n f fs q)) ∙ ap (λ l. y *ℤ entry_at l f.place) (sym are) ∙ sym (same f.place)
+          absurd (product_not_zero y f.value y_some q.2
+          (ap (λ z. y *ℤ z) (sym (first_value start n f fs q)) ∙ ap (λ l. y *ℤ entry_at l f.place) (sym are) ∙ sym (same f.place)
           ∙ ap (λ l. x *ℤ entry_at l f.place) is ∙ *ℤ-zero x))
       by (e ∷ es) [] is are p q =
-          absurd (product_not_zero x e.value x_some p.2 (ap (λ z. x *ℤ z) (sym (first_value from n e es p)) ∙ ap (λ l. x *ℤ entry_at l e.place) (sym is) ∙ same e.place
+          absurd (product_not_zero x e.value x_some p.2
+          (ap (λ z. x *ℤ z) (sym (first_value from n e es p)) ∙ ap (λ l. x *ℤ entry_at l e.place) (sym is) ∙ same e.place
           ∙ ap (λ l. y *ℤ entry_at l e.place) are ∙ *ℤ-zero y))
       by (e ∷ es) (f ∷ fs) is are p q =
           let at : (j : ℕ) → x *ℤ entry_at (e ∷ es) j ≡ y *ℤ entry_at (f ∷ fs) j = λ j.
@@ -142,11 +145,14 @@ module _ (n from start : ℕ) (xs ys : List FreeEntry) (first : IsListed from n 
                   ∙ ap (λ z. x *ℤ z) (zero_below e.place n (e ∷ es) f.place (omega arith, p.1, p.2, p.3) after) ∙ *ℤ-zero x))
             ]
           ] in
-          let values : x *ℤ e.value ≡ y *ℤ f.value = ap (λ z. x *ℤ z) (sym own_e) ∙ at e.place ∙ ap (λ k. y *ℤ entry_at (f ∷ fs) k) place ∙ ap (λ z. y *ℤ z) own_f in
+          let values : x *ℤ e.value ≡ y *ℤ f.value = ap (λ z. x *ℤ z) (sym own_e) ∙ at e.place ∙ ap (λ k. y *ℤ entry_at (f ∷ fs) k) place
+          ∙ ap (λ z. y *ℤ z) own_f in
           let cross : (j : ℕ) → f.value *ℤ entry_at (e ∷ es) j ≡ e.value *ℤ entry_at (f ∷ fs) j = λ j.
           factor_gone x (f.value *ℤ entry_at (e ∷ es) j) (e.value *ℤ entry_at (f ∷ fs) j) x_some
-          (sym (times_assoc x f.value (entry_at (e ∷ es) j)) ∙ ap (λ z. z *ℤ entry_at (e ∷ es) j) (*ℤ_comm x f.value) ∙ times_assoc f.value x (entry_at (e ∷ es) j)
-          ∙ ap (λ z. f.value *ℤ z) (at j) ∙ sym (times_assoc f.value y (entry_at (f ∷ fs) j)) ∙ ap (λ z. z *ℤ entry_at (f ∷ fs) j) (*ℤ_comm f.value y ∙ sym values)
+          (sym (times_assoc x f.value (entry_at (e ∷ es) j)) ∙ ap (λ z. z *ℤ entry_at (e ∷ es) j) (*ℤ_comm x f.value)
+          ∙ times_assoc f.value x (entry_at (e ∷ es) j)
+          ∙ ap (λ z. f.value *ℤ z) (at j) ∙ sym (times_assoc f.value y (entry_at (f ∷ fs) j))
+          ∙ ap (λ z. z *ℤ entry_at (f ∷ fs) j) (*ℤ_comm f.value y ∙ sym values)
           ∙ times_assoc x e.value (entry_at (f ∷ fs) j)) in
           same_listed 0 n (map (scaled f.value) (e ∷ es)) (map (scaled e.value) (f ∷ fs))
           (scaled_listed f.value q.2 0 n (e ∷ es) (lower p)) (scaled_listed e.value p.2 0 n (f ∷ fs) (lower_second q))
@@ -215,7 +221,8 @@ row_in_front n (suc k) (y ∷ l) row (inl h) = inl h
 row_in_front n (suc k) (y ∷ l) row (inr h) = inr (row_in_front n k l row h)
 
 -- one more row
-pub one_more : (n : ℕ) (front : List SparseRow) (r : SparseRow) (row : List ℤ) → IsRowOf row (rows_of n (front ++ r ∷ [])) → IsRowOf row (rows_of n front) ⊎ (line_of n r ≡ row)
+pub one_more : (n : ℕ) (front : List SparseRow) (r : SparseRow) (row : List ℤ) → IsRowOf row (rows_of n (front ++ r ∷ [])) → IsRowOf row (rows_of n front) ⊎
+    (line_of n r ≡ row)
 one_more n [] r row (inl h) = inr h
 one_more n [] r row (inr h) = absurd h
 one_more n (s ∷ front) r row (inl h) = inl (inl h)
@@ -233,7 +240,8 @@ turned row other p = record {
 
 module _ (n : ℕ) (r : SparseRow) (kept : IsKept n r) where
   -- a row with a like list is parallel
-  pub parallel_from : (s : SparseRow) → IsKept n s → StandsBefore (line_of n s) (line_of n r) → AreLikeLists s.free.items r.free.items → AreParallel (line_of n s) (line_of n r)
+  pub parallel_from : (s : SparseRow) → IsKept n s → StandsBefore (line_of n s) (line_of n r) → AreLikeLists s.free.items r.free.items →
+      AreParallel (line_of n s) (line_of n r)
   parallel_from s own stand like =
       let (x, y, x_some, y_some, is) = like_to n (s.pivot + 1) (r.pivot + 1) s.free.items r.free.items own.listed.3 kept.listed.3 like in
       record {
@@ -247,9 +255,11 @@ module _ (n : ℕ) (r : SparseRow) (kept : IsKept n r) where
       }
 
   -- and has one, if its list isn't empty
-  pub parallel_to : (s : SparseRow) → IsKept n s → StandsBefore (line_of n s) (line_of n r) → 0 < length r.free.items → AreParallel (line_of n s) (line_of n r) →
+  pub parallel_to : (s : SparseRow) → IsKept n s → StandsBefore (line_of n s) (line_of n r) → 0 < length r.free.items →
+      AreParallel (line_of n s) (line_of n r) →
       AreLikeLists s.free.items r.free.items
-  parallel_to s own stand some p = like_from n (s.pivot + 1) (r.pivot + 1) s.free.items r.free.items own.listed.3 kept.listed.3 p.x p.y p.x_some p.y_some some at
+  parallel_to s own stand some p = like_from n (s.pivot + 1) (r.pivot + 1) s.free.items r.free.items own.listed.3 kept.listed.3 p.x p.y p.x_some p.y_some some
+      at
     where
       apart : s.pivot ≢ r.pivot
       apart e = absurd (let before = stand.0 in let p = pivot_is n s own in let q = pivot_is n r kept in omega arith)
@@ -261,7 +271,8 @@ module _ (n : ℕ) (r : SparseRow) (kept : IsKept n r) where
             ∙ ap (λ z. p.y *ℤ entry_at r.free.items z) (sym own_pivot)
         | inr first ↦ elim (cases_eq j r.pivot) [
           | inl other ↦ ap (λ z. p.x *ℤ entry_at s.free.items z) other
-              ∙ ap (λ z. p.x *ℤ z) (sym (free_at n s own r.pivot (λ e. apart (sym e))) ∙ ap (number_at (line_of n s)) (sym (pivot_is n r kept)) ∙ stand.1) ∙ *ℤ-zero p.x ∙ sym (*ℤ-zero p.y)
+              ∙ ap (λ z. p.x *ℤ z) (sym (free_at n s own r.pivot (λ e. apart (sym e))) ∙ ap (number_at (line_of n s)) (sym (pivot_is n r kept)) ∙ stand.1)
+              ∙ *ℤ-zero p.x ∙ sym (*ℤ-zero p.y)
               ∙ ap (λ z. p.y *ℤ z) (sym (nothing_at_pivot n r kept)) ∙ ap (λ z. p.y *ℤ entry_at r.free.items z) (sym other)
           | inr second ↦ ap (λ z. p.x *ℤ z) (sym (free_at n s own j first)) ∙ p.is j (λ e. first (e ∙ pivot_is n s own)) (λ e. second (e ∙ pivot_is n r kept))
               ∙ ap (λ z. p.y *ℤ z) (free_at n r kept j second)
@@ -269,14 +280,16 @@ module _ (n : ℕ) (r : SparseRow) (kept : IsKept n r) where
       ]
 
   -- a row of the front part with a like list shows a tie
-  pub like_shows : (front : List SparseRow) → AllByRecursion (IsKept n) front → AllByRecursion (λ s. StandsBefore (line_of n s) (line_of n r)) front → HasLikeList front r →
+  pub like_shows : (front : List SparseRow) → AllByRecursion (IsKept n) front → AllByRecursion (λ s. StandsBefore (line_of n s) (line_of n r)) front →
+      HasLikeList front r →
       (row : List ℤ) × IsRowOf row (rows_of n front) × AreParallel row (line_of n r)
   like_shows [] all stand h = absurd h
   like_shows (s ∷ front) all stand (inl like) = (line_of n s, inl refl, parallel_from s all.0 stand.0 like)
   like_shows (s ∷ front) all stand (inr rest) = let (row, among, p) = like_shows front all.1 stand.1 rest in (row, inr among, p)
 
   -- and one that is parallel has one
-  has_like : (front : List SparseRow) → AllByRecursion (IsKept n) front → AllByRecursion (λ s. StandsBefore (line_of n s) (line_of n r)) front → 0 < length r.free.items →
+  has_like : (front : List SparseRow) → AllByRecursion (IsKept n) front → AllByRecursion (λ s. StandsBefore (line_of n s) (line_of n r)) front →
+      0 < length r.free.items →
       (row : List ℤ) → IsRowOf row (rows_of n front) → AreParallel row (line_of n r) → HasLikeList front r
   has_like [] all stand some row h p = absurd h
   has_like (s ∷ front) all stand some row (inl is) p = inl (parallel_to s all.0 stand.0 some (subst (λ z. AreParallel z (line_of n r)) (sym is) p))
@@ -303,13 +316,15 @@ module _ (n : ℕ) (r : SparseRow) (kept : IsKept n r) where
 -- ---- like lists one by one
 
 -- the list at k is like the row's
-pub like_there : (front : List SparseRow) (row : SparseRow) (k : ℕ) (r : SparseRow) → k < length front → r ≡ slice_index_or front k r → AreLikeLists r.free.items row.free.items → HasLikeList front row
+pub like_there : (front : List SparseRow) (row : SparseRow) (k : ℕ) (r : SparseRow) → k < length front → r ≡ slice_index_or front k r →
+    AreLikeLists r.free.items row.free.items → HasLikeList front row
 like_there [] row k r h is like = absurd (omega arith)
 like_there (s ∷ front) row zero r h is like = inl (subst (λ q. AreLikeLists q.free.items row.free.items) is like)
 like_there (s ∷ front) row (suc k) r h is like = inr (like_there front row k r (omega arith) is like)
 
 -- where none was, and the one more isn't, none is
-pub none_like : (front : List SparseRow) (row r : SparseRow) → (HasLikeList front row → ⊥) → (AreLikeLists r.free.items row.free.items → ⊥) → HasLikeList (front ++ r ∷ []) row → ⊥
+pub none_like : (front : List SparseRow) (row r : SparseRow) → (HasLikeList front row → ⊥) → (AreLikeLists r.free.items row.free.items → ⊥) →
+    HasLikeList (front ++ r ∷ []) row → ⊥
 none_like [] row r none not (inl like) = not like
 none_like [] row r none not (inr h) = absurd h
 none_like (s ∷ front) row r none not (inl like) = none (inl like)

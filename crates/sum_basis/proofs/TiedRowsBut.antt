@@ -29,7 +29,8 @@ module _ (n : ℕ) (several : List ℕ) (r : SparseRow) (kept : IsKept n r) wher
       }
       by (e ∷ es) is few = absurd (omega arith)
 
-  pub short_one : has_row several r.pivot ≡ false → length r.free.items ≡ 1 → (e : FreeEntry) → e ≡ slice_index_or r.free.items 0 e → has_row several e.place ≡ false →
+  pub short_one : has_row several r.pivot ≡ false → length r.free.items ≡ 1 → (e : FreeEntry) → e ≡ slice_index_or r.free.items 0 e → has_row several e.place
+      ≡ false →
       IsShortBut several (line_of n r)
   short_one out one e at e_out = by r.free.items refl one at
     where
@@ -52,7 +53,8 @@ module _ (n : ℕ) (several : List ℕ) (r : SparseRow) (kept : IsKept n r) wher
   pub short_few : IsShortBut several (line_of n r) → length r.free.items ≤ 1
   short_few short = short_to n r kept (short.free, short.zeros)
 
-  pub short_place : IsShortBut several (line_of n r) → (e : FreeEntry) → e ≡ slice_index_or r.free.items 0 e → length r.free.items ≡ 1 → has_row several e.place ≡ false
+  pub short_place : IsShortBut several (line_of n r) → (e : FreeEntry) → e ≡ slice_index_or r.free.items 0 e → length r.free.items ≡ 1 → has_row several e.place
+      ≡ false
   short_place short e at one = by r.free.items refl one at kept.listed.3
     where
       by : (es : List FreeEntry) → r.free.items ≡ es → length es ≡ 1 → e ≡ slice_index_or es 0 e → IsListed (r.pivot + 1) n es → has_row several e.place ≡ false
@@ -74,7 +76,8 @@ module _ (n : ℕ) (several : List ℕ) (r : SparseRow) (kept : IsKept n r) wher
   like_parallel (s ∷ front) all stand (inr rest) = let (row, among, out, p) = like_parallel front all.1 stand.1 rest in (row, inr among, out, p)
 
   -- and one that is parallel has one
-  has_like : (front : List SparseRow) → AllByRecursion (IsKept n) front → AllByRecursion (λ s. StandsBefore (line_of n s) (line_of n r)) front → 0 < length r.free.items →
+  has_like : (front : List SparseRow) → AllByRecursion (IsKept n) front → AllByRecursion (λ s. StandsBefore (line_of n s) (line_of n r)) front →
+      0 < length r.free.items →
       (row : List ℤ) → IsRowOf row (rows_of n front) → has_row several (pivot row) ≡ false → AreParallel row (line_of n r) → HasLikeListBut several front r
   has_like [] all stand some row h out p = absurd h
   has_like (s ∷ front) all stand some row (inl is) out p = inl (
@@ -85,7 +88,8 @@ module _ (n : ℕ) (several : List ℕ) (r : SparseRow) (kept : IsKept n r) wher
 
   -- if the front part shows no tie, and the row is neither short nor like another, there is none with the row
   pub none_with : (front : List SparseRow) → AllByRecursion (IsKept n) front → AllByRecursion (λ s. StandsBefore (line_of n s) (line_of n r)) front →
-      (ShowsTieBut several (rows_of n front) → ⊥) → (IsShortBut several (line_of n r) → ⊥) → (has_row several r.pivot ≡ false → HasLikeListBut several front r → ⊥) →
+      (ShowsTieBut several (rows_of n front) → ⊥) → (IsShortBut several (line_of n r) → ⊥) →
+      (has_row several r.pivot ≡ false → HasLikeListBut several front r → ⊥) →
       ShowsTieBut several (rows_of n (front ++ r ∷ [])) → ⊥
   none_with front all stand none long unlike (inl (row, among, short)) = elim (one_more n front r row among) [
     | inl before ↦ none (inl (row, before, short))

@@ -67,7 +67,8 @@ module _ (n : ℕ) (form : List (List ℤ)) (primitive : AllByRecursion (IsPrimi
     )
   ]
 
-  from_parallel_at : (row other : List ℤ) → IsRowOf row form → IsRowOf other form → AreParallel row other → (pivot other ≢ pivot row) × Ties form (pivot row) (pivot other)
+  from_parallel_at : (row other : List ℤ) → IsRowOf row form → IsRowOf other form → AreParallel row other → (pivot other ≢ pivot row) ×
+      Ties form (pivot row) (pivot other)
   from_parallel_at row other among too alike = (
     (λ same. alike.apart (sym same)),
     record {
@@ -75,7 +76,8 @@ module _ (n : ℕ) (form : List (List ℤ)) (primitive : AllByRecursion (IsPrimi
       spanned = span_combine form alike.x row alike.y other (in_span_at form form row (own form) among) (in_span_at form form other (own form) too);
       there = λ none.
           let whole = number_at-combine alike.x row alike.y other (pivot row) in
-          let gone = ap (λ z. neg_ℤ alike.y *ℤ z) (zero_at_others form other row echelon too among (λ same. alike.apart (sym same))) ∙ *ℤ-zero (neg_ℤ alike.y) in
+          let gone = ap (λ z. neg_ℤ alike.y *ℤ z) (zero_at_others form other row echelon too among (λ same. alike.apart (sym same)))
+          ∙ *ℤ-zero (neg_ℤ alike.y) in
           let first : alike.x *ℤ pivot_entry row ≡ pos 0 = omega (arith, ints) in
           product_not_zero alike.x (pivot_entry row) alike.x_some (leads_at row among) first;
       only = λ j apart differs.
@@ -94,7 +96,8 @@ module _ (n : ℕ) (form : List (List ℤ)) (primitive : AllByRecursion (IsPrimi
   -- what shows of two columns: a short row at the two, or two parallel ones with these pivots
   abbrev ShowsAt : ℕ → ℕ → Type 0
   ShowsAt p q =
-      ((row : List ℤ) × IsRowOf row form × (k : ℕ) × ((j : ℕ) → j ≢ pivot row → j ≢ k → number_at row j ≡ pos 0) × (((pivot row ≡ p) × (k ≡ q)) ⊎ ((pivot row ≡ q) × (k ≡ p))))
+      ((row : List ℤ) × IsRowOf row form × (k : ℕ) × ((j : ℕ) → j ≢ pivot row → j ≢ k → number_at row j ≡ pos 0) ×
+      (((pivot row ≡ p) × (k ≡ q)) ⊎ ((pivot row ≡ q) × (k ≡ p))))
       ⊎ ((row : List ℤ) × (other : List ℤ) × IsRowOf row form × IsRowOf other form × AreParallel row other × (pivot row ≡ p) × (pivot other ≡ q))
 
   module _ (p q : ℕ) (apart : q ≢ p) (tied : Ties form p q) where
@@ -128,7 +131,8 @@ module _ (n : ℕ) (form : List (List ℤ)) (primitive : AllByRecursion (IsPrimi
       other_pivot : (g : List ℤ) → IsRowOf g form → pivot g ≢ pivot row → f (pivot g) ≡ pos 0 → less_one (pivot g) ≡ pos 0
       other_pivot g also differs gone =
           let first = ap (λ z. pivot_entry row *ℤ z) gone ∙ *ℤ-zero (pivot_entry row) in
-          let second = ap (λ z. neg_ℤ (f (pivot row)) *ℤ z) (zero_at_others form row g echelon among also (λ same. differs (sym same))) ∙ *ℤ-zero (neg_ℤ (f (pivot row))) in
+          let second = ap (λ z. neg_ℤ (f (pivot row)) *ℤ z) (zero_at_others form row g echelon among also (λ same. differs (sym same)))
+          ∙ *ℤ-zero (neg_ℤ (f (pivot row))) in
           omega (arith, ints)
 
       one_line : ((g : List ℤ) → IsRowOf g form → pivot g ≢ pivot row → f (pivot g) ≡ pos 0) → (j : ℕ) → less_one j ≡ pos 0
@@ -138,7 +142,8 @@ module _ (n : ℕ) (form : List (List ℤ)) (primitive : AllByRecursion (IsPrimi
             | inr differs ↦ other_pivot g also differs (gone g also differs)
           ]))
 
-      short_by : (k : ℕ) → (((pivot row ≡ p) × (k ≡ q)) ⊎ ((pivot row ≡ q) × (k ≡ p))) → (f (pivot row) ≢ pos 0) → ((j : ℕ) → less_one j ≡ pos 0) → ((j : ℕ) → j ≢ pivot row → j ≢ k → f j ≡ pos 0) → ShowsAt p q
+      short_by : (k : ℕ) → (((pivot row ≡ p) × (k ≡ q)) ⊎ ((pivot row ≡ q) × (k ≡ p))) → (f (pivot row) ≢ pos 0) → ((j : ℕ) → less_one j ≡ pos 0) →
+          ((j : ℕ) → j ≢ pivot row → j ≢ k → f j ≡ pos 0) → ShowsAt p q
       short_by k side some line gone = inl (
         row,
         among,
@@ -336,7 +341,8 @@ module _ (n : ℕ) (several : List ℕ) (form : List (List ℤ)) (primitive : Al
 
   from_parallel_but : (row other : List ℤ) → IsRowOf row form → IsRowOf other form → AreParallelBut several row other → TieSomeBut several form
   from_parallel_but row other among too alike =
-      let at = from_parallel_at n form primitive echelon row other among too alike.parallel in (pivot row, pivot other, at.0, at.1, alike.pivot_out, alike.other_out)
+      let at = from_parallel_at n form primitive echelon row other among too alike.parallel in
+      (pivot row, pivot other, at.0, at.1, alike.pivot_out, alike.other_out)
 
 pub ties_by_form_but : TiesByFormBut
 ties_by_form_but n several form primitive echelon = (

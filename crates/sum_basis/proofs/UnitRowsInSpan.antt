@@ -148,7 +148,8 @@ pub record IsFirstUnit (form : Echelon) (i : ℕ) : Type 0 where
   pub least : (j : ℕ) → j < i → ¬ (InSpan form.rows (unit_row form.n j))
 
 -- the first row with a lone entry has the least unit row of the span
-pub first_unit : {width : ℕ} (form : Echelon) (k : ℕ) → IsFormWithin width form.n form.rows → k < length form.rows → NoneLone form.rows k → IsLone (get_or form.rows k []) →
+pub first_unit : {width : ℕ} (form : Echelon) (k : ℕ) → IsFormWithin width form.n form.rows → k < length form.rows → NoneLone form.rows k →
+    IsLone (get_or form.rows k []) →
     IsFirstUnit form (pivot (get_or form.rows k []))
 first_unit form k f h none lone =
     let row = get_or form.rows k [] in

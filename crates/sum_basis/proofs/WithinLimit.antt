@@ -75,7 +75,8 @@ come_within limit g most es made p e all l = go made (subst (AllByRecursion (λ 
 pub was_within : (limit g : ℕ) (x y : ℤ) → x ≡ pos g *ℤ y → unsigned_abs y ≤ limit → unsigned_abs x ≤ g * limit
 was_within limit g x y e h = subst (λ z. z ≤ g * limit) (sym (size_times g x y e)) (mul-le-mul_left g h)
 
-pub were_within : (limit g : ℕ) (es made : List FreeEntry) → es ≡ map (scaled (pos g)) made → AllByRecursion (λ (e : FreeEntry). unsigned_abs e.value ≤ limit) made →
+pub were_within : (limit g : ℕ) (es made : List FreeEntry) → es ≡ map (scaled (pos g)) made →
+    AllByRecursion (λ (e : FreeEntry). unsigned_abs e.value ≤ limit) made →
     AllByRecursion (λ (e : FreeEntry). unsigned_abs e.value ≤ g * limit) es
 were_within limit g es made e all = subst (AllByRecursion (λ (e : FreeEntry). unsigned_abs e.value ≤ g * limit)) (sym e) (go made all)
   where
@@ -85,7 +86,8 @@ were_within limit g es made e all = subst (AllByRecursion (λ (e : FreeEntry). u
     go (x ∷ xs) h = (was_within limit g (pos g *ℤ x.value) x.value refl h.0, go xs h.1)
 
 -- if the content brings the greatest size within the limit, all are
-pub small_enough : (limit : ℕ) (head over_head : ℤ) (es : List FreeEntry) (g most least : ℕ) → 0 < g → IsContent (head ∷ values es) g → head ≡ pos g *ℤ over_head
+pub small_enough : (limit : ℕ) (head over_head : ℤ) (es : List FreeEntry) (g most least : ℕ) → 0 < g → IsContent (head ∷ values es) g → head
+    ≡ pos g *ℤ over_head
     → unsigned_abs head ≤ most → AllByRecursion (λ (e : FreeEntry). unsigned_abs e.value ≤ most) es → most ≤ least * limit → least ≤ g
     → (unsigned_abs over_head ≤ limit) × AllByRecursion (λ (e : FreeEntry). unsigned_abs e.value ≤ limit) (over g es)
 small_enough limit head over_head es g most least p content e at_head at_values enough h =

@@ -136,7 +136,8 @@ module _ (n : ℕ) (e : FreeEntry) (es : List FreeEntry) (listed : IsListed 0 n 
         zeros = entries_zero old z;
         count = λ j not_one.
             g.count j ∙ ap (λ (m : ℕ). one_if (number_at new_row j) + m) (count_is old j)
-            ∙ ap (λ x. one_if x + count_with (e ∷ es) old j) (number_at-row_of 0 n (e ∷ es) listed j ∙ sym (rest_is j (eqb_other e.place j (parts j not_one).0)));
+            ∙ ap (λ x. one_if x + count_with (e ∷ es) old j)
+            (number_at-row_of 0 n (e ∷ es) listed j ∙ sym (rest_is j (eqb_other e.place j (parts j not_one).0)));
         row = λ k l.
             let found = g.row k l in
             record {
@@ -265,13 +266,17 @@ module _ (n : ℕ) (old : List (List ℤ)) (new : List FreeEntry) (grown : List 
       let b = g.row k l in
       record {
         inside = λ j some. (
-          elim (cases_lt j n) [ inl m ↦ m | inr past ↦ absurd (some (off_old (entry_at entries) j (zero_past 0 n entries j free.listed past) (past_new j past))) ],
+          elim (cases_lt j n) [
+            | inl m ↦ m
+            | inr past ↦ absurd (some (off_old (entry_at entries) j (zero_past 0 n entries j free.listed past) (past_new j past)))
+          ],
           open_column (entry_at entries) j (λ i e. free_zero entries i free.free e) some,
         );
         there = λ j d along none.
             same_free (get_or old k []) entries j free along.free ∙ b.there j ((row_tells b.made b.among j d along).0 (ap (number_at d) b.same_pivot ∙ none));
         back = λ j d along none.
-            sym (ap (number_at d) b.same_pivot) ∙ (row_tells b.made b.among j d along).1 (b.back j (sym (same_free (get_or old k []) entries j free along.free) ∙ none));
+            sym (ap (number_at d) b.same_pivot) ∙ (row_tells b.made b.among j d along).1
+            (b.back j (sym (same_free (get_or old k []) entries j free along.free) ∙ none));
       }
 
   -- the number at a free column

@@ -185,4 +185,5 @@ counted false list lists c cs same = same
 pub secrets_counted : (k : ℕ) (cs : List Column) (rows : List Fields) → length (secrets_from k cs rows) ≡ secret_count cs
 secrets_counted k [] rows = refl
 secrets_counted k (c ∷ cs) rows =
-    counted (is_secret c.role) (kept_as c.role (number_column k rows)) (secrets_from (k + 1) cs rows) c (filter (λ d. is_secret d.role) cs) (secrets_counted (k + 1) cs rows)
+    counted (is_secret c.role) (kept_as c.role (number_column k rows)) (secrets_from (k + 1) cs rows) c (filter (λ d. is_secret d.role) cs)
+    (secrets_counted (k + 1) cs rows)

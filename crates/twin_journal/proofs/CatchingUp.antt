@@ -127,13 +127,15 @@ module _ (shape : Shape) (history whole : List Answered) (file : List ℕ) where
     from = record { rest = take some.0 lacks; is = refl };
     to = record {
       rest = drop some.0 lacks;
-      is = is ∙ ap (λ (l : List Answered). history ++ l) (sym (take-append-drop some.0 lacks)) ∙ sym (append_assoc history (take some.0 lacks) (drop some.0 lacks));
+      is = is ∙ ap (λ (l : List Answered). history ++ l) (sym (take-append-drop some.0 lacks))
+          ∙ sym (append_assoc history (take some.0 lacks) (drop some.0 lacks));
     };
   }
 
 module _ {D : Type 0} (bench : Ghosts D) (shape : Shape) (history whole : List Answered) where
   -- if nothing is called the file stands for its own history
-  pub still_there : (at : D) (gate : ℕ) → ((image sent : List ℕ) → bench.since at (bench.moment at) image sent → bench.leaves at image × (sent ≡ bench.sent at)) → IsQuiet bench at
+  pub still_there : (at : D) (gate : ℕ) →
+      ((image sent : List ℕ) → bench.since at (bench.moment at) image sent → bench.leaves at image × (sent ≡ bench.sent at)) → IsQuiet bench at
       → StandsAt (bench.file at) shape history gate → IsFront history whole → LeavesOnly bench at at (CatchesUp shape history whole (bench.sent at))
   still_there at gate only_now quiet stands front =
       started bench at (CatchesUp shape history whole (bench.sent at)) (λ image sent was.
@@ -143,7 +145,8 @@ module _ {D : Type 0} (bench : Ghosts D) (shape : Shape) (history whole : List A
       ))
 
   -- while the records are appended that it lacks, it stands for a history between its own and the whole
-  pub while_brought_up : (old new : D) (lacks : List Answered) → whole ≡ history ++ lacks → LeavesOnly bench old new (IsBroughtUp shape history lacks (bench.sent old))
+  pub while_brought_up : (old new : D) (lacks : List Answered) → whole ≡ history ++ lacks →
+      LeavesOnly bench old new (IsBroughtUp shape history lacks (bench.sent old))
       → LeavesOnly bench old new (CatchesUp shape history whole (bench.sent old))
   while_brought_up old new lacks is found =
       weakens bench old new (IsBroughtUp shape history lacks (bench.sent old)) (CatchesUp shape history whole (bench.sent old))

@@ -23,7 +23,8 @@ use Rattle.twin_journal.specs.Restoring.{GivesUpRestoring, IsLost, IsLostOf, Res
 use Rattle.twin_journal.proofs.TwinCauses.{OneHistory}
 
 -- files that stand for one history stand for the same
-pub stand_alike : (once : OneHistory) (file spare : List ℕ) (shape : Shape) (history : List Answered) → StandsFor file shape history → StandsFor spare shape history →
+pub stand_alike : (once : OneHistory) (file spare : List ℕ) (shape : Shape) (history : List Answered) → StandsFor file shape history →
+    StandsFor spare shape history →
     StandForTheSame file spare
 stand_alike once file spare shape history stands spare_stands = λ s h. (
   λ is. let same = once file shape s history h stands.0 is.0 stands.1 is.1 in
@@ -33,19 +34,24 @@ stand_alike once file spare shape history stands spare_stands = λ s h. (
 )
 
 -- a file is kept for one history
-pub kept_for_one : (once : OneHistory) (table : Table) (file : List ℕ) (history others : List Answered) → IsKeptFor table file history → StandsFor file table.setting.shape others → history ≡ others
+pub kept_for_one : (once : OneHistory) (table : Table) (file : List ℕ) (history others : List Answered) → IsKeptFor table file history →
+    StandsFor file table.setting.shape others → history ≡ others
 kept_for_one once table file history others kept stands =
     (once file table.setting.shape table.setting.shape history others kept.stands.0 stands.0 kept.stands.1 stands.1).1
 
 -- the one that isn't lost is kept
-pub is_kept : (table : Table) (lost kept file : List ℕ) (history : List Answered) → file ≡ kept → IsLostOf table lost kept history → IsKeptFor table file history
-is_kept table lost kept file history same is = record { stands = subst (λ (f : List ℕ). StandsFor f table.setting.shape history) (sym same) is.stands; legal = is.legal }
+pub is_kept : (table : Table) (lost kept file : List ℕ) (history : List Answered) → file ≡ kept → IsLostOf table lost kept history →
+    IsKeptFor table file history
+is_kept table lost kept file history same is = record
+    { stands = subst (λ (f : List ℕ). StandsFor f table.setting.shape history) (sym same) is.stands; legal = is.legal }
 
-pub is_lost_of : (table : Table) (lost kept file : List ℕ) (history : List Answered) → file ≡ kept → IsLost lost → IsKeptFor table file history → IsLostOf table lost kept history
+pub is_lost_of : (table : Table) (lost kept file : List ℕ) (history : List Answered) → file ≡ kept → IsLost lost → IsKeptFor table file history →
+    IsLostOf table lost kept history
 is_lost_of table lost kept file history same unmade is =
     record { unmade = unmade; stands = subst (λ (f : List ℕ). StandsFor f table.setting.shape history) same is.stands; legal = is.legal }
 
-module _ {D : Type 0} (bench : Ghosts D) (old mid : D) (shape : Shape) (history : List Answered) (reads : OnlyReads bench old mid) (quiet : IsQuiet bench old) (lost : IsLost (bench.file old)) where
+module _ {D : Type 0} (bench : Ghosts D) (old mid : D) (shape : Shape) (history : List Answered) (reads : OnlyReads bench old mid) (quiet : IsQuiet bench old)
+    (lost : IsLost (bench.file old)) where
   -- a lost file that is only read stays lost
   pub read_lost : LeavesOnly bench old mid (IsUnmadeOrWhole shape history (bench.sent old))
   read_lost =
@@ -65,10 +71,12 @@ err fault = Err fault
 
 module _ (table : Table) (file spare : List ℕ) (given : CopyFault) (never : IsErrOf {T = Unit {0}} (err given) AlreadyThere → ⊥) where
   -- why the spare wasn't written
-  pub main_refused : IsLost spare → IsMade file → ((fault : StartFault) → given ≡ Kept fault → (GivesUp fault → ⊥) × StartCause fault file table) → RestoreCause (fault_from_main given) file spare table
+  pub main_refused : IsLost spare → IsMade file → ((fault : StartFault) → given ≡ Kept fault → (GivesUp fault → ⊥) × StartCause fault file table) →
+      RestoreCause (fault_from_main given) file spare table
   main_refused lost made = says given never
     where
-      says : (given : CopyFault) → (IsErrOf {T = Unit {0}} (err given) AlreadyThere → ⊥) → ((fault : StartFault) → given ≡ Kept fault → (GivesUp fault → ⊥) × StartCause fault file table)
+      says : (given : CopyFault) → (IsErrOf {T = Unit {0}} (err given) AlreadyThere → ⊥) →
+          ((fault : StartFault) → given ≡ Kept fault → (GivesUp fault → ⊥) × StartCause fault file table)
           → RestoreCause (fault_from_main given) file spare table
       says (Kept fault) never cause = let why = cause fault refl in (lost, made, why.0, why.1)
       says AlreadyThere never cause = absurd (never cc)
@@ -77,10 +85,12 @@ module _ (table : Table) (file spare : List ℕ) (given : CopyFault) (never : Is
       says NoMemory never cause = tt
 
   -- or the journal
-  pub spare_refused : IsLost file → IsMade spare → ((fault : StartFault) → given ≡ Kept fault → (GivesUp fault → ⊥) × StartCause fault spare table) → RestoreCause (fault_from_spare given) file spare table
+  pub spare_refused : IsLost file → IsMade spare → ((fault : StartFault) → given ≡ Kept fault → (GivesUp fault → ⊥) × StartCause fault spare table) →
+      RestoreCause (fault_from_spare given) file spare table
   spare_refused lost made = says given never
     where
-      says : (given : CopyFault) → (IsErrOf {T = Unit {0}} (err given) AlreadyThere → ⊥) → ((fault : StartFault) → given ≡ Kept fault → (GivesUp fault → ⊥) × StartCause fault spare table)
+      says : (given : CopyFault) → (IsErrOf {T = Unit {0}} (err given) AlreadyThere → ⊥) →
+          ((fault : StartFault) → given ≡ Kept fault → (GivesUp fault → ⊥) × StartCause fault spare table)
           → RestoreCause (fault_from_spare given) file spare table
       says (Kept fault) never cause = let why = cause fault refl in (lost, made, why.0, why.1)
       says AlreadyThere never cause = absurd (never cc)
@@ -90,7 +100,8 @@ module _ (table : Table) (file spare : List ℕ) (given : CopyFault) (never : Is
 
 -- the lost file was only read unless a call failed or memory ran out
 module _ {D : Type 0} (bench : Ghosts D) (old mid new : D) (reads : OnlyReads bench old mid) where
-  written_or_given_up : (given : CopyFault) → (IsErrOf {T = Unit {0}} (err given) AlreadyThere → OnlyReads bench mid new) → ((fault : StartFault) → given ≡ Kept fault → new ≡ mid)
+  written_or_given_up : (given : CopyFault) → (IsErrOf {T = Unit {0}} (err given) AlreadyThere → OnlyReads bench mid new) →
+      ((fault : StartFault) → given ≡ Kept fault → new ≡ mid)
       → (GivesUpCopying given → ⊥) → OnlyReads bench old new
   written_or_given_up (Kept fault) already kept some = subst (λ (b : D). OnlyReads bench old b) (sym (kept fault refl)) reads
   written_or_given_up AlreadyThere already kept some = then_reads bench old mid new reads (already cc)
@@ -98,7 +109,8 @@ module _ {D : Type 0} (bench : Ghosts D) (old mid new : D) (reads : OnlyReads be
   written_or_given_up LostFailed already kept some = absurd (some tt)
   written_or_given_up NoMemory already kept some = absurd (some tt)
 
-  pub spare_only_read : (given : CopyFault) → (IsErrOf {T = Unit {0}} (err given) AlreadyThere → OnlyReads bench mid new) → ((fault : StartFault) → given ≡ Kept fault → new ≡ mid)
+  pub spare_only_read : (given : CopyFault) → (IsErrOf {T = Unit {0}} (err given) AlreadyThere → OnlyReads bench mid new) →
+      ((fault : StartFault) → given ≡ Kept fault → new ≡ mid)
       → (GivesUpRestoring (fault_from_main given) → ⊥) → OnlyReads bench old new
   spare_only_read given already kept some = written_or_given_up given already kept (λ gives. some (same given gives))
     where
@@ -109,7 +121,8 @@ module _ {D : Type 0} (bench : Ghosts D) (old mid new : D) (reads : OnlyReads be
       same LostFailed gives = tt
       same NoMemory gives = tt
 
-  pub journal_only_read : (given : CopyFault) → (IsErrOf {T = Unit {0}} (err given) AlreadyThere → OnlyReads bench mid new) → ((fault : StartFault) → given ≡ Kept fault → new ≡ mid)
+  pub journal_only_read : (given : CopyFault) → (IsErrOf {T = Unit {0}} (err given) AlreadyThere → OnlyReads bench mid new) →
+      ((fault : StartFault) → given ≡ Kept fault → new ≡ mid)
       → (GivesUpRestoring (fault_from_spare given) → ⊥) → OnlyReads bench old new
   journal_only_read given already kept some = written_or_given_up given already kept (λ gives. some (same given gives))
     where
@@ -152,7 +165,8 @@ own_of_kept (start.Illegal place group) = λ gives. gives
 own_of_kept start.Failed = tt
 own_of_kept start.NoMemory = tt
 
-pub never_copied : {X : Type 0} (answer : CopyFault) (given : StartFault) → answer ≡ fault_of_kept given → (fault : StartFault) → GivesUp fault → err {X = X} answer ≡ err (Kept fault) → ⊥
+pub never_copied : {X : Type 0} (answer : CopyFault) (given : StartFault) → answer ≡ fault_of_kept given → (fault : StartFault) → GivesUp fault →
+    err {X = X} answer ≡ err (Kept fault) → ⊥
 never_copied answer given is fault gives same =
     let kept : answer ≡ Kept fault = cc in
     let own : IsOwnCopy (Kept fault) = subst (λ (f : CopyFault). IsOwnCopy f) (sym is ∙ kept) (own_of_kept given) in
@@ -162,8 +176,10 @@ never_copied answer given is fault gives same =
 abbrev pub unrestored : {X : Type 0} → RestoreFault → Result X RestoreFault
 unrestored fault = Err fault
 
-module _ {X : Type 0} (given : CopyFault) (own : (fault : StartFault) → GivesUp fault → given ≡ Kept fault → ⊥) (answer : RestoreFault) (fault : StartFault) (gives : GivesUp fault) where
-  pub never_from_main : answer ≡ fault_from_main given → (unrestored {X = X} answer ≡ unrestored (Main fault) → ⊥) × (unrestored {X = X} answer ≡ unrestored (Spare fault) → ⊥)
+module _ {X : Type 0} (given : CopyFault) (own : (fault : StartFault) → GivesUp fault → given ≡ Kept fault → ⊥) (answer : RestoreFault) (fault : StartFault)
+    (gives : GivesUp fault) where
+  pub never_from_main : answer ≡ fault_from_main given → (unrestored {X = X} answer ≡ unrestored (Main fault) → ⊥) ×
+      (unrestored {X = X} answer ≡ unrestored (Spare fault) → ⊥)
   never_from_main is = (
     λ same. let here : answer ≡ Main fault = cc in
         of_kept given own (sym is ∙ here),
@@ -186,7 +202,8 @@ module _ {X : Type 0} (given : CopyFault) (own : (fault : StartFault) → GivesU
       of_none LostFailed same = let none : ⊥ = cc in none
       of_none NoMemory same = let none : ⊥ = cc in none
 
-  pub never_from_spare : answer ≡ fault_from_spare given → (unrestored {X = X} answer ≡ unrestored (Main fault) → ⊥) × (unrestored {X = X} answer ≡ unrestored (Spare fault) → ⊥)
+  pub never_from_spare : answer ≡ fault_from_spare given → (unrestored {X = X} answer ≡ unrestored (Main fault) → ⊥) ×
+      (unrestored {X = X} answer ≡ unrestored (Spare fault) → ⊥)
   never_from_spare is = (
     λ same. let here : answer ≡ Main fault = cc in
         of_none given (sym is ∙ here),

@@ -162,7 +162,8 @@ module _ (file spare : List ℕ) (table : Table) where
 
     module _ (spare_none : (d : StartFault) → (GivesUp d → ⊥) → StartCause d spare table → ⊥) where
       -- what is left is that they differ
-      pub left_due : (due : TwinFault) → (TwinGivesUp due → ⊥) → TwinCause due file spare table → (place : ℕ) × (due ≡ Differ place) × HoldApart file spare table place
+      pub left_due : (due : TwinFault) → (TwinGivesUp due → ⊥) → TwinCause due file spare table → (place : ℕ) × (due ≡ Differ place) ×
+          HoldApart file spare table place
       left_due (Main d) some cause = absurd (none d cause.0 cause.1)
       left_due (Spare d) some cause = absurd (spare_none d cause.1 cause.2)
       left_due (Differ place) some cause = (place, refl, cause)
@@ -189,14 +190,16 @@ module _ (main other : List Answered) where
   meet_or_differ whole place meet differ =
       differ.differ
       (same_Some differ.ours differ.theirs
-      (sym (get_in_whole main whole place differ.ours meet.main_front differ.here) ∙ get_in_whole other whole place differ.theirs meet.other_front differ.there))
+      (sym (get_in_whole main whole place differ.ours meet.main_front differ.here)
+      ∙ get_in_whole other whole place differ.theirs meet.other_front differ.there))
 
 -- ---- the histories of two files
 
 -- a file stands for one history of a shape
 abbrev pub OneHistory : Type 0
 OneHistory =
-    (file : List ℕ) (shape other : Shape) (history others : List Answered) (gate place : ℕ) → StandsAt file shape history gate → StandsAt file other others place
+    (file : List ℕ) (shape other : Shape) (history others : List Answered) (gate place : ℕ) → StandsAt file shape history gate →
+    StandsAt file other others place
     → (shape ≡ other) × (history ≡ others) × (gate ≡ place)
 
 module _ (once : OneHistory) (table : Table) (file spare : List ℕ) (main other : List Answered)
@@ -226,7 +229,8 @@ module _ (once : OneHistory) (table : Table) (file spare : List ℕ) (main other
       }
 
   -- and back
-  pub meet_together : IsLegal table main → IsLegal table other → (whole : List Answered) → Meet main other whole → KeepTogether table file spare main other whole
+  pub meet_together : IsLegal table main → IsLegal table other → (whole : List Answered) → Meet main other whole →
+      KeepTogether table file spare main other whole
   meet_together legal other_legal whole meet = record {
     main_stands = stands;
     spare_stands = spare_stands;

@@ -55,7 +55,8 @@ meet_once main other one two first second = elim first.longer [
 ]
 
 -- one of the files is brought up to the other
-pub read_and_catch : {D : Type 0} (bench : Ghosts D) (old mid new : D) (shape : Shape) (history whole : List Answered) → OnlyReads bench old mid → IsQuiet bench old
+pub read_and_catch : {D : Type 0} (bench : Ghosts D) (old mid new : D) (shape : Shape) (history whole : List Answered) → OnlyReads bench old mid →
+    IsQuiet bench old
     → StandsFor (bench.file old) shape history → IsFront history whole → LeavesOnly bench mid new (CatchesUp shape history whole (bench.sent mid))
     → LeavesOnly bench old new (CatchesUp shape history whole (bench.sent old))
 read_and_catch bench old mid new shape history whole reads quiet stands front rest =
@@ -68,23 +69,29 @@ module _ (once : OneHistory) (table : Table) (file spare : List ℕ) (main other
   -- ---- what each of the files goes through
 
   pub main_catches : {D : Type 0} (bench : Ghosts D) (old mid new : D) → bench.file old ≡ file → OnlyReads bench old mid → IsQuiet bench old
-      → ((whole : List Answered) → IsQuiet bench mid → Meet main other whole → LeavesOnly bench mid new (CatchesUp table.setting.shape main whole (bench.sent mid)))
-      → (m o whole : List Answered) → KeepTogether table file spare m o whole → LeavesOnly bench old new (CatchesUp table.setting.shape m whole (bench.sent old))
+      → ((whole : List Answered) → IsQuiet bench mid → Meet main other whole →
+      LeavesOnly bench mid new (CatchesUp table.setting.shape main whole (bench.sent mid)))
+      → (m o whole : List Answered) → KeepTogether table file spare m o whole →
+      LeavesOnly bench old new (CatchesUp table.setting.shape m whole (bench.sent old))
   main_catches bench old mid new same reads quiet rest m o whole keep =
       let meet = together_meet once table file spare main other stands spare_stands m o whole keep in
       subst (λ (h : List Answered). LeavesOnly bench old new (CatchesUp table.setting.shape h whole (bench.sent old)))
       (sym (same_main once table file spare main other stands spare_stands m keep.main_stands))
-      (read_and_catch bench old mid new table.setting.shape main whole reads quiet (subst (λ (f : List ℕ). StandsFor f table.setting.shape main) (sym same) stands)
+      (read_and_catch bench old mid new table.setting.shape main whole reads quiet
+      (subst (λ (f : List ℕ). StandsFor f table.setting.shape main) (sym same) stands)
       meet.main_front (rest whole (still_quiet bench old mid reads quiet) meet))
 
   pub spare_catches : {D : Type 0} (bench : Ghosts D) (old mid new : D) → bench.file old ≡ spare → OnlyReads bench old mid → IsQuiet bench old
-      → ((whole : List Answered) → IsQuiet bench mid → Meet main other whole → LeavesOnly bench mid new (CatchesUp table.setting.shape other whole (bench.sent mid)))
-      → (m o whole : List Answered) → KeepTogether table file spare m o whole → LeavesOnly bench old new (CatchesUp table.setting.shape o whole (bench.sent old))
+      → ((whole : List Answered) → IsQuiet bench mid → Meet main other whole →
+      LeavesOnly bench mid new (CatchesUp table.setting.shape other whole (bench.sent mid)))
+      → (m o whole : List Answered) → KeepTogether table file spare m o whole →
+      LeavesOnly bench old new (CatchesUp table.setting.shape o whole (bench.sent old))
   spare_catches bench old mid new same reads quiet rest m o whole keep =
       let meet = together_meet once table file spare main other stands spare_stands m o whole keep in
       subst (λ (h : List Answered). LeavesOnly bench old new (CatchesUp table.setting.shape h whole (bench.sent old)))
       (sym (same_other once table file spare main other stands spare_stands o keep.spare_stands))
-      (read_and_catch bench old mid new table.setting.shape other whole reads quiet (subst (λ (f : List ℕ). StandsFor f table.setting.shape other) (sym same) spare_stands)
+      (read_and_catch bench old mid new table.setting.shape other whole reads quiet
+      (subst (λ (f : List ℕ). StandsFor f table.setting.shape other) (sym same) spare_stands)
       meet.other_front (rest whole (still_quiet bench old mid reads quiet) meet))
 
   -- if memory runs out meanwhile both stand between
@@ -107,7 +114,8 @@ module _ (once : OneHistory) (table : Table) (file spare : List ℕ) (main other
   -- ---- the end that is due
 
   -- if the catching up is refused, it gave up, or they differ
-  pub refused_cause : (fault : TwinFault) → TwinGivesUp fault ⊎ ((place : ℕ) × (fault ≡ Differ place)) → ((place : ℕ) → fault ≡ Differ place → DifferFirst main other place)
+  pub refused_cause : (fault : TwinFault) → TwinGivesUp fault ⊎ ((place : ℕ) × (fault ≡ Differ place)) →
+      ((place : ℕ) → fault ≡ Differ place → DifferFirst main other place)
       → TwinCause fault file spare table
   refused_cause fault why differ = elim why [
     | inl gives ↦ given_up fault gives
@@ -123,7 +131,8 @@ module _ (once : OneHistory) (table : Table) (file spare : List ℕ) (main other
       given_up SpareFailed gives = (main, stands, legal)
       given_up NoMemory gives = tt
 
-  pub refused_due : (fault due : TwinFault) → TwinGivesUp fault ⊎ ((place : ℕ) × (fault ≡ Differ place)) → ((place : ℕ) → fault ≡ Differ place → DifferFirst main other place)
+  pub refused_due : (fault due : TwinFault) → TwinGivesUp fault ⊎ ((place : ℕ) × (fault ≡ Differ place)) →
+      ((place : ℕ) → fault ≡ Differ place → DifferFirst main other place)
       → ((d : StartFault) → (GivesUp d → ⊥) → StartCause d file table → ⊥) → ((d : StartFault) → (GivesUp d → ⊥) → StartCause d spare table → ⊥)
       → (TwinGivesUp due → ⊥) → TwinCause due file spare table → (fault ≡ due) ⊎ TwinGivesUp fault
   refused_due fault due why differ none spare_none some cause = elim why [
@@ -135,7 +144,8 @@ module _ (once : OneHistory) (table : Table) (file spare : List ℕ) (main other
         inl (is ∙ ap (λ (n : ℕ). Differ n) same ∙ sym left.1)
   ]
 
-  pub refused_opens : (fault : TwinFault) → TwinGivesUp fault ⊎ ((place : ℕ) × (fault ≡ Differ place)) → ((place : ℕ) → fault ≡ Differ place → DifferFirst main other place)
+  pub refused_opens : (fault : TwinFault) → TwinGivesUp fault ⊎ ((place : ℕ) × (fault ≡ Differ place)) →
+      ((place : ℕ) → fault ≡ Differ place → DifferFirst main other place)
       → (m o whole : List Answered) → KeepTogether table file spare m o whole → TwinGivesUp fault
   refused_opens fault why differ m o whole keep = elim why [
     | inl gives ↦ gives
@@ -158,14 +168,16 @@ module _ (once : OneHistory) (table : Table) (file spare : List ℕ) (main other
         meet_or_differ main other now left.0 meet (same_place once table file spare main other stands spare_stands left.0 left.2)
 
     -- and so many calls were made
-    pub main_calls : (before mid after : ℕ) → mid ≡ before + 2 → after ≡ mid + calls_to_bring_up (missing main now) → (m o whole : List Answered) → KeepTogether table file spare m o whole
+    pub main_calls : (before mid after : ℕ) → mid ≡ before + 2 → after ≡ mid + calls_to_bring_up (missing main now) → (m o whole : List Answered) →
+        KeepTogether table file spare m o whole
         → after ≡ before + calls_to_open m whole
     main_calls before mid after read caught m o whole keep =
         omega (arith, read, caught)
         ∙ ap (λ (h : List Answered). before + calls_to_open h now) (sym (same_main once table file spare main other stands spare_stands m keep.main_stands))
         ∙ ap (λ (h : List Answered). before + calls_to_open m h) (caught_longer m o whole keep)
 
-    pub spare_calls : (before mid after : ℕ) → mid ≡ before + 2 → after ≡ mid + calls_to_bring_up (missing other now) → (m o whole : List Answered) → KeepTogether table file spare m o whole
+    pub spare_calls : (before mid after : ℕ) → mid ≡ before + 2 → after ≡ mid + calls_to_bring_up (missing other now) → (m o whole : List Answered) →
+        KeepTogether table file spare m o whole
         → after ≡ before + calls_to_open o whole
     spare_calls before mid after read caught m o whole keep =
         omega (arith, read, caught)

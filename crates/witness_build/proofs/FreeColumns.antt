@@ -150,7 +150,8 @@ module _ (n : ℕ) (form : List (List ℤ)) (row : List ℤ) (long : length row 
         | inr past ↦
             let passed : (is_pivot form (0 + e.place) || is_zero (number_at row e.place)) ≡ true = first.before e.place (omega arith) in
             let same : 0 + e.place ≡ e.place = omega arith in
-            let stops = or_from (is_pivot form e.place) (is_zero (number_at row e.place)) (free_place form e.place list.free.0) (test_of_not_zero (number_at row e.place) value) in
+            let stops = or_from (is_pivot form e.place) (is_zero (number_at row e.place)) (free_place form e.place list.free.0)
+            (test_of_not_zero (number_at row e.place) value) in
             absurd (false≢true (sym stops ∙ ap (λ m. is_pivot form m || is_zero (number_at row e.place)) (sym same) ∙ passed))
       ]
 

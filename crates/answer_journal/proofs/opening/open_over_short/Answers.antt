@@ -46,11 +46,11 @@ returns g c = record {
       let opening = c.open_over_closed.ensures.any_moment told (c.in_ok-shut.ensures.quiet told) in
       joins g.B.Bench bench c.shut.new.bench c.open_over_closed.new.bench (IsUnmadeOrOpened behind before) closed
       (subst (λ (sent : List ℕ). LeavesOnly g.B.Bench c.shut.new.bench c.open_over_closed.new.bench (IsUnmadeOrOpened behind sent)) c.shut.ensures.sent
-          opening);
+      opening);
   done = λ told.
       on_ok_weaker c.open_over_closed.result
       (over_shut c.args.behind.now (g.B.Bench.file c.args.bench.now) (g.B.Bench.file c.shut.new.bench) (g.B.Bench.file c.open_over_closed.new.bench)
-          (c.in_ok-shut.ensures.done told))
+      (c.in_ok-shut.ensures.done told))
       (c.open_over_closed.ensures.done told);
   ticks = λ told. on_ok_weaker c.open_over_closed.result (λ is. omega (arith, is, c.in_ok-shut.ensures.ticks told)) (c.open_over_closed.ensures.ticks told);
   quiet = c.open_over_closed.ensures.quiet;

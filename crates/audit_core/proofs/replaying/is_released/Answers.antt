@@ -9,8 +9,7 @@ use Rattle.audit_core.proofs.replaying.is_released.Goals as goal
 pub returns-in-DeniedWide-clause-judged : goal.returns-in-DeniedWide-clause-judged
 returns-in-DeniedWide-clause-judged c =
     let known = known_of c.args.core.now.setting c.args.core.now.history c.args.asked.now.column in
-    let wide : IsJudgement known c.args.asked.now.rows.list DeniedWide = search rules in
-    (
+    let wide : IsJudgement known c.args.asked.now.rows.list DeniedWide = search rules in (
       λ no. absurd (true≢false (sym no)),
       λ is. let same = one_judgement c.sets_have_one_form.ensures known c.args.asked.now.rows.list Released DeniedWide is wide in absurd cc,
     )

@@ -70,7 +70,8 @@ loop-more-preserved g c =
             (g.K.Keeper.store c.loop-more.keeper) c.args.source.now c.loop-more.source c.args.bench.now c.loop-more.bench c.loop-more.invariant.served
             now (not c.in_ok-more.more || now.ended) c.gather.new.source plans e.gathers e.most c.requires.batch.0
             (λ ended. still_ended c.in_ok-more.more now.ended (e.cuts.still ended)) g.S.Bench c.args.spare.now c.loop-more.spare c.answer.new.spare
-            (whole_or_last {E = TwinEnd} g.P.Source.told c.args.batch c.in_ok-more.more plans (now.pending ++ g.P.Source.left c.gather.new.source) e.whole e.last)
+            (whole_or_last {E = TwinEnd} g.P.Source.told c.args.batch c.in_ok-more.more plans
+            (now.pending ++ g.P.Source.left c.gather.new.source) e.whole e.last)
             c.loop-more.invariant.spare.sent (c.loop-more.invariant.spare.moments spared told quiet)
             (c.answer.ensures.spare_moments spared told (c.loop-more.invariant.spare.quiet spared told quiet));
         quiet = λ spared told quiet. a.spare_quiet spared told (c.loop-more.invariant.spare.quiet spared told quiet) (search rules);
@@ -231,10 +232,13 @@ returns-in_err-answer g c =
           some_served g.P.Source g.B.Bench c.args.schema.now.columns c.args.index.now.public c.args.batch c.loop-more.planner
           (g.K.Keeper.store c.args.keeper.now) (g.K.Keeper.store c.loop-more.keeper)
           c.args.source.now c.loop-more.source c.args.bench.now c.loop-more.bench c.loop-more.invariant.served t u in
-          let unanswered : c.answer.new.bench ≡ c.loop-more.bench → (g.K.Keeper.store c.answer.new.keeper).history ≡ (g.K.Keeper.store c.loop-more.keeper).history
-          → ServesSome base (g.K.Keeper.store c.args.keeper.now).history c.args.batch (counted_lines input) (g.K.Keeper.store c.answer.new.keeper).history before
+          let unanswered : c.answer.new.bench ≡ c.loop-more.bench → (g.K.Keeper.store c.answer.new.keeper).history
+          ≡ (g.K.Keeper.store c.loop-more.keeper).history
+          → ServesSome base (g.K.Keeper.store c.args.keeper.now).history c.args.batch (counted_lines input)
+          (g.K.Keeper.store c.answer.new.keeper).history before
           (g.B.Bench.sent c.answer.new.bench) =
-          λ same_bench same_history. subst (λ (h : List Answered). ServesSome base (g.K.Keeper.store c.args.keeper.now).history c.args.batch (counted_lines input) h
+          λ same_bench same_history. subst (λ (h : List Answered). ServesSome base (g.K.Keeper.store c.args.keeper.now).history c.args.batch
+          (counted_lines input) h
           before (g.B.Bench.sent c.answer.new.bench))
           (sym same_history)
           (subst (λ b. ServesSome base (g.K.Keeper.store c.args.keeper.now).history c.args.batch (counted_lines input)

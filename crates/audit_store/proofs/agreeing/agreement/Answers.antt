@@ -12,8 +12,10 @@ returns-then-ne-clause-differ c = λ a b here there same.
     let ours = c.index-first-place.result in
     let theirs = c.index-second-place.result in
     let other : ours ≢ theirs = search rules in
-    let is : a ≡ ours = same_Some a ours (sym here ∙ slice_get_read first (length first) place ours refl (slice_get_within first place a here) c.index-first-place.is) in
-    let are : b ≡ theirs = same_Some b theirs (sym there ∙ slice_get_read second (length second) place theirs refl (slice_get_within second place b there) c.index-second-place.is) in
+    let is : a ≡ ours = same_Some a ours (sym here ∙ slice_get_read first (length first) place ours refl
+    (slice_get_within first place a here) c.index-first-place.is) in
+    let are : b ≡ theirs = same_Some b theirs
+    (sym there ∙ slice_get_read second (length second) place theirs refl (slice_get_within second place b there) c.index-second-place.is) in
     other (sym is ∙ same ∙ are)
 
 pub loop-place-preserved : goal.loop-place-preserved

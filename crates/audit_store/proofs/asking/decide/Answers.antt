@@ -19,7 +19,8 @@ returns-in_ok-take-in-Answer-clause-legal c =
     let in_range : FitsSigned w64 c.in-Answer.answer = search rules in
     let r : Answered = record { column = asked.column; rows = asked.rows; answer = to_z w64 (of_z w64 c.in-Answer.answer) } in
     let outcome = subst (λ (o : Outcome). IsOutcome table history asked o) c.in-Answer.is c.in_ok-answer.ensures.outcome in
-    let grown = ap (λ (a : Audited). a.history) c.in_ok-take-in-Answer.ensures.ok ∙ ap (λ (s : Sealed SecretView). s.core.history ++ r ∷ []) c.in_ok-answer.ensures.same in
+    let grown = ap (λ (a : Audited). a.history) c.in_ok-take-in-Answer.ensures.ok
+    ∙ ap (λ (s : Sealed SecretView). s.core.history ++ r ∷ []) c.in_ok-answer.ensures.same in
     let more = c.released_records.ensures table history r c.requires.legal outcome.0 (record {
       fits = c.requires.fits;
       true_answer = to_z-of_z in_range ∙ outcome.2;
@@ -29,7 +30,8 @@ returns-in_ok-take-in-Answer-clause-legal c =
 
 pub returns-in-Full-clause-outcome : goal.returns-in-Full-clause-outcome
 returns-in-Full-clause-outcome c =
-    subst (λ (o : Outcome). IsOutcome (secret_table c.args.sealed.now.secret c.args.sealed.now.core.setting.protected) c.args.sealed.now.core.history c.args.asked.now o) c.in-Full.is c.in_ok-answer.ensures.outcome
+    subst (λ (o : Outcome). IsOutcome (secret_table c.args.sealed.now.secret c.args.sealed.now.core.setting.protected) c.args.sealed.now.core.history
+    c.args.asked.now o) c.in-Full.is c.in_ok-answer.ensures.outcome
 
 pub returns-in-Full-clause-history : goal.returns-in-Full-clause-history
 returns-in-Full-clause-history c = ap (λ (s : Sealed SecretView). s.core.history) c.in_ok-answer.ensures.same ∙ sym (append-nil c.args.sealed.now.core.history)
@@ -38,10 +40,12 @@ returns-in-Full-clause-history c = ap (λ (s : Sealed SecretView). s.core.histor
 
 pub returns-in-Denied-clause-outcome : goal.returns-in-Denied-clause-outcome
 returns-in-Denied-clause-outcome c = subst (λ (o : Outcome). IsOutcome
-    (secret_table c.args.sealed.now.secret c.args.sealed.now.core.setting.protected) c.args.sealed.now.core.history c.args.asked.now o) c.in-Denied.is c.in_ok-answer.ensures.outcome
+    (secret_table c.args.sealed.now.secret c.args.sealed.now.core.setting.protected) c.args.sealed.now.core.history c.args.asked.now o) c.in-Denied.is
+    c.in_ok-answer.ensures.outcome
 
 pub returns-in-Denied-clause-history : goal.returns-in-Denied-clause-history
-returns-in-Denied-clause-history c = ap (λ (s : Sealed SecretView). s.core.history) c.in_ok-answer.ensures.same ∙ sym (append-nil c.args.sealed.now.core.history)
+returns-in-Denied-clause-history c = ap (λ (s : Sealed SecretView). s.core.history) c.in_ok-answer.ensures.same
+    ∙ sym (append-nil c.args.sealed.now.core.history)
 
 pub returns-in-Denied-clause-legal : goal.returns-in-Denied-clause-legal
 returns-in-Denied-clause-legal c = subst (λ (h : List Answered). IsLegal (secret_table c.args.sealed.now.secret c.args.sealed.now.core.setting.protected) h)

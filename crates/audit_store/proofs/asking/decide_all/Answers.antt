@@ -63,14 +63,16 @@ pub returns-clause-outcomes : goal.returns-clause-outcomes
 returns-clause-outcomes c =
     let all : take c.loop-question.question-index c.args.asked.now ≡ c.args.asked.now =
     take_all c.loop-question.question-index c.args.asked.now (omega (arith, c.loop-question-test.false)) in
-    subst (λ (questions : List Asked). AreOutcomes (secret_table c.args.sealed.now.secret c.args.sealed.now.core.setting.protected) c.args.sealed.now.core.history questions c.loop-question.outcomes.items) all
+    subst (λ (questions : List Asked). AreOutcomes (secret_table c.args.sealed.now.secret c.args.sealed.now.core.setting.protected)
+    c.args.sealed.now.core.history questions c.loop-question.outcomes.items) all
     c.loop-question.invariant.so_far
 
 pub returns-clause-history : goal.returns-clause-history
 returns-clause-history c =
     let all : take c.loop-question.question-index c.args.asked.now ≡ c.args.asked.now =
     take_all c.loop-question.question-index c.args.asked.now (omega (arith, c.loop-question-test.false)) in
-    c.loop-question.invariant.history ∙ ap (λ (questions : List Asked). c.args.sealed.now.core.history ++ records_made questions c.loop-question.outcomes.items) all
+    c.loop-question.invariant.history ∙ ap (λ (questions : List Asked). c.args.sealed.now.core.history ++ records_made questions c.loop-question.outcomes.items)
+    all
 
 pub returns-clause-begins : goal.returns-clause-begins
 returns-clause-begins c =

@@ -10,7 +10,8 @@ abbrev pub invariant-loop-question : goal.invariant-loop-question
 invariant-loop-question l = record {
   same_setting : l.sealed.core.setting ≡ l.fn.sealed.core.setting;
   same_secret : l.sealed.secret ≡ l.fn.sealed.secret;
-  so_far : AreOutcomes (secret_table l.fn.sealed.secret l.fn.sealed.core.setting.protected) l.fn.sealed.core.history (take l.question-index l.asked) l.outcomes.items;
+  so_far : AreOutcomes (secret_table l.fn.sealed.secret l.fn.sealed.core.setting.protected) l.fn.sealed.core.history
+      (take l.question-index l.asked) l.outcomes.items;
   history : l.sealed.core.history ≡ l.fn.sealed.core.history ++ records_made (take l.question-index l.asked) l.outcomes.items;
   legal : IsLegal (secret_table l.fn.sealed.secret l.fn.sealed.core.setting.protected) l.sealed.core.history;
   many : vec_len l.outcomes ≡ l.question-index;

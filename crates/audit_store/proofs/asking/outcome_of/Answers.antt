@@ -39,7 +39,8 @@ returns-in-Ok-Released-clause-outcome c =
     let sealed = c.args.sealed.now in
     let column = c.args.asked.now.column in
     let rows = c.args.asked.now.rows.list in
-    let possible = legal_is_possible sealed.secret sealed.core.setting.protected sealed.core.history c.true_answers.ensures.legal c.shape.ensures.is c.requires.legal in
+    let possible = legal_is_possible sealed.secret sealed.core.setting.protected sealed.core.history c.true_answers.ensures.legal c.shape.ensures.is
+    c.requires.legal in
     let few : length sealed.core.history < 65536 =
     omega (arith, ap length c.history.ensures.is, ap (λ (a : Audited). length a.history) c.core.ensures, c.if-history-ge-MOST_RECORDS.false) in
     let in_range : FitsSigned w64 c.truth.result = search rules in
@@ -52,7 +53,8 @@ returns-in-Ok-Released-clause-outcome c =
 pub returns-in-Ok-DeniedUnsafe-clause-outcome : goal.returns-in-Ok-DeniedUnsafe-clause-outcome
 returns-in-Ok-DeniedUnsafe-clause-outcome c =
     let sealed = c.args.sealed.now in
-    let possible = legal_is_possible sealed.secret sealed.core.setting.protected sealed.core.history c.true_answers.ensures.legal c.shape.ensures.is c.requires.legal in
+    let possible = legal_is_possible sealed.secret sealed.core.setting.protected sealed.core.history c.true_answers.ensures.legal c.shape.ensures.is
+    c.requires.legal in
     let few : length sealed.core.history < 65536 =
     omega (arith, ap length c.history.ensures.is, ap (λ (a : Audited). length a.history) c.core.ensures, c.if-history-ge-MOST_RECORDS.false) in (
       few,
@@ -64,7 +66,8 @@ returns-in-Ok-DeniedUnsafe-clause-outcome c =
 pub returns-in-Ok-DeniedWide-clause-outcome : goal.returns-in-Ok-DeniedWide-clause-outcome
 returns-in-Ok-DeniedWide-clause-outcome c =
     let sealed = c.args.sealed.now in
-    let possible = legal_is_possible sealed.secret sealed.core.setting.protected sealed.core.history c.true_answers.ensures.legal c.shape.ensures.is c.requires.legal in
+    let possible = legal_is_possible sealed.secret sealed.core.setting.protected sealed.core.history c.true_answers.ensures.legal c.shape.ensures.is
+    c.requires.legal in
     let few : length sealed.core.history < 65536 =
     omega (arith, ap length c.history.ensures.is, ap (λ (a : Audited). length a.history) c.core.ensures, c.if-history-ge-MOST_RECORDS.false) in (
       few,

@@ -5,7 +5,8 @@ use Rattle.audit_store.proofs.bringing.bring_up.Goals as goal
 
 pub loop-at-init : goal.loop-at-init
 loop-at-init g c =
-    none_appended g.B.Bench c.args.missing.now c.args.bench.now c.args.journal.now (λ image sent was. g.met.B.Bench.only_now c.args.bench.now image sent was) c.requires.usable
+    none_appended g.B.Bench c.args.missing.now c.args.bench.now c.args.journal.now
+    (λ image sent was. g.met.B.Bench.only_now c.args.bench.now image sent was) c.requires.usable
 
 pub returns-in_err-keep-clause-any_moment : goal.returns-in_err-keep-clause-any_moment
 returns-in_err-keep-clause-any_moment g c =

@@ -13,7 +13,8 @@ use Rattle.audit_store.proofs.starting.replay.Goals as goal
 pub is_released-requires-clause-possible : goal.is_released-requires-clause-possible
 is_released-requires-clause-possible c =
     let i = c.loop-place.invariant in
-    let possible = legal_is_possible c.args.secret.now c.args.protected (take c.loop-place.place c.args.list.now) c.true_answers.ensures.legal c.shape.ensures.is i.legal in
+    let possible = legal_is_possible c.args.secret.now c.args.protected (take c.loop-place.place c.args.list.now) c.true_answers.ensures.legal
+    c.shape.ensures.is i.legal in
     rw (i.same_setting, i.so_far) possible
 
 abbrev said : Bool → Result Bool NoMemory
@@ -22,7 +23,8 @@ said b = Ok b
 pub illegal-requires-clause-possible : goal.illegal-requires-clause-possible
 illegal-requires-clause-possible c =
     let i = c.loop-place.invariant in
-    let possible = legal_is_possible c.args.secret.now c.args.protected (take c.loop-place.place c.args.list.now) c.true_answers.ensures.legal c.shape.ensures.is i.legal in
+    let possible = legal_is_possible c.args.secret.now c.args.protected (take c.loop-place.place c.args.list.now) c.true_answers.ensures.legal
+    c.shape.ensures.is i.legal in
     rw (c.is_released.ensures.same, i.same_setting, i.so_far) possible
 
 pub illegal-requires-clause-denied : goal.illegal-requires-clause-denied
@@ -39,7 +41,8 @@ returns-in-Ok-false-clause-err c =
     ⊥ = rw (i.same_setting, i.so_far) at (c.in-Ok-false.ensures.no (ap said c.in-Ok-false.field-0-test)) in
     let core : c.is_released.new.core ≡ record { setting = table.setting; history = take c.loop-place.place list } = search rules in
     cause_of_illegal table list c.loop-place.place r c.requires.are_true
-    (slice_get_read list _ c.loop-place.place r refl c.loop-place-test.true c.index-list-place.is) denied (released_before table list c.loop-place.place i.legal)
+    (slice_get_read list _ c.loop-place.place r refl c.loop-place-test.true c.index-list-place.is) denied
+    (released_before table list c.loop-place.place i.legal)
     c.illegal.result (subst (λ core. TellsIllegal core c.loop-place.place r c.illegal.result) core c.illegal.ensures)
 
 pub loop-place-preserved : goal.loop-place-preserved

@@ -24,7 +24,8 @@ up_to_some (Err fault) last UpTo is = tt
 pub answer_over-requires : goal.answer_over-requires
 answer_over-requires c = record {
   usable = c.in-Ok.ensures.store.2;
-  entries = c.requires.none ∙ sym (c.new-2.ensures ∙ ap (λ (groups : List Protected). against_outsiders groups [] most_width most_rows) c.new.ensures.items) ∙ sym c.in-Ok.ensures.store.1;
+  entries = c.requires.none ∙ sym (c.new-2.ensures ∙ ap (λ (groups : List Protected). against_outsiders groups [] most_width most_rows) c.new.ensures.items)
+      ∙ sym c.in-Ok.ensures.store.1;
   fits = c.requires.fits;
   shape = ap (λ (secret : SecretView). secret.shape) c.in-Ok.ensures.store.0 ∙ c.requires.shape;
   stands = subst (λ (file : List ℕ). IsAsLeft file c.in-Ok.store) (sym c.start.ensures.reads.file) (c.in-Ok.ensures.stands (tt {0}));
@@ -43,12 +44,16 @@ returns-in-Ok c =
     let after = sent_of c.answer_over.new.bench in
     let lines = counted_lines c.args.lines.items in
     up_to_some result last
-    (λ (last : List Answered). Serves (base_of c.args.schema.now.columns c.args.index.now.public c.args.index.now.protected c.args.secret) [] lines last before after)
-    (subst (λ (history : List Answered). OnOk result (Serves (base_of c.args.schema.now.columns c.args.index.now.public c.args.index.now.protected c.args.secret) history lines last before after))
+    (λ (last : List Answered). Serves (base_of c.args.schema.now.columns c.args.index.now.public c.args.index.now.protected c.args.secret) [] lines last before
+    after)
+    (subst (λ (history : List Answered). OnOk result
+    (Serves (base_of c.args.schema.now.columns c.args.index.now.public c.args.index.now.protected c.args.secret) history lines last before after))
     past
-    (subst (λ (secret : SecretView). OnOk result (Serves (base_of c.args.schema.now.columns c.args.index.now.public c.args.index.now.protected secret) store.history lines last before after))
+    (subst (λ (secret : SecretView). OnOk result
+    (Serves (base_of c.args.schema.now.columns c.args.index.now.public c.args.index.now.protected secret) store.history lines last before after))
     c.in-Ok.ensures.store.0
-    (subst (λ (before : List ℕ). OnOk result (Serves (base_of c.args.schema.now.columns c.args.index.now.public c.args.index.now.protected store.secret) store.history lines last before after))
+    (subst (λ (before : List ℕ). OnOk result
+    (Serves (base_of c.args.schema.now.columns c.args.index.now.public c.args.index.now.protected store.secret) store.history lines last before after))
     c.start.ensures.reads.sent c.answer_over.ensures)))
 
 -- a journal that stands for a legal history is refused only if a call failed, or memory ran out

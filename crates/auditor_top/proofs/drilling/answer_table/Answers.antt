@@ -24,14 +24,16 @@ unreachable-requires c =
     (c.in-Err.ensures.bad c.in-Bad.part (ap (λ f. Err f) c.in-Bad.is)))
 
 -- no group guards each row alone
-none_guarded : (columns : List Column) (public : PublicView) (guards : Guards) (protected : Protection) → guards ≡ no_guards → Protects columns public guards protected →
+none_guarded : (columns : List Column) (public : PublicView) (guards : Guards) (protected : Protection) → guards ≡ no_guards →
+    Protects columns public guards protected →
     protected ≡ against_outsiders [] [] most_width most_rows
 none_guarded columns public guards protected none protects =
     let alone = subst (λ (g : Guards). Protects columns public g protected) none protects in
     alone.1 ∙ ap (λ (entries : List Protected). against_outsiders entries [] most_width most_rows) alone.0
 
 -- and each row may be asked of
-none_left : (columns : List Column) (public : PublicView) (guards : Guards) (protected : Protection) → guards ≡ no_guards → Protects columns public guards protected →
+none_left : (columns : List Column) (public : PublicView) (guards : Guards) (protected : Protection) → guards ≡ no_guards →
+    Protects columns public guards protected →
     public ≡ whole public
 none_left columns public guards protected none protects =
     let alone = subst (λ (g : Guards). Protects columns public g protected) none protects in

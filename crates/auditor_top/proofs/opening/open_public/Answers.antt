@@ -26,7 +26,8 @@ returns-in-Err-public_from g c =
       schema_is = λ told. tt;
       public_is = λ told. tt;
       fits = tt;
-      refused = table_unopened g.P.Source public_of c.in-Err-public_from.fault _ _ _ _ _ c.in-Ok.ensures.means (c.in-Ok.ensures.fault.steady (not_both _ _)) e.means e.own e.fault;
+      refused = table_unopened g.P.Source public_of c.in-Err-public_from.fault _ _ _ _ _ c.in-Ok.ensures.means
+          (c.in-Ok.ensures.fault.steady (not_both _ _)) e.means e.own e.fault;
       steady = tt;
       later = (c.in-Ok.ensures.fault.later, e.fault.later);
     }

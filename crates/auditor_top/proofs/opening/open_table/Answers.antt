@@ -28,7 +28,8 @@ returns-in-Err-table_from g c =
       table_is = λ told. tt;
       fits = tt;
       shape = tt;
-      refused = table_unopened g.P.Source table_of c.in-Err-table_from.fault _ _ _ _ _ c.in-Ok.ensures.means (c.in-Ok.ensures.fault.steady (not_both _ _)) e.means e.own e.fault;
+      refused = table_unopened g.P.Source table_of c.in-Err-table_from.fault _ _ _ _ _ c.in-Ok.ensures.means
+          (c.in-Ok.ensures.fault.steady (not_both _ _)) e.means e.own e.fault;
       steady = tt;
       later = (c.in-Ok.ensures.fault.later, e.fault.later);
     }

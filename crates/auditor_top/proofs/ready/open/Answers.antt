@@ -56,7 +56,8 @@ returns-in_err-schema-in-Simulate-clause-refusal g c =
     let table = g.P.Source.left c.args.table.now in
     of_status (λ (s : Status). Refuses g.P.Source g.B.Bench c.args.command s c.args.schema.now c.open_public.new.schema c.args.table.now c.open_public.new.table
     c.args.bench.now c.args.bench.now) c.from_residual-in_err-schema-in-Simulate.result _ c.from_residual-in_err-schema-in-Simulate.ensures
-    (files_refused g.P.Source g.B.Bench c.args.command c.args.schema.now c.open_public.new.schema c.args.table.now c.open_public.new.table c.args.bench.now fault
+    (files_refused g.P.Source g.B.Bench c.args.command c.args.schema.now c.open_public.new.schema c.args.table.now c.open_public.new.table c.args.bench.now
+    fault
     (ap reads_files c.in-Simulate.is) public_of e (λ ptold reads. lacks reads_secrets c.in-Simulate.is refl reads) (λ ptold is. e.table ptold)
     (λ ptold given. gives_up_public fault _ _ _ _ (subst (λ (k : Command). IsGiven k schema table (g.B.Bench.file c.args.bench.now)) c.in-Simulate.is given).2
     (e.schema ptold) (e.table ptold)))
@@ -70,12 +71,15 @@ returns-in_err-index-in-Simulate-clause-refusal g c =
     let table = g.P.Source.left c.args.table.now in
     let bad = λ (found : GuardPart) (is : fault ≡ index.Bad found). c.in_err-index-in-Simulate.ensures.bad found (ap index_refused is) in
     of_status (λ (s : Status). Refuses g.P.Source g.B.Bench c.args.command s c.args.schema.now c.open_public.new.schema c.args.table.now
-    c.open_public.new.table c.args.bench.now c.args.bench.now) c.from_residual-in_err-index-in-Simulate.result _ c.from_residual-in_err-index-in-Simulate.ensures
+    c.open_public.new.table c.args.bench.now c.args.bench.now) c.from_residual-in_err-index-in-Simulate.result _
+    c.from_residual-in_err-index-in-Simulate.ensures
     (groups_refused g.P.Source g.B.Bench c.args.command c.args.schema.now c.open_public.new.schema c.args.table.now c.open_public.new.table c.args.bench.now
     (ap reads_groups c.in-Simulate.is) opened.schema e.schema_is e.steady.0 e.steady.1 fault bad
     (λ ptold reads. lacks reads_secrets c.in-Simulate.is refl reads)
-    (λ ptold simulates other is. table_is_ok (λ (cs : List Column). public_of cs table) _ opened.schema other opened.public (e.schema_is ptold) (e.public_is ptold) is)
-    (λ ptold told given. public_gives_up c.groups_of_a_schema.ensures.entries fault schema table opened.schema opened.public (e.schema_is ptold) (e.public_is ptold) bad
+    (λ ptold simulates other is. table_is_ok (λ (cs : List Column). public_of cs table) _ opened.schema other opened.public (e.schema_is ptold)
+    (e.public_is ptold) is)
+    (λ ptold told given. public_gives_up c.groups_of_a_schema.ensures.entries fault schema table opened.schema opened.public (e.schema_is ptold)
+    (e.public_is ptold) bad
     (subst (λ (k : Command). IsGiven k schema table (g.B.Bench.file c.args.bench.now)) c.in-Simulate.is given)))
 
 -- ---- over a store, or what a store is made of

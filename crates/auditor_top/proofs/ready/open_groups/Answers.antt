@@ -82,8 +82,10 @@ returns g c =
             };
             entries = a.entries;
           }));
-      fit = subst (λ (s : Shape). IsPlainFor s made.protected) (sym (shape ∙ ap (λ (p : PublicView). shape_of opened.schema.columns p.rows) (sym a.same.1))) a.fit;
-      fits = subst (λ (p : PublicView). FitsSchema made.schema.columns p) (sym a.same.1) (subst (λ (v : SchemaView). FitsSchema v.columns opened.table.public) (sym a.same.0) e.fits);
+      fit = subst (λ (s : Shape). IsPlainFor s made.protected) (sym (shape ∙ ap (λ (p : PublicView). shape_of opened.schema.columns p.rows) (sym a.same.1)))
+          a.fit;
+      fits = subst (λ (p : PublicView). FitsSchema made.schema.columns p) (sym a.same.1)
+          (subst (λ (v : SchemaView). FitsSchema v.columns opened.table.public) (sym a.same.0) e.fits);
       shape = shape ∙ ap (λ (v : SchemaView). shape_of v.columns opened.table.public.rows) (sym a.same.0)
           ∙ ap (λ (p : PublicView). shape_of made.schema.columns p.rows) (sym a.same.1);
       entries = a.same.3;

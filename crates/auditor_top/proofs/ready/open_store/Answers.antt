@@ -26,7 +26,8 @@ returns-in_err-opened-clause-refusal g c =
     of_status (λ (s : Status). Refuses g.P.Source g.B.Bench asked s c.args.schema.now c.open_table.new.schema c.args.table.now c.open_table.new.table
     c.args.bench.now c.args.bench.now) c.from_residual.result _ c.from_residual.ensures
     (files_refused g.P.Source g.B.Bench asked c.args.schema.now c.open_table.new.schema c.args.table.now c.open_table.new.table c.args.bench.now fault
-    (opens_files asked (opens_too asked c.requires)) table_of e (λ ptold reads. e.table ptold) (λ ptold simulates. not_public asked (opens_too asked c.requires) simulates)
+    (opens_files asked (opens_too asked c.requires)) table_of e (λ ptold reads. e.table ptold)
+    (λ ptold simulates. not_public asked (opens_too asked c.requires) simulates)
     (λ ptold given. gives_up_over fault _ _ _ (given_history asked _ _ _ c.requires given).2.files.files (e.schema ptold) (e.table ptold)))
 
 -- ---- the groups weren't made ready, or the journal wasn't opened
@@ -64,8 +65,14 @@ returns g c =
             };
             entries = a.entries;
           }));
-      opened = record { is = a.store.1; usable = a.store.0; left = λ told. subst (λ (f : List ℕ). IsAsLeft f s.store) (sym c.start.ensures.reads.file) (a.stands told) };
-      fits = subst (λ (p : PublicView). FitsSchema s.schema.columns p) (sym a.same.1) (subst (λ (v : SchemaView). FitsSchema v.columns opened.table.public) (sym a.same.0) e.fits);
+      opened = record {
+        is = a.store.1;
+        usable = a.store.0;
+        left = λ told. subst (λ (f : List ℕ). IsAsLeft f s.store) (sym c.start.ensures.reads.file)
+            (a.stands told);
+      };
+      fits = subst (λ (p : PublicView). FitsSchema s.schema.columns p) (sym a.same.1)
+          (subst (λ (v : SchemaView). FitsSchema v.columns opened.table.public) (sym a.same.0) e.fits);
       shape = ap (λ (v : SecretView). v.shape) a.same.2 ∙ e.shape ∙ ap (λ (v : SchemaView). shape_of v.columns opened.table.public.rows) (sym a.same.0)
           ∙ ap (λ (p : PublicView). shape_of s.schema.columns p.rows) (sym a.same.1);
       entries = a.same.3;

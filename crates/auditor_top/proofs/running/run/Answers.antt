@@ -122,7 +122,8 @@ returns-in-Err-NoMemory g c =
       later = never_fall _;
       schema_within = λ ptold is. absurd (no_memory_says.no_schema is);
       table_within = λ ptold is. absurd (no_memory_says.no_table is);
-      lives = λ ptold told command asked itold quiet. goes_on g.P.Source g.I.Source g.B.Bench NoMemory at at c.lives.ensures.longer c.one_reading.ensures command
+      lives = λ ptold told command asked itold quiet. goes_on g.P.Source g.I.Source g.B.Bench NoMemory at at c.lives.ensures.longer c.one_reading.ensures
+          command
           (λ batch twin is. c.read_words.ensures.batch batch twin (asked ∙ ap (λ (k : Command). Some k) is)) (all command asked) ptold told itold quiet;
       does = all;
       nothing_began = λ ptold told command asked opens quiet none. reads.untouched quiet;
@@ -154,7 +155,8 @@ returns-in-Err g c =
     let all = refused g.P.Source g.I.Source g.B.Bench old.schema new.schema old.table new.table old.input old.bench new.bench old.spare status says.early reads
     faults words
     (λ command asked ptold told given. subst (λ (k : Command). (opens_store k ≡ true → g.B.Bench.told)
-    → IsGiven k (g.P.Source.left old.schema) (g.P.Source.left old.table) (g.B.Bench.file old.bench) → GivesUp status) (one_command words _ command is_named asked)
+    → IsGiven k (g.P.Source.left old.schema) (g.P.Source.left old.table) (g.B.Bench.file old.bench) → GivesUp status)
+    (one_command words _ command is_named asked)
     (says.gives_up ptold) told given)
     (λ command asked none. c.open.ensures.unopened (ap opens_store (one_command words _ command is_named asked) ∙ none)) c.stops_are_legal.ensures
     c.lives.ensures.longer c.one_reading.ensures (λ batch twin is. c.read_words.ensures.batch batch twin is)
@@ -183,7 +185,8 @@ returns-in-Err g c =
       later = record { schema = c.open.ensures.later.0; table = c.open.ensures.later.1; input = stays _; bench = c.open.ensures.later.2; spare = stays _ };
       schema_within = λ ptold is. says.schema_within ptold is;
       table_within = λ ptold is. says.table_within ptold is;
-      lives = λ ptold told command asked itold quiet. goes_on g.P.Source g.I.Source g.B.Bench status old new c.lives.ensures.longer c.one_reading.ensures command
+      lives = λ ptold told command asked itold quiet. goes_on g.P.Source g.I.Source g.B.Bench status old new c.lives.ensures.longer c.one_reading.ensures
+          command
           (λ batch twin is. c.read_words.ensures.batch batch twin (asked ∙ ap (λ (k : Command). Some k) is)) (all command asked) ptold told itold quiet;
       does = all;
       nothing_began = λ ptold told command asked opens quiet none. reads.untouched quiet;
@@ -260,8 +263,10 @@ explain-requires g c =
 
 pub audit-requires : goal.audit-requires
 audit-requires g c =
-    let ready = subst (IsReady g.B.Bench c.open.new.bench) c.in-Ok-Audit.field-0-is c.in-Ok-Audit.ensures.ready in record { usable = ready.0.usable; shape = ready.1 }
+    let ready = subst (IsReady g.B.Bench c.open.new.bench) c.in-Ok-Audit.field-0-is c.in-Ok-Audit.ensures.ready in
+    record { usable = ready.0.usable; shape = ready.1 }
 
 pub simulate-requires : goal.simulate-requires
 simulate-requires g c =
-    let ready = subst (IsReady g.B.Bench c.open.new.bench) c.in-Ok-Simulate.field-0-is c.in-Ok-Simulate.ensures.ready in record { fits = ready.0; protected = ready.1 }
+    let ready = subst (IsReady g.B.Bench c.open.new.bench) c.in-Ok-Simulate.field-0-is c.in-Ok-Simulate.ensures.ready in
+    record { fits = ready.0; protected = ready.1 }

@@ -33,7 +33,8 @@ returns-in-Err-start-clause-cause g c = λ fault is.
       made.same.1,
       c.in-Ok.ensures.entries,
       λ told. (
-        subst (λ (s : SecretView). StartCause found (g.B.Bench.file c.args.bench.now) (secret_table s entries)) made.same.2 (c.in-Err-start.ensures.cause found told refl),
+        subst (λ (s : SecretView). StartCause found (g.B.Bench.file c.args.bench.now) (secret_table s entries)) made.same.2
+            (c.in-Err-start.ensures.cause found told refl),
         λ history stands legal. c.in-Err-start.ensures.opens history told
             (subst (λ (s : SecretView). StandsFor (g.B.Bench.file c.args.bench.now) s.shape history) (sym made.same.2) stands)
             (subst (λ (s : SecretView). IsLegal (secret_table s entries) history) (sym made.same.2) legal),

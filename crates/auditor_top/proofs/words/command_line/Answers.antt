@@ -16,7 +16,8 @@ returns c =
     ∙ ap (λ (r : Rule). record r { long = Some (codes "batch") }) c.new-4.ensures.rule in
     let twin : rule_of c.action.result ≡ twin_rule = ap rule_of (c.action.ensures ∙ ap (λ (a : Arg). record a { action = Some SetTrue }) c.long-2.ensures)
     ∙ ap (λ (r : Rule). record r { long = Some (codes "twin"); action = Some SetTrue }) c.new-5.ensures.rule in
-    let twin_local : c.action.result.global ≡ false = ap (λ (a : Arg). a.global) (c.action.ensures ∙ ap (λ (a : Arg). record a { action = Some SetTrue }) c.long-2.ensures)
+    let twin_local : c.action.result.global ≡ false = ap (λ (a : Arg). a.global)
+    (c.action.ensures ∙ ap (λ (a : Arg). record a { action = Some SetTrue }) c.long-2.ensures)
     ∙ c.new-5.ensures.optional.1 in
     let command_local : c.required.result.global ≡ false = ap (λ (a : Arg). a.global) c.required.ensures ∙ c.new-2.ensures.optional.1 in
     let number_local : c.new-3.result.global ≡ false = c.new-3.ensures.optional.1 in
@@ -28,4 +29,5 @@ returns c =
     let three = one_more c.in_ok-arg-2.field-0 c.in_ok-arg-3.field-0 c.long.result
     (with_rule (with_rule (without_name (new_app (codes "auditor"))) command_rule) number_rule) batch_rule c.in_ok-arg-3.ensures batch_local two batch in
     last_added c.in_ok-arg-3.field-0 c.action.result c.arg-4.result
-    (with_rule (with_rule (with_rule (without_name (new_app (codes "auditor"))) command_rule) number_rule) batch_rule) twin_rule c.arg-4.ensures twin_local three twin
+    (with_rule (with_rule (with_rule (without_name (new_app (codes "auditor"))) command_rule) number_rule) batch_rule) twin_rule c.arg-4.ensures twin_local
+    three twin

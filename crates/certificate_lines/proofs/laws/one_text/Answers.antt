@@ -7,7 +7,8 @@ returns-clause-due c = λ columns index history can asked a b first second.
 
 pub returns-clause-one : goal.returns-clause-one
 returns-clause-one c = λ columns index history can asked lines others first second.
-    texts.same_lines c.one_proof.ensures c.one_plan.ensures c.asked_questions.ensures c.one_decision.ensures columns index history can asked lines others first second
+    texts.same_lines c.one_proof.ensures c.one_plan.ensures c.asked_questions.ensures c.one_decision.ensures columns index history can asked lines others first
+    second
 
 pub returns-clause-first : goal.returns-clause-first
 returns-clause-first c = texts.first_lines

@@ -24,6 +24,9 @@ returns c =
     let history = c.args.history.now in
     let places = c.in_ok-places.places.items in record {
       kept = c.in_ok-places.ensures.kept;
-      marked = subst (λ (some : List ℕ). IfSome c.in_ok-form.form (IsMarked n (length some + 1) (map (rows_at history) some))) c.deref.ensures.value c.in_ok-form.ensures.some;
-      wide = subst (λ (some : List ℕ). IfNone c.in_ok-form.form (HasWideFront (n + (length some + 1)) (marked_rows n (length some + 1) 0 (map (rows_at history) some)))) c.deref.ensures.value c.in_ok-form.ensures.none;
+      marked = subst (λ (some : List ℕ). IfSome c.in_ok-form.form (IsMarked n (length some + 1) (map (rows_at history) some))) c.deref.ensures.value
+          c.in_ok-form.ensures.some;
+      wide = subst (λ (some : List ℕ). IfNone c.in_ok-form.form
+          (HasWideFront (n + (length some + 1)) (marked_rows n (length some + 1) 0 (map (rows_at history) some)))) c.deref.ensures.value
+          c.in_ok-form.ensures.none;
     }

@@ -26,4 +26,5 @@ returns-in-Some-clause-least c =
 
 pub returns-clause-none : goal.returns-clause-none
 returns-clause-none c =
-    none_found c.args.bounds.now.n c.args.bounds.now.answers c.args.rows.now.list c.args.candidates.now c.requires.candidates (λ k l. c.loop-answer.invariant k (omega arith))
+    none_found c.args.bounds.now.n c.args.bounds.now.answers c.args.rows.now.list c.args.candidates.now c.requires.candidates
+    (λ k l. c.loop-answer.invariant k (omega arith))

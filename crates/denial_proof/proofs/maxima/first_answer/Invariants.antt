@@ -5,4 +5,5 @@ use Rattle.max_audit.specs.Laws.{LeavesLoneRow}
 use Rattle.denial_proof.proofs.maxima.first_answer.Given as goal
 
 abbrev pub invariant-loop-answer : goal.invariant-loop-answer
-invariant-loop-answer l = (k : ℕ) → k < l.answer-index → ¬ (LeavesLoneRow (known_max l.bounds.n l.bounds.answers) l.rows.list (slice_index_or l.candidates k (pos 0)))
+invariant-loop-answer l = (k : ℕ) → k < l.answer-index → ¬
+    (LeavesLoneRow (known_max l.bounds.n l.bounds.answers) l.rows.list (slice_index_or l.candidates k (pos 0)))

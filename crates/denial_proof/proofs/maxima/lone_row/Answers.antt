@@ -11,7 +11,8 @@ pub returns-then-not-may_leave_one-clause-none : goal.returns-then-not-may_leave
 returns-then-not-may_leave_one-clause-none c = λ leaves.
     let told = rw (to_z-of_z w128 c.args.answer c.ranges.answer) at c.may_leave_one.ensures in
     true≢false
-    (sym (told.1 (may_leave_one c.args.bounds.now.n c.args.bounds.now.answers c.args.rows.now.list c.args.outlook.now c.args.answer c.requires.near c.requires.outlook leaves))
+    (sym (told.1 (may_leave_one c.args.bounds.now.n c.args.bounds.now.answers c.args.rows.now.list c.args.outlook.now c.args.answer c.requires.near
+    c.requires.outlook leaves))
     ∙ c.if-not-may_leave_one.true)
 
 pub returns-then-trial-clause-some : goal.returns-then-trial-clause-some

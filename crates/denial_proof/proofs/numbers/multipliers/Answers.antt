@@ -14,19 +14,22 @@ pub take_rows-requires-clause-divides : goal.take_rows-requires-clause-divides
 take_rows-requires-clause-divides c =
     let common = c.common-common.ensures in
     let fits : SFits w128 c.common-common.result = search rules in
-    let whole : unsigned_abs (to_z w128 (of_z w128 c.common-common.result)) ≡ common.0 = ap unsigned_abs (to_z-of_z w128 c.common-common.result fits ∙ common.1) in
+    let whole : unsigned_abs (to_z w128 (of_z w128 c.common-common.result)) ≡ common.0 =
+    ap unsigned_abs (to_z-of_z w128 c.common-common.result fits ∙ common.1) in
     subst (λ (m : ℕ). AllByRecursion (λ row. unsigned_abs (pivot_entry row) ∣ m) c.args.form.now.rows) (sym whole)
     (all-unmap (λ row. unsigned_abs (pivot_entry row)) (λ x. x ∣ common.0) c.args.form.now.rows common.2.multiple)
 
 pub read_marks-requires-clause-one_each : goal.read_marks-requires-clause-one_each
 read_marks-requires-clause-one_each c =
     ap length c.deref.ensures.value
-    ∙ length_taken (to_z w128 (of_z w128 c.common-common.result)) (number_at (set_row c.args.target.now.n c.args.target.now.list)) c.args.form.now.rows c.in_ok-taken.taken.items c.in_ok-taken.ensures.taken
+    ∙ length_taken (to_z w128 (of_z w128 c.common-common.result)) (number_at (set_row c.args.target.now.n c.args.target.now.list)) c.args.form.now.rows
+    c.in_ok-taken.taken.items c.in_ok-taken.ensures.taken
 
 pub divide-requires-clause-small : goal.divide-requires-clause-small
 divide-requires-clause-small c =
     subst (AllByRecursion (λ (x : ℤ). unsigned_abs x ≤ 2 ^ 126)) (sym c.deref_mut.ensures.value)
-    (all-weaker (λ (x : ℤ). unsigned_abs x ≤ 2 ^ 123) (λ (x : ℤ). unsigned_abs x ≤ 2 ^ 126) (λ x small. omega arith) c.in_ok-numbers.numbers.items c.in_ok-numbers.ensures.small)
+    (all-weaker (λ (x : ℤ). unsigned_abs x ≤ 2 ^ 123) (λ (x : ℤ). unsigned_abs x ≤ 2 ^ 126)
+    (λ x small. omega arith) c.in_ok-numbers.numbers.items c.in_ok-numbers.ensures.small)
 
 pub returns : goal.returns
 returns c =
@@ -44,7 +47,8 @@ returns c =
     let taken = c.deref.result.now in
     let items = c.in_ok-numbers.numbers.items in
     let new = c.divide.new.numbers in
-    let are : AreTaken common (number_at target) form taken = subst (AreTaken common (number_at target) form) (sym c.deref.ensures.value) c.in_ok-taken.ensures.taken in
+    let are : AreTaken common (number_at target) form taken = subst (AreTaken common (number_at target) form)
+    (sym c.deref.ensures.value) c.in_ok-taken.ensures.taken in
     let few : AllByRecursion IsTakenSmall taken = subst (AllByRecursion IsTakenSmall) (sym c.deref.ensures.value) c.in_ok-taken.ensures.small in
     let read = c.in_ok-numbers.ensures in
     let divided : IsDivided items new = subst (λ old. IsDivided old new) c.deref_mut.ensures.value c.divide.ensures in

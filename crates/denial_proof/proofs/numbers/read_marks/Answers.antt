@@ -13,4 +13,5 @@ loop-mark-preserved c =
     let common = to_z-of_z w128 c.args.common c.ranges.common in
     let f : ℕ → ℤ = λ k. combined c.args.taken.now c.args.form.now.rows (c.args.n + k) in
     let items : c.push-in-loop-mark.new.self.items ≡ numbers ++ x ∷ [] = c.in_ok-push-2.ensures.items ∙ ap (λ z. numbers ++ z ∷ []) (to_z-of_z w128 x fits) in
-    rw (items, common) (read_push c.args.common f c.loop-mark.mark numbers x (rw common at c.loop-mark.invariant) c.number_at.ensures.exact c.number_at.ensures.small)
+    rw (items, common) (read_push c.args.common f c.loop-mark.mark numbers x
+    (rw common at c.loop-mark.invariant) c.number_at.ensures.exact c.number_at.ensures.small)

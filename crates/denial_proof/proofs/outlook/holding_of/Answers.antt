@@ -24,4 +24,5 @@ loop-pair-preserved c =
     map_more answer_of items i pair c.loop-pair-test.true ∙ ap (λ y. seen ++ answer_of y ∷ []) (sym c.pair-item.is) in
     let one = subst (λ list. IsOneOf x list) c.pairs-pair-items.ensures.answers (one_here items i pair c.loop-pair-test.true c.pair-item.is) in
     subst (λ list. IsHolding answers rows list c.and-holding.result) (sym more)
-    (holding_step answers rows seen x c.left_outside.result c.loop-pair.holding c.and-holding.result one c.left_outside.ensures (rw same at c.and-holding.ensures) c.loop-pair.invariant)
+    (holding_step answers rows seen x c.left_outside.result c.loop-pair.holding c.and-holding.result one c.left_outside.ensures
+    (rw same at c.and-holding.ensures) c.loop-pair.invariant)

@@ -12,10 +12,13 @@ is_left-requires-clause-row c =
 
 pub returns-then-found : goal.returns-then-found
 returns-then-found c =
-    two_outside c.args.bounds.now.answers c.args.rows.now.list (answer_of c.args.pair.now) c.args.pair.now.rows.n c.loop-row.yielded c.loop-row.row-iterator c.next.new.self c.in-Some.row
-    c.n.ensures.are_rows c.loop-row.invariant.together c.in-Some.ensures.steps (rw c.if-found.true at c.loop-row.invariant.so_far) (sym c.is_left.ensures ∙ c.if-is_left.true)
+    two_outside c.args.bounds.now.answers c.args.rows.now.list (answer_of c.args.pair.now) c.args.pair.now.rows.n c.loop-row.yielded c.loop-row.row-iterator
+    c.next.new.self c.in-Some.row
+    c.n.ensures.are_rows c.loop-row.invariant.together c.in-Some.ensures.steps (rw c.if-found.true at c.loop-row.invariant.so_far)
+    (sym c.is_left.ensures ∙ c.if-is_left.true)
 
 pub returns-else-found-2 : goal.returns-else-found-2
 returns-else-found-2 c =
     let all = sym (append-nil c.loop-row.yielded) ∙ ap (λ l. c.loop-row.yielded ++ l) (sym c.in-None.ensures.steps.0) ∙ c.loop-row.invariant.together in
-    held_whole c.args.bounds.now.answers c.args.rows.now.list (answer_of c.args.pair.now) c.loop-row.yielded all (rw c.if-found-2.false at c.loop-row.invariant.so_far)
+    held_whole c.args.bounds.now.answers c.args.rows.now.list (answer_of c.args.pair.now) c.loop-row.yielded all
+    (rw c.if-found-2.false at c.loop-row.invariant.so_far)

@@ -18,9 +18,11 @@ loop-row-preserved c =
     let fits : SFits w128 high = search rules in
     let after = rw (to_z-of_z w128 high fits) at c.and-reach.ensures in
     let height = c.reach_of.ensures ∙ ap reach_of c.upper.ensures in record {
-      together = walk_more c.loop-row.yielded c.loop-row.row-iterator c.next.new.self c.args.rows.now.list c.in-Some.row c.loop-row.invariant.together c.in-Some.ensures.steps;
+      together = walk_more c.loop-row.yielded c.loop-row.row-iterator c.next.new.self c.args.rows.now.list c.in-Some.row c.loop-row.invariant.together
+          c.in-Some.ensures.steps;
       so_far =
-          reach_step c.args.bounds.now.answers c.args.rows.now.n c.loop-row.yielded c.loop-row.row-iterator c.next.new.self c.args.rows.now.list c.in-Some.row c.n.ensures.are_rows
+          reach_step c.args.bounds.now.answers c.args.rows.now.n c.loop-row.yielded c.loop-row.row-iterator c.next.new.self c.args.rows.now.list c.in-Some.row
+          c.n.ensures.are_rows
           c.loop-row.invariant.together c.in-Some.ensures.steps c.loop-row.reach c.and-reach.result c.loop-row.invariant.so_far
           (subst (λ (h : ℤ). ReachesAfter c.loop-row.reach h c.and-reach.result) height after);
     }

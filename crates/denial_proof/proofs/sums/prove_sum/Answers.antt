@@ -12,52 +12,68 @@ use Rattle.denial_proof.proofs.sums.prove_sum.Goals as goal
 
 pub basis_with-requires-clause-narrow : goal.basis_with-requires-clause-narrow
 basis_with-requires-clause-narrow c =
-    subst (λ (answers : List Answer). HasNarrowForm c.args.sums.now.width c.args.sums.now.n (map (λ a. a.rows) answers ++ c.args.facts.now.asked.now.rows.list ∷ [])) (sym c.requires.answers) c.requires.denied.narrow
+    subst (λ (answers : List Answer). HasNarrowForm c.args.sums.now.width c.args.sums.now.n
+    (map (λ a. a.rows) answers ++ c.args.facts.now.asked.now.rows.list ∷ [])) (sym c.requires.answers) c.requires.denied.narrow
 
 pub first_target-requires-clause-same_n : goal.first_target-requires-clause-same_n
-first_target-requires-clause-same_n c = subst (λ (k : ℕ). AllByRecursion (λ (p : Protected). p.rows.n ≡ k) c.args.facts.now.protected.now) (c.requires.same_n ∙ sym c.in_ok-basis.ensures.n) c.args.facts.now.entries
+first_target-requires-clause-same_n c = subst (λ (k : ℕ). AllByRecursion (λ (p : Protected). p.rows.n ≡ k) c.args.facts.now.protected.now)
+    (c.requires.same_n ∙ sym c.in_ok-basis.ensures.n) c.args.facts.now.entries
 
 pub prove_target-requires-clause-independent : goal.prove_target-requires-clause-independent
 prove_target-requires-clause-independent c =
     let n = c.args.sums.now.n in
-    let own : AreRows n c.args.facts.now.asked.now.rows.list = subst (λ (k : ℕ). AreRows k c.args.facts.now.asked.now.rows.list) (c.args.facts.now.same_n ∙ c.requires.same_n) c.n.ensures.are_rows in
+    let own : AreRows n c.args.facts.now.asked.now.rows.list = subst (λ (k : ℕ). AreRows k c.args.facts.now.asked.now.rows.list)
+    (c.args.facts.now.same_n ∙ c.requires.same_n) c.n.ensures.are_rows in
     rw (c.requires.same_n, c.deref.ensures.value)
-    (target_parts c.directions_of_a_form.ensures.pinned n c.args.facts.now.history.now c.args.facts.now.protected.now c.args.facts.now.asked.now own c.args.sums.now.answers c.requires.answers c.n-2.ensures.are_rows c.in_ok-basis.basis
-    c.in_ok-basis.ensures.n c.in_ok-basis.ensures.form c.pinned_rows.ensures.spanned_or_moved c.requires.rows c.args.marks.now.places.items c.requires.marks.kept c.requires.denied.new c.in-Some.target
+    (target_parts c.directions_of_a_form.ensures.pinned n c.args.facts.now.history.now c.args.facts.now.protected.now c.args.facts.now.asked.now own
+    c.args.sums.now.answers c.requires.answers c.n-2.ensures.are_rows c.in_ok-basis.basis
+    c.in_ok-basis.ensures.n c.in_ok-basis.ensures.form c.pinned_rows.ensures.spanned_or_moved c.requires.rows c.args.marks.now.places.items
+    c.requires.marks.kept c.requires.denied.new c.in-Some.target
     c.in-Some.ensures.some).independent
 
 pub prove_target-requires-clause-is_target : goal.prove_target-requires-clause-is_target
 prove_target-requires-clause-is_target c =
     let n = c.args.sums.now.n in
-    let own : AreRows n c.args.facts.now.asked.now.rows.list = subst (λ (k : ℕ). AreRows k c.args.facts.now.asked.now.rows.list) (c.args.facts.now.same_n ∙ c.requires.same_n) c.n.ensures.are_rows in
+    let own : AreRows n c.args.facts.now.asked.now.rows.list = subst (λ (k : ℕ). AreRows k c.args.facts.now.asked.now.rows.list)
+    (c.args.facts.now.same_n ∙ c.requires.same_n) c.n.ensures.are_rows in
     rw c.requires.same_n
-    (target_parts c.directions_of_a_form.ensures.pinned n c.args.facts.now.history.now c.args.facts.now.protected.now c.args.facts.now.asked.now own c.args.sums.now.answers c.requires.answers c.n-2.ensures.are_rows c.in_ok-basis.basis
-    c.in_ok-basis.ensures.n c.in_ok-basis.ensures.form c.pinned_rows.ensures.spanned_or_moved c.requires.rows c.args.marks.now.places.items c.requires.marks.kept c.requires.denied.new c.in-Some.target
+    (target_parts c.directions_of_a_form.ensures.pinned n c.args.facts.now.history.now c.args.facts.now.protected.now c.args.facts.now.asked.now own
+    c.args.sums.now.answers c.requires.answers c.n-2.ensures.are_rows c.in_ok-basis.basis
+    c.in_ok-basis.ensures.n c.in_ok-basis.ensures.form c.pinned_rows.ensures.spanned_or_moved c.requires.rows c.args.marks.now.places.items
+    c.requires.marks.kept c.requires.denied.new c.in-Some.target
     c.in-Some.ensures.some).is_target
 
 pub prove_target-requires-clause-first : goal.prove_target-requires-clause-first
 prove_target-requires-clause-first c =
     let n = c.args.sums.now.n in
-    let own : AreRows n c.args.facts.now.asked.now.rows.list = subst (λ (k : ℕ). AreRows k c.args.facts.now.asked.now.rows.list) (c.args.facts.now.same_n ∙ c.requires.same_n) c.n.ensures.are_rows in
+    let own : AreRows n c.args.facts.now.asked.now.rows.list = subst (λ (k : ℕ). AreRows k c.args.facts.now.asked.now.rows.list)
+    (c.args.facts.now.same_n ∙ c.requires.same_n) c.n.ensures.are_rows in
     rw c.requires.same_n
-    (target_parts c.directions_of_a_form.ensures.pinned n c.args.facts.now.history.now c.args.facts.now.protected.now c.args.facts.now.asked.now own c.args.sums.now.answers c.requires.answers c.n-2.ensures.are_rows c.in_ok-basis.basis
-    c.in_ok-basis.ensures.n c.in_ok-basis.ensures.form c.pinned_rows.ensures.spanned_or_moved c.requires.rows c.args.marks.now.places.items c.requires.marks.kept c.requires.denied.new c.in-Some.target
+    (target_parts c.directions_of_a_form.ensures.pinned n c.args.facts.now.history.now c.args.facts.now.protected.now c.args.facts.now.asked.now own
+    c.args.sums.now.answers c.requires.answers c.n-2.ensures.are_rows c.in_ok-basis.basis
+    c.in_ok-basis.ensures.n c.in_ok-basis.ensures.form c.pinned_rows.ensures.spanned_or_moved c.requires.rows c.args.marks.now.places.items
+    c.requires.marks.kept c.requires.denied.new c.in-Some.target
     c.in-Some.ensures.some).first
 
 pub prove_target-requires-clause-spanned : goal.prove_target-requires-clause-spanned
 prove_target-requires-clause-spanned c =
     let n = c.args.sums.now.n in
-    let own : AreRows n c.args.facts.now.asked.now.rows.list = subst (λ (k : ℕ). AreRows k c.args.facts.now.asked.now.rows.list) (c.args.facts.now.same_n ∙ c.requires.same_n) c.n.ensures.are_rows in
+    let own : AreRows n c.args.facts.now.asked.now.rows.list = subst (λ (k : ℕ). AreRows k c.args.facts.now.asked.now.rows.list)
+    (c.args.facts.now.same_n ∙ c.requires.same_n) c.n.ensures.are_rows in
     rw (c.requires.same_n, c.deref.ensures.value)
-    (target_parts c.directions_of_a_form.ensures.pinned n c.args.facts.now.history.now c.args.facts.now.protected.now c.args.facts.now.asked.now own c.args.sums.now.answers c.requires.answers c.n-2.ensures.are_rows c.in_ok-basis.basis
-    c.in_ok-basis.ensures.n c.in_ok-basis.ensures.form c.pinned_rows.ensures.spanned_or_moved c.requires.rows c.args.marks.now.places.items c.requires.marks.kept c.requires.denied.new c.in-Some.target
+    (target_parts c.directions_of_a_form.ensures.pinned n c.args.facts.now.history.now c.args.facts.now.protected.now c.args.facts.now.asked.now own
+    c.args.sums.now.answers c.requires.answers c.n-2.ensures.are_rows c.in_ok-basis.basis
+    c.in_ok-basis.ensures.n c.in_ok-basis.ensures.form c.pinned_rows.ensures.spanned_or_moved c.requires.rows c.args.marks.now.places.items
+    c.requires.marks.kept c.requires.denied.new c.in-Some.target
     c.in-Some.ensures.some).spanned
 
 pub unreachable-requires : goal.unreachable-requires
 unreachable-requires c =
     let n = c.args.sums.now.n in
-    let own : AreRows n c.args.facts.now.asked.now.rows.list = subst (λ (k : ℕ). AreRows k c.args.facts.now.asked.now.rows.list) (c.args.facts.now.same_n ∙ c.requires.same_n) c.n.ensures.are_rows in
-    target_there c.directions_of_a_form.ensures.pinned n c.args.facts.now.history.now c.args.facts.now.protected.now c.args.facts.now.asked.now own c.args.sums.now.answers c.requires.answers c.n-2.ensures.are_rows c.in_ok-basis.basis
+    let own : AreRows n c.args.facts.now.asked.now.rows.list = subst (λ (k : ℕ). AreRows k c.args.facts.now.asked.now.rows.list)
+    (c.args.facts.now.same_n ∙ c.requires.same_n) c.n.ensures.are_rows in
+    target_there c.directions_of_a_form.ensures.pinned n c.args.facts.now.history.now c.args.facts.now.protected.now c.args.facts.now.asked.now own
+    c.args.sums.now.answers c.requires.answers c.n-2.ensures.are_rows c.in_ok-basis.basis
     c.in_ok-basis.ensures.n c.in_ok-basis.ensures.form c.requires.denied.gives_away c.in-None.ensures.none
 
 pub returns-clause-narrow : goal.returns-clause-narrow

@@ -11,7 +11,8 @@ loop-place-preserved c =
     let form = c.args.basis.now in
     let protected = c.args.protected.now in
     let p = c.index-protected-place.result in
-    let there : slice_get protected c.loop-place.place ≡ Some p = slice_get_read protected (length protected) c.loop-place.place p refl c.loop-place-test.true c.index-protected-place.is in
+    let there : slice_get protected c.loop-place.place ≡ Some p = slice_get_read protected
+    (length protected) c.loop-place.place p refl c.loop-place-test.true c.index-protected-place.is in
     below_more _ _ c.loop-place.invariant
     (elim c.else-entry-column.branch [
       | else-entry-column-via-then-entry-column+else-contains w ↦

@@ -19,13 +19,15 @@ returns-in-Row-clause-rows c =
 
 pub returns-in-Group-clause-n : goal.returns-in-Group-clause-n
 returns-in-Group-clause-n c =
-    let is : IsTarget c.args.n c.args.protected.now c.args.column (Group c.in-Group.place) = subst (IsTarget c.args.n c.args.protected.now c.args.column) c.in-Group.is c.requires.target in
+    let is : IsTarget c.args.n c.args.protected.now c.args.column (Group c.in-Group.place) =
+    subst (IsTarget c.args.n c.args.protected.now c.args.column) c.in-Group.is c.requires.target in
     all-get_or (λ (p : Protected). p.rows.n ≡ c.args.n) c.args.protected.now c.in-Group.place c.index-protected-place.result c.requires.same_n
     (slice_get_within c.args.protected.now c.in-Group.place is.0 is.1)
 
 pub returns-in-Group-clause-rows : goal.returns-in-Group-clause-rows
 returns-in-Group-clause-rows c =
-    let is : IsTarget c.args.n c.args.protected.now c.args.column (Group c.in-Group.place) = subst (IsTarget c.args.n c.args.protected.now c.args.column) c.in-Group.is c.requires.target in
+    let is : IsTarget c.args.n c.args.protected.now c.args.column (Group c.in-Group.place) =
+    subst (IsTarget c.args.n c.args.protected.now c.args.column) c.in-Group.is c.requires.target in
     rw c.in-Group.is
     (sym (get_or-map (λ (p : Protected). p.rows.list) c.args.protected.now c.in-Group.place c.index-protected-place.result []
     (slice_get_within c.args.protected.now c.in-Group.place is.0 is.1)))

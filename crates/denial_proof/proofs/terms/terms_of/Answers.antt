@@ -25,7 +25,8 @@ loop-k-preserved c =
           let pushed = w.in_ok-push.ensures.items in
           let same = ap (λ v. v.items) w.terms-is in
           let items : c.if-numbers-k-ne0.terms.items ≡ before ++ term ∷ [] = cc in
-          rw items (one_term places numbers k before c.loop-k-test.true within c.loop-k.invariant (test_of_not_zero x (λ e. w.if-numbers-k-ne0.true (ap (of_z w128) e))))
+          rw items (one_term places numbers k before c.loop-k-test.true within c.loop-k.invariant
+          (test_of_not_zero x (λ e. w.if-numbers-k-ne0.true (ap (of_z w128) e))))
       | else-numbers-k-ne0 w ↦
           let items : c.if-numbers-k-ne0.terms.items ≡ before = ap (λ v. v.items) w.terms-is in
           rw items (no_term places numbers k before c.loop-k-test.true within c.loop-k.invariant (ap is_zero (zero_from_bits x fits w.if-numbers-k-ne0.false)))

@@ -17,7 +17,8 @@ upper-requires c =
 pub returns-then-not-is_within : goal.returns-then-not-is_within
 returns-then-not-is_within c =
     let same : to_z w64 (of_z w64 c.args.answer) ≡ c.args.answer = to_z-of_z w64 c.args.answer c.ranges.answer in
-    let there = next_there c.loop-row.yielded c.loop-row.row-iterator c.next.new.self c.args.rows.now.list c.in-Some.row c.loop-row.invariant.together c.in-Some.ensures.steps in (
+    let there = next_there c.loop-row.yielded c.loop-row.row-iterator c.next.new.self c.args.rows.now.list c.in-Some.row c.loop-row.invariant.together
+    c.in-Some.ensures.steps in (
       λ no. absurd (true≢false (sym no)),
       λ all.
           let here = subst (λ o. IsAtMost o c.args.answer) (sym c.upper.ensures) (all c.in-Some.row there) in

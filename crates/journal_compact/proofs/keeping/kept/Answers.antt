@@ -12,52 +12,87 @@ use Rattle.journal_compact.proofs.keeping.kept.Goals.{then-not-is_implied+in_ok-
 
 pub loop-answered-init : goal.loop-answered-init
 loop-answered-init c = record {
-  setting = ap (λ (a : Audited). a.setting) c.in_ok-core.ensures ∙ ap (setting_of c.args.shape.now) c.new-unguarded.ensures ∙ ap (λ groups. setting_of c.args.shape.now (against_outsiders groups [] most_width most_rows)) c.new.ensures.items;
+  setting = ap (λ (a : Audited). a.setting) c.in_ok-core.ensures ∙ ap (setting_of c.args.shape.now) c.new-unguarded.ensures
+      ∙ ap (λ groups. setting_of c.args.shape.now (against_outsiders groups [] most_width most_rows)) c.new.ensures.items;
   kept = subst (λ (l : List Answered). IsKeptOf c.args.shape.now [] l) (sym (ap (λ (a : Audited). a.history) c.in_ok-core.ensures)) none;
 }
 
 pub is_implied-requires-clause-fits : goal.is_implied-requires-clause-fits
 is_implied-requires-clause-fits c =
-    fits (record { decisions = c.kept_of_legal.ensures.decisions; legal = c.kept_of_legal.ensures.legal; possible = c.true_answers.ensures.legal; grows = c.released_records.ensures })
+    fits (record {
+      decisions = c.kept_of_legal.ensures.decisions;
+      legal = c.kept_of_legal.ensures.legal;
+      possible = c.true_answers.ensures.legal;
+      grows =
+          c.released_records.ensures;
+    })
     c.args.shape.now c.args.history.now c.requires c.loop-answered.core.setting c.loop-answered.invariant.setting c.loop-answered.answered-index
     c.answered-item.result c.loop-answered-test.true c.answered-item.is c.loop-answered.core.history c.loop-answered.invariant.kept
 
 pub is_implied-requires-clause-possible : goal.is_implied-requires-clause-possible
 is_implied-requires-clause-possible c =
-    possible (record { decisions = c.kept_of_legal.ensures.decisions; legal = c.kept_of_legal.ensures.legal; possible = c.true_answers.ensures.legal; grows = c.released_records.ensures })
+    possible (record {
+      decisions = c.kept_of_legal.ensures.decisions;
+      legal = c.kept_of_legal.ensures.legal;
+      possible = c.true_answers.ensures.legal;
+      grows =
+          c.released_records.ensures;
+    })
     c.args.shape.now c.args.history.now c.requires c.loop-answered.core.setting c.loop-answered.invariant.setting c.loop-answered.answered-index
     c.answered-item.result c.loop-answered-test.true c.answered-item.is c.loop-answered.core.history c.loop-answered.invariant.kept
 
 pub take-requires-clause-fits : goal.take-requires-clause-fits
 take-requires-clause-fits c =
-    fits (record { decisions = c.kept_of_legal.ensures.decisions; legal = c.kept_of_legal.ensures.legal; possible = c.true_answers.ensures.legal; grows = c.released_records.ensures })
+    fits (record {
+      decisions = c.kept_of_legal.ensures.decisions;
+      legal = c.kept_of_legal.ensures.legal;
+      possible = c.true_answers.ensures.legal;
+      grows =
+          c.released_records.ensures;
+    })
     c.args.shape.now c.args.history.now c.requires c.loop-answered.core.setting c.loop-answered.invariant.setting c.loop-answered.answered-index
     c.answered-item.result c.loop-answered-test.true c.answered-item.is c.loop-answered.core.history c.loop-answered.invariant.kept
 
 pub take-requires-clause-narrow : goal.take-requires-clause-narrow
 take-requires-clause-narrow c =
-    narrow (record { decisions = c.kept_of_legal.ensures.decisions; legal = c.kept_of_legal.ensures.legal; possible = c.true_answers.ensures.legal; grows = c.released_records.ensures })
+    narrow (record {
+      decisions = c.kept_of_legal.ensures.decisions;
+      legal = c.kept_of_legal.ensures.legal;
+      possible = c.true_answers.ensures.legal;
+      grows =
+          c.released_records.ensures;
+    })
     c.args.shape.now c.args.history.now c.requires c.loop-answered.core.setting c.loop-answered.invariant.setting c.loop-answered.answered-index
     c.answered-item.result c.loop-answered-test.true c.answered-item.is c.loop-answered.core.history c.loop-answered.invariant.kept
 
 pub loop-answered-preserved : goal.loop-answered-preserved
 loop-answered-preserved c =
-    let laws : NextLaws = record { decisions = c.kept_of_legal.ensures.decisions; legal = c.kept_of_legal.ensures.legal; possible = c.true_answers.ensures.legal; grows = c.released_records.ensures } in
+    let laws : NextLaws = record {
+      decisions = c.kept_of_legal.ensures.decisions;
+      legal = c.kept_of_legal.ensures.legal;
+      possible =
+          c.true_answers.ensures.legal;
+      grows = c.released_records.ensures;
+    } in
     let r = c.answered-item.result in
     elim c.if-not-is_implied.branch [
       | then-not-is_implied+in_ok-take w ↦
-          let is : c.if-not-is_implied.core ≡ record c.loop-answered.core { history = c.loop-answered.core.history ++ r ∷ [] } = w.core-is ∙ w.in_ok-take.ensures.ok in
+          let is : c.if-not-is_implied.core ≡ record c.loop-answered.core { history = c.loop-answered.core.history ++ r ∷ [] } = w.core-is
+          ∙ w.in_ok-take.ensures.ok in
           record {
             setting = ap (λ (a : Audited). a.setting) is ∙ c.loop-answered.invariant.setting;
-            kept = subst (λ (l : List Answered). IsKeptOf c.args.shape.now (take (c.loop-answered.answered-index + 1) c.args.history.now) l) (sym (ap (λ (a : Audited). a.history) is))
-                (one_stays laws c.args.shape.now c.args.history.now c.requires c.loop-answered.core.setting c.loop-answered.invariant.setting c.loop-answered.answered-index
+            kept = subst (λ (l : List Answered). IsKeptOf c.args.shape.now (take (c.loop-answered.answered-index + 1) c.args.history.now) l)
+                (sym (ap (λ (a : Audited). a.history) is))
+                (one_stays laws c.args.shape.now c.args.history.now c.requires c.loop-answered.core.setting c.loop-answered.invariant.setting
+                c.loop-answered.answered-index
                 r c.loop-answered-test.true c.answered-item.is c.loop-answered.core.history c.loop-answered.invariant.kept
                 (λ implied. true≢false (sym (c.is_implied.ensures.1 implied) ∙ w.if-not-is_implied.true)));
           }
       | else-not-is_implied w ↦ record {
         setting = ap (λ (a : Audited). a.setting) w.core-is ∙ c.loop-answered.invariant.setting;
         kept = subst (λ (a : Audited). IsKeptOf c.args.shape.now (take (c.loop-answered.answered-index + 1) c.args.history.now) a.history) (sym w.core-is)
-            (one_left_out laws c.args.shape.now c.args.history.now c.requires c.loop-answered.core.setting c.loop-answered.invariant.setting c.loop-answered.answered-index
+            (one_left_out laws c.args.shape.now c.args.history.now c.requires c.loop-answered.core.setting c.loop-answered.invariant.setting
+            c.loop-answered.answered-index
             r c.loop-answered-test.true c.answered-item.is c.loop-answered.core.history c.loop-answered.invariant.kept
             (c.is_implied.ensures.0 w.if-not-is_implied.false));
       }

@@ -79,7 +79,8 @@ returns-in-Made g c =
       untouched = λ told made quiet. read.untouched quiet;
       reads = λ is. read;
       no_memory = λ is. let none : ⊥ = cc in absurd none;
-      any_moment = λ told unmade quiet. absurd (unmade (subst (λ (what : Found). IsFound what (g.B.Bench.file old)) c.in-Made.is (c.in_ok-look.ensures.found told)));
+      any_moment = λ told unmade quiet. absurd
+          (unmade (subst (λ (what : Found). IsFound what (g.B.Bench.file old)) c.in-Made.is (c.in_ok-look.ensures.found told)));
       done = λ told. tt;
       written = λ told. tt;
       ticks = λ told. tt;
@@ -146,8 +147,14 @@ returns-in-Closed g c =
       any_moment = λ told not_made quiet.
           all_moments shape list behind c.requires.few c.requires.fit are g.B.Bench old looked new not_made read quiet
           (c.open_over_closed.ensures.any_moment told (still_quiet g.B.Bench old looked read quiet));
-      done = λ told. stands_appended shape list behind c.requires.few c.requires.fit are (g.B.Bench.file looked) (g.B.Bench.file new) (c.in_ok-open_over_closed-in-Closed.ensures.done told);
-      written = λ told. record { behind = behind; are = are; file_is = c.in_ok-open_over_closed-in-Closed.ensures.done told ∙ ap (λ file. appended 0 behind file) read.file };
+      done = λ told. stands_appended shape list behind c.requires.few c.requires.fit are (g.B.Bench.file looked) (g.B.Bench.file new)
+          (c.in_ok-open_over_closed-in-Closed.ensures.done told);
+      written = λ told. record {
+        behind = behind;
+        are = are;
+        file_is = c.in_ok-open_over_closed-in-Closed.ensures.done told
+            ∙ ap (λ file. appended 0 behind file) read.file;
+      };
       ticks = λ told.
           closed_calls file _ _ _ (subst (λ (what : Found). IsFound what file) c.in-Closed.is (c.in_ok-look.ensures.found told))
           (c.in_ok-look.ensures.closed told (ap found c.in-Closed.is)) (c.in_ok-open_over_closed-in-Closed.ensures.ticks told);
@@ -216,8 +223,14 @@ returns g c =
       any_moment = λ told not_made quiet.
           all_moments shape list behind c.requires.few c.requires.fit are g.B.Bench old looked new not_made read quiet
           (c.open_over_short.ensures.any_moment told (still_quiet g.B.Bench old looked read quiet));
-      done = λ told. stands_appended shape list behind c.requires.few c.requires.fit are (g.B.Bench.file looked) (g.B.Bench.file new) (c.in_ok-open_over_short-in-Short.ensures.done told);
-      written = λ told. record { behind = behind; are = are; file_is = c.in_ok-open_over_short-in-Short.ensures.done told ∙ ap (λ file. appended 0 behind file) read.file };
+      done = λ told. stands_appended shape list behind c.requires.few c.requires.fit are (g.B.Bench.file looked) (g.B.Bench.file new)
+          (c.in_ok-open_over_short-in-Short.ensures.done told);
+      written = λ told. record {
+        behind = behind;
+        are = are;
+        file_is = c.in_ok-open_over_short-in-Short.ensures.done told
+            ∙ ap (λ file. appended 0 behind file) read.file;
+      };
       ticks = λ told.
           short_calls file _ _ _ (subst (λ (what : Found). IsFound what file) c.in-Short.is (c.in_ok-look.ensures.found told))
           (c.in_ok-look.ensures.short told (ap found c.in-Short.is)) (c.in_ok-open_over_short-in-Short.ensures.ticks told);

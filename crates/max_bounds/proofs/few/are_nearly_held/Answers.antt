@@ -25,7 +25,7 @@ returns-then-is_past c = λ rows flipped.
     let split : answers_of c.args.least.now ≡ seen ++ x ∷ rest = answers_split c.args.least.now i c.set-item.result c.loop-set-test.true c.set-item.is in
     let past : IsPast c.loop-set.few x.value = subst (IsPast c.loop-set.few) same (c.is_past.ensures.0 c.if-is_past.true) in
     let held = held_by_now c.args.most seen rows x rest (descends_after seen x rest (subst Descend split c.requires.descend)) c.loop-set.few
-            (c.loop-set.invariant rows flipped) past in
+    (c.loop-set.invariant rows flipped) past in
     (λ yes. subst (λ l. HasNearlyHeld c.args.most (λ a. a.rows) l rows) (sym split) held, λ any. refl)
 
 pub returns-then-left-eq0 : goal.returns-then-left-eq0
@@ -38,7 +38,7 @@ returns-then-left-eq0 c = λ rows flipped.
     let same = to_z-of_z w64 c.set-item.result.answer fits in
     let split : answers_of c.args.least.now ≡ seen ++ x ∷ rest = answers_split c.args.least.now i c.set-item.result c.loop-set-test.true c.set-item.is in
     let not : IsPast c.loop-set.few x.value → ⊥ = λ past. true≢false
-            (sym (c.is_past.ensures.1 (subst (IsPast c.loop-set.few) (sym same) past)) ∙ c.if-is_past.false) in
+    (sym (c.is_past.ensures.1 (subst (IsPast c.loop-set.few) (sym same) past)) ∙ c.if-is_past.false) in
     let none : length (left_of rows x) ≡ 0 = sym (c.count_left-left.ensures rows flipped) ∙ c.if-left-eq0.true in (
       λ yes. absurd (true≢false (sym yes)),
       λ held. absurd (held_never c.args.most seen rows x rest (descends_after seen x rest (subst Descend split c.requires.descend)) c.loop-set.few
@@ -60,7 +60,7 @@ loop-set-preserved c = λ rows flipped.
     let more : answers_of (take (i + 1) c.args.least.now) ≡ seen ++ x ∷ [] =
     map_more answer_of c.args.least.now i c.set-item.result c.loop-set-test.true ∙ ap (λ y. seen ++ answer_of y ∷ []) (sym c.set-item.is) in
     let not : IsPast c.loop-set.few x.value → ⊥ = λ past. true≢false
-            (sym (c.is_past.ensures.1 (subst (IsPast c.loop-set.few) (sym same) past)) ∙ c.if-is_past.false) in
+    (sym (c.is_past.ensures.1 (subst (IsPast c.loop-set.few) (sym same) past)) ∙ c.if-is_past.false) in
     let left : c.count_left-left.result ≡ length (left_of rows x) = c.count_left-left.ensures rows flipped in
     let some : left_of rows x ≢ [] = λ none. c.if-left-eq0.false (left ∙ ap length none) in
     subst (λ l. AreSeen c.args.most l rows c.with_set-few.result) (sym more)
@@ -80,8 +80,8 @@ pub returns : goal.returns
 returns c = λ rows flipped.
     let all = c.loop-set.invariant rows flipped in
     ends c.loop-set.few rows c.is_some.ensures
-        (subst (λ l. AreSeen c.args.most (answers_of l) rows c.loop-set.few)
-        (take_all c.loop-set.set-index c.args.least.now (omega (arith, c.loop-set-test.false))) all)
+    (subst (λ l. AreSeen c.args.most (answers_of l) rows c.loop-set.few)
+    (take_all c.loop-set.set-index c.args.least.now (omega (arith, c.loop-set-test.false))) all)
   where
     ends : (few : Option ℤ) (rows : List ℕ) → c.is_some.result ≡ is_some few → AreSeen c.args.most (answers_of c.args.least.now) rows few →
         IsTrue c.is_some.result ↔ HasNearlyHeld c.args.most (λ a. a.rows) (answers_of c.args.least.now) rows

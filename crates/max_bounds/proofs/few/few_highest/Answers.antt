@@ -29,7 +29,7 @@ pub overflow_add-count : goal.overflow_add-count
 overflow_add-count c =
     let seen : List ℕ = c.in-Some.first ∷ c.loop-row.yielded in
     let count = filter-shorter (λ q. option_eq int_eq (bound_at c.args.upper.now q) c.loop-row.highest) seen c.loop-row.count
-            c.loop-row.invariant.counted.counted in
+    c.loop-row.invariant.counted.counted in
     let all = ap length (sym c.loop-row.invariant.together) in
     let parts = length-append seen c.loop-row.row-iterator in
     let within = length-rows c.args.rows.now.n c.args.rows.now.list c.n.ensures.are_rows in
@@ -42,7 +42,7 @@ loop-row-preserved-then-eq c =
     record {
       together =
           walk_more seen c.loop-row.row-iterator c.next-in-loop-row.new.self c.args.rows.now.list c.in-Some-row.row c.loop-row.invariant.together
-              c.in-Some-row.ensures.steps;
+          c.in-Some-row.ensures.steps;
       counted =
           count_equal (bound_at c.args.upper.now) seen c.loop-row.highest c.loop-row.count c.in-Some-row.row c.loop-row.invariant.counted
           (equal_bounds _ _ (sym c.eq.ensures ∙ c.if-eq.true));
@@ -54,7 +54,7 @@ loop-row-preserved-then-is_higher c =
     record {
       together =
           walk_more seen c.loop-row.row-iterator c.next-in-loop-row.new.self c.args.rows.now.list c.in-Some-row.row c.loop-row.invariant.together
-              c.in-Some-row.ensures.steps;
+          c.in-Some-row.ensures.steps;
       counted =
           count_above (bound_at c.args.upper.now) seen c.loop-row.highest c.loop-row.count c.in-Some-row.row c.loop-row.invariant.counted
           (c.is_higher.ensures.0 c.if-is_higher.true);
@@ -66,7 +66,7 @@ loop-row-preserved c =
     record {
       together =
           walk_more seen c.loop-row.row-iterator c.next-in-loop-row.new.self c.args.rows.now.list c.in-Some-row.row c.loop-row.invariant.together
-              c.in-Some-row.ensures.steps;
+          c.in-Some-row.ensures.steps;
       counted =
           count_below (bound_at c.args.upper.now) seen c.loop-row.highest c.loop-row.count c.in-Some-row.row c.loop-row.invariant.counted
           (other_bounds _ _ (sym c.eq.ensures ∙ c.if-eq.false))

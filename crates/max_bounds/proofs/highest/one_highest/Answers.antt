@@ -77,9 +77,11 @@ returns-then-not-alone c =
     let seen : List ℕ = c.in-Some.first ∷ c.loop-row.yielded in
     let all = walk_ends seen c.loop-row.row-iterator c.args.rows.now.list c.loop-row.invariant.together c.in-None.ensures.steps.0 in
     let ends = subst (λ l. IsHighest (bound_at c.args.upper.now) l c.loop-row.highest c.loop-row.at false) all
-    (subst (λ b. IsHighest (bound_at c.args.upper.now) seen c.loop-row.highest c.loop-row.at b) c.if-not-alone.true c.loop-row.invariant.highest) in
-    (λ yes. absurd (true≢false (sym yes)), λ own. absurd
-        (none_at_end (bound_at c.args.upper.now) c.args.rows.now.list c.loop-row.highest c.loop-row.at ends own.0))
+    (subst (λ b. IsHighest (bound_at c.args.upper.now) seen c.loop-row.highest c.loop-row.at b) c.if-not-alone.true c.loop-row.invariant.highest) in (
+      λ yes. absurd (true≢false (sym yes)),
+      λ own. absurd
+          (none_at_end (bound_at c.args.upper.now) c.args.rows.now.list c.loop-row.highest c.loop-row.at ends own.0),
+    )
 
 pub has-requires : goal.has-requires
 has-requires c =

@@ -22,7 +22,7 @@ returns-then-set-answer c =
     let value : ℤ = to_z w64 (of_z w64 c.args.answer) in
     let fits : SFits w64 c.set-item.result.answer = search rules in
     let low : int_lt c.set-item.result.answer value ≡ true = subst (λ z. int_lt z value ≡ true)
-            (to_z-of_z w64 c.set-item.result.answer fits) c.if-set-answer.true in
+    (to_z-of_z w64 c.set-item.result.answer fits) c.if-set-answer.true in
     let lower : c.set-item.result.answer <ℤ value = omega (arith, ints, low) in
     let descend = subst (λ l. Descend (answers_of l)) (sym (from_place place least)) (descend_from place least c.requires.descend) in
     let none = none_from_lower rows value part c.loop-set.set-index c.set-item.result c.loop-set-test.true c.set-item.is descend lower c.loop-set.invariant in
@@ -40,9 +40,11 @@ returns-then-is_within c =
     let part = take (length least - place) (drop place least) in
     let value : ℤ = to_z w64 (of_z w64 c.args.answer) in
     let others : c.flip.new.self.list ≡ complement c.flip.new.self.n rows = c.flip.ensures.others ∙ ap (λ m. complement m rows) (sym c.flip.ensures.n) in
-    let found : HasWithin (answers_of part) rows value =
-    (answer_of c.set-item.result, one_here part c.loop-set.set-index c.set-item.result c.loop-set-test.true c.set-item.is,
-        (c.is_within.ensures rows others).0 c.if-is_within.true) in
+    let found : HasWithin (answers_of part) rows value = (
+      answer_of c.set-item.result,
+      one_here part c.loop-set.set-index c.set-item.result c.loop-set-test.true c.set-item.is,
+      (c.is_within.ensures rows others).0 c.if-is_within.true,
+    ) in
     subst (λ v. IsTrue true ↔ HasWithin (answers_of least) rows v) (to_z-of_z w64 c.args.answer c.ranges.answer) (
       (λ yes. some_of_all rows value least place (subst (λ l. HasWithin (answers_of l) rows value) (from_place place least) found)),
       (λ is. refl),
@@ -73,7 +75,7 @@ returns c =
     let part = take (length least - place) (drop place least) in
     let value : ℤ = to_z w64 (of_z w64 c.args.answer) in
     let none = subst (λ l. HasWithin (answers_of l) rows value → ⊥)
-            (take_all c.loop-set.set-index part (omega (arith, c.loop-set-test.false)) ∙ from_place place least) c.loop-set.invariant in
+    (take_all c.loop-set.set-index part (omega (arith, c.loop-set-test.false)) ∙ from_place place least) c.loop-set.invariant in
     subst (λ v. IsTrue false ↔ HasWithin (answers_of least) rows v) (to_z-of_z w64 c.args.answer c.ranges.answer) (
       (λ no. absurd (true≢false (sym no))),
       (λ found. absurd (none_of_all rows value least place c.place_of-place.ensures.place.front none found)),

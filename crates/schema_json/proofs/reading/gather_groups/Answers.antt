@@ -12,4 +12,5 @@ returns-in_default c =
     (sym c.in_default.ensures)
 
 pub returns : goal.returns
-returns c = all_columns group_of_entry group_of c.args.list.now c.loop-value.groups.items c.loop-value.value-index c.loop-value.invariant c.loop-value-test.false
+returns c = all_columns group_of_entry group_of c.args.list.now c.loop-value.groups.items c.loop-value.value-index c.loop-value.invariant
+    c.loop-value-test.false

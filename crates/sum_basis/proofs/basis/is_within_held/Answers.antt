@@ -18,7 +18,8 @@ returns-in-Some c =
     let row = set_row form.n c.args.held.now.rows.list in
     let left = rw c.in-Some.is at c.requires.held in
     let list = c.deref.result.now in
-    told_by form form row form.n c.args.held.now.rows.list refl refl refl _ list c.args.reach c.args.shared.now.list (map (λ (s : Rows). s.list) c.args.apart.now)
+    told_by form form row form.n c.args.held.now.rows.list refl refl refl _ list c.args.reach c.args.shared.now.list
+    (map (λ (s : Rows). s.list) c.args.apart.now)
     (λ other grows. by_list form row other grows list (subst (IsNew form.n) (sym c.deref.ensures.value) left.0)
     (subst (λ l. IsNewRow form row (row_of form.n l)) (sym c.deref.ensures.value) left.1)) c.is_within_after.ensures
 

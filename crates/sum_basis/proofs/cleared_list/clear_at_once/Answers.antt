@@ -68,7 +68,8 @@ first_divisor-divisor-requires-clause-second c =
 
 pub first_divisor-divisor-requires-clause-second_small : goal.first_divisor-divisor-requires-clause-second_small
 first_divisor-divisor-requires-clause-second_small c =
-    bounded_at 0 c.args.columns (2 ^ 56) c.args.new.now c.requires.new.listed (small_values c.args.columns c.args.new.now c.requires.new.listed c.requires.new.small)
+    bounded_at 0 c.args.columns (2 ^ 56) c.args.new.now c.requires.new.listed
+    (small_values c.args.columns c.args.new.now c.requires.new.listed c.requires.new.small)
 
 pub combine_over-requires-clause-by : goal.combine_over-requires-clause-by
 combine_over-requires-clause-by c =
@@ -115,7 +116,8 @@ returns c =
     let greatest = greatest_of g c.product-head.result (get_or new 0 none).value c.args.times c.deref.result.now new p by c.ranges.times first.greatest in
     let whole = at_once c.args.columns c.args.row.now new made g c.args.times c.product-head.result c.quotient.result c.requires.kept c.requires.primitive
     c.requires.new c.requires.before c.requires.times
-    (sym (to_z-of_z w128 c.product-head.result p) ∙ product_of c.product-head.result (get_or new 0 none).value c.args.row.now.head p by head c.product-head.ensures.exact)
+    (sym (to_z-of_z w128 c.product-head.result p) ∙ product_of c.product-head.result
+    (get_or new 0 none).value c.args.row.now.head p by head c.product-head.ensures.exact)
     (c.combine_over.ensures.listed done)
     (combined_is (pos g) row new made c.deref-2.result.now (get_or new 0 none).value c.args.times by c.ranges.times c.deref-2.ensures.value
     (c.combine_over.ensures.combined done))

@@ -20,7 +20,8 @@ returns-clause-kept c =
 
 pub take_list-requires-clause-length : goal.take_list-requires-clause-length
 take_list-requires-clause-length c =
-    let all = listed_length 0 c.args.columns (record { place = c.args.row.now.pivot; value = c.clear_into-row.result } ∷ c.clear_into-row.new.out.items) (omega arith)
+    let all = listed_length 0 c.args.columns (record { place = c.args.row.now.pivot; value = c.clear_into-row.result } ∷ c.clear_into-row.new.out.items)
+    (omega arith)
     c.clear_into-row.ensures.listed in
     omega arith
 

@@ -26,7 +26,8 @@ loop-k-preserved c = λ j before mine span.
           subst (λ i. SpansAfter form c.args.left.now (unit_row form.n (pivot (get_or form.rows i [])))) same span in
           elim c.else-not-has.branch [
             | else-not-has-via-then-not-has+then-may_be_alone+else-spans_unit_after w ↦
-                false≢true (sym w.if-spans_unit_after.false ∙ w.spans_unit_after.ensures.1 (subst (λ p. SpansAfter form c.args.left.now (unit_row form.n p)) (sym at) here))
+                false≢true (sym w.if-spans_unit_after.false ∙ w.spans_unit_after.ensures.1
+                (subst (λ p. SpansAfter form c.args.left.now (unit_row form.n p)) (sym at) here))
             | else-not-has-via-then-not-has+else-may_be_alone w ↦
                 w.may_be_alone.ensures (λ yes. false≢true (sym w.if-may_be_alone.false ∙ yes)) here
             | else-not-has-via-else-not-has w ↦
@@ -82,6 +83,7 @@ returns-in-None c = (
       let form = c.args.form.now in
       let rank = c.rank-k-end.ensures.rank in
       absurd (none_at_all form c.rank-k-end.ensures.form c.args.shared.now.list found.0 found.1 found.2
-      (λ j below mine span. c.loop-k.invariant j (let ends = c.loop-k-test.false in omega arith) mine (subst (λ o. SpansAfter form o (unit_row form.n (pivot (get_or form.rows j [])))) (sym c.in-None.is) span))
+      (λ j below mine span. c.loop-k.invariant j (let ends = c.loop-k-test.false in omega arith) mine
+      (subst (λ o. SpansAfter form o (unit_row form.n (pivot (get_or form.rows j [])))) (sym c.in-None.is) span))
       (subst (λ o. SpansAfter form o (unit_row form.n found.0)) c.in-None.is found.3)),
 )

@@ -21,7 +21,8 @@ product-requires-clause-y c =
     rw (to_z-of_z w128 c.args.common c.ranges.common) (let within = c.requires.within in let fits = c.requires.width.1 in omega arith)
 
 -- a product of positive numbers within the width
-within_limit : (n width : ℕ) (new : List FreeEntry) (by common x y p : ℤ) → IsNew n new → by ≡ (get_or new 0 none).value → x ≡ by → y ≡ common → pos 0 <ℤ common →
+within_limit : (n width : ℕ) (new : List FreeEntry) (by common x y p : ℤ) → IsNew n new → by ≡ (get_or new 0 none).value → x ≡ by → y ≡ common →
+    pos 0 <ℤ common →
     p ≡ x *ℤ y → p ≤ℤ pos width → unsigned_abs (get_or new 0 none).value * unsigned_abs common ≤ width
 within_limit n width new by common x y p is_new e f g positive is most =
     let led = is_led n new is_new.some is_new.listed in

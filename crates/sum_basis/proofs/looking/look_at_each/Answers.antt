@@ -48,7 +48,8 @@ clear_aside-requires-clause-primitive c =
 
 pub clear_aside-requires-clause-within : goal.clear_aside-requires-clause-within
 clear_aside-requires-clause-within c =
-    of_whole_row (IsWithin c.args.width) c.args.columns c.args.rows.now c.loop-row.row-index c.row-item.result c.loop-row-test.true c.row-item.is c.requires.form.entries
+    of_whole_row (IsWithin c.args.width) c.args.columns c.args.rows.now c.loop-row.row-index c.row-item.result c.loop-row-test.true c.row-item.is
+    c.requires.form.entries
 
 pub clear_aside-requires-clause-zero : goal.clear_aside-requires-clause-zero
 clear_aside-requires-clause-zero c =
@@ -68,7 +69,8 @@ returns-in_default-clause-foresees c =
     (cleared_at n (row_of n c.args.new.now) rows c.loop-row.row-index c.row-item.result all.0 c.loop-row-test.true c.row-item.is all.1) all.2
 
 -- a positive pivot entry of a row within the width
-head_within : (n width : ℕ) (head : ℤ) (made : List ℤ) → width ≤ 2 ^ 56 → IsPrimitive n made → IsWithin width made → head ≡ pivot_entry made → (pos 0 <ℤ head) × (head ≤ℤ pos (2 ^ 56))
+head_within : (n width : ℕ) (head : ℤ) (made : List ℤ) → width ≤ 2 ^ 56 → IsPrimitive n made → IsWithin width made → head ≡ pivot_entry made → (pos 0 <ℤ head) ×
+    (head ≤ℤ pos (2 ^ 56))
 head_within n width head made fits p within e =
     let positive : pos 0 <ℤ head = subst (λ z. pos 0 <ℤ z) (sym e) p.leading in
     let size : unsigned_abs head ≤ width = rw e (within_at width made (pivot made) within) in
@@ -79,7 +81,8 @@ pub lcm_within-requires-clause-b : goal.lcm_within-requires-clause-b
 lcm_within-requires-clause-b c =
     let head : FitsSigned w128 c.in-Some.cleared.head = search rules in
     let all = rw c.in-Some.is at c.clear_aside.ensures.cleared in
-    rw (to_z-of_z w128 c.in-Some.cleared.head head) (head_within c.args.columns c.args.width c.in-Some.cleared.head all.0 c.requires.width.1 all.1.primitive all.2.0 all.2.1)
+    rw (to_z-of_z w128 c.in-Some.cleared.head head)
+    (head_within c.args.columns c.args.width c.in-Some.cleared.head all.0 c.requires.width.1 all.1.primitive all.2.0 all.2.1)
 
 -- the multiple of the two numbers as they are
 multiple_of : (common head : ℤ) (made : List ℤ) (m : ℕ) → FitsSigned w128 head → head ≡ pivot_entry made →

@@ -26,7 +26,8 @@ start : (n width : ℕ) (rows : List SparseRow) (new : List FreeEntry) → IsNew
     IsGlanced n width (rows_of n rows) (row_of n new) 0 (nat_eq (length new) 1)
 start n width rows new is_new =
     let lone = lone_new n new is_new in
-    nothing_glanced n width (rows_of n rows) (row_of n new) (nat_eq (length new) 1) (λ t. lone.0 (eqb-true (length new) 1 t), λ is. eq-eqb (length new) 1 (lone.1 is))
+    nothing_glanced n width (rows_of n rows) (row_of n new) (nat_eq (length new) 1)
+    (λ t. lone.0 (eqb-true (length new) 1 t), λ is. eq-eqb (length new) 1 (lone.1 is))
 
 pub loop-row-init : goal.loop-row-init
 loop-row-init c =
@@ -47,7 +48,8 @@ look_at-requires-clause-primitive c =
 
 pub look_at-requires-clause-within : goal.look_at-requires-clause-within
 look_at-requires-clause-within c =
-    of_whole_row (IsWithin c.args.width) c.args.columns c.args.rows.now c.loop-row.row-index c.row-item.result c.loop-row-test.true c.row-item.is c.requires.form.entries
+    of_whole_row (IsWithin c.args.width) c.args.columns c.args.rows.now c.loop-row.row-index c.row-item.result c.loop-row-test.true c.row-item.is
+    c.requires.form.entries
 
 pub look_at-requires-clause-zero : goal.look_at-requires-clause-zero
 look_at-requires-clause-zero c =
@@ -63,7 +65,8 @@ loop-row-preserved c =
     let all = rw c.in-Some.is at c.look_at.ensures.cleared in
     record {
       glanced =
-          one_more_glanced n c.args.width (rows_of n rows) (row_of n c.args.new.now) c.loop-row.row-index c.loop-row.fixing all.0 c.in-Some.lone c.either-fixing.result
+          one_more_glanced n c.args.width (rows_of n rows) (row_of n c.args.new.now) c.loop-row.row-index c.loop-row.fixing all.0 c.in-Some.lone
+          c.either-fixing.result
           (row_within n rows c.loop-row.row-index c.loop-row-test.true) c.loop-row.invariant.glanced
           (cleared_at n (row_of n c.args.new.now) rows c.loop-row.row-index c.row-item.result all.0 c.loop-row-test.true c.row-item.is all.1) all.2.0 all.2.1
           c.either-fixing.ensures;
@@ -86,7 +89,8 @@ returns-in_default-clause-foresees c =
     let rows = c.args.rows.now in
     let form : Echelon = record { n = n; width = c.args.width; rows = rows_of n rows } in
     let all = rw c.in_default.is at c.look_at.ensures.cleared in
-    let l = looked n c.args.width (rows_of n rows) c.args.new.now c.loop-row.row-index c.loop-row.fixing c.requires.new c.requires.multiple c.loop-row.invariant.glanced in
+    let l = looked n c.args.width (rows_of n rows) c.args.new.now c.loop-row.row-index c.loop-row.fixing c.requires.new c.requires.multiple
+    c.loop-row.invariant.glanced in
     looked_large form (row_of n c.args.new.now) c.requires.form c.requires.new.primitive c.requires.zero c.loop-row.row-index l.0 c.loop-row.fixing all.0
     (row_within n rows c.loop-row.row-index c.loop-row-test.true) l.1
     (cleared_at n (row_of n c.args.new.now) rows c.loop-row.row-index c.row-item.result all.0 c.loop-row-test.true c.row-item.is all.1) all.2
@@ -97,7 +101,8 @@ returns-then-fixing-clause-foresees c =
     let rows = c.args.rows.now in
     let form : Echelon = record { n = n; width = c.args.width; rows = rows_of n rows } in
     let past : length form.rows ≤ c.loop-row.row-index = let l = length-map rows (λ (x : SparseRow). row_of n (entries_of x)) in omega arith in
-    let l = looked n c.args.width (rows_of n rows) c.args.new.now c.loop-row.row-index c.loop-row.fixing c.requires.new c.requires.multiple c.loop-row.invariant.glanced in
+    let l = looked n c.args.width (rows_of n rows) c.args.new.now c.loop-row.row-index c.loop-row.fixing c.requires.new c.requires.multiple
+    c.loop-row.invariant.glanced in
     let new = row_of n c.args.new.now in (
       foreseen form new c.requires.form c.requires.new.primitive c.requires.zero c.loop-row.row-index l.0 c.loop-row.fixing past l.1 c.requires.new_within,
       looked_grows form new c.requires.form c.requires.new.primitive c.requires.zero c.loop-row.row-index l.0 c.loop-row.fixing past l.1 c.requires.new_within,
@@ -122,7 +127,8 @@ returns-then-greatest_bound-sure-clause-foresees c =
     enough (k + 1) rows c.requires.kept c.requires.form.primitive c.requires.form.entries c.requires.zero
     (bounded_by_more c.args.greatest_bound c.sure_bound-sure.result c.if-greatest_bound-sure.true rows c.requires.greatest_bound) in
     let end = length form.rows in
-    let l = looked n c.args.width form.rows c.args.new.now end true c.requires.new c.requires.multiple (glanced_to_end n c.args.width form.rows new (k + 1) rest.0 first rest.1 rest.2) in (
+    let l = looked n c.args.width form.rows c.args.new.now end true c.requires.new c.requires.multiple
+    (glanced_to_end n c.args.width form.rows new (k + 1) rest.0 first rest.1 rest.2) in (
       foreseen form new c.requires.form c.requires.new.primitive c.requires.zero end l.0 true (omega arith) l.1 c.requires.new_within,
       looked_grows form new c.requires.form c.requires.new.primitive c.requires.zero end l.0 true (omega arith) l.1 c.requires.new_within,
       looked_fixing form new c.requires.form c.requires.new.primitive c.requires.zero end l.0 true (omega arith) l.1 c.requires.new_within refl,
@@ -134,7 +140,8 @@ returns-then-new-eq1-clause-foresees c =
     let rows = c.args.rows.now in
     let form : Echelon = record { n = n; width = c.args.width; rows = rows_of n rows } in
     let new = row_of n c.args.new.now in
-    let made = all_cleared_within n c.args.width c.args.new.now c.requires.new c.if-new-eq1.true rows c.requires.kept c.requires.form.primitive c.requires.form.entries
+    let made = all_cleared_within n c.args.width c.args.new.now c.requires.new c.if-new-eq1.true rows c.requires.kept c.requires.form.primitive
+    c.requires.form.entries
     c.requires.zero in
     let all = length form.rows in
     let l = looked n c.args.width (rows_of n rows) c.args.new.now all true c.requires.new c.requires.multiple
@@ -150,7 +157,8 @@ returns-else-fixing-clause-foresees c =
     let rows = c.args.rows.now in
     let form : Echelon = record { n = n; width = c.args.width; rows = rows_of n rows } in
     let past : length form.rows ≤ c.loop-row.row-index = let l = length-map rows (λ (x : SparseRow). row_of n (entries_of x)) in omega arith in
-    let l = looked n c.args.width (rows_of n rows) c.args.new.now c.loop-row.row-index c.loop-row.fixing c.requires.new c.requires.multiple c.loop-row.invariant.glanced in
+    let l = looked n c.args.width (rows_of n rows) c.args.new.now c.loop-row.row-index c.loop-row.fixing c.requires.new c.requires.multiple
+    c.loop-row.invariant.glanced in
     let new = row_of n c.args.new.now in (
       foreseen form new c.requires.form c.requires.new.primitive c.requires.zero c.loop-row.row-index l.0 c.loop-row.fixing past l.1 c.requires.new_within,
       looked_grows form new c.requires.form c.requires.new.primitive c.requires.zero c.loop-row.row-index l.0 c.loop-row.fixing past l.1 c.requires.new_within,

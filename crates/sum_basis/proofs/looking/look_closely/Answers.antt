@@ -70,7 +70,11 @@ times_small n r place list found times kept small l is e = rw (e, is, l) (entry_
 pub is_surely_within-requires : goal.is_surely_within-requires
 is_surely_within-requires c =
     let fits : FitsSigned w128 (get_or c.args.new.now 0 (record { place = 0; value = pos 0 })).value = search rules in
-    record { width = c.requires.width.1; by = first_small c.args.columns c.args.new.now _ c.requires.new (to_z-of_z w128 (get_or c.args.new.now 0 none).value fits) }
+    record {
+      width = c.requires.width.1;
+      by = first_small c.args.columns c.args.new.now _ c.requires.new
+          (to_z-of_z w128 (get_or c.args.new.now 0 none).value fits);
+    }
 
 pub are_parallel-requires-clause-first : goal.are_parallel-requires-clause-first
 are_parallel-requires-clause-first c =

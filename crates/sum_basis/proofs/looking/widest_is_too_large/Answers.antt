@@ -16,7 +16,8 @@ clear_aside-requires-clause-primitive c =
 
 pub clear_aside-requires-clause-within : goal.clear_aside-requires-clause-within
 clear_aside-requires-clause-within c =
-    of_whole_row (IsWithin c.args.width) c.args.columns c.args.rows.now c.widest-k.result c.index-rows-k.result c.if-k-rows.false c.index-rows-k.is c.requires.form.entries
+    of_whole_row (IsWithin c.args.width) c.args.columns c.args.rows.now c.widest-k.result c.index-rows-k.result c.if-k-rows.false c.index-rows-k.is
+    c.requires.form.entries
 
 pub clear_aside-requires-clause-zero : goal.clear_aside-requires-clause-zero
 clear_aside-requires-clause-zero c =

@@ -159,7 +159,8 @@ append-requires-2-clause-room c =
     let same : length c.append.new.out.items ≡ length (c.loop-i.out.items ++ map (scaled c.args.by.now) (drop c.loop-i.i c.args.first.now)) =
     ap length (c.append.ensures.items ∙ ap (λ l. c.loop-i.out.items ++ map (scaled (to_z w128 (of_z w128 c.args.by.now))) l)
     (end_is c.args.first.now c.loop-i.i)
-    ∙ ap (λ z. c.loop-i.out.items ++ map (scaled z) (drop c.loop-i.i c.args.first.now)) (to_z-of_z w128 c.args.by.now (limit_fits c.args.by.now c.requires.by))) in
+    ∙ ap (λ z. c.loop-i.out.items ++ map (scaled z) (drop c.loop-i.i c.args.first.now))
+    (to_z-of_z w128 c.args.by.now (limit_fits c.args.by.now c.requires.by))) in
     let len = c.append.new.out.ok.0 in
     let cap = c.append.ensures.capacity in
     let before = c.loop-i.invariant.capacity in

@@ -36,7 +36,8 @@ returns-clause-exact c =
     (difference_fits c.args.by c.args.x c.args.times c.args.y c.requires.by c.requires.x c.requires.times c.requires.y))
 
 -- how large it can be
-size : (a b x y : ℤ) → unsigned_abs a ≤ 2 ^ 56 → unsigned_abs b ≤ 2 ^ 56 → unsigned_abs x ≤ 2 ^ 56 → unsigned_abs y ≤ 2 ^ 56 → unsigned_abs (a *ℤ b -ℤ x *ℤ y) ≤ 2 ^ 113
+size : (a b x y : ℤ) → unsigned_abs a ≤ 2 ^ 56 → unsigned_abs b ≤ 2 ^ 56 → unsigned_abs x ≤ 2 ^ 56 → unsigned_abs y ≤ 2 ^ 56 →
+    unsigned_abs (a *ℤ b -ℤ x *ℤ y) ≤ 2 ^ 113
 size a b x y p q r s = let one = product_small a b p q in let two = product_small x y r s in omega (arith, ints)
 
 pub returns-clause-small : goal.returns-clause-small

@@ -14,7 +14,8 @@ use Rattle.sum_basis.proofs.over_divisor.combine_over.Goals as goal
 
 pub put_over-requires-clause-room : goal.put_over-requires-clause-room
 put_over-requires-clause-room c =
-    let free = out_room c.args.columns _ c.args.first.now _ c.args.second.now (map (scaled (pos c.args.divisor.now)) c.loop-i.out.items) c.loop-i.i c.loop-i.j c.loop-i.invariant.merging
+    let free = out_room c.args.columns _ c.args.first.now _ c.args.second.now
+    (map (scaled (pos c.args.divisor.now)) c.loop-i.out.items) c.loop-i.i c.loop-i.j c.loop-i.invariant.merging
     c.loop-i-test.true c.if-j-second.true in
     let same = length-map c.loop-i.out.items (scaled (pos c.args.divisor.now)) in
     let len = c.loop-i.out.ok.0 in
@@ -24,7 +25,8 @@ put_over-requires-clause-room c =
 
 pub put_over-requires-then-other-one-clause-room : goal.put_over-requires-then-other-one-clause-room
 put_over-requires-then-other-one-clause-room c =
-    let free = out_room c.args.columns _ c.args.first.now _ c.args.second.now (map (scaled (pos c.args.divisor.now)) c.loop-i.out.items) c.loop-i.i c.loop-i.j c.loop-i.invariant.merging
+    let free = out_room c.args.columns _ c.args.first.now _ c.args.second.now
+    (map (scaled (pos c.args.divisor.now)) c.loop-i.out.items) c.loop-i.i c.loop-i.j c.loop-i.invariant.merging
     c.loop-i-test.true c.if-j-second.true in
     let same = length-map c.loop-i.out.items (scaled (pos c.args.divisor.now)) in
     let len = c.loop-i.out.ok.0 in
@@ -34,7 +36,8 @@ put_over-requires-then-other-one-clause-room c =
 
 pub put_over-requires-else-other-one-clause-room : goal.put_over-requires-else-other-one-clause-room
 put_over-requires-else-other-one-clause-room c =
-    let free = out_room c.args.columns _ c.args.first.now _ c.args.second.now (map (scaled (pos c.args.divisor.now)) c.loop-i.out.items) c.loop-i.i c.loop-i.j c.loop-i.invariant.merging
+    let free = out_room c.args.columns _ c.args.first.now _ c.args.second.now
+    (map (scaled (pos c.args.divisor.now)) c.loop-i.out.items) c.loop-i.i c.loop-i.j c.loop-i.invariant.merging
     c.loop-i-test.true c.if-j-second.true in
     let same = length-map c.loop-i.out.items (scaled (pos c.args.divisor.now)) in
     let len = c.loop-i.out.ok.0 in
@@ -48,7 +51,8 @@ loop-i-preserved-then-one-other c =
     let v : FitsSigned w128 c.product.result = search rules in
     record {
       merging = rw (c.put_over.ensures.items c.if-not-put_over.false)
-          (first_merged c.args.columns _ c.args.first.now _ c.args.second.now (map (scaled (pos c.args.divisor.now)) c.loop-i.out.items) c.loop-i.i c.loop-i.j c.loop-i.invariant.merging
+          (first_merged c.args.columns _ c.args.first.now _ c.args.second.now (map (scaled (pos c.args.divisor.now)) c.loop-i.out.items) c.loop-i.i c.loop-i.j
+          c.loop-i.invariant.merging
           c.loop-i-test.true c.if-j-second.true _ c.if-one-other.true (product_of _ _ _ v (limit_fits c.args.by.now c.requires.by) x c.product.ensures.exact));
       capacity = c.put_over.ensures.capacity ∙ c.loop-i.invariant.capacity;
     }
@@ -59,7 +63,8 @@ loop-i-preserved-then-other-one c =
     let v : FitsSigned w128 c.product-then-other-one.result = search rules in
     record {
       merging = rw (c.put_over-then-other-one.ensures.items c.if-not-put_over-2.false)
-          (second_merged c.args.columns _ c.args.first.now _ c.args.second.now (map (scaled (pos c.args.divisor.now)) c.loop-i.out.items) c.loop-i.i c.loop-i.j c.loop-i.invariant.merging
+          (second_merged c.args.columns _ c.args.first.now _ c.args.second.now (map (scaled (pos c.args.divisor.now)) c.loop-i.out.items) c.loop-i.i c.loop-i.j
+          c.loop-i.invariant.merging
           c.loop-i-test.true c.if-j-second.true _ c.if-other-one.true (turned_product_of _ _ _ v c.requires.times y c.product-then-other-one.ensures.exact));
       capacity = c.put_over-then-other-one.ensures.capacity ∙ c.loop-i.invariant.capacity;
     }
@@ -73,8 +78,10 @@ loop-i-preserved c =
     let down = c.if-other-one.false in
     record {
       merging = rw (c.put_over-else-other-one.ensures.items c.if-not-put_over-3.false)
-          (both_merged c.args.columns _ c.args.first.now _ c.args.second.now (map (scaled (pos c.args.divisor.now)) c.loop-i.out.items) c.loop-i.i c.loop-i.j c.loop-i.invariant.merging
-          c.loop-i-test.true c.if-j-second.true _ (omega arith) (difference_of _ _ _ _ _ v c.requires.by x c.requires.times y c.difference-value.ensures.exact));
+          (both_merged c.args.columns _ c.args.first.now _ c.args.second.now (map (scaled (pos c.args.divisor.now)) c.loop-i.out.items) c.loop-i.i c.loop-i.j
+          c.loop-i.invariant.merging
+          c.loop-i-test.true c.if-j-second.true _ (omega arith)
+          (difference_of _ _ _ _ _ v c.requires.by x c.requires.times y c.difference-value.ensures.exact));
       capacity = c.put_over-else-other-one.ensures.capacity ∙ c.loop-i.invariant.capacity;
     }
 
@@ -86,7 +93,8 @@ append_over-requires-clause-room c =
           inr (omega arith)
       | else-loop-i-test w ↦ let past = w.loop-i-test.false in inl (omega arith)
     ] in
-    let enough = part_length c.args.columns _ c.args.first.now _ c.args.second.now (map (scaled (pos c.args.divisor.now)) c.loop-i.out.items) c.loop-i.i c.loop-i.j c.loop-i.invariant.merging over
+    let enough = part_length c.args.columns _ c.args.first.now _ c.args.second.now
+    (map (scaled (pos c.args.divisor.now)) c.loop-i.out.items) c.loop-i.i c.loop-i.j c.loop-i.invariant.merging over
     c.requires.by_some c.requires.times_some in
     let same = length-map c.loop-i.out.items (scaled (pos c.args.divisor.now)) in
     let len = c.loop-i.out.ok.0 in
@@ -103,13 +111,16 @@ append_over-requires-2-clause-room c =
           inr (omega arith)
       | else-loop-i-test w ↦ let past = w.loop-i-test.false in inl (omega arith)
     ] in
-    let enough = whole_length c.args.columns _ c.args.first.now _ c.args.second.now (map (scaled (pos c.args.divisor.now)) c.loop-i.out.items) c.loop-i.i c.loop-i.j c.loop-i.invariant.merging over
+    let enough = whole_length c.args.columns _ c.args.first.now _ c.args.second.now
+    (map (scaled (pos c.args.divisor.now)) c.loop-i.out.items) c.loop-i.i c.loop-i.j c.loop-i.invariant.merging over
     c.requires.by_some c.requires.times_some in
-    let same : length c.append_over.new.out.items ≡ length (map (scaled g) c.loop-i.out.items ++ map (scaled c.args.by.now) (drop c.loop-i.i c.args.first.now)) =
+    let same : length c.append_over.new.out.items ≡ length
+    (map (scaled g) c.loop-i.out.items ++ map (scaled c.args.by.now) (drop c.loop-i.i c.args.first.now)) =
     sym (length-map c.append_over.new.out.items (scaled g))
     ∙ ap length (c.append_over.ensures.items c.if-not-append_over.false
     ∙ ap (λ l. map (scaled g) c.loop-i.out.items ++ map (scaled (to_z w128 (of_z w128 c.args.by.now))) l) (end_is c.args.first.now c.loop-i.i)
-    ∙ ap (λ z. map (scaled g) c.loop-i.out.items ++ map (scaled z) (drop c.loop-i.i c.args.first.now)) (to_z-of_z w128 c.args.by.now (limit_fits c.args.by.now c.requires.by))) in
+    ∙ ap (λ z. map (scaled g) c.loop-i.out.items ++ map (scaled z) (drop c.loop-i.i c.args.first.now))
+    (to_z-of_z w128 c.args.by.now (limit_fits c.args.by.now c.requires.by))) in
     let len = c.append_over.new.out.ok.0 in
     let cap = c.append_over.ensures.capacity in
     let before = c.loop-i.invariant.capacity in
@@ -130,7 +141,8 @@ returns-clause-listed c = λ done.
     c.args.times.now c.loop-i.i c.loop-i.j c.requires.by c.requires.times
     (c.append_over.ensures.items c.if-not-append_over.false) (c.append_over-2.ensures.items done) in
     listed_scaled g 0 c.args.columns c.append_over-2.new.out.items (rw is
-    (whole_listed c.args.columns _ c.args.first.now _ c.args.second.now (map (scaled (pos c.args.divisor.now)) c.loop-i.out.items) c.loop-i.i c.loop-i.j c.loop-i.invariant.merging over
+    (whole_listed c.args.columns _ c.args.first.now _ c.args.second.now (map (scaled (pos c.args.divisor.now)) c.loop-i.out.items) c.loop-i.i c.loop-i.j
+    c.loop-i.invariant.merging over
     c.requires.by_some c.requires.times_some))
 
 pub returns-clause-combined : goal.returns-clause-combined
@@ -148,5 +160,6 @@ returns-clause-combined c = λ done k.
     (c.append_over.ensures.items c.if-not-append_over.false) (c.append_over-2.ensures.items done) in
     sym (entry_at-scaled g c.append_over-2.new.out.items k)
     ∙ ap (λ l. entry_at l k) is
-    ∙ whole_is c.args.columns _ c.args.first.now _ c.args.second.now (map (scaled (pos c.args.divisor.now)) c.loop-i.out.items) c.loop-i.i c.loop-i.j c.loop-i.invariant.merging over
+    ∙ whole_is c.args.columns _ c.args.first.now _ c.args.second.now (map (scaled (pos c.args.divisor.now)) c.loop-i.out.items) c.loop-i.i c.loop-i.j
+    c.loop-i.invariant.merging over
     c.requires.by_some c.requires.times_some k

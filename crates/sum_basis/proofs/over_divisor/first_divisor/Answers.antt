@@ -14,7 +14,12 @@ pub loop-k-init : goal.loop-k-init
 loop-k-init c =
     let same = to_z-of_z w128 c.args.head c.ranges.head in
     let is = c.new-divisor.ensures ∙ ap unsigned_abs same in
-    rw (same, is) (record { divides = dvd_refl (unsigned_abs c.args.head); positive = size_positive c.args.head c.requires.head.0; greatest = λ d divides all. divides })
+    rw (same, is) (record {
+      divides = dvd_refl (unsigned_abs c.args.head);
+      positive = size_positive c.args.head c.requires.head.0;
+      greatest =
+          λ d divides all. divides;
+    })
 
 -- the number of a place, as the code has it
 number_is : (number by x times y a b : ℤ) → FitsSigned w128 number → FitsSigned w128 x → FitsSigned w128 y → x ≡ a → y ≡ b
@@ -40,7 +45,8 @@ loop-k-preserved c =
     }
 
 pub returns-then-is_one-clause-divides : goal.returns-then-is_one-clause-divides
-returns-then-is_one-clause-divides c = subst (λ (z : ℤ). c.loop-k.divisor ∣ unsigned_abs z) (to_z-of_z w128 c.args.head c.ranges.head) c.loop-k.invariant.divides
+returns-then-is_one-clause-divides c = subst (λ (z : ℤ). c.loop-k.divisor ∣ unsigned_abs z)
+    (to_z-of_z w128 c.args.head c.ranges.head) c.loop-k.invariant.divides
 
 pub returns-then-is_one-clause-greatest : goal.returns-then-is_one-clause-greatest
 returns-then-is_one-clause-greatest c =

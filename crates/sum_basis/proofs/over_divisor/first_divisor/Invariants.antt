@@ -8,5 +8,6 @@ abbrev pub invariant-loop-k : goal.invariant-loop-k
 invariant-loop-k l = record {
   divides : l.divisor ∣ unsigned_abs l.fn.head;
   positive : 0 < l.divisor;
-  greatest : (d : ℕ) → d ∣ unsigned_abs l.fn.head → ((j : ℕ) → d ∣ unsigned_abs (l.fn.by *ℤ entry_at l.first j -ℤ l.fn.times *ℤ entry_at l.second j)) → d ∣ l.divisor;
+  greatest : (d : ℕ) → d ∣ unsigned_abs l.fn.head → ((j : ℕ) → d ∣ unsigned_abs (l.fn.by *ℤ entry_at l.first j -ℤ l.fn.times *ℤ entry_at l.second j)) →
+      d ∣ l.divisor;
 }

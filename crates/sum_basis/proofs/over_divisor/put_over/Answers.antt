@@ -10,6 +10,7 @@ pub returns-clause-items : goal.returns-clause-items
 returns-clause-items c = λ yes.
     let fits : FitsSigned w128 c.in-Some.quotient = search rules in
     let out = c.args.out.now.items in
-    put_scaled (pos c.args.divisor.now) c.in-Some.quotient c.args.value c.args.place out c.put.new.out.items (some_divisor c.args.divisor.now c.requires.positive)
+    put_scaled (pos c.args.divisor.now) c.in-Some.quotient c.args.value c.args.place out c.put.new.out.items
+    (some_divisor c.args.divisor.now c.requires.positive)
     (sym (to_z-of_z w128 c.args.value c.ranges.value) ∙ c.in-Some.ensures)
     (c.put.ensures.items ∙ ap (λ v. cond (is_zero v) out (out ++ record { place = c.args.place; value = v } ∷ [])) (to_z-of_z w128 c.in-Some.quotient fits))

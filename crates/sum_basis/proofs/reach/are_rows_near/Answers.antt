@@ -60,7 +60,8 @@ loop-k-preserved c =
         | inr other ↦ c.loop-k.invariant.near grown is m (let b = before in omega (arith, other)) own
       ];
       room = elim c.else-not-has.branch [
-        | else-not-has-via-then-not-has+else-not-is_near_row w ↦ subst (λ r. c.columns-columns.result ≤ vec_capacity r) (sym w.room-is) w.is_near_row.ensures.room
+        | else-not-has-via-then-not-has+else-not-is_near_row w ↦ subst (λ r. c.columns-columns.result ≤ vec_capacity r)
+            (sym w.room-is) w.is_near_row.ensures.room
         | else-not-has-via-else-not-has w ↦ subst (λ r. c.columns-columns.result ≤ vec_capacity r) (sym w.room-is) c.loop-k.invariant.room
       ];
     }

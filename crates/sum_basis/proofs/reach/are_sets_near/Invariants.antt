@@ -8,5 +8,6 @@ use Rattle.sum_basis.proofs.reach.are_sets_near.Given as goal
 abbrev pub invariant-loop-set : goal.invariant-loop-set
 invariant-loop-set l = record {
   long : length l.row ≡ l.form.n;
-  near : (grown : List (List ℤ)) → IsGrownBy l.form l.new grown → AllWithin (λ s. IsReached l.form.n l.reach grown (λ w. sum_over w s.list)) l.sets 0 l.set-index;
+  near : (grown : List (List ℤ)) → IsGrownBy l.form l.new grown → AllWithin
+      (λ s. IsReached l.form.n l.reach grown (λ w. sum_over w s.list)) l.sets 0 l.set-index;
 }

@@ -13,12 +13,14 @@ loop-k-init c =
       long = omega (arith, c.requires.counts, c.columns-columns.ensures.columns);
       few = λ j. let first = c.requires.first j in let most = one_at_most (rest_at c.args.new.now j) in omega arith;
       counted = λ grown is.
-          first_counts form.n form.rows c.args.new.now grown (has_grown form c.args.new.now grown c.columns-columns.ensures.form c.requires.new is) c.args.counts.now c.requires.first;
+          first_counts form.n form.rows c.args.new.now grown (has_grown form c.args.new.now grown c.columns-columns.ensures.form c.requires.new is)
+          c.args.counts.now c.requires.first;
       room = omega (arith, c.requires.room, c.columns-columns.ensures.columns);
     }
 
 pub tally_row-requires-clause-few : goal.tally_row-requires-clause-few
-tally_row-requires-clause-few c = λ j. let few = c.loop-k.invariant.few j in omega (arith, c.columns-columns.ensures.at_most, c.rank-k-end.ensures.at_most, c.rank-k-end.ensures.rank)
+tally_row-requires-clause-few c = λ j. let few = c.loop-k.invariant.few j in
+    omega (arith, c.columns-columns.ensures.at_most, c.rank-k-end.ensures.at_most, c.rank-k-end.ensures.rank)
 
 pub tally_row-requires-clause-free : goal.tally_row-requires-clause-free
 tally_row-requires-clause-free c =
@@ -49,6 +51,7 @@ loop-k-preserved c =
 pub returns-clause-counted : goal.returns-clause-counted
 returns-clause-counted c = λ grown is.
     let form = c.args.form.now in
-    all_counts form.n form.rows c.args.new.now grown (has_grown form c.args.new.now grown c.columns-columns.ensures.form c.requires.new is) c.loop-k.k c.loop-k.counts
+    all_counts form.n form.rows c.args.new.now grown (has_grown form c.args.new.now grown c.columns-columns.ensures.form c.requires.new is) c.loop-k.k
+    c.loop-k.counts
     (let ends = c.loop-k-test.false in omega (arith, c.rank-k-end.ensures.rank)) (c.loop-k.invariant.long ∙ c.columns-columns.ensures.columns)
     (c.loop-k.invariant.counted grown is)

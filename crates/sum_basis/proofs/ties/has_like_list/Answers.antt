@@ -19,10 +19,12 @@ pub loop-other-preserved : goal.loop-other-preserved
 loop-other-preserved c = λ h.
     none_like (take c.loop-other.other-index c.args.front.now) c.args.row.now c.other-item.result c.loop-other.invariant
     (λ like. absurd (true≢false (sym (c.are_like_lists.ensures.1 like) ∙ c.if-are_like_lists.false)))
-    (subst (λ l. HasLikeList l c.args.row.now) (one_taken c.args.front.now c.loop-other.other-index c.other-item.result c.loop-other-test.true c.other-item.is) h)
+    (subst (λ l. HasLikeList l c.args.row.now) (one_taken c.args.front.now c.loop-other.other-index c.other-item.result c.loop-other-test.true c.other-item.is)
+    h)
 
 pub returns : goal.returns
 returns c = (
   λ yes. absurd (true≢false (sym yes)),
-  λ h. absurd (c.loop-other.invariant (subst (λ l. HasLikeList l c.args.row.now) (sym (take_all c.loop-other.other-index c.args.front.now (omega (arith, c.loop-other-test.false)))) h)),
+  λ h. absurd (c.loop-other.invariant (subst (λ l. HasLikeList l c.args.row.now)
+      (sym (take_all c.loop-other.other-index c.args.front.now (omega (arith, c.loop-other-test.false)))) h)),
 )

@@ -14,25 +14,30 @@ is_not false e = refl
 pub returns-then-has : goal.returns-then-has
 returns-then-has c = (
   λ no. absurd (true≢false (sym no)),
-  λ short. absurd (true≢false (sym c.if-has.true ∙ c.has.ensures ∙ short_out c.args.several.now.n c.args.several.now.list c.args.row.now c.requires.kept short)),
+  λ short. absurd (true≢false (sym c.if-has.true ∙ c.has.ensures ∙ short_out c.args.several.now.n c.args.several.now.list c.args.row.now c.requires.kept
+      short)),
 )
 
 pub returns-in-0 : goal.returns-in-0
 returns-in-0 c = (
-  λ any. short_none c.args.several.now.n c.args.several.now.list c.args.row.now c.requires.kept (sym c.has.ensures ∙ c.if-has.false) (omega (arith, c.in-0.is, c.len.ensures)),
+  λ any. short_none c.args.several.now.n c.args.several.now.list c.args.row.now c.requires.kept (sym c.has.ensures ∙ c.if-has.false)
+      (omega (arith, c.in-0.is, c.len.ensures)),
   λ any. refl,
 )
 
 pub returns-in-1 : goal.returns-in-1
 returns-in-1 c = (
-  λ yes. short_one c.args.several.now.n c.args.several.now.list c.args.row.now c.requires.kept (sym c.has.ensures ∙ c.if-has.false) (omega (arith, c.in-1.is, c.len.ensures))
+  λ yes. short_one c.args.several.now.n c.args.several.now.list c.args.row.now c.requires.kept (sym c.has.ensures ∙ c.if-has.false)
+      (omega (arith, c.in-1.is, c.len.ensures))
       c.index.result.now c.index.ensures (sym c.has-in-1.ensures ∙ is_out c.has-in-1.result yes),
   λ short. is_not c.has-in-1.result (c.has-in-1.ensures
-      ∙ short_place c.args.several.now.n c.args.several.now.list c.args.row.now c.requires.kept short c.index.result.now c.index.ensures (omega (arith, c.in-1.is, c.len.ensures))),
+      ∙ short_place c.args.several.now.n c.args.several.now.list c.args.row.now c.requires.kept short c.index.result.now c.index.ensures
+      (omega (arith, c.in-1.is, c.len.ensures))),
 )
 
 pub returns-in_default : goal.returns-in_default
 returns-in_default c = (
   λ no. absurd (true≢false (sym no)),
-  λ short. absurd (let few = short_few c.args.several.now.n c.args.several.now.list c.args.row.now c.requires.kept short in omega (arith, few, c.len.ensures, c.in_default)),
+  λ short. absurd (let few = short_few c.args.several.now.n c.args.several.now.list c.args.row.now c.requires.kept short in
+      omega (arith, few, c.len.ensures, c.in_default)),
 )

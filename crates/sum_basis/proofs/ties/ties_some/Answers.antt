@@ -16,11 +16,13 @@ loop-k-init c = λ h. nothing h
     nothing (inr (row, other, among, others, p)) = among
 
 pub has_like_list-requires-clause-front : goal.has_like_list-requires-clause-front
-has_like_list-requires-clause-front c = all_front (λ r. AllByRecursion (λ e. unsigned_abs e.value ≤ 2 ^ 56) r.free.items) c.loop-k.k c.args.rows.now (small_lists c.args.columns c.args.rows.now c.requires.kept c.requires.form.entries)
+has_like_list-requires-clause-front c = all_front (λ r. AllByRecursion (λ e. unsigned_abs e.value ≤ 2 ^ 56) r.free.items) c.loop-k.k c.args.rows.now
+    (small_lists c.args.columns c.args.rows.now c.requires.kept c.requires.form.entries)
 
 pub has_like_list-requires-clause-row : goal.has_like_list-requires-clause-row
 has_like_list-requires-clause-row c =
-    all_there (λ r. AllByRecursion (λ e. unsigned_abs e.value ≤ 2 ^ 56) r.free.items) c.loop-k.k c.args.rows.now c.index-rows-k.result c.loop-k-test.true c.index-rows-k.is
+    all_there (λ r. AllByRecursion (λ e. unsigned_abs e.value ≤ 2 ^ 56) r.free.items) c.loop-k.k c.args.rows.now c.index-rows-k.result c.loop-k-test.true
+    c.index-rows-k.is
     (small_lists c.args.columns c.args.rows.now c.requires.kept c.requires.form.entries)
 
 pub returns-then-len-le1 : goal.returns-then-len-le1
@@ -48,7 +50,8 @@ loop-k-preserved c = λ h.
     let rows = c.args.rows.now in
     let k = c.loop-k.k in
     let r = c.index-rows-k.result in
-    none_with n r (all_there (IsKept n) k rows r c.loop-k-test.true c.index-rows-k.is c.requires.kept) (take k rows) (all_front (IsKept n) k rows c.requires.kept)
+    none_with n r (all_there (IsKept n) k rows r c.loop-k-test.true c.index-rows-k.is c.requires.kept) (take k rows)
+    (all_front (IsKept n) k rows c.requires.kept)
     (stands n rows k r c.loop-k-test.true c.index-rows-k.is c.requires.form.echelon) c.loop-k.invariant (omega (arith, c.if-len-le1.false, c.len.ensures))
     (λ like. absurd (true≢false (sym (c.has_like_list.ensures.1 like) ∙ c.if-has_like_list.false)))
     (subst (λ l. ShowsTie (rows_of n l)) (one_taken rows k r c.loop-k-test.true c.index-rows-k.is) h)

@@ -31,7 +31,8 @@ has_like_list_but-requires-clause-front c = all_front (λ r. AllByRecursion (λ 
 
 pub has_like_list_but-requires-clause-row : goal.has_like_list_but-requires-clause-row
 has_like_list_but-requires-clause-row c =
-    all_there (λ r. AllByRecursion (λ e. unsigned_abs e.value ≤ 2 ^ 56) r.free.items) c.loop-k.k c.args.rows.now c.index-rows-k.result c.loop-k-test.true c.index-rows-k.is
+    all_there (λ r. AllByRecursion (λ e. unsigned_abs e.value ≤ 2 ^ 56) r.free.items) c.loop-k.k c.args.rows.now c.index-rows-k.result c.loop-k-test.true
+    c.index-rows-k.is
     (small_lists c.args.several.now.n c.args.rows.now c.requires.kept c.requires.form.entries)
 
 pub returns-then-is_short_but : goal.returns-then-is_short_but
@@ -51,7 +52,8 @@ loop-k-preserved-then-has c = λ h.
     let rows = c.args.rows.now in
     let k = c.loop-k.k in
     let r = c.index-rows-k.result in
-    none_with n several r (all_there (IsKept n) k rows r c.loop-k-test.true c.index-rows-k.is c.requires.kept) (take k rows) (all_front (IsKept n) k rows c.requires.kept)
+    none_with n several r (all_there (IsKept n) k rows r c.loop-k-test.true c.index-rows-k.is c.requires.kept) (take k rows)
+    (all_front (IsKept n) k rows c.requires.kept)
     (stands n rows k r c.loop-k-test.true c.index-rows-k.is c.requires.form.echelon) c.loop-k.invariant
     (λ short. absurd (true≢false (sym (c.is_short_but.ensures.1 short) ∙ c.if-is_short_but.false)))
     (λ out like. absurd (true≢false (sym c.if-has.true ∙ c.has.ensures ∙ out)))
@@ -85,7 +87,8 @@ loop-k-preserved c = λ h.
     let rows = c.args.rows.now in
     let k = c.loop-k.k in
     let r = c.index-rows-k.result in
-    none_with n several r (all_there (IsKept n) k rows r c.loop-k-test.true c.index-rows-k.is c.requires.kept) (take k rows) (all_front (IsKept n) k rows c.requires.kept)
+    none_with n several r (all_there (IsKept n) k rows r c.loop-k-test.true c.index-rows-k.is c.requires.kept) (take k rows)
+    (all_front (IsKept n) k rows c.requires.kept)
     (stands n rows k r c.loop-k-test.true c.index-rows-k.is c.requires.form.echelon) c.loop-k.invariant
     (λ short. absurd (true≢false (sym (c.is_short_but.ensures.1 short) ∙ c.if-is_short_but.false)))
     (λ out like. absurd (true≢false (sym (c.has_like_list_but.ensures.1 like) ∙ c.if-has_like_list_but.false)))

@@ -21,7 +21,8 @@ bring_up-requires-clause-fit g c =
     let place = c.agreement-place.result in
     let P = λ (s : Shape). λ (r : Answered). FitsShape s r.column r.rows in
     let fit : All (P store.secret.shape) shown =
-    subst (λ (h : List Answered). All (P store.secret.shape) h) (sym c.history-history.ensures.history) (legal_fits (table_of store) store.history c.history-history.ensures.is.legal) in
+    subst (λ (h : List Answered). All (P store.secret.shape) h) (sym c.history-history.ensures.history)
+    (legal_fits (table_of store) store.history c.history-history.ensures.is.legal) in
     subst (λ (s : Shape). All (P s) (take (length shown - place) (drop place shown))) (sym c.requires.other.same_shape)
     (All-take (P store.secret.shape) (length shown - place) (drop place shown) (All-drop (P store.secret.shape) place shown fit))
 
@@ -51,7 +52,8 @@ returns-in-Ok-clause-spare_moments g c = λ whole told quiet meet.
     let here : StandsAt (bench.file old) journal.shape list journal.gate =
     subst (λ (s : Shape). StandsAt (bench.file old) s list journal.gate) (sym shape) (c.requires.spare_stands told) in
     let found = c.bring_up.ensures.any_moment list told here (sym c.requires.other.counted) quiet in
-    while_brought_up bench c.args.store.now.secret.shape list whole old c.bring_up.new.bench lacks (whole_is_main main list whole meet (record { rest = lacks; is = all }) ∙ all)
+    while_brought_up bench c.args.store.now.secret.shape list whole old c.bring_up.new.bench lacks
+    (whole_is_main main list whole meet (record { rest = lacks; is = all }) ∙ all)
     (subst (λ (s : Shape). LeavesOnly bench old c.bring_up.new.bench (IsBroughtUp s list lacks (bench.sent old))) shape found)
 
 pub returns-in-Ok-clause-apart : goal.returns-in-Ok-clause-apart
@@ -80,7 +82,8 @@ returns-in-Err-Failed-clause-spare_moments g c = λ whole told quiet meet.
     let here : StandsAt (bench.file old) journal.shape list journal.gate =
     subst (λ (s : Shape). StandsAt (bench.file old) s list journal.gate) (sym shape) (c.requires.spare_stands told) in
     let found = c.bring_up.ensures.any_moment list told here (sym c.requires.other.counted) quiet in
-    while_brought_up bench c.args.store.now.secret.shape list whole old c.bring_up.new.bench lacks (whole_is_main main list whole meet (record { rest = lacks; is = all }) ∙ all)
+    while_brought_up bench c.args.store.now.secret.shape list whole old c.bring_up.new.bench lacks
+    (whole_is_main main list whole meet (record { rest = lacks; is = all }) ∙ all)
     (subst (λ (s : Shape). LeavesOnly bench old c.bring_up.new.bench (IsBroughtUp s list lacks (bench.sent old))) shape found)
 
 pub returns-in-Err-Failed-clause-apart : goal.returns-in-Err-Failed-clause-apart
@@ -109,7 +112,8 @@ returns-in-Err-NoMemory-clause-spare_moments g c = λ whole told quiet meet.
     let here : StandsAt (bench.file old) journal.shape list journal.gate =
     subst (λ (s : Shape). StandsAt (bench.file old) s list journal.gate) (sym shape) (c.requires.spare_stands told) in
     let found = c.bring_up.ensures.any_moment list told here (sym c.requires.other.counted) quiet in
-    while_brought_up bench c.args.store.now.secret.shape list whole old c.bring_up.new.bench lacks (whole_is_main main list whole meet (record { rest = lacks; is = all }) ∙ all)
+    while_brought_up bench c.args.store.now.secret.shape list whole old c.bring_up.new.bench lacks
+    (whole_is_main main list whole meet (record { rest = lacks; is = all }) ∙ all)
     (subst (λ (s : Shape). LeavesOnly bench old c.bring_up.new.bench (IsBroughtUp s list lacks (bench.sent old))) shape found)
 
 pub returns-in-Err-NoMemory-clause-no_memory : goal.returns-in-Err-NoMemory-clause-no_memory
@@ -155,7 +159,8 @@ returns-then-place-history-clause-differ g c = λ at is.
     let hist : shown ≡ main = c.history-history.ensures.history in
     let here : place ≡ at = cc in
     let within = c.agreement-place.ensures.within in
-    let differ = differ_first shown list place c.agreement-place.ensures.same c.if-place-history.true (omega (arith, within.1, c.if-place-list.false)) c.agreement-place.ensures.differ in
+    let differ = differ_first shown list place c.agreement-place.ensures.same c.if-place-history.true
+    (omega (arith, within.1, c.if-place-list.false)) c.agreement-place.ensures.differ in
     subst (λ (n : ℕ). DifferFirst main list n) here (subst (λ (h : List Answered). DifferFirst h list place) hist differ)
 
 pub returns-then-place-history-clause-moments : goal.returns-then-place-history-clause-moments

@@ -27,12 +27,15 @@ returns-in-Ok-write_whole-clause-moments g c = λ history told lost_told quiet k
     let is = c.in-Ok.ensures.store in
     let same : store.secret.shape ≡ c.args.secret.shape = ap (λ (s : SecretView). s.shape) is.0 in
     let shape : c.shape-shape.result ≡ c.args.secret.shape = c.shape-shape.ensures.shape ∙ same in
-    let stands : StandsFor file c.args.secret.shape store.history = (store.journal.gate, subst (λ (s : Shape). StandsAt file s store.history store.journal.gate) same (c.in-Ok.ensures.stands told)) in
+    let stands : StandsFor file c.args.secret.shape store.history =
+    (store.journal.gate, subst (λ (s : Shape). StandsAt file s store.history store.journal.gate) same (c.in-Ok.ensures.stands told)) in
     let list : c.history.result.now ≡ history = c.history.ensures.history
     ∙ sym (kept_for_one c.one_reading.ensures (secret_table c.args.secret c.args.protected) file history store.history kept stands) in
     let found = c.write_whole.ensures.any_moment lost_told (c.requires.lost lost_told) quiet in
-    subst (λ (h : List Answered). LeavesOnly g.L.Bench c.args.lost.now c.write_whole.new.bench (IsUnmadeOrWhole c.args.secret.shape h (g.L.Bench.sent c.args.lost.now))) list
-    (subst (λ (s : Shape). LeavesOnly g.L.Bench c.args.lost.now c.write_whole.new.bench (IsUnmadeOrWhole s c.history.result.now (g.L.Bench.sent c.args.lost.now))) shape found)
+    subst (λ (h : List Answered). LeavesOnly g.L.Bench c.args.lost.now c.write_whole.new.bench
+    (IsUnmadeOrWhole c.args.secret.shape h (g.L.Bench.sent c.args.lost.now))) list
+    (subst (λ (s : Shape). LeavesOnly g.L.Bench c.args.lost.now c.write_whole.new.bench
+    (IsUnmadeOrWhole s c.history.result.now (g.L.Bench.sent c.args.lost.now))) shape found)
 
 pub returns-in-Err-Failed-clause-moments : goal.returns-in-Err-Failed-clause-moments
 returns-in-Err-Failed-clause-moments g c = λ history told lost_told quiet kept.
@@ -41,12 +44,15 @@ returns-in-Err-Failed-clause-moments g c = λ history told lost_told quiet kept.
     let is = c.in-Ok.ensures.store in
     let same : store.secret.shape ≡ c.args.secret.shape = ap (λ (s : SecretView). s.shape) is.0 in
     let shape : c.shape-shape.result ≡ c.args.secret.shape = c.shape-shape.ensures.shape ∙ same in
-    let stands : StandsFor file c.args.secret.shape store.history = (store.journal.gate, subst (λ (s : Shape). StandsAt file s store.history store.journal.gate) same (c.in-Ok.ensures.stands told)) in
+    let stands : StandsFor file c.args.secret.shape store.history =
+    (store.journal.gate, subst (λ (s : Shape). StandsAt file s store.history store.journal.gate) same (c.in-Ok.ensures.stands told)) in
     let list : c.history.result.now ≡ history = c.history.ensures.history
     ∙ sym (kept_for_one c.one_reading.ensures (secret_table c.args.secret c.args.protected) file history store.history kept stands) in
     let found = c.write_whole.ensures.any_moment lost_told (c.requires.lost lost_told) quiet in
-    subst (λ (h : List Answered). LeavesOnly g.L.Bench c.args.lost.now c.write_whole.new.bench (IsUnmadeOrWhole c.args.secret.shape h (g.L.Bench.sent c.args.lost.now))) list
-    (subst (λ (s : Shape). LeavesOnly g.L.Bench c.args.lost.now c.write_whole.new.bench (IsUnmadeOrWhole s c.history.result.now (g.L.Bench.sent c.args.lost.now))) shape found)
+    subst (λ (h : List Answered). LeavesOnly g.L.Bench c.args.lost.now c.write_whole.new.bench
+    (IsUnmadeOrWhole c.args.secret.shape h (g.L.Bench.sent c.args.lost.now))) list
+    (subst (λ (s : Shape). LeavesOnly g.L.Bench c.args.lost.now c.write_whole.new.bench
+    (IsUnmadeOrWhole s c.history.result.now (g.L.Bench.sent c.args.lost.now))) shape found)
 
 pub returns-clause-moments : goal.returns-clause-moments
 returns-clause-moments g c = λ history told lost_told quiet kept.
@@ -55,12 +61,15 @@ returns-clause-moments g c = λ history told lost_told quiet kept.
     let is = c.in-Ok.ensures.store in
     let same : store.secret.shape ≡ c.args.secret.shape = ap (λ (s : SecretView). s.shape) is.0 in
     let shape : c.shape-shape.result ≡ c.args.secret.shape = c.shape-shape.ensures.shape ∙ same in
-    let stands : StandsFor file c.args.secret.shape store.history = (store.journal.gate, subst (λ (s : Shape). StandsAt file s store.history store.journal.gate) same (c.in-Ok.ensures.stands told)) in
+    let stands : StandsFor file c.args.secret.shape store.history =
+    (store.journal.gate, subst (λ (s : Shape). StandsAt file s store.history store.journal.gate) same (c.in-Ok.ensures.stands told)) in
     let list : c.history.result.now ≡ history = c.history.ensures.history
     ∙ sym (kept_for_one c.one_reading.ensures (secret_table c.args.secret c.args.protected) file history store.history kept stands) in
     let found = c.write_whole.ensures.any_moment lost_told (c.requires.lost lost_told) quiet in
-    subst (λ (h : List Answered). LeavesOnly g.L.Bench c.args.lost.now c.write_whole.new.bench (IsUnmadeOrWhole c.args.secret.shape h (g.L.Bench.sent c.args.lost.now))) list
-    (subst (λ (s : Shape). LeavesOnly g.L.Bench c.args.lost.now c.write_whole.new.bench (IsUnmadeOrWhole s c.history.result.now (g.L.Bench.sent c.args.lost.now))) shape found)
+    subst (λ (h : List Answered). LeavesOnly g.L.Bench c.args.lost.now c.write_whole.new.bench
+    (IsUnmadeOrWhole c.args.secret.shape h (g.L.Bench.sent c.args.lost.now))) list
+    (subst (λ (s : Shape). LeavesOnly g.L.Bench c.args.lost.now c.write_whole.new.bench
+    (IsUnmadeOrWhole s c.history.result.now (g.L.Bench.sent c.args.lost.now))) shape found)
 
 pub returns-in-Err-clause-own : goal.returns-in-Err-clause-own
 returns-in-Err-clause-own g c = never_copied c.from.result c.in-Err.fault c.from.ensures

@@ -32,8 +32,10 @@ pub returns-then-not-spare_is_made-clause-restores : goal.returns-then-not-spare
 returns-then-not-spare_is_made-clause-restores g c = λ told spare_told can.
     let table = secret_table c.args.secret c.args.protected in
     elim can.1 [
-      | inl is ↦ true≢false (sym ((c.in-Ok.ensures.made told).1 (stands_is_made (g.B.Bench.file c.args.bench.now) table.setting.shape can.0 is.stands)) ∙ c.if-main_is_made.false)
-      | inr is ↦ true≢false (sym ((c.in-Ok-is_made.ensures.made spare_told).1 (stands_is_made (g.S.Bench.file c.args.spare.now) table.setting.shape can.0 is.stands)) ∙ c.if-not-spare_is_made.true)
+      | inl is ↦ true≢false (sym ((c.in-Ok.ensures.made told).1 (stands_is_made (g.B.Bench.file c.args.bench.now) table.setting.shape can.0 is.stands))
+          ∙ c.if-main_is_made.false)
+      | inr is ↦ true≢false (sym ((c.in-Ok-is_made.ensures.made spare_told).1
+          (stands_is_made (g.S.Bench.file c.args.spare.now) table.setting.shape can.0 is.stands)) ∙ c.if-not-spare_is_made.true)
     ]
 
 -- ---- the journal is kept, and the spare lost
@@ -56,8 +58,10 @@ returns-in-Ok-copy_journal-clause-alike g c = λ told spare_told.
     let unmade : IsLost spare = λ made. true≢false (sym ((c.in-Ok-is_made.ensures.made spare_told).1 made) ∙ c.if-spare_is_made.false) in
     let copied = c.in-Ok-copy_journal.ensures.done told spare_told in
     let is = is_lost_of table spare file (g.B.Bench.file c.is_made.new.bench) copied.0 c.is_made.ensures.reads.file unmade copied.1 in
-    let stands = subst (λ (f : List ℕ). StandsFor f c.args.secret.shape copied.0) (sym (c.copy_journal.ensures.reads.file ∙ c.is_made.ensures.reads.file)) is.stands in
-    stand_alike c.one_reading.ensures (g.B.Bench.file c.copy_journal.new.kept) (g.S.Bench.file c.copy_journal.new.lost) c.args.secret.shape copied.0 stands copied.2
+    let stands = subst (λ (f : List ℕ). StandsFor f c.args.secret.shape copied.0)
+    (sym (c.copy_journal.ensures.reads.file ∙ c.is_made.ensures.reads.file)) is.stands in
+    stand_alike c.one_reading.ensures (g.B.Bench.file c.copy_journal.new.kept)
+    (g.S.Bench.file c.copy_journal.new.lost) c.args.secret.shape copied.0 stands copied.2
 
 pub returns-in-Ok-copy_journal-clause-spare_untouched : goal.returns-in-Ok-copy_journal-clause-spare_untouched
 returns-in-Ok-copy_journal-clause-spare_untouched g c = λ told spare_told quiet none.
@@ -74,16 +78,20 @@ returns-in-Ok-copy_journal-clause-spare_moments g c = λ history told spare_told
     let file = g.B.Bench.file c.args.bench.now in
     let spare = g.S.Bench.file c.args.spare.now in
     let table = secret_table c.args.secret c.args.protected in
-    read_and_write g.S.Bench c.args.spare.now c.is_made-2.new.bench c.args.secret.shape history c.is_made-2.ensures.reads quiet is.unmade c.copy_journal.new.lost
-    (λ still. c.copy_journal.ensures.moments history told spare_told still (is_kept table spare file (g.B.Bench.file c.is_made.new.bench) history c.is_made.ensures.reads.file is))
+    read_and_write g.S.Bench c.args.spare.now c.is_made-2.new.bench c.args.secret.shape history c.is_made-2.ensures.reads quiet is.unmade
+    c.copy_journal.new.lost
+    (λ still. c.copy_journal.ensures.moments history told spare_told still
+    (is_kept table spare file (g.B.Bench.file c.is_made.new.bench) history c.is_made.ensures.reads.file is))
 
 pub returns-in-Err-copy_journal-clause-spare_moments : goal.returns-in-Err-copy_journal-clause-spare_moments
 returns-in-Err-copy_journal-clause-spare_moments g c = λ history told spare_told quiet is.
     let file = g.B.Bench.file c.args.bench.now in
     let spare = g.S.Bench.file c.args.spare.now in
     let table = secret_table c.args.secret c.args.protected in
-    read_and_write g.S.Bench c.args.spare.now c.is_made-2.new.bench c.args.secret.shape history c.is_made-2.ensures.reads quiet is.unmade c.copy_journal.new.lost
-    (λ still. c.copy_journal.ensures.moments history told spare_told still (is_kept table spare file (g.B.Bench.file c.is_made.new.bench) history c.is_made.ensures.reads.file is))
+    read_and_write g.S.Bench c.args.spare.now c.is_made-2.new.bench c.args.secret.shape history c.is_made-2.ensures.reads quiet is.unmade
+    c.copy_journal.new.lost
+    (λ still. c.copy_journal.ensures.moments history told spare_told still
+    (is_kept table spare file (g.B.Bench.file c.is_made.new.bench) history c.is_made.ensures.reads.file is))
 
 pub returns-in-Err-copy_journal-clause-cause : goal.returns-in-Err-copy_journal-clause-cause
 returns-in-Err-copy_journal-clause-cause g c = λ fault told spare_told refused.
@@ -112,7 +120,8 @@ returns-in-Err-copy_journal-clause-spare_untouched g c = λ told spare_told quie
     let unmade : IsLost spare = λ made. true≢false (sym ((c.in-Ok-is_made.ensures.made spare_told).1 made) ∙ c.if-spare_is_made.false) in
     let same = c.copy_journal.ensures.apart told (λ history kept.
     none (history, inl (is_lost_of table spare file (g.B.Bench.file c.is_made.new.bench) history c.is_made.ensures.reads.file unmade kept))) in
-    subst (λ (b : g.row.S.Denot). LeavesOnly g.S.Bench c.args.spare.now b (IsUntouched spare (g.S.Bench.sent c.args.spare.now))) (sym same) (c.is_made-2.ensures.reads.untouched quiet)
+    subst (λ (b : g.row.S.Denot). LeavesOnly g.S.Bench c.args.spare.now b (IsUntouched spare (g.S.Bench.sent c.args.spare.now))) (sym same)
+    (c.is_made-2.ensures.reads.untouched quiet)
 
 -- ---- the spare is kept, and the journal lost
 
@@ -134,8 +143,10 @@ returns-in-Ok-copy_journal-2-clause-alike g c = λ told spare_told.
     let unmade : IsLost file = λ made. true≢false (sym ((c.in-Ok.ensures.made told).1 made) ∙ c.if-main_is_made.false) in
     let copied = c.in-Ok-copy_journal-2.ensures.done spare_told told in
     let is = is_lost_of table file spare (g.S.Bench.file c.is_made-2.new.bench) copied.0 c.is_made-2.ensures.reads.file unmade copied.1 in
-    let stands = subst (λ (f : List ℕ). StandsFor f c.args.secret.shape copied.0) (sym (c.copy_journal-2.ensures.reads.file ∙ c.is_made-2.ensures.reads.file)) is.stands in
-    stand_alike c.one_reading.ensures (g.B.Bench.file c.copy_journal-2.new.lost) (g.S.Bench.file c.copy_journal-2.new.kept) c.args.secret.shape copied.0 copied.2 stands
+    let stands = subst (λ (f : List ℕ). StandsFor f c.args.secret.shape copied.0)
+    (sym (c.copy_journal-2.ensures.reads.file ∙ c.is_made-2.ensures.reads.file)) is.stands in
+    stand_alike c.one_reading.ensures (g.B.Bench.file c.copy_journal-2.new.lost)
+    (g.S.Bench.file c.copy_journal-2.new.kept) c.args.secret.shape copied.0 copied.2 stands
 
 pub returns-in-Ok-copy_journal-2-clause-untouched : goal.returns-in-Ok-copy_journal-2-clause-untouched
 returns-in-Ok-copy_journal-2-clause-untouched g c = λ told spare_told quiet none.
@@ -153,7 +164,8 @@ returns-in-Ok-copy_journal-2-clause-main_moments g c = λ history told spare_tol
     let spare = g.S.Bench.file c.args.spare.now in
     let table = secret_table c.args.secret c.args.protected in
     read_and_write g.B.Bench c.args.bench.now c.is_made.new.bench c.args.secret.shape history c.is_made.ensures.reads quiet is.unmade c.copy_journal-2.new.lost
-    (λ still. c.copy_journal-2.ensures.moments history spare_told told still (is_kept table file spare (g.S.Bench.file c.is_made-2.new.bench) history c.is_made-2.ensures.reads.file is))
+    (λ still. c.copy_journal-2.ensures.moments history spare_told told still
+    (is_kept table file spare (g.S.Bench.file c.is_made-2.new.bench) history c.is_made-2.ensures.reads.file is))
 
 pub returns-in-Err-copy_journal-2-clause-main_moments : goal.returns-in-Err-copy_journal-2-clause-main_moments
 returns-in-Err-copy_journal-2-clause-main_moments g c = λ history told spare_told quiet is.
@@ -161,7 +173,8 @@ returns-in-Err-copy_journal-2-clause-main_moments g c = λ history told spare_to
     let spare = g.S.Bench.file c.args.spare.now in
     let table = secret_table c.args.secret c.args.protected in
     read_and_write g.B.Bench c.args.bench.now c.is_made.new.bench c.args.secret.shape history c.is_made.ensures.reads quiet is.unmade c.copy_journal-2.new.lost
-    (λ still. c.copy_journal-2.ensures.moments history spare_told told still (is_kept table file spare (g.S.Bench.file c.is_made-2.new.bench) history c.is_made-2.ensures.reads.file is))
+    (λ still. c.copy_journal-2.ensures.moments history spare_told told still
+    (is_kept table file spare (g.S.Bench.file c.is_made-2.new.bench) history c.is_made-2.ensures.reads.file is))
 
 pub returns-in-Err-copy_journal-2-clause-cause : goal.returns-in-Err-copy_journal-2-clause-cause
 returns-in-Err-copy_journal-2-clause-cause g c = λ fault told spare_told refused.
@@ -180,7 +193,8 @@ returns-in-Err-copy_journal-2-clause-cause g c = λ fault told spare_told refuse
 
 pub returns-in-Err-copy_journal-2-clause-spare_untouched : goal.returns-in-Err-copy_journal-2-clause-spare_untouched
 returns-in-Err-copy_journal-2-clause-spare_untouched g c = λ told spare_told quiet none.
-    (then_reads g.S.Bench c.args.spare.now c.is_made-2.new.bench c.copy_journal-2.new.kept c.is_made-2.ensures.reads c.copy_journal-2.ensures.reads).untouched quiet
+    (then_reads g.S.Bench c.args.spare.now c.is_made-2.new.bench c.copy_journal-2.new.kept c.is_made-2.ensures.reads c.copy_journal-2.ensures.reads).untouched
+    quiet
 
 pub returns-in-Err-copy_journal-2-clause-untouched : goal.returns-in-Err-copy_journal-2-clause-untouched
 returns-in-Err-copy_journal-2-clause-untouched g c = λ told spare_told quiet none.
@@ -190,7 +204,8 @@ returns-in-Err-copy_journal-2-clause-untouched g c = λ told spare_told quiet no
     let unmade : IsLost file = λ made. true≢false (sym ((c.in-Ok.ensures.made told).1 made) ∙ c.if-main_is_made.false) in
     let same = c.copy_journal-2.ensures.apart spare_told (λ history kept.
     none (history, inr (is_lost_of table file spare (g.S.Bench.file c.is_made-2.new.bench) history c.is_made-2.ensures.reads.file unmade kept))) in
-    subst (λ (b : g.row.B.Denot). LeavesOnly g.B.Bench c.args.bench.now b (IsUntouched file (g.B.Bench.sent c.args.bench.now))) (sym same) (c.is_made.ensures.reads.untouched quiet)
+    subst (λ (b : g.row.B.Denot). LeavesOnly g.B.Bench c.args.bench.now b (IsUntouched file (g.B.Bench.sent c.args.bench.now))) (sym same)
+    (c.is_made.ensures.reads.untouched quiet)
 
 -- ---- what a refusal says whatever the files tell
 
@@ -198,29 +213,35 @@ pub returns-in-Err-copy_journal-clause-reads : goal.returns-in-Err-copy_journal-
 returns-in-Err-copy_journal-clause-reads g c = λ fault refused some.
     let given = c.in-Err-copy_journal.fault in
     let answered : c.from_main.result ≡ fault = cc in
-    let only : GivesUpRestoring (fault_from_main given) → ⊥ = λ gives. some (subst (λ (f : RestoreFault). GivesUpRestoring f) (sym c.from_main.ensures ∙ answered) gives) in (
+    let only : GivesUpRestoring (fault_from_main given) → ⊥ = λ gives. some
+    (subst (λ (f : RestoreFault). GivesUpRestoring f) (sym c.from_main.ensures ∙ answered) gives) in (
       (then_reads g.B.Bench c.args.bench.now c.is_made.new.bench c.copy_journal.new.kept c.is_made.ensures.reads c.copy_journal.ensures.reads),
-      (spare_only_read g.S.Bench c.args.spare.now c.is_made-2.new.bench c.copy_journal.new.lost c.is_made-2.ensures.reads given c.in-Err-copy_journal.ensures.already_reads
+      (spare_only_read g.S.Bench c.args.spare.now c.is_made-2.new.bench c.copy_journal.new.lost c.is_made-2.ensures.reads given
+          c.in-Err-copy_journal.ensures.already_reads
           (λ f is. c.in-Err-copy_journal.ensures.refused f (ap (λ (x : CopyFault). err x) is)) only),
     )
 
 pub returns-in-Err-copy_journal-clause-own : goal.returns-in-Err-copy_journal-clause-own
 returns-in-Err-copy_journal-clause-own g c = λ fault gives.
-    never_from_main c.in-Err-copy_journal.fault (λ f up is. c.in-Err-copy_journal.ensures.own f up (ap (λ (x : CopyFault). err x) is)) c.from_main.result fault gives c.from_main.ensures
+    never_from_main c.in-Err-copy_journal.fault (λ f up is. c.in-Err-copy_journal.ensures.own f up (ap (λ (x : CopyFault). err x) is)) c.from_main.result fault
+    gives c.from_main.ensures
 
 pub returns-in-Err-copy_journal-2-clause-reads : goal.returns-in-Err-copy_journal-2-clause-reads
 returns-in-Err-copy_journal-2-clause-reads g c = λ fault refused some.
     let given = c.in-Err-copy_journal-2.fault in
     let answered : c.from_spare.result ≡ fault = cc in
-    let only : GivesUpRestoring (fault_from_spare given) → ⊥ = λ gives. some (subst (λ (f : RestoreFault). GivesUpRestoring f) (sym c.from_spare.ensures ∙ answered) gives) in (
-      (journal_only_read g.B.Bench c.args.bench.now c.is_made.new.bench c.copy_journal-2.new.lost c.is_made.ensures.reads given c.in-Err-copy_journal-2.ensures.already_reads
+    let only : GivesUpRestoring (fault_from_spare given) → ⊥ = λ gives. some
+    (subst (λ (f : RestoreFault). GivesUpRestoring f) (sym c.from_spare.ensures ∙ answered) gives) in (
+      (journal_only_read g.B.Bench c.args.bench.now c.is_made.new.bench c.copy_journal-2.new.lost c.is_made.ensures.reads given
+          c.in-Err-copy_journal-2.ensures.already_reads
           (λ f is. c.in-Err-copy_journal-2.ensures.refused f (ap (λ (x : CopyFault). err x) is)) only),
       (then_reads g.S.Bench c.args.spare.now c.is_made-2.new.bench c.copy_journal-2.new.kept c.is_made-2.ensures.reads c.copy_journal-2.ensures.reads),
     )
 
 pub returns-in-Err-copy_journal-2-clause-own : goal.returns-in-Err-copy_journal-2-clause-own
 returns-in-Err-copy_journal-2-clause-own g c = λ fault gives.
-    never_from_spare c.in-Err-copy_journal-2.fault (λ f up is. c.in-Err-copy_journal-2.ensures.own f up (ap (λ (x : CopyFault). err x) is)) c.from_spare.result fault gives c.from_spare.ensures
+    never_from_spare c.in-Err-copy_journal-2.fault (λ f up is. c.in-Err-copy_journal-2.ensures.own f up (ap (λ (x : CopyFault). err x) is)) c.from_spare.result
+    fault gives c.from_spare.ensures
 
 -- ---- memory ran out in the copying, before a byte was written
 
@@ -248,4 +269,5 @@ returns-in-Err-copy_journal-2-clause-no_memory g c = λ is.
 
 pub returns-in-Err-copy_journal-2-clause-spare_kept : goal.returns-in-Err-copy_journal-2-clause-spare_kept
 returns-in-Err-copy_journal-2-clause-spare_kept g c = λ told quiet made.
-    (then_reads g.S.Bench c.args.spare.now c.is_made-2.new.bench c.copy_journal-2.new.kept c.is_made-2.ensures.reads c.copy_journal-2.ensures.reads).untouched quiet
+    (then_reads g.S.Bench c.args.spare.now c.is_made-2.new.bench c.copy_journal-2.new.kept c.is_made-2.ensures.reads c.copy_journal-2.ensures.reads).untouched
+    quiet

@@ -39,7 +39,7 @@ returns-clause-done g c = λ history told stands.
     let growth : IsGrowth shape.rows (0 ∷ (rows / 256) ∷ (rows % 256) ∷ []) rows =
     (subst (λ (s : Shape). IsGrowth s.rows (0 ∷ (rows / 256) ∷ (rows % 256) ∷ []) rows) (sym same) (c.requires.more, refl)) in
     let at_end = growth_at_end file c.write_growth.new.out (0 ∷ (rows / 256) ∷ (rows % 256) ∷ []) shape history c.self.inside.gate rows here growth
-            c.write_growth.ensures
+    c.write_growth.ensures
     (g.B.Bench.file c.append_bytes.new.bench) (c.in_ok-append_bytes.ensures.done told) in
     let size : length c.write_growth.new.out ≡ 4 = ap length c.write_growth.ensures in
     subst (λ (k : ℕ). StandsAt (g.B.Bench.file c.append_bytes.new.bench) (over rows shape) (widened rows history) (c.self.inside.gate + k)) size at_end

@@ -44,7 +44,7 @@ returns g c = record {
   damaged_only = λ at told made breaks.
       let contents = c.in_ok-shape.field-0 in
       c.no_break_in_a_journal.ensures (g.B.Bench.file c.args.bench.now) contents.shape contents.list.items contents.gate at
-          (c.in_ok-shape.ensures.ok told) breaks;
+      (c.in_ok-shape.ensures.ok told) breaks;
   whole = λ shape history gate told stands.
       let contents = c.in_ok-shape.field-0 in
       let once =

@@ -18,10 +18,31 @@ returns-then-not-branch-2 c =
     (slice_get_read c.groups-group-items.result.now _ c.loop-group.group-index group refl c.loop-group-test.true c.group-item.is) in
     let none : IsJudgedReleasedWith c.args.self.now.setting c.args.self.now.history c.args.asked.now [] = search rules in
     record {
-      judged = (none, record { at = c.loop-group.group-index; group = group; stands = at; named = refl; denies = λ passes. search rules; before = c.loop-group.invariant.judged });
+      judged = (
+        none,
+        record {
+          at = c.loop-group.group-index;
+          group = group;
+          stands = at;
+          named = refl;
+          denies = λ passes. search rules;
+          before =
+              c.loop-group.invariant.judged;
+        },
+      );
       decided = λ possible.
-          let released : IsReleasedWith c.args.self.now.setting c.args.self.now.history c.args.asked.now [] = search rules in
-          (released, record { at = c.loop-group.group-index; group = group; stands = at; named = refl; denies = λ passes. search rules; before = c.loop-group.invariant.decided possible });
+          let released : IsReleasedWith c.args.self.now.setting c.args.self.now.history c.args.asked.now [] = search rules in (
+            released,
+            record {
+              at = c.loop-group.group-index;
+              group = group;
+              stands = at;
+              named = refl;
+              denies = λ passes. search rules;
+              before =
+                  c.loop-group.invariant.decided possible;
+            },
+          );
     }
 
 pub loop-group-preserved : goal.loop-group-preserved
@@ -46,4 +67,5 @@ unreachable-requires c =
     let none : IsJudgedReleasedWith c.args.self.now.setting c.args.self.now.history c.args.asked.now [] = search rules in
     let groups = c.groups-group-items.ensures.is ∙ ap (λ (a : Audited). a.setting.protected.groups) c.self.view_is in
     c.requires.denied (judged_with_all c.args.self.now.setting c.args.self.now.history c.args.asked.now c.sets_have_one_form.ensures none
-    (λ i p here. c.loop-group.invariant.judged i p (omega (arith, slice_get_within c.args.self.now.setting.protected.groups i p here, ap length groups, c.loop-group-test.false)) here))
+    (λ i p here. c.loop-group.invariant.judged i p
+    (omega (arith, slice_get_within c.args.self.now.setting.protected.groups i p here, ap length groups, c.loop-group-test.false)) here))

@@ -8,7 +8,8 @@ use Rattle.audit_core.proofs.guarded.GuardedSums.probe_with.Goals as goal
 
 pub returns-clause-judged : goal.returns-clause-judged
 returns-clause-judged c =
-    subst (λ (k : Known). IfOk c.probe_apart.result (IsJudgement (with_groups k (map (λ (s : Rows). s.list) c.args.apart.now)) c.args.rows.now.list)) c.self.view_is
+    subst (λ (k : Known). IfOk c.probe_apart.result (IsJudgement (with_groups k (map (λ (s : Rows). s.list) c.args.apart.now)) c.args.rows.now.list))
+    c.self.view_is
     c.probe_apart.ensures.judged
 
 pub returns-clause-decided : goal.returns-clause-decided

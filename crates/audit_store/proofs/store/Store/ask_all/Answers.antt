@@ -48,7 +48,8 @@ invariant_of-self-in_err-keep g c =
     let took = c.decide_all.ensures in
     let holds = λ (secret : SecretView). IsStore (store_in secret c.decide_all.new.sealed.core i.released c.keep.new.journal false)
     × IsAuditedBy (table_by secret c.decide_all.new.sealed.core) c.decide_all.new.sealed.core i.released false in
-    subst holds (sym took.secret) (refused_store i.sealed.secret i.sealed.core c.decide_all.new.sealed.core i.released i.journal c.keep.new.journal i.usable usable
+    subst holds (sym took.secret) (refused_store i.sealed.secret i.sealed.core c.decide_all.new.sealed.core i.released i.journal c.keep.new.journal i.usable
+    usable
     c.self.invariant.0 c.self.invariant.1 took.begins took.within took.setting)
 
 pub invariant_of-self-2 : goal.invariant_of-self-2
@@ -59,12 +60,14 @@ invariant_of-self-2 g c =
     let made = records_made c.args.asked.now c.in_ok-outcomes.outcomes.items in
     let shown = c.history.result.now in
     let all = c.self.invariant.1.all usable in
-    let group = taken_since i.sealed.core.history c.decide_all.new.sealed.core.history shown made i.released (c.history.ensures.is ∙ ap (λ (a : Audited). a.history) c.core.ensures) all took.history in
+    let group = taken_since i.sealed.core.history c.decide_all.new.sealed.core.history shown made i.released
+    (c.history.ensures.is ∙ ap (λ (a : Audited). a.history) c.core.ensures) all took.history in
     let kept = c.in_ok-keep.ensures in
     let now = length c.history-2.result.now in
     let holds = λ (secret : SecretView). IsStore (store_in secret c.decide_all.new.sealed.core now c.keep.new.journal true)
     × IsAuditedBy (table_by secret c.decide_all.new.sealed.core) c.decide_all.new.sealed.core now true in
-    subst holds (sym c.decide_all.ensures.secret) (kept_store i.sealed.secret i.sealed.core c.decide_all.new.sealed.core i.released (length c.history-2.result.now) i.journal c.keep.new.journal i.usable
+    subst holds (sym c.decide_all.ensures.secret)
+    (kept_store i.sealed.secret i.sealed.core c.decide_all.new.sealed.core i.released (length c.history-2.result.now) i.journal c.keep.new.journal i.usable
     (take (length shown - i.released) (drop i.released shown)) made usable c.self.invariant.0 c.self.invariant.1 took.history c.decide_all.ensures.setting
     took.legal (ap length (c.history-2.ensures.is ∙ ap (λ (a : Audited). a.history) c.core-2.ensures)) group kept.usable c.keep.ensures.shape kept.counted)
 
@@ -76,7 +79,8 @@ keep-requires-clause-group g c =
     let took = c.in_ok-outcomes.ensures in
     let made = records_made c.args.asked.now c.in_ok-outcomes.outcomes.items in
     let shown = c.history.result.now in
-    let group = taken_since i.sealed.core.history c.decide_all.new.sealed.core.history shown made i.released (c.history.ensures.is ∙ ap (λ (a : Audited). a.history) c.core.ensures) all took.history in
+    let group = taken_since i.sealed.core.history c.decide_all.new.sealed.core.history shown made i.released
+    (c.history.ensures.is ∙ ap (λ (a : Audited). a.history) c.core.ensures) all took.history in
     omega (arith, ap length group, took.few, c.requires.few)
 
 pub keep-requires-clause-fit : goal.keep-requires-clause-fit
@@ -90,7 +94,8 @@ keep-requires-clause-fit g c =
     let core = c.decide_all.new.sealed.core.setting.shape in
     let shape : core ≡ i.journal.shape = ap (λ (s : Setting). s.shape) setting ∙ sym (c.self.invariant.0.same_shape usable) in
     subst (λ (s : Shape). All (λ (r : Answered). FitsShape s r.column r.rows) group) shape
-    (All-take (fits core) (length shown - i.released) (drop i.released shown) (All-drop (fits core) i.released shown (subst (λ (a : Audited). All (fits a.setting.shape) c.history.result.now) c.core.ensures c.history.ensures.fit)))
+    (All-take (fits core) (length shown - i.released) (drop i.released shown)
+    (All-drop (fits core) i.released shown (subst (λ (a : Audited). All (fits a.setting.shape) c.history.result.now) c.core.ensures c.history.ensures.fit)))
 
 pub decide_all-requires-clause-same_shape : goal.decide_all-requires-clause-same_shape
 decide_all-requires-clause-same_shape g c = ap (λ (s : Setting). s.shape) c.self.invariant.1.same_setting
@@ -99,7 +104,8 @@ pub decide_all-requires-clause-legal : goal.decide_all-requires-clause-legal
 decide_all-requires-clause-legal g c =
     let i = c.self.inside in
     let usable : i.usable ≡ true = ap (λ (s : StoreContents). s.usable) c.self.view_is ∙ c.requires.usable in
-    let all = core_is_history (table_by i.sealed.secret i.sealed.core) i.sealed.core i.released i.usable (take i.released i.sealed.core.history) c.self.invariant.1 usable refl in
+    let all = core_is_history (table_by i.sealed.secret i.sealed.core) i.sealed.core i.released i.usable
+    (take i.released i.sealed.core.history) c.self.invariant.1 usable refl in
     subst (λ (h : List Answered). IsLegal (table_by i.sealed.secret i.sealed.core) h) (sym all) c.self.invariant.0.legal
 
 pub decide_all-requires-clause-fit : goal.decide_all-requires-clause-fit
@@ -131,9 +137,11 @@ returns-in_err-keep g c =
           c.in_err-keep.ensures.no_memory (given_is c.in_err-keep.field-0.0 NoMemory c.from_residual-in_err-keep.result c.from_residual-in_err-keep.ensures is);
       fault = record {
         failed = λ is.
-            c.in_err-keep.ensures.fault.failed (given_is c.in_err-keep.field-0.0 Failed c.from_residual-in_err-keep.result c.from_residual-in_err-keep.ensures is);
+            c.in_err-keep.ensures.fault.failed (given_is c.in_err-keep.field-0.0 Failed c.from_residual-in_err-keep.result c.from_residual-in_err-keep.ensures
+            is);
         last_call = λ is.
-            c.in_err-keep.ensures.fault.last_call (given_is c.in_err-keep.field-0.0 Failed c.from_residual-in_err-keep.result c.from_residual-in_err-keep.ensures is);
+            c.in_err-keep.ensures.fault.last_call (given_is c.in_err-keep.field-0.0 Failed c.from_residual-in_err-keep.result
+            c.from_residual-in_err-keep.ensures is);
         steady = λ other.
             c.in_err-keep.ensures.fault.steady
             (λ is. other (answer_is c.in_err-keep.field-0.0 Failed c.from_residual-in_err-keep.result c.from_residual-in_err-keep.ensures is));
@@ -145,7 +153,8 @@ returns-in_err-keep g c =
       any_moment = λ told quiet other.
           let made = records_made c.args.asked.now c.in_ok-outcomes.outcomes.items in
           let group =
-          taken_since i.sealed.core.history c.decide_all.new.sealed.core.history c.history.result.now made i.released (c.history.ensures.is ∙ ap (λ (a : Audited). a.history) c.core.ensures)
+          taken_since i.sealed.core.history c.decide_all.new.sealed.core.history c.history.result.now made i.released
+          (c.history.ensures.is ∙ ap (λ (a : Audited). a.history) c.core.ensures)
           (c.self.invariant.1.all usable) c.in_ok-outcomes.ensures.history in
           let file = g.B.Bench.file c.args.bench.now in
           let sent = g.B.Bench.sent c.args.bench.now in
@@ -219,19 +228,22 @@ returns g c =
     let history = take i.released i.sealed.core.history in
     let made = records_made c.args.asked.now c.in_ok-outcomes.outcomes.items in
     let group =
-    taken_since i.sealed.core.history c.decide_all.new.sealed.core.history c.history.result.now made i.released (c.history.ensures.is ∙ ap (λ (a : Audited). a.history) c.core.ensures)
+    taken_since i.sealed.core.history c.decide_all.new.sealed.core.history c.history.result.now made i.released
+    (c.history.ensures.is ∙ ap (λ (a : Audited). a.history) c.core.ensures)
     (c.self.invariant.1.all usable) c.in_ok-outcomes.ensures.history in
     let sent = g.B.Bench.sent c.args.bench.now in
     record {
       outcomes =
-          let all = core_is_history (table_by i.sealed.secret i.sealed.core) i.sealed.core i.released i.usable (take i.released i.sealed.core.history) c.self.invariant.1 usable refl in
+          let all = core_is_history (table_by i.sealed.secret i.sealed.core) i.sealed.core i.released i.usable
+          (take i.released i.sealed.core.history) c.self.invariant.1 usable refl in
           subst (λ (s : StoreContents). AreOutcomes (table_of s) s.history c.args.asked.now c.in_ok-outcomes.outcomes.items) c.self.view_is
           (subst (λ (h : List Answered). AreOutcomes
           (table_by i.sealed.secret i.sealed.core) h c.args.asked.now c.in_ok-outcomes.outcomes.items) all c.in_ok-outcomes.ensures.outcomes);
       history =
           more_released i.sealed.core.history c.decide_all.new.sealed.core.history c.args.self.now.history
           (records_made c.args.asked.now c.in_ok-outcomes.outcomes.items) i.released (length c.history-2.result.now)
-          (c.self.invariant.1.all usable) c.in_ok-outcomes.ensures.history (ap (λ (l : List Answered). length l) (c.history-2.ensures.is ∙ ap (λ (a : Audited). a.history) c.core-2.ensures))
+          (c.self.invariant.1.all usable) c.in_ok-outcomes.ensures.history
+          (ap (λ (l : List Answered). length l) (c.history-2.ensures.is ∙ ap (λ (a : Audited). a.history) c.core-2.ensures))
           (ap (λ (s : StoreContents). s.history) c.self.view_is);
       stands = λ told.
           let whole = c.decide_all.new.sealed.core.history in
@@ -241,11 +253,13 @@ returns g c =
           let all : history ++ take (length whole - i.released) (drop i.released whole) ≡ whole =
           released_and_more i.sealed.core.history whole i.released (c.self.invariant.1.all usable) c.in_ok-outcomes.ensures.begins in
           let same : whole ≡ take (length c.history-2.result.now) whole =
-          sym (ap (λ (l : List Answered). take (length l) whole) (c.history-2.ensures.is ∙ ap (λ (a : Audited). a.history) c.core-2.ensures) ∙ take-length whole) in
+          sym (ap (λ (l : List Answered). take (length l) whole) (c.history-2.ensures.is ∙ ap (λ (a : Audited). a.history) c.core-2.ensures)
+          ∙ take-length whole) in
           let done = c.in_ok-keep.ensures.done history told here (sym (c.self.invariant.0.counted usable)) in
           let ended =
           subst (λ (h : List Answered). StandsAt (g.B.Bench.file c.keep.new.bench) c.keep.new.journal.shape h c.keep.new.journal.gate)
-          (ap (λ (l : List Answered). history ++ take (length l - i.released) (drop i.released l)) (c.history.ensures.is ∙ ap (λ (a : Audited). a.history) c.core.ensures) ∙ all ∙ same) done in
+          (ap (λ (l : List Answered). history ++ take (length l - i.released) (drop i.released l))
+          (c.history.ensures.is ∙ ap (λ (a : Audited). a.history) c.core.ensures) ∙ all ∙ same) done in
           subst (λ (s : Shape). StandsAt (g.B.Bench.file c.keep.new.bench) s (take (length c.history-2.result.now) whole) c.keep.new.journal.gate)
           (c.in_ok-keep.ensures.shape ∙ shape ∙ ap (λ (s : SecretView). s.shape) (sym c.decide_all.ensures.secret)) ended;
       usable = refl;

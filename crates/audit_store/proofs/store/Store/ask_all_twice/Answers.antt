@@ -71,15 +71,20 @@ invariant_of-self-2 g c =
     let group = group_of c.in_ok-ready.ready in
     let took = c.in_ok-outcomes.ensures in
     let is =
-    decided i.sealed.secret i.sealed.core c.decide_all.new.sealed.core i.released i.journal i.usable store asked outcomes c.history.result.now group c.self.view_is usable
-    c.self.invariant.0 c.self.invariant.1 took.outcomes took.history (c.history.ensures.is ∙ ap (λ (a : Audited). a.history) c.core.ensures) c.in_ok-ready.ensures.group in
+    decided i.sealed.secret i.sealed.core c.decide_all.new.sealed.core i.released i.journal i.usable store asked outcomes c.history.result.now group
+    c.self.view_is usable
+    c.self.invariant.0 c.self.invariant.1 took.outcomes took.history (c.history.ensures.is ∙ ap (λ (a : Audited). a.history) c.core.ensures)
+    c.in_ok-ready.ensures.group in
     let kept = c.in-Ok-keep_ready.ensures in
     let now = length c.history-2.result.now in
     let holds = λ (secret : SecretView). IsStore (store_in secret c.decide_all.new.sealed.core now c.keep_ready-2.new.journal true)
     × IsAuditedBy (table_by secret c.decide_all.new.sealed.core) c.decide_all.new.sealed.core now true in
-    subst holds (sym c.decide_all.ensures.secret) (kept_store i.sealed.secret i.sealed.core c.decide_all.new.sealed.core i.released (length c.history-2.result.now) i.journal c.keep_ready-2.new.journal i.usable
+    subst holds (sym c.decide_all.ensures.secret)
+    (kept_store i.sealed.secret i.sealed.core c.decide_all.new.sealed.core i.released
+    (length c.history-2.result.now) i.journal c.keep_ready-2.new.journal i.usable
     group made usable c.self.invariant.0 c.self.invariant.1 took.history c.decide_all.ensures.setting
-    took.legal (ap length (c.history-2.ensures.is ∙ ap (λ (a : Audited). a.history) c.core-2.ensures)) is.group_is kept.usable c.keep_ready-2.ensures.shape kept.counted)
+    took.legal (ap length (c.history-2.ensures.is ∙ ap (λ (a : Audited). a.history) c.core-2.ensures)) is.group_is kept.usable c.keep_ready-2.ensures.shape
+    kept.counted)
 
 -- ---- memory ran out
 
@@ -170,8 +175,10 @@ returns-in-Err g c =
     let group = group_of c.in_ok-ready.ready in
     let took = c.in_ok-outcomes.ensures in
     let is =
-    decided i.sealed.secret i.sealed.core c.decide_all.new.sealed.core i.released i.journal i.usable store asked outcomes c.history.result.now group c.self.view_is usable
-    c.self.invariant.0 c.self.invariant.1 took.outcomes took.history (c.history.ensures.is ∙ ap (λ (a : Audited). a.history) c.core.ensures) c.in_ok-ready.ensures.group in
+    decided i.sealed.secret i.sealed.core c.decide_all.new.sealed.core i.released i.journal i.usable store asked outcomes c.history.result.now group
+    c.self.view_is usable
+    c.self.invariant.0 c.self.invariant.1 took.outcomes took.history (c.history.ensures.is ∙ ap (λ (a : Audited). a.history) c.core.ensures)
+    c.in_ok-ready.ensures.group in
     let file = g.B.Bench.file c.args.bench.now in
     let here : g.B.Bench.told → StandsAt file i.journal.shape store.history i.journal.gate = λ told.
     over_own_shape store asked outcomes i.journal group is file
@@ -233,8 +240,10 @@ returns-in-Err-keep_ready g c =
     let group = group_of c.in_ok-ready.ready in
     let took = c.in_ok-outcomes.ensures in
     let is =
-    decided i.sealed.secret i.sealed.core c.decide_all.new.sealed.core i.released i.journal i.usable store asked outcomes c.history.result.now group c.self.view_is usable
-    c.self.invariant.0 c.self.invariant.1 took.outcomes took.history (c.history.ensures.is ∙ ap (λ (a : Audited). a.history) c.core.ensures) c.in_ok-ready.ensures.group in
+    decided i.sealed.secret i.sealed.core c.decide_all.new.sealed.core i.released i.journal i.usable store asked outcomes c.history.result.now group
+    c.self.view_is usable
+    c.self.invariant.0 c.self.invariant.1 took.outcomes took.history (c.history.ensures.is ∙ ap (λ (a : Audited). a.history) c.core.ensures)
+    c.in_ok-ready.ensures.group in
     let file = g.B.Bench.file c.args.bench.now in
     let here : g.B.Bench.told → StandsAt file i.journal.shape store.history i.journal.gate = λ told.
     over_own_shape store asked outcomes i.journal group is file
@@ -305,8 +314,10 @@ returns g c =
     let group = group_of c.in_ok-ready.ready in
     let took = c.in_ok-outcomes.ensures in
     let is =
-    decided i.sealed.secret i.sealed.core c.decide_all.new.sealed.core i.released i.journal i.usable store asked outcomes c.history.result.now group c.self.view_is usable
-    c.self.invariant.0 c.self.invariant.1 took.outcomes took.history (c.history.ensures.is ∙ ap (λ (a : Audited). a.history) c.core.ensures) c.in_ok-ready.ensures.group in
+    decided i.sealed.secret i.sealed.core c.decide_all.new.sealed.core i.released i.journal i.usable store asked outcomes c.history.result.now group
+    c.self.view_is usable
+    c.self.invariant.0 c.self.invariant.1 took.outcomes took.history (c.history.ensures.is ∙ ap (λ (a : Audited). a.history) c.core.ensures)
+    c.in_ok-ready.ensures.group in
     let file = g.B.Bench.file c.args.bench.now in
     let here : g.B.Bench.told → StandsAt file i.journal.shape store.history i.journal.gate = λ told.
     over_own_shape store asked outcomes i.journal group is file
@@ -320,7 +331,8 @@ returns g c =
     let now = take (length c.history-2.result.now) c.decide_all.new.sealed.core.history in
     let now_is : now ≡ store.history ++ made =
     more_released i.sealed.core.history c.decide_all.new.sealed.core.history store.history made i.released (length c.history-2.result.now)
-    (c.self.invariant.1.all usable) took.history (ap (λ (l : List Answered). length l) (c.history-2.ensures.is ∙ ap (λ (a : Audited). a.history) c.core-2.ensures))
+    (c.self.invariant.1.all usable) took.history
+    (ap (λ (l : List Answered). length l) (c.history-2.ensures.is ∙ ap (λ (a : Audited). a.history) c.core-2.ensures))
     (ap (λ (s : StoreContents). s.history) c.self.view_is) in
     let secret = c.decide_all.new.sealed.secret in
     let over : secret.shape ≡ store.secret.shape =

@@ -68,8 +68,10 @@ invariant_of-self-2 g c =
     let kept = c.in_ok-bring_up.ensures in
     let now = length c.history.result.now in
     let holds = λ (secret : SecretView). IsStore (store_in secret new now c.bring_up.new.journal true) × IsAuditedBy (table_by secret new) new now true in
-    subst holds (sym c.take_all.ensures.secret) (kept_store i.sealed.secret old new i.released (length c.history.result.now) i.journal c.bring_up.new.journal i.usable missing missing usable
-    c.self.invariant.0 c.self.invariant.1 took c.take_all.ensures.setting legal (ap length (c.history.ensures.is ∙ ap (λ (a : Audited). a.history) c.core.ensures)) refl kept.usable
+    subst holds (sym c.take_all.ensures.secret)
+    (kept_store i.sealed.secret old new i.released (length c.history.result.now) i.journal c.bring_up.new.journal i.usable missing missing usable
+    c.self.invariant.0 c.self.invariant.1 took c.take_all.ensures.setting legal
+    (ap length (c.history.ensures.is ∙ ap (λ (a : Audited). a.history) c.core.ensures)) refl kept.usable
     c.bring_up.ensures.shape kept.counted)
 
 -- ---- memory ran out
@@ -171,7 +173,8 @@ returns g c =
     let now = take (length c.history.result.now) c.take_all.new.sealed.core.history in
     let now_is =
     more_released i.sealed.core.history c.take_all.new.sealed.core.history store.history c.args.missing.now i.released (length c.history.result.now)
-    (c.self.invariant.1.all usable) c.in_ok-take_all.ensures.history (ap (λ (l : List Answered). length l) (c.history.ensures.is ∙ ap (λ (a : Audited). a.history) c.core.ensures))
+    (c.self.invariant.1.all usable) c.in_ok-take_all.ensures.history
+    (ap (λ (l : List Answered). length l) (c.history.ensures.is ∙ ap (λ (a : Audited). a.history) c.core.ensures))
     (ap (λ (s : StoreContents). s.history) c.self.view_is) in
     let secret = c.take_all.new.sealed.secret in
     let over : store.secret.shape ≡ secret.shape =

@@ -19,7 +19,8 @@ use Rattle.audit_store.proofs.GrowCauses.{grow_cause_of_reading, grow_due_of_rea
 use Rattle.audit_store.proofs.StoreFaults.{grow_read_failed, grow_failed, no_answer, on_refusal}
 use Rattle.audit_store.proofs.store.Store.grow.Goals as goal
 
-module _ {D : Type 0} (bench : Ghosts D) (old : D) (other : Shape) (history : List Answered) (more : ℕ) (stands : StandsFor (bench.file old) other history) where
+module _ {D : Type 0} (bench : Ghosts D) (old : D) (other : Shape) (history : List Answered) (more : ℕ)
+    (stands : StandsFor (bench.file old) other history) where
   -- the journal was read, and its history stands as before
   read_alone : (mid : D) → LeavesOnly bench old mid (IsUntouched (bench.file old) (bench.sent old)) →
       LeavesOnly bench old mid (IsBeforeOrGrown other history more (bench.sent old))
@@ -28,7 +29,8 @@ module _ {D : Type 0} (bench : Ghosts D) (old : D) (other : Shape) (history : Li
       (λ image sent is. (is.0, inl (stands.0, subst (λ (f : List ℕ). StandsAt f other history stands.0) (sym is.1) stands.1))) reading
 
   -- and then the growth was appended
-  in_two_steps : (mid new : D) (shape : Shape) (list : List Answered) (rows : ℕ) → shape ≡ other → list ≡ history → rows ≡ more → bench.sent mid ≡ bench.sent old
+  in_two_steps : (mid new : D) (shape : Shape) (list : List Answered) (rows : ℕ) → shape ≡ other → list ≡ history → rows ≡ more → bench.sent mid
+      ≡ bench.sent old
       → LeavesOnly bench old mid (IsUntouched (bench.file old) (bench.sent old)) → LeavesOnly bench mid new (IsBeforeOrGrown shape list rows (bench.sent mid))
       → LeavesOnly bench old new (IsBeforeOrGrown other history more (bench.sent old))
   in_two_steps mid new shape list rows same_shape same_list same_rows same_sent reading growing =
@@ -150,7 +152,8 @@ returns-in_err-append_growth-in-Ok g c =
           let same_rows : rows ≡ secret.shape.rows = ap (λ (s : Shape). s.rows) c.shape-rows.ensures.shape in
           let stands = subst (λ (f : List ℕ). StandsAt f journal.shape list journal.gate) (sym reads.file) (c.in-Ok.ensures.stands told) in
           in_two_steps bench old (over grown.rows secret.shape) grown.history secret.shape.rows grown.stands mid new journal.shape list rows
-          read.0 read.1 same_rows reads.sent (reads.untouched quiet) (c.append_growth.ensures.any_moment list told stands (still_quiet bench old mid reads quiet));
+          read.0 read.1 same_rows reads.sent (reads.untouched quiet)
+          (c.append_growth.ensures.any_moment list told stands (still_quiet bench old mid reads quiet));
       untouched = λ told quiet no. absurd (no (can_grow file journal.shape list journal.gate table (c.in-Ok.ensures.stands told) here));
       kept = on_refusal answer Failed same _ (λ other. absurd (other same));
       quiet = λ told quiet other. absurd (other same);
@@ -208,7 +211,8 @@ returns-in-Ok g c =
           let read = c.in-Ok.ensures.whole (over grown.rows secret.shape) grown.history grown.stands.0 told grown.stands.1 in
           let stands = subst (λ (f : List ℕ). StandsAt f journal.shape list journal.gate) (sym reads.file) (c.in-Ok.ensures.stands told) in
           in_two_steps bench old (over grown.rows secret.shape) grown.history secret.shape.rows grown.stands mid new journal.shape list rows
-          read.0 read.1 same_rows reads.sent (reads.untouched quiet) (c.append_growth.ensures.any_moment list told stands (still_quiet bench old mid reads quiet));
+          read.0 read.1 same_rows reads.sent (reads.untouched quiet)
+          (c.append_growth.ensures.any_moment list told stands (still_quiet bench old mid reads quiet));
       untouched = λ told quiet no. absurd (no (can_grow file journal.shape list journal.gate table (c.in-Ok.ensures.stands told) here));
       kept = tt;
       quiet = λ told quiet other. c.in_ok-append_growth-in-Ok.ensures.quiet told;

@@ -43,7 +43,8 @@ reported_faults : (g : Over) (c : goal.After-drop-schema-inside-in-Ok-Audit-3 g)
     (faults_of g.P.Source g.I.Source g.B.Bench (objects c.args.schema.now c.args.table.now c.args.input.now c.args.bench.now c.args.spare.now))
     (faults_of g.P.Source g.I.Source g.B.Bench (objects c.open.new.schema c.open.new.table c.args.input.now c.audit.new.bench c.args.spare.now))
 reported_faults g c =
-    faults_so c.reported.result _ (faults_of g.P.Source g.I.Source g.B.Bench (objects c.args.schema.now c.args.table.now c.args.input.now c.args.bench.now c.args.spare.now)) _
+    faults_so c.reported.result _ (faults_of g.P.Source g.I.Source g.B.Bench
+    (objects c.args.schema.now c.args.table.now c.args.input.now c.args.bench.now c.args.spare.now)) _
     _ c.reported.ensures c.in-Ok-Audit.ensures.steady (report_faults c.audit.result _ _ c.audit.ensures.failed c.audit.ensures.steady)
 
 reporting : (g : Over) (c : goal.After-drop-schema-inside-in-Ok-Audit-3 g) →
@@ -64,23 +65,28 @@ reporting g c =
     let known : (g.P.Source.told → Database) = λ ptold. seen g c (are g c ptold).0 in
     let given : ((ptold : g.P.Source.told) → g.B.Bench.told → (base : Database) (history : List Answered) →
     ServesOver (g.P.Source.left old.schema) (g.P.Source.left old.table) file base history → (known ptold ≡ base) × (kept ≡ history)) =
-    λ ptold told base history over. same_given c.one_reading.ensures c.groups_of_a_schema.ensures.entries _ _ file (known ptold) base kept history store.journal.gate
+    λ ptold told base history over. same_given c.one_reading.ensures c.groups_of_a_schema.ensures.entries _ _ file
+    (known ptold) base kept history store.journal.gate
     (are g c ptold).1 (stands_so g.B.Bench at c.open.new.bench store (opened g c) reads.file told) over in
     subst (λ (s : Status). Auditing g.P.Source g.I.Source g.B.Bench s old new) (sym c.reported.ensures) (record {
       audited = λ ptold told base history over.
-          carried (λ (b : Database) (h : List Answered). AuditEnds (audit_status c.audit.result) b h sent (g.B.Bench.sent later)) (known ptold) base kept history
+          carried (λ (b : Database) (h : List Answered). AuditEnds (audit_status c.audit.result) b h sent (g.B.Bench.sent later))
+          (known ptold) base kept history
           (given ptold told base history over)
           (report_ends c.audit.result (known ptold) kept sent (g.B.Bench.sent later)
-          (subst (λ (bytes : List ℕ). OnOk c.audit.result (Reports (audit_of columns store) bytes (g.B.Bench.sent later))) reads.sent (c.audit.ensures.report told))
+          (subst (λ (bytes : List ℕ). OnOk c.audit.result (Reports (audit_of columns store) bytes (g.B.Bench.sent later))) reads.sent
+          (c.audit.ensures.report told))
           (subst (λ (bytes : List ℕ). OnErr c.audit.result (ReportsFront (audit_of columns store) bytes (g.B.Bench.sent later))) reads.sent
           (c.audit.ensures.part told)));
       auditing = λ ptold told quiet base history over.
           joins g.B.Bench at c.open.new.bench later (SendsMeanwhile (audit_over base history) (subjects base.secret.shape) file sent)
           (weakens g.B.Bench at c.open.new.bench (IsUntouched file sent) _
           (λ image bytes same. untouched_report (audit_over base history) (subjects base.secret.shape) file sent image bytes same) (reads.untouched quiet))
-          (carried (λ (b : Database) (h : List Answered). LeavesOnly g.B.Bench c.open.new.bench later (SendsMeanwhile (audit_over b h) (subjects b.secret.shape) file sent))
+          (carried (λ (b : Database) (h : List Answered). LeavesOnly g.B.Bench c.open.new.bench later
+          (SendsMeanwhile (audit_over b h) (subjects b.secret.shape) file sent))
           (known ptold) base kept history (given ptold told base history over)
-          (subst (λ (f : List ℕ). LeavesOnly g.B.Bench c.open.new.bench later (SendsMeanwhile (audit_of columns store) (subjects store.secret.shape) f sent)) reads.file
+          (subst (λ (f : List ℕ). LeavesOnly g.B.Bench c.open.new.bench later (SendsMeanwhile (audit_of columns store) (subjects store.secret.shape) f sent))
+          reads.file
           (subst (λ (bytes : List ℕ). LeavesOnly g.B.Bench c.open.new.bench later
           (SendsMeanwhile (audit_of columns store) (subjects store.secret.shape) (g.B.Bench.file c.open.new.bench) bytes)) reads.sent
           (c.audit.ensures.any_moment told (as_quiet g.B.Bench at c.open.new.bench reads quiet)))));
@@ -91,7 +97,8 @@ reporting g c =
           ∙ ap (λ (n : ℕ). n + length (subjects store.secret.shape)) (c.in-Ok-Audit.ensures.ticks told (ap opens_store same)));
       audits = λ ptold told base history over none.
           report_wants c.audit.result (faults_of g.P.Source g.I.Source g.B.Bench old) (faults_of g.P.Source g.I.Source g.B.Bench new)
-          (subst (λ (s : Status). FaultCause s (faults_of g.P.Source g.I.Source g.B.Bench old) (faults_of g.P.Source g.I.Source g.B.Bench new)) c.reported.ensures (reported_faults g c)) none;
+          (subst (λ (s : Status). FaultCause s (faults_of g.P.Source g.I.Source g.B.Bench old) (faults_of g.P.Source g.I.Source g.B.Bench new))
+          c.reported.ensures (reported_faults g c)) none;
     })
 
 pub audit_ends : goal.returns-in-Ok-Audit
@@ -113,7 +120,8 @@ audit_ends g c =
       groups = λ ptold command asked reads. groups_so c.groups_of_a_schema.ensures.entries status _ _ _ last (are g c ptold).1;
       own_schema_fault = no_schema_fault status last;
       own_table_fault = no_table_fault status last;
-      file = λ ptold told. file_so _ command.Audit status _ is_named c.reported.ensures refl _ _ file (λ base sound. (report_says c.audit.result).file file (table_in base)
+      file = λ ptold told. file_so _ command.Audit status _ is_named c.reported.ensures refl _ _ file
+          (λ base sound. (report_says c.audit.result).file file (table_in base)
           (holds_over c.groups_of_a_schema.ensures.entries _ _ file _ base (are g c ptold).1 sound (holds told)));
       input = λ itold command asked reads. lacks_step reads_lines _ _ command is_named asked refl reads;
       faults = reported_faults g c;

@@ -33,13 +33,15 @@ use Rattle.auditor_top.proofs.running.run.Goals as goal
 -- the files are those of the table whose journal was opened
 abbrev seen : (g : Over) (c : goal.After-drop-store-inside-in-Ok-Compact-4 g) → g.P.Source.told → Database
 seen g c ptold =
-    let over = subst (IsReadyOver (g.P.Source.left c.args.schema.now) (g.P.Source.left c.args.table.now)) c.in-Ok-Compact.field-0-is (c.in-Ok-Compact.ensures.over ptold) in
+    let over = subst (IsReadyOver (g.P.Source.left c.args.schema.now) (g.P.Source.left c.args.table.now)) c.in-Ok-Compact.field-0-is
+    (c.in-Ok-Compact.ensures.over ptold) in
     base_of over.0 over.1 c.in-Ok-Compact.store.protected c.in-Ok-Compact.store.secret
 
 are : (g : Over) (c : goal.After-drop-store-inside-in-Ok-Compact-4 g) (ptold : g.P.Source.told) →
     AreSoundFilesOf (g.P.Source.left c.args.schema.now) (g.P.Source.left c.args.table.now) (seen g c ptold)
 are g c ptold =
-    (subst (IsReadyOver (g.P.Source.left c.args.schema.now) (g.P.Source.left c.args.table.now)) c.in-Ok-Compact.field-0-is (c.in-Ok-Compact.ensures.over ptold)).2
+    (subst (IsReadyOver (g.P.Source.left c.args.schema.now) (g.P.Source.left c.args.table.now)) c.in-Ok-Compact.field-0-is
+    (c.in-Ok-Compact.ensures.over ptold)).2
 
 opened : (g : Over) (c : goal.After-drop-store-inside-in-Ok-Compact-4 g) → IsOpened g.B.Bench c.open.new.bench c.in-Ok-Compact.store
 opened g c = subst (IsReady g.B.Bench c.open.new.bench) c.in-Ok-Compact.field-0-is c.in-Ok-Compact.ensures.ready
@@ -52,12 +54,14 @@ holds : (g : Over) (c : goal.After-drop-store-inside-in-Ok-Compact-4 g) → g.B.
 holds g c = holds_so g.B.Bench c.args.bench.now c.open.new.bench c.in-Ok-Compact.store (opened g c) c.open.ensures.reads.file
 
 -- so a history that they are given with is the store's, and what is said of that is said of it
-given : (g : Over) (c : goal.After-drop-store-inside-in-Ok-Compact-4 g) (P : Database → List Answered → Type 0) (ptold : g.P.Source.told) → g.B.Bench.told → (base : Database) (records : List Answered) →
+given : (g : Over) (c : goal.After-drop-store-inside-in-Ok-Compact-4 g) (P : Database → List Answered → Type 0) (ptold : g.P.Source.told) → g.B.Bench.told →
+    (base : Database) (records : List Answered) →
     ServesOver (g.P.Source.left c.args.schema.now) (g.P.Source.left c.args.table.now) (g.B.Bench.file c.args.bench.now) base records →
     P (seen g c ptold) c.in-Ok-Compact.store.history → P base records
 given g c P ptold told base records over =
     let store = c.in-Ok-Compact.store in
-    carried P (seen g c ptold) base store.history records (same_given c.one_reading.ensures c.groups_of_a_schema.ensures.entries _ _ (g.B.Bench.file c.args.bench.now)
+    carried P (seen g c ptold) base store.history records
+    (same_given c.one_reading.ensures c.groups_of_a_schema.ensures.entries _ _ (g.B.Bench.file c.args.bench.now)
     (seen g c ptold) base store.history records store.journal.gate (are g c ptold) (stands g c told) over)
 
 compacted_faults : (g : Over) (c : goal.After-drop-store-inside-in-Ok-Compact-4 g) → FaultCause c.compacted.result
@@ -65,12 +69,14 @@ compacted_faults : (g : Over) (c : goal.After-drop-store-inside-in-Ok-Compact-4 
     (faults_of g.P.Source g.I.Source g.B.Bench (objects c.open.new.schema c.open.new.table c.args.input.now c.compact.new.bench c.compact.new.spare))
 compacted_faults g c =
     let does = c.compact.ensures in
-    faults_so c.compacted.result _ (faults_of g.P.Source g.I.Source g.B.Bench (objects c.args.schema.now c.args.table.now c.args.input.now c.args.bench.now c.args.spare.now)) _
+    faults_so c.compacted.result _ (faults_of g.P.Source g.I.Source g.B.Bench
+    (objects c.args.schema.now c.args.table.now c.args.input.now c.args.bench.now c.args.spare.now)) _
     _ c.compacted.ensures c.in-Ok-Compact.ensures.steady
     (compact_faults c.compact.result _ _ _ does.fault.failed does.fault.steady does.spare_fault.failed does.spare_fault.steady)
 
 -- what is found on the journal at every moment: its file, and a front of the line sent
-sends : (g : Over) (c : goal.After-drop-store-inside-in-Ok-Compact-4 g) → g.B.Bench.told → IsQuiet g.B.Bench c.args.bench.now → LeavesOnly g.B.Bench c.args.bench.now c.compact.new.bench
+sends : (g : Over) (c : goal.After-drop-store-inside-in-Ok-Compact-4 g) → g.B.Bench.told → IsQuiet g.B.Bench c.args.bench.now →
+    LeavesOnly g.B.Bench c.args.bench.now c.compact.new.bench
     (SendsCounts c.in-Ok-Compact.store.secret.shape c.in-Ok-Compact.store.history (g.B.Bench.file c.args.bench.now) (g.B.Bench.sent c.args.bench.now))
 sends g c told quiet =
     let at = c.args.bench.now in
@@ -88,7 +94,8 @@ sends g c told quiet =
     (c.compact.ensures.sending told (as_quiet g.B.Bench at opened reads quiet))))
 
 -- and on the spare
-spare_moments : (g : Over) (c : goal.After-drop-store-inside-in-Ok-Compact-4 g) → g.P.Source.told → g.B.Bench.told → (IsMade (g.B.Bench.file c.args.spare.now) → ⊥) →
+spare_moments : (g : Over) (c : goal.After-drop-store-inside-in-Ok-Compact-4 g) → g.P.Source.told → g.B.Bench.told →
+    (IsMade (g.B.Bench.file c.args.spare.now) → ⊥) →
     IsQuiet g.B.Bench c.args.spare.now → (base : Database) (records : List Answered) →
     ServesOver (g.P.Source.left c.args.schema.now) (g.P.Source.left c.args.table.now) (g.B.Bench.file c.args.bench.now) base records →
     LeavesOnly g.B.Bench c.args.spare.now c.compact.new.spare (IsUnmadeOrKept base.secret.shape records (g.B.Bench.sent c.args.spare.now))
@@ -97,7 +104,8 @@ spare_moments g c ptold told unmade quiet base records over =
     (IsUnmadeOrKept b.secret.shape h (g.B.Bench.sent c.args.spare.now))) ptold told base records over (c.compact.ensures.any_moment told unmade quiet)
 
 compacting : (g : Over) (c : goal.After-drop-store-inside-in-Ok-Compact-4 g) →
-    Compacting g.P.Source g.I.Source g.B.Bench c.compacted.result (objects c.args.schema.now c.args.table.now c.args.input.now c.args.bench.now c.args.spare.now)
+    Compacting g.P.Source g.I.Source g.B.Bench c.compacted.result
+    (objects c.args.schema.now c.args.table.now c.args.input.now c.args.bench.now c.args.spare.now)
     (objects c.open.new.schema c.open.new.table c.args.input.now c.compact.new.bench c.compact.new.spare)
 compacting g c =
     let at = c.args.bench.now in
@@ -117,8 +125,10 @@ compacting g c =
           given g c (λ (b : Database) (h : List Answered). CompactEnds (compacting_status c.compact.result) b.secret.shape h (g.B.Bench.file spare_later) sent
           (g.B.Bench.sent later)) ptold told base records over
           (compact_ends c.compact.result shape history (g.B.Bench.file spare_later) sent (g.B.Bench.sent later)
-          (subst (λ (bytes : List ℕ). OnOk c.compact.result (Compacts shape history (g.B.Bench.file spare_later) bytes (g.B.Bench.sent later))) reads.sent (does.done told))
-          (subst (λ (bytes : List ℕ). IsErrOf c.compact.result compact.Bench → CompactsFront shape history (g.B.Bench.file spare_later) bytes (g.B.Bench.sent later))
+          (subst (λ (bytes : List ℕ). OnOk c.compact.result (Compacts shape history (g.B.Bench.file spare_later) bytes (g.B.Bench.sent later))) reads.sent
+          (does.done told))
+          (subst (λ (bytes : List ℕ). IsErrOf c.compact.result compact.Bench → CompactsFront shape history (g.B.Bench.file spare_later) bytes
+          (g.B.Bench.sent later))
           reads.sent (does.part told))
           (unsent_so c.compact.result (λ is. ap g.B.Bench.sent is ∙ reads.sent) does.unsent));
       compacting = spare_moments g c;
@@ -130,7 +140,8 @@ compacting g c =
       sending = λ ptold told quiet base records over.
           given g c (λ (b : Database) (h : List Answered). LeavesOnly g.B.Bench at later (SendsCounts b.secret.shape h file sent)) ptold told base records over
           (sends g c told quiet);
-      undisturbed = λ told quiet. weakens g.B.Bench at later (SendsCounts shape history file sent) (LeavesFile file) (λ image bytes is. is.0) (sends g c told quiet);
+      undisturbed = λ told quiet. weakens g.B.Bench at later (SendsCounts shape history file sent) (LeavesFile file) (λ image bytes is. is.0)
+          (sends g c told quiet);
       kept = λ told made. (ap g.B.Bench.sent (does.refused told made).1 ∙ reads.sent, (does.refused told made).2);
       untouched = does.untouched;
       unsent = λ told made quiet.
@@ -146,7 +157,8 @@ compacting g c =
       compacts = λ ptold told unmade base records over none fine.
           compact_wants c.compact.result (faults_of g.P.Source g.I.Source g.B.Bench old) (faults_of g.P.Source g.I.Source g.B.Bench new)
           (λ is. unmade (does.already told is))
-          (subst (λ (s : Status). FaultCause s (faults_of g.P.Source g.I.Source g.B.Bench old) (faults_of g.P.Source g.I.Source g.B.Bench new)) c.compacted.ensures
+          (subst (λ (s : Status). FaultCause s (faults_of g.P.Source g.I.Source g.B.Bench old) (faults_of g.P.Source g.I.Source g.B.Bench new))
+          c.compacted.ensures
           (compacted_faults g c)) none fine;
     })
 
@@ -193,9 +205,11 @@ compaction_ends g c =
           as_quiet g.B.Bench _ _ reads quiet image (does.crash image left) ∙ sym does.file;
       before_table = past_table _ status last;
       before_bench = past_journal _ status last;
-      before_spare = λ other. subst (λ (s : Status). Before opening_spare s (c.compact.new.spare ≡ c.args.spare.now)) (sym c.compacted.ensures) ((compact_says c.compact.result).at_spare _);
+      before_spare = λ other. subst (λ (s : Status). Before opening_spare s (c.compact.new.spare ≡ c.args.spare.now)) (sym c.compacted.ensures)
+          ((compact_says c.compact.result).at_spare _);
       before_lines = at_lines _ _ _ c.compacted.ensures
-          (before_so reading_lines (compacting_status c.compact.result) (λ is. (refl, ap g.B.Bench.sent is ∙ reads.sent)) ((compact_says c.compact.result).at_lines _ does.unsent));
+          (before_so reading_lines (compacting_status c.compact.result) (λ is. (refl, ap g.B.Bench.sent is ∙ reads.sent))
+          ((compact_says c.compact.result).at_lines _ does.unsent));
       unwritten = λ told. always_before reading_lines status (does.file ∙ reads.file);
       unread = λ none. none_asked _ _ none is_named;
       no_files = λ command asked none. takes_step reads_files _ _ _ is_named asked refl none;

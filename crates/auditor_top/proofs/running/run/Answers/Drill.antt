@@ -21,7 +21,8 @@ use Rattle.auditor_top.proofs.running.run.Given.{Over}
 use Rattle.auditor_top.proofs.running.run.Goals as goal
 
 drilling : (g : Over) (c : goal.After-drill g) →
-    Drilling g.P.Source g.I.Source g.B.Bench c.in-Ok-Drill.number c.drill.result (objects c.args.schema.now c.args.table.now c.args.input.now c.args.bench.now c.args.spare.now)
+    Drilling g.P.Source g.I.Source g.B.Bench c.in-Ok-Drill.number c.drill.result
+    (objects c.args.schema.now c.args.table.now c.args.input.now c.args.bench.now c.args.spare.now)
     (objects c.open.new.schema c.open.new.table c.args.input.now c.drill.new.bench c.args.spare.now)
 drilling g c =
     let at = c.args.bench.now in
@@ -60,7 +61,8 @@ drill_ends g c =
     let unopened : c.open.new.bench ≡ c.args.bench.now = c.open.ensures.unopened (ap opens_store same) in
     let unread = c.open.ensures.unread (ap reads_files same) in
     let steady = c.in-Ok-Drill.ensures.steady in
-    let faults = moved status (counts schema table input (g.B.Bench.faults c.args.bench.now) spare) _ _ _ _ input (g.B.Bench.faults c.drill.new.bench) spare steady.0 steady.1
+    let faults = moved status (counts schema table input (g.B.Bench.faults c.args.bench.now) spare) _ _ _ _ input
+    (g.B.Bench.faults c.drill.new.bench) spare steady.0 steady.1
     (subst (λ b. FaultCause status (counts schema table input (g.B.Bench.faults b) spare)
     (counts schema table input (g.B.Bench.faults c.drill.new.bench) spare)) unopened (c.drill.ensures.faults schema table input spare)) in
     let words = subst (λ (asked : Option Command). WordCause status asked) (sym is_named) c.drill.ensures.word_cause in
@@ -73,7 +75,8 @@ drill_ends g c =
       own_schema_fault = c.drill.ensures.own_schema_fault;
       own_table_fault = c.drill.ensures.own_table_fault;
       file = λ ptold told other asked base files sound.
-          subst (λ (k : Command). FileCause status k file (table_in base)) (one_command _ _ other is_named asked) (c.drill.ensures.file_cause file (table_in base));
+          subst (λ (k : Command). FileCause status k file (table_in base)) (one_command _ _ other is_named asked)
+          (c.drill.ensures.file_cause file (table_in base));
       input = λ itold command asked reads. lacks_step reads_lines _ _ command is_named asked refl reads;
       faults = faults;
       schema_last = λ is. absurd (c.drill.ensures.no_source _ is);

@@ -60,13 +60,15 @@ explained_faults : (g : Over) (c : goal.After-drop-schema-inside-in-Ok-Explain-3
 explained_faults g c =
     let ended = c.explain.result in
     let does = c.explain.ensures in
-    faults_so c.explained.result _ (faults_of g.P.Source g.I.Source g.B.Bench (objects c.args.schema.now c.args.table.now c.args.input.now c.args.bench.now c.args.spare.now)) _
+    faults_so c.explained.result _ (faults_of g.P.Source g.I.Source g.B.Bench
+    (objects c.args.schema.now c.args.table.now c.args.input.now c.args.bench.now c.args.spare.now)) _
     _ c.explained.ensures c.in-Ok-Explain.ensures.steady
     (session_faults (as_session ended) _ _ _ (λ is. does.input ((explain_says ended).input is)) (λ other. does.steady.0 (λ is. other (ap as_session is)))
     (λ is. does.bench ((explain_says ended).bench is)) (λ other. does.steady.1 (λ is. other (ap as_session is))))
 
 explaining : (g : Over) (c : goal.After-drop-schema-inside-in-Ok-Explain-3 g) →
-    Explaining g.P.Source g.I.Source g.B.Bench c.explained.result (objects c.args.schema.now c.args.table.now c.args.input.now c.args.bench.now c.args.spare.now)
+    Explaining g.P.Source g.I.Source g.B.Bench c.explained.result
+    (objects c.args.schema.now c.args.table.now c.args.input.now c.args.bench.now c.args.spare.now)
     (objects c.open.new.schema c.open.new.table c.explain.new.source c.explain.new.bench c.args.spare.now)
 explaining g c =
     let at = c.args.bench.now in
@@ -118,10 +120,12 @@ explaining g c =
           (given ptold told base history over) (moments told quiet);
       undisturbed = λ told quiet. weakens g.B.Bench at later _ (LeavesFile file) (λ image bytes found. found.0) (moments told quiet);
       explain_calls = λ itold told done.
-          (explain_says ended).done _ done (does.calls itold told) ∙ ap (λ (n : ℕ). n + length (counted_lines text)) (c.in-Ok-Explain.ensures.ticks told (ap opens_store same));
+          (explain_says ended).done _ done (does.calls itold told) ∙ ap (λ (n : ℕ). n + length (counted_lines text))
+          (c.in-Ok-Explain.ensures.ticks told (ap opens_store same));
       explains = λ ptold itold told base history over within none.
           session_wants (as_session ended) (faults_of g.P.Source g.I.Source g.B.Bench old) (faults_of g.P.Source g.I.Source g.B.Bench new) text left
-          (subst (λ (s : Status). FaultCause s (faults_of g.P.Source g.I.Source g.B.Bench old) (faults_of g.P.Source g.I.Source g.B.Bench new)) c.explained.ensures
+          (subst (λ (s : Status). FaultCause s (faults_of g.P.Source g.I.Source g.B.Bench old) (faults_of g.P.Source g.I.Source g.B.Bench new))
+          c.explained.ensures
           (explained_faults g c)) none (explain_reads ended text left (does.reads itold)) within;
     })
 

@@ -41,7 +41,8 @@ same_bench g c = c.open.ensures.unopened (ap opens_store (is_grow g c))
 -- the files are those of the table whose groups were made ready
 abbrev seen : (g : Over) (c : goal.After-grown g) → g.P.Source.told → Database
 seen g c ptold =
-    let over = subst (IsReadyOver (g.P.Source.left c.args.schema.now) (g.P.Source.left c.args.table.now)) c.in-Ok-Grow.field-0-is (c.in-Ok-Grow.ensures.over ptold) in
+    let over = subst (IsReadyOver (g.P.Source.left c.args.schema.now) (g.P.Source.left c.args.table.now)) c.in-Ok-Grow.field-0-is
+    (c.in-Ok-Grow.ensures.over ptold) in
     base_of over.0 over.1 c.in-Ok-Grow.protected c.in-Ok-Grow.secret
 
 are : (g : Over) (c : goal.After-grown g) (ptold : g.P.Source.told) →
@@ -58,7 +59,8 @@ grew_faults : (g : Over) (c : goal.After-grown g) → FaultCause c.grown.result
     (faults_of g.P.Source g.I.Source g.B.Bench (objects c.args.schema.now c.args.table.now c.args.input.now c.args.bench.now c.args.spare.now))
     (faults_of g.P.Source g.I.Source g.B.Bench (objects c.open.new.schema c.open.new.table c.args.input.now c.grow.new.bench c.args.spare.now))
 grew_faults g c =
-    faults_so c.grown.result _ (faults_of g.P.Source g.I.Source g.B.Bench (objects c.args.schema.now c.args.table.now c.args.input.now c.args.bench.now c.args.spare.now)) _
+    faults_so c.grown.result _ (faults_of g.P.Source g.I.Source g.B.Bench
+    (objects c.args.schema.now c.args.table.now c.args.input.now c.args.bench.now c.args.spare.now)) _
     _ c.grown.ensures c.in-Ok-Grow.ensures.steady (growth_faults c.grow.result _ _ c.grow.ensures.fault.failed c.grow.ensures.fault.steady)
 
 grew : (g : Over) (c : goal.After-grown g) →
@@ -76,7 +78,8 @@ grew g c =
     let sent = g.B.Bench.sent opened in
     let old = objects c.args.schema.now c.args.table.now c.args.input.now at c.args.spare.now in
     let new = objects c.open.new.schema c.open.new.table c.args.input.now later c.args.spare.now in
-    let given : ((ptold : g.P.Source.told) (base : Database) (rows : ℕ) (history : List Answered) → GrowsOver schema table (g.B.Bench.file at) base rows history →
+    let given : ((ptold : g.P.Source.told) (base : Database) (rows : ℕ) (history : List Answered) →
+    GrowsOver schema table (g.B.Bench.file at) base rows history →
     GrowsOver schema table file (seen g c ptold) rows history) = λ ptold base rows history over.
     subst (λ (b : Database). GrowsOver schema table file b rows history) (sym (is_seen g c ptold base over.files))
     (subst (λ (f : List ℕ). GrowsOver schema table f base rows history) (sym (ap g.B.Bench.file same)) over) in
@@ -86,15 +89,18 @@ grew g c =
     subst (λ (s : Status). Growing g.P.Source g.I.Source g.B.Bench s old new) (sym c.grown.ensures) (record {
       grown = λ ptold told base rows history over.
           let over_seen = given ptold base rows history over in
-          subst (λ (b : Database). GrowEnds (growing_status c.grow.result) b history (g.B.Bench.file at) (g.B.Bench.file later)) (is_seen g c ptold base over.files)
+          subst (λ (b : Database). GrowEnds (growing_status c.grow.result) b history (g.B.Bench.file at) (g.B.Bench.file later))
+          (is_seen g c ptold base over.files)
           (growth_ends c.grow.result (seen g c ptold) history (g.B.Bench.file at) (g.B.Bench.file later)
           (done_so c.grow.result (λ grown. subst (λ (h : List Answered). StandsFor (g.B.Bench.file later) secret.shape (widened secret.shape.rows h))
           (c.one_reading.ensures file _ _ _ _ _ _ grown.0.stands.1 over_seen.stands.1).1 grown.1) (c.grow.ensures.done told))
           (c.grow.ensures.grows told (can ptold rows history over_seen))
-          (subst (λ (f : List ℕ). OnErr c.grow.result (c.grow.result ≢ Err grow.Failed → g.B.Bench.file later ≡ f)) (ap g.B.Bench.file same) c.grow.ensures.kept));
+          (subst (λ (f : List ℕ). OnErr c.grow.result (c.grow.result ≢ Err grow.Failed → g.B.Bench.file later ≡ f))
+          (ap g.B.Bench.file same) c.grow.ensures.kept));
       growing = λ ptold told quiet base rows history held.
           let over_seen = given ptold base rows history held in
-          subst (λ (b : g.row.B.Denot). LeavesOnly g.B.Bench b later (IsBeforeOrGrown (over rows base.secret.shape) history base.secret.shape.rows (g.B.Bench.sent b))) same
+          subst (λ (b : g.row.B.Denot). LeavesOnly g.B.Bench b later
+          (IsBeforeOrGrown (over rows base.secret.shape) history base.secret.shape.rows (g.B.Bench.sent b))) same
           (subst (λ (b : Database). LeavesOnly g.B.Bench opened later (IsBeforeOrGrown (over rows b.secret.shape) history b.secret.shape.rows sent))
           (is_seen g c ptold base held.files)
           (c.grow.ensures.any_moment told (subst (λ b. IsQuiet g.B.Bench b) (sym same) quiet) (can ptold rows history over_seen)));
@@ -114,7 +120,8 @@ grew_file : (g : Over) (c : goal.After-grown g) → g.P.Source.told → g.B.Benc
     FileCause (growing_status c.grow.result) command.Grow (g.B.Bench.file c.args.bench.now) (table_in base)
 grew_file g c ptold told base sound =
     let table = secret_table c.in-Ok-Grow.secret c.in-Ok-Grow.protected in
-    subst (λ (b : Database). FileCause (growing_status c.grow.result) command.Grow (g.B.Bench.file c.args.bench.now) (table_in b)) (is_seen g c ptold base sound)
+    subst (λ (b : Database). FileCause (growing_status c.grow.result) command.Grow (g.B.Bench.file c.args.bench.now) (table_in b))
+    (is_seen g c ptold base sound)
     (subst (λ b. FileCause (growing_status c.grow.result) command.Grow (g.B.Bench.file b) table) (same_bench g c)
     (growth_file c.grow.result (g.B.Bench.file c.open.new.bench) table (done_so c.grow.result (λ grown. grown.0) (c.grow.ensures.done told))
     (λ fault is. c.grow.ensures.cause fault told is)))

@@ -37,7 +37,8 @@ made_faults : (g : Over) (c : goal.After-made g) → FaultCause c.made.result
     (faults_of g.P.Source g.I.Source g.B.Bench (objects c.args.schema.now c.args.table.now c.args.input.now c.args.bench.now c.args.spare.now))
     (faults_of g.P.Source g.I.Source g.B.Bench (objects c.open.new.schema c.open.new.table c.args.input.now c.make.new.bench c.args.spare.now))
 made_faults g c =
-    faults_so c.made.result _ (faults_of g.P.Source g.I.Source g.B.Bench (objects c.args.schema.now c.args.table.now c.args.input.now c.args.bench.now c.args.spare.now)) _
+    faults_so c.made.result _ (faults_of g.P.Source g.I.Source g.B.Bench
+    (objects c.args.schema.now c.args.table.now c.args.input.now c.args.bench.now c.args.spare.now)) _
     _ c.made.ensures c.in-Ok-Init.ensures.steady (making_faults c.make.result _ _ c.make.ensures.fault.failed c.make.ensures.fault.steady)
 
 making_it : (g : Over) (c : goal.After-made g) →
@@ -54,10 +55,12 @@ making_it g c =
     let shape : ((ptold : g.P.Source.told) → (base : Database) → AreFilesOf (g.P.Source.left old.schema) (g.P.Source.left old.table) base →
     c.in-Ok-Init.shape ≡ base.secret.shape) =
     λ ptold base files. (are g c ptold).2 ∙ ap (λ (s : SecretView). s.shape) (one_secret _ _ (are g c ptold).0 base (are g c ptold).1 files) in
-    let there = λ (told : g.B.Bench.told) (is : IsErrOf c.make.result make.AlreadyThere). subst (λ b. IsAlready (g.B.Bench.file b) × (g.B.Bench.file later ≡ g.B.Bench.file b)) unopened (c.make.ensures.already told is) in
+    let there = λ (told : g.B.Bench.told) (is : IsErrOf c.make.result make.AlreadyThere). subst
+    (λ b. IsAlready (g.B.Bench.file b) × (g.B.Bench.file later ≡ g.B.Bench.file b)) unopened (c.make.ensures.already told is) in
     subst (λ (s : Status). Making g.P.Source g.I.Source g.B.Bench s old new) (sym c.made.ensures) (record {
       made = λ ptold told done base files.
-          subst (λ (s : Shape). StandsFor (g.B.Bench.file later) s []) (shape ptold base files) (20, (making_says c.make.result).done _ done (c.make.ensures.done told));
+          subst (λ (s : Shape). StandsFor (g.B.Bench.file later) s []) (shape ptold base files)
+          (20, (making_says c.make.result).done _ done (c.make.ensures.done told));
       kept = λ told undone fine. (there told (there_is c.make.result undone fine)).1;
       unsent = c.make.ensures.sent ∙ reads.sent;
       untouched = λ told. subst (λ b. IsAlready (g.B.Bench.file b) → IsQuiet g.B.Bench b → LeavesOnly g.B.Bench b later
@@ -71,7 +74,9 @@ making_it g c =
           ∙ ap (λ b. g.B.Bench.moment b + calls_to_make (g.B.Bench.file b)) unopened;
       makes = λ ptold told base files absent none.
           making_wants c.make.result (faults_of g.P.Source g.I.Source g.B.Bench old) (faults_of g.P.Source g.I.Source g.B.Bench new)
-          (λ is. absent (there told is).0) (subst (λ (s : Status). FaultCause s (faults_of g.P.Source g.I.Source g.B.Bench old) (faults_of g.P.Source g.I.Source g.B.Bench new)) c.made.ensures (made_faults g c)) none;
+          (λ is. absent (there told is).0) (subst
+          (λ (s : Status). FaultCause s (faults_of g.P.Source g.I.Source g.B.Bench old) (faults_of g.P.Source g.I.Source g.B.Bench new)) c.made.ensures
+          (made_faults g c)) none;
     })
 
 pub init_ends : goal.returns-in-Ok-Init

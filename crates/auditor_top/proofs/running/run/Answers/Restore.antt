@@ -31,13 +31,15 @@ use Rattle.auditor_top.proofs.running.run.Goals as goal
 -- the table that the files mean
 abbrev seen : (g : Over) (c : goal.After-restored g) → g.P.Source.told → Database
 seen g c ptold =
-    let are = subst (IsReadyOver (g.P.Source.left c.args.schema.now) (g.P.Source.left c.args.table.now)) c.in-Ok-Restore.field-0-is (c.in-Ok-Restore.ensures.over ptold) in
+    let are = subst (IsReadyOver (g.P.Source.left c.args.schema.now) (g.P.Source.left c.args.table.now)) c.in-Ok-Restore.field-0-is
+    (c.in-Ok-Restore.ensures.over ptold) in
     base_of are.0 are.1 c.in-Ok-Restore.protected c.in-Ok-Restore.secret
 
 are_of : (g : Over) (c : goal.After-restored g) (ptold : g.P.Source.told) →
     AreSoundFilesOf (g.P.Source.left c.args.schema.now) (g.P.Source.left c.args.table.now) (seen g c ptold)
 are_of g c ptold =
-    (subst (IsReadyOver (g.P.Source.left c.args.schema.now) (g.P.Source.left c.args.table.now)) c.in-Ok-Restore.field-0-is (c.in-Ok-Restore.ensures.over ptold)).2
+    (subst (IsReadyOver (g.P.Source.left c.args.schema.now) (g.P.Source.left c.args.table.now)) c.in-Ok-Restore.field-0-is
+    (c.in-Ok-Restore.ensures.over ptold)).2
 
 -- every table that they mean is that one
 is_seen : (g : Over) (c : goal.After-restored g) (ptold : g.P.Source.told) (base : Database) →
@@ -53,7 +55,8 @@ restored_faults : (g : Over) (c : goal.After-restored g) → FaultCause c.restor
     (faults_of g.P.Source g.I.Source g.B.Bench (objects c.open.new.schema c.open.new.table c.args.input.now c.restore.new.bench c.restore.new.spare))
 restored_faults g c =
     let does = c.restore.ensures in
-    faults_so c.restored.result _ (faults_of g.P.Source g.I.Source g.B.Bench (objects c.args.schema.now c.args.table.now c.args.input.now c.args.bench.now c.args.spare.now)) _
+    faults_so c.restored.result _ (faults_of g.P.Source g.I.Source g.B.Bench
+    (objects c.args.schema.now c.args.table.now c.args.input.now c.args.bench.now c.args.spare.now)) _
     _ c.restored.ensures c.in-Ok-Restore.ensures.steady
     (restore_faults c.restore.result _ _ _ does.own does.fault.failed does.fault.steady does.spare_fault.failed does.spare_fault.steady)
 
@@ -71,19 +74,24 @@ cause g c told fault is =
 
 done_so : (g : Over) (c : goal.After-restored g) → g.P.Source.told → g.B.Bench.told → restoring_status c.restore.result ≡ Done → (base : Database) →
     AreSoundFilesOf (g.P.Source.left c.args.schema.now) (g.P.Source.left c.args.table.now) base → (history : List Answered)
-    × (Restored (table_in base) (g.B.Bench.file c.args.spare.now) (g.B.Bench.file c.args.bench.now) (g.B.Bench.file c.restore.new.spare) (g.B.Bench.file c.restore.new.bench) history
-    ⊎ Restored (table_in base) (g.B.Bench.file c.args.bench.now) (g.B.Bench.file c.args.spare.now) (g.B.Bench.file c.restore.new.bench) (g.B.Bench.file c.restore.new.spare) history)
+    × (Restored (table_in base) (g.B.Bench.file c.args.spare.now) (g.B.Bench.file c.args.bench.now) (g.B.Bench.file c.restore.new.spare)
+    (g.B.Bench.file c.restore.new.bench) history
+    ⊎ Restored (table_in base) (g.B.Bench.file c.args.bench.now) (g.B.Bench.file c.args.spare.now) (g.B.Bench.file c.restore.new.bench)
+    (g.B.Bench.file c.restore.new.spare) history)
 done_so g c ptold told done base sound =
     let file = g.B.Bench.file c.args.bench.now in
     let spare = g.B.Bench.file c.args.spare.now in
     let later = g.B.Bench.file c.restore.new.bench in
     let spare_later = g.B.Bench.file c.restore.new.spare in
-    subst (λ (b : Database). (history : List Answered) × (Restored (table_in b) spare file spare_later later history ⊎ Restored (table_in b) file spare later spare_later history))
+    subst (λ (b : Database). (history : List Answered) ×
+    (Restored (table_in b) spare file spare_later later history ⊎ Restored (table_in b) file spare later spare_later history))
     (is_seen g c ptold base sound)
     (subst (λ b. (history : List Answered) × (Restored (table g c) spare (g.B.Bench.file b) spare_later later history
-    ⊎ Restored (table g c) (g.B.Bench.file b) spare later spare_later history)) (unopened g c) ((restore_says c.restore.result).done _ done (c.restore.ensures.done told told)))
+    ⊎ Restored (table g c) (g.B.Bench.file b) spare later spare_later history)) (unopened g c)
+    ((restore_says c.restore.result).done _ done (c.restore.ensures.done told told)))
 
-moments : (g : Over) (c : goal.After-restored g) → g.P.Source.told → g.B.Bench.told → IsQuiet g.B.Bench c.args.bench.now → (base : Database) (history : List Answered) →
+moments : (g : Over) (c : goal.After-restored g) → g.P.Source.told → g.B.Bench.told → IsQuiet g.B.Bench c.args.bench.now →
+    (base : Database) (history : List Answered) →
     AreSoundFilesOf (g.P.Source.left c.args.schema.now) (g.P.Source.left c.args.table.now) base →
     IsLostOf (table_in base) (g.B.Bench.file c.args.bench.now) (g.B.Bench.file c.args.spare.now) history →
     LeavesOnly g.B.Bench c.args.bench.now c.restore.new.bench (IsUnmadeOrWhole base.secret.shape history (g.B.Bench.sent c.args.bench.now))
@@ -97,7 +105,8 @@ moments g c ptold told quiet base history sound lost =
     (subst (λ b. IsLostOf (table g c) (g.B.Bench.file b) spare history) (sym (unopened g c))
     (subst (λ (b : Database). IsLostOf (table_in b) (g.B.Bench.file c.args.bench.now) spare history) (sym is) lost))))
 
-spare_moments : (g : Over) (c : goal.After-restored g) → g.P.Source.told → g.B.Bench.told → IsQuiet g.B.Bench c.args.spare.now → (base : Database) (history : List Answered) →
+spare_moments : (g : Over) (c : goal.After-restored g) → g.P.Source.told → g.B.Bench.told → IsQuiet g.B.Bench c.args.spare.now →
+    (base : Database) (history : List Answered) →
     AreSoundFilesOf (g.P.Source.left c.args.schema.now) (g.P.Source.left c.args.table.now) base →
     IsLostOf (table_in base) (g.B.Bench.file c.args.spare.now) (g.B.Bench.file c.args.bench.now) history →
     LeavesOnly g.B.Bench c.args.spare.now c.restore.new.spare (IsUnmadeOrWhole base.secret.shape history (g.B.Bench.sent c.args.spare.now))
@@ -111,8 +120,10 @@ spare_moments g c ptold told quiet base history sound lost =
     (subst (λ (b : Database). IsLostOf (table_in b) file (g.B.Bench.file c.args.bench.now) history) (sym is) lost)))
 
 calls_so : (g : Over) (c : goal.After-restored g) → g.B.Bench.told → restoring_status c.restore.result ≡ Done →
-    (IsLost (g.B.Bench.file c.args.spare.now) × TakeCalls (g.B.Bench.moment c.args.spare.now) (g.B.Bench.moment c.restore.new.spare) (g.B.Bench.moment c.args.bench.now) (g.B.Bench.moment c.restore.new.bench))
-    ⊎ (IsLost (g.B.Bench.file c.args.bench.now) × TakeCalls (g.B.Bench.moment c.args.bench.now) (g.B.Bench.moment c.restore.new.bench) (g.B.Bench.moment c.args.spare.now) (g.B.Bench.moment c.restore.new.spare))
+    (IsLost (g.B.Bench.file c.args.spare.now) × TakeCalls (g.B.Bench.moment c.args.spare.now) (g.B.Bench.moment c.restore.new.spare)
+    (g.B.Bench.moment c.args.bench.now) (g.B.Bench.moment c.restore.new.bench))
+    ⊎ (IsLost (g.B.Bench.file c.args.bench.now) × TakeCalls (g.B.Bench.moment c.args.bench.now) (g.B.Bench.moment c.restore.new.bench)
+    (g.B.Bench.moment c.args.spare.now) (g.B.Bench.moment c.restore.new.spare))
 calls_so g c told done =
     let later = g.B.Bench.moment c.restore.new.bench in
     let spare = g.B.Bench.moment c.args.spare.now in
@@ -161,7 +172,8 @@ restoring g c =
           (λ fault is. subst RestoredUnlessGivenUp is (does.restores told told
           (subst (λ b. CanRestore (table g c) (g.B.Bench.file b) spare) (sym same)
           (subst (λ (b : Database). CanRestore (table_in b) file spare) (sym (is_seen g c ptold base sound)) can))))
-          (subst (λ (s : Status). FaultCause s (faults_of g.P.Source g.I.Source g.B.Bench old) (faults_of g.P.Source g.I.Source g.B.Bench new)) c.restored.ensures
+          (subst (λ (s : Status). FaultCause s (faults_of g.P.Source g.I.Source g.B.Bench old) (faults_of g.P.Source g.I.Source g.B.Bench new))
+          c.restored.ensures
           (restored_faults g c)) none fine;
     })
 
@@ -194,7 +206,8 @@ restoration_ends g c =
       input_last = λ is. absurd ((restore_says ended).no_input (sym c.restored.ensures ∙ is));
       bench_last = λ is. does.fault.last_call ((restore_says ended).bench does.own (sym c.restored.ensures ∙ is));
       spare_last = λ is. does.spare_fault.last_call ((restore_says ended).spare (sym c.restored.ensures ∙ is));
-      spare_file = λ told asked is_asked calls. named_so _ command.Restore status _ is_named c.restored.ensures (λ (s : Status) (k : Command). SpareCause s k spare)
+      spare_file = λ told asked is_asked calls. named_so _ command.Restore status _ is_named c.restored.ensures
+          (λ (s : Status) (k : Command). SpareCause s k spare)
           ((restore_says ended).spare_file spare) asked is_asked;
       later = later_so _ _ _ c.open.ensures.later (stays _) does.fault.later does.spare_fault.later;
       schema_within = λ ptold. schema_was_read status last;

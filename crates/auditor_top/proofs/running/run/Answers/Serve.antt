@@ -53,12 +53,14 @@ served_faults : (g : Over) (c : goal.After-drop-schema-inside-in-Ok-Serve-2 g) �
     (faults_of g.P.Source g.I.Source g.B.Bench (objects c.args.schema.now c.args.table.now c.args.input.now c.args.bench.now c.args.spare.now))
     (faults_of g.P.Source g.I.Source g.B.Bench (objects c.open.new.schema c.open.new.table c.serve.new.source c.serve.new.bench c.args.spare.now))
 served_faults g c =
-    faults_so c.answered.result _ (faults_of g.P.Source g.I.Source g.B.Bench (objects c.args.schema.now c.args.table.now c.args.input.now c.args.bench.now c.args.spare.now)) _
+    faults_so c.answered.result _ (faults_of g.P.Source g.I.Source g.B.Bench
+    (objects c.args.schema.now c.args.table.now c.args.input.now c.args.bench.now c.args.spare.now)) _
     _ c.answered.ensures c.in-Ok-Serve.ensures.steady
     (session_faults c.serve.result _ _ _ c.serve.ensures.input c.serve.ensures.steady c.serve.ensures.fault.failed c.serve.ensures.fault.steady)
 
 serving : (g : Over) (c : goal.After-drop-schema-inside-in-Ok-Serve-2 g) →
-    Serving g.P.Source g.I.Source g.B.Bench c.in-Ok-Serve.batch c.answered.result (objects c.args.schema.now c.args.table.now c.args.input.now c.args.bench.now c.args.spare.now)
+    Serving g.P.Source g.I.Source g.B.Bench c.in-Ok-Serve.batch c.answered.result
+    (objects c.args.schema.now c.args.table.now c.args.input.now c.args.bench.now c.args.spare.now)
     (objects c.open.new.schema c.open.new.table c.serve.new.source c.serve.new.bench c.args.spare.now)
 serving g c =
     let at = c.args.bench.now in
@@ -78,24 +80,32 @@ serving g c =
     subst (λ (s : Status). Serving g.P.Source g.I.Source g.B.Bench n s old new) (sym c.answered.ensures) (record {
       served = λ ptold itold told base history over.
           let after = outside g.I.Source g.B.Bench new.input later in
-          ends_so g.B.Bench at c.open.new.bench later reads (seen g c) base kept history (given ptold told base history over) n text (session_status c.serve.result) after
-          (session_ends c.serve.result (seen g c) n kept c.serve.new.store.history (record { input = text; sent = g.B.Bench.sent c.open.new.bench; file = g.B.Bench.file at }) after
-          (c.serve.ensures.done itold told) (c.serve.ensures.input_end itold told) (c.serve.ensures.limit_end itold told) (c.serve.ensures.memory_end itold told)
-          (λ fine. subst (λ (s : SecretView). StandsFor after.file s.shape c.serve.new.store.history) c.serve.ensures.table.0 (c.serve.ensures.stands told fine)));
+          ends_so g.B.Bench at c.open.new.bench later reads (seen g c) base kept history (given ptold told base history over) n text
+          (session_status c.serve.result) after
+          (session_ends c.serve.result (seen g c) n kept c.serve.new.store.history
+          (record { input = text; sent = g.B.Bench.sent c.open.new.bench; file = g.B.Bench.file at }) after
+          (c.serve.ensures.done itold told) (c.serve.ensures.input_end itold told) (c.serve.ensures.limit_end itold told)
+          (c.serve.ensures.memory_end itold told)
+          (λ fine. subst (λ (s : SecretView). StandsFor after.file s.shape c.serve.new.store.history) c.serve.ensures.table.0
+          (c.serve.ensures.stands told fine)));
       any_moment = λ ptold itold told quiet base history over.
-          stops_so g.B.Bench at c.open.new.bench later reads (seen g c) base kept history (given ptold told base history over) n text over.stands (reads.untouched quiet)
+          stops_so g.B.Bench at c.open.new.bench later reads (seen g c) base kept history (given ptold told base history over) n text over.stands
+          (reads.untouched quiet)
           (c.serve.ensures.any_moment itold told (as_quiet g.B.Bench at c.open.new.bench reads quiet));
       undisclosed = λ ptold told quiet base history over.
-          harmless_so g.B.Bench at c.open.new.bench later reads (seen g c) base kept history (given ptold told base history over) n text c.stops_are_legal.ensures _ _ over
+          harmless_so g.B.Bench at c.open.new.bench later reads (seen g c) base kept history
+          (given ptold told base history over) n text c.stops_are_legal.ensures _ _ over
           (reads.untouched quiet)
-          (subst (λ (p : Protection). LeavesOnly g.B.Bench c.open.new.bench later (λ image sent. IsHarmless (secret_table store.secret p) image)) (sym (entries g c))
+          (subst (λ (p : Protection). LeavesOnly g.B.Bench c.open.new.bench later (λ image sent. IsHarmless (secret_table store.secret p) image))
+          (sym (entries g c))
           (c.serve.ensures.legal told (as_quiet g.B.Bench at c.open.new.bench reads quiet)));
       serve_calls = λ ptold itold told done base history over.
           calls_so g.B.Bench at c.open.new.bench later reads (seen g c) base kept history (given ptold told base history over) n text
           (c.in-Ok-Serve.ensures.ticks told (ap opens_store same)) ((session_says c.serve.result).done _ done (c.serve.ensures.calls itold told));
       complete = λ ptold itold told base history over within none.
           session_wants c.serve.result (faults_of g.P.Source g.I.Source g.B.Bench old) (faults_of g.P.Source g.I.Source g.B.Bench new) text
-          (g.I.Source.left new.input) (subst (λ (s : Status). FaultCause s (faults_of g.P.Source g.I.Source g.B.Bench old) (faults_of g.P.Source g.I.Source g.B.Bench new)) c.answered.ensures (served_faults g c)) none
+          (g.I.Source.left new.input) (subst (λ (s : Status). FaultCause s (faults_of g.P.Source g.I.Source g.B.Bench old)
+          (faults_of g.P.Source g.I.Source g.B.Bench new)) c.answered.ensures (served_faults g c)) none
           (session_reads c.serve.result text (g.I.Source.left new.input) (c.serve.ensures.read itold) (c.serve.ensures.within itold)
           (c.serve.ensures.input_within itold) (c.serve.ensures.limit itold)) within;
     })
@@ -143,11 +153,13 @@ serve_ends g c =
       schema_within = λ ptold. schema_was_read status last;
       table_within = λ ptold. table_was_read status last;
       lives = λ ptold told command asked itold quiet. goes_on g.P.Source g.I.Source g.B.Bench status _ _ c.lives.ensures.longer c.one_reading.ensures command
-          (λ batch twin is. c.read_words.ensures.batch batch twin (asked ∙ ap (λ (k : Command). Some k) is)) (does_so g.P.Source g.I.Source g.B.Bench status _ _ _ _ command is_named asked (serving g c))
+          (λ batch twin is. c.read_words.ensures.batch batch twin (asked ∙ ap (λ (k : Command). Some k) is))
+          (does_so g.P.Source g.I.Source g.B.Bench status _ _ _ _ command is_named asked (serving g c))
           ptold told itold quiet;
       does = λ command asked. does_so g.P.Source g.I.Source g.B.Bench status _ _ _ _ command is_named asked (serving g c);
       nothing_began = λ ptold told command asked opens quiet none.
-          absurd (none _ (are g c ptold) (subst (λ (k : Command). IsReadyFor k file (table_in (seen g c))) (one_command _ _ command is_named asked) (holds g c told)));
+          absurd (none _ (are g c ptold) (subst (λ (k : Command). IsReadyFor k file (table_in (seen g c))) (one_command _ _ command is_named asked)
+          (holds g c told)));
       quiet = λ told quiet fine. c.serve.ensures.quiet told (as_quiet g.B.Bench _ _ reads quiet) (λ is. fine (c.answered.ensures ∙ ap session_status is));
       before_table = past_table _ status last;
       before_bench = past_journal _ status last;

@@ -26,13 +26,15 @@ use Rattle.auditor_top.proofs.running.run.Goals as goal
 
 twin_faults_so : (g : Over) (c : goal.After-drop-schema-inside-in-Ok-start-3 g) → FaultCause c.twins_answered.result
     (faults_of g.P.Source g.I.Source g.B.Bench (objects c.args.schema.now c.args.table.now c.args.input.now c.args.bench.now c.args.spare.now))
-    (faults_of g.P.Source g.I.Source g.B.Bench (objects c.open.new.schema c.open.new.table c.serve_twin.new.source c.serve_twin.new.bench c.serve_twin.new.spare))
+    (faults_of g.P.Source g.I.Source g.B.Bench
+    (objects c.open.new.schema c.open.new.table c.serve_twin.new.source c.serve_twin.new.bench c.serve_twin.new.spare))
 twin_faults_so g c =
     let does = c.serve_twin.ensures in
     let begun = c.in-Ok-start.ensures in
     let same = begun.fault.steady (not_both _ _) in
     let spare_same = begun.spare_fault.steady (not_both _ _) in
-    faults_so c.twins_answered.result _ (faults_of g.P.Source g.I.Source g.B.Bench (objects c.args.schema.now c.args.table.now c.args.input.now c.args.bench.now c.args.spare.now)) _
+    faults_so c.twins_answered.result _ (faults_of g.P.Source g.I.Source g.B.Bench
+    (objects c.args.schema.now c.args.table.now c.args.input.now c.args.bench.now c.args.spare.now)) _
     _ c.twins_answered.ensures c.in-Ok-Twin.ensures.steady
     (twins_faults c.serve_twin.result _ _ _ _ does.input does.steady
     (λ is. subst (λ (n : ℕ). Rose n (g.B.Bench.faults c.serve_twin.new.bench)) same (does.fault.failed is)) (λ other. does.fault.steady other ∙ same)
@@ -45,11 +47,13 @@ reads_so g c itold =
     let does = c.serve_twin.ensures in
     twins_reads c.serve_twin.result _ _ (does.read itold) (does.within itold) (does.input_within itold) (does.limit itold)
 
-is_named : (g : Over) (c : goal.After-drop-schema-inside-in-Ok-start-3 g) → command_of (map string_bytes c.args.words.now.items) ≡ Some (command.Serve c.in-Ok-Twin.batch true)
+is_named : (g : Over) (c : goal.After-drop-schema-inside-in-Ok-start-3 g) → command_of (map string_bytes c.args.words.now.items)
+    ≡ Some (command.Serve c.in-Ok-Twin.batch true)
 is_named g c = asked_for _ _ _ _ c.in-Ok.ensures.command c.in-Ok-Twin.field-0-is c.in-Ok-Twin.ensures.asked
 
 answering : (g : Over) (c : goal.After-drop-schema-inside-in-Ok-start-3 g) →
-    TwinServing g.P.Source g.I.Source g.B.Bench c.in-Ok-Twin.batch c.twins_answered.result (objects c.args.schema.now c.args.table.now c.args.input.now c.args.bench.now c.args.spare.now)
+    TwinServing g.P.Source g.I.Source g.B.Bench c.in-Ok-Twin.batch c.twins_answered.result
+    (objects c.args.schema.now c.args.table.now c.args.input.now c.args.bench.now c.args.spare.now)
     (objects c.open.new.schema c.open.new.table c.serve_twin.new.source c.serve_twin.new.bench c.serve_twin.new.spare)
 answering g c =
     let old = objects c.args.schema.now c.args.table.now c.args.input.now c.args.bench.now c.args.spare.now in
@@ -62,10 +66,13 @@ answering g c =
       spare_moment = spare_moments_so g c;
       twins_left = both_left g c;
       spare_lives = λ ptold itold told quiet spare_quiet.
-          spare_goes_on g.P.Source g.I.Source g.B.Bench n old new c.lives.ensures.longer c.one_reading.ensures (c.read_words.ensures.batch n true (is_named g c))
-          (λ base main other whole over image sent left all. left_of_spare base n main other whole (counted_lines (g.I.Source.left old.input)) (g.B.Bench.sent old.bench) sent
+          spare_goes_on g.P.Source g.I.Source g.B.Bench n old new c.lives.ensures.longer c.one_reading.ensures
+          (c.read_words.ensures.batch n true (is_named g c))
+          (λ base main other whole over image sent left all. left_of_spare base n main other whole (counted_lines (g.I.Source.left old.input))
+          (g.B.Bench.sent old.bench) sent
           (g.B.Bench.sent new.bench) (g.B.Bench.file new.bench) image all
-          (both_left g c ptold itold told quiet spare_quiet base main other whole over (g.B.Bench.file new.bench) image (g.met.B.Bench.reads new.bench told) left));
+          (both_left g c ptold itold told quiet spare_quiet base main other whole over (g.B.Bench.file new.bench) image
+          (g.met.B.Bench.reads new.bench told) left));
       undisclosed = discloses_nothing g c;
       spare_undisclosed = spare_discloses_nothing g c;
       apart = λ ptold told quiet none. let keeps = together g c told in
@@ -73,15 +80,18 @@ answering g c =
       spare_apart = λ ptold told quiet none. let keeps = together g c told in
           absurd (none (seen g c) keeps.0 keeps.1 c.in-Ok-start.twin.store.history (record { files = are g c ptold; together = keeps.2 }));
       cause = λ ptold told base sound.
-          subst (λ (b : Database). BothCause (twin_session_status ended) (command.Serve n true) (g.B.Bench.file old.bench) (g.B.Bench.file old.spare) (table_in b))
+          subst (λ (b : Database). BothCause (twin_session_status ended) (command.Serve n true) (g.B.Bench.file old.bench) (g.B.Bench.file old.spare)
+          (table_in b))
           (is_seen g c ptold base sound) ((twins_say ended).cause n _ _ _ c.in-Ok-start.twin.store.history (together g c told));
       spare_quiet = λ told quiet fine. c.serve_twin.ensures.spare_quiet told (spare_quiet_started g c told quiet) (λ is. fine (ap twin_session_status is));
       spare_unsent = c.serve_twin.ensures.spare_sent ∙ c.in-Ok-start.ensures.spare_sent;
       twin_calls = takes_calls g c;
       spare_calls = spare_takes_calls g c;
       twins_complete = λ ptold itold told base main other whole over within none fine.
-          twins_want ended (faults_of g.P.Source g.I.Source g.B.Bench old) (faults_of g.P.Source g.I.Source g.B.Bench new) (g.I.Source.left old.input) (g.I.Source.left new.input)
-          (subst (λ (s : Status). FaultCause s (faults_of g.P.Source g.I.Source g.B.Bench old) (faults_of g.P.Source g.I.Source g.B.Bench new)) c.twins_answered.ensures
+          twins_want ended (faults_of g.P.Source g.I.Source g.B.Bench old) (faults_of g.P.Source g.I.Source g.B.Bench new) (g.I.Source.left old.input)
+          (g.I.Source.left new.input)
+          (subst (λ (s : Status). FaultCause s (faults_of g.P.Source g.I.Source g.B.Bench old) (faults_of g.P.Source g.I.Source g.B.Bench new))
+          c.twins_answered.ensures
           (twin_faults_so g c)) none fine (reads_so g c itold) within;
     })
 
@@ -108,7 +118,8 @@ twin_ends g c =
           (twins_say ended).file c.in-Ok-Twin.batch file (table_in base)
           (holds_over c.groups_of_a_schema.ensures.entries _ _ file _ base (are g c ptold) sound (holds_legal g c told)));
       input = λ itold command asked reads.
-          subst (λ (s : Status). InputCause s (g.I.Source.left c.args.input.now) (g.I.Source.left c.serve_twin.new.source)) (sym c.twins_answered.ensures) (reads_so g c itold);
+          subst (λ (s : Status). InputCause s (g.I.Source.left c.args.input.now) (g.I.Source.left c.serve_twin.new.source)) (sym c.twins_answered.ensures)
+          (reads_so g c itold);
       faults = twin_faults_so g c;
       schema_last = schema_was_read status last;
       table_last = table_was_read status last;
@@ -126,11 +137,13 @@ twin_ends g c =
           (does_so g.P.Source g.I.Source g.B.Bench status _ _ _ _ command named asked (answering g c)) ptold told itold quiet;
       does = λ command asked. does_so g.P.Source g.I.Source g.B.Bench status _ _ _ _ command named asked (answering g c);
       nothing_began = λ ptold told command asked opens quiet none.
-          absurd (none (seen g c) (are g c ptold) (subst (λ (k : Command). IsReadyFor k file (table_in (seen g c))) (one_command _ _ command named asked) (holds_legal g c told)));
+          absurd (none (seen g c) (are g c ptold)
+          (subst (λ (k : Command). IsReadyFor k file (table_in (seen g c))) (one_command _ _ command named asked) (holds_legal g c told)));
       quiet = λ told quiet fine. does.quiet told (quiet_started g c told quiet) (λ is. fine (c.twins_answered.ensures ∙ ap twin_session_status is));
       before_table = past_table _ status last;
       before_bench = past_journal _ status last;
-      before_spare = λ other. subst (λ (s : Status). Before opening_spare s (c.serve_twin.new.spare ≡ c.args.spare.now)) (sym c.twins_answered.ensures) ((twins_say ended).at_spare _);
+      before_spare = λ other. subst (λ (s : Status). Before opening_spare s (c.serve_twin.new.spare ≡ c.args.spare.now)) (sym c.twins_answered.ensures)
+          ((twins_say ended).at_spare _);
       before_lines = at_lines _ _ _ c.twins_answered.ensures ((twins_say ended).at_lines _);
       unwritten = λ told. at_lines _ _ _ c.twins_answered.ensures ((twins_say ended).at_lines _);
       unread = λ none. none_asked _ _ none named;

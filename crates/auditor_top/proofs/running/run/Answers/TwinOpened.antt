@@ -19,7 +19,8 @@ use Rattle.auditor_top.proofs.running.run.Goals as goal
 abbrev pub seen : (g : Over) → goal.After-drop-schema-inside-in-Ok-start-3 g → Database
 seen g c = base_of c.in-Ok-Twin.schema.columns c.in-Ok-Twin.index.public c.in-Ok-Twin.protected c.in-Ok-Twin.secret
 
-pub are : (g : Over) (c : goal.After-drop-schema-inside-in-Ok-start-3 g) → g.P.Source.told → AreSoundFilesOf (g.P.Source.left c.args.schema.now) (g.P.Source.left c.args.table.now) (seen g c)
+pub are : (g : Over) (c : goal.After-drop-schema-inside-in-Ok-start-3 g) → g.P.Source.told →
+    AreSoundFilesOf (g.P.Source.left c.args.schema.now) (g.P.Source.left c.args.table.now) (seen g c)
 are g c ptold =
     let ready = subst (IsReady g.B.Bench c.open.new.bench) c.in-Ok-Twin.field-0-is c.in-Ok-Twin.ensures.ready in
     subst (λ (l : Protection). AreSoundFilesOf (g.P.Source.left c.args.schema.now) (g.P.Source.left c.args.table.now)
@@ -36,7 +37,8 @@ unopened g c = c.open.ensures.unopened (ap opens_store (same_command _ _ _ c.in-
 
 -- so the journals were opened as they were given
 pub keep : (g : Over) (c : goal.After-drop-schema-inside-in-Ok-start-3 g) → g.P.Source.told → (base : Database) (main other whole : List Answered) →
-    TwinsOver (g.P.Source.left c.args.schema.now) (g.P.Source.left c.args.table.now) (g.B.Bench.file c.args.bench.now) (g.B.Bench.file c.args.spare.now) base main other
+    TwinsOver (g.P.Source.left c.args.schema.now) (g.P.Source.left c.args.table.now) (g.B.Bench.file c.args.bench.now)
+    (g.B.Bench.file c.args.spare.now) base main other
     whole → KeepTogether (table_in (seen g c)) (g.B.Bench.file c.open.new.bench) (g.B.Bench.file c.args.spare.now) main other whole
 keep g c ptold base main other whole over =
     subst (λ b. KeepTogether (table_in (seen g c)) (g.B.Bench.file b) (g.B.Bench.file c.args.spare.now) main other whole) (sym (unopened g c))
@@ -61,12 +63,15 @@ together g c told =
     (c.in-Ok-start.ensures.together told told)
 
 -- so that of the journal is legal
-pub holds_legal : (g : Over) (c : goal.After-drop-schema-inside-in-Ok-start-3 g) → g.B.Bench.told → HoldsLegal (g.B.Bench.file c.args.bench.now) (table_in (seen g c))
+pub holds_legal : (g : Over) (c : goal.After-drop-schema-inside-in-Ok-start-3 g) → g.B.Bench.told →
+    HoldsLegal (g.B.Bench.file c.args.bench.now) (table_in (seen g c))
 holds_legal g c told = front_is_legal (table_in (seen g c)) (g.B.Bench.file c.args.bench.now) (g.B.Bench.file c.args.spare.now) _ (together g c told)
 
 -- what the session says of this table it says of every table that the files mean, and of the longer history
-pub said : (g : Over) (c : goal.After-drop-schema-inside-in-Ok-start-3 g) (P : Database → List Answered → Type 0) → g.P.Source.told → g.B.Bench.told → (base : Database) (main other whole : List Answered) →
-    TwinsOver (g.P.Source.left c.args.schema.now) (g.P.Source.left c.args.table.now) (g.B.Bench.file c.args.bench.now) (g.B.Bench.file c.args.spare.now) base main other
+pub said : (g : Over) (c : goal.After-drop-schema-inside-in-Ok-start-3 g) (P : Database → List Answered → Type 0) → g.P.Source.told → g.B.Bench.told →
+    (base : Database) (main other whole : List Answered) →
+    TwinsOver (g.P.Source.left c.args.schema.now) (g.P.Source.left c.args.table.now) (g.B.Bench.file c.args.bench.now)
+    (g.B.Bench.file c.args.spare.now) base main other
     whole → P (asked g c) c.in-Ok-start.twin.store.history → P base whole
 said g c P ptold told base main other whole over holds =
     subst (λ (h : List Answered). P base h) (c.in-Ok-start.ensures.longer main other whole told told (keep g c ptold base main other whole over))
@@ -75,20 +80,24 @@ said g c P ptold told base main other whole over holds =
 -- what is given: the files of a table, and two journals of it of which one begins the other
 abbrev pub IsGiven : (g : Over) → goal.After-drop-schema-inside-in-Ok-start-3 g → Database → List Answered → List Answered → List Answered → Type 0
 IsGiven g c base main other whole =
-    TwinsOver (g.P.Source.left c.args.schema.now) (g.P.Source.left c.args.table.now) (g.B.Bench.file c.args.bench.now) (g.B.Bench.file c.args.spare.now) base main other whole
+    TwinsOver (g.P.Source.left c.args.schema.now) (g.P.Source.left c.args.table.now) (g.B.Bench.file c.args.bench.now)
+    (g.B.Bench.file c.args.spare.now) base main other whole
 
 -- ---- until both are brought up
 
 pub sent_same : (g : Over) (c : goal.After-drop-schema-inside-in-Ok-start-3 g) → g.B.Bench.sent c.start.new.bench ≡ g.B.Bench.sent c.args.bench.now
 sent_same g c = c.in-Ok-start.ensures.sent ∙ ap g.B.Bench.sent (unopened g c)
 
-pub quiet_started : (g : Over) (c : goal.After-drop-schema-inside-in-Ok-start-3 g) → g.B.Bench.told → IsQuiet g.B.Bench c.args.bench.now → IsQuiet g.B.Bench c.start.new.bench
+pub quiet_started : (g : Over) (c : goal.After-drop-schema-inside-in-Ok-start-3 g) → g.B.Bench.told → IsQuiet g.B.Bench c.args.bench.now →
+    IsQuiet g.B.Bench c.start.new.bench
 quiet_started g c told quiet = c.in-Ok-start.ensures.quiet told (subst (λ b. IsQuiet g.B.Bench b) (sym (unopened g c)) quiet) (λ is. cc)
 
-pub spare_quiet_started : (g : Over) (c : goal.After-drop-schema-inside-in-Ok-start-3 g) → g.B.Bench.told → IsQuiet g.B.Bench c.args.spare.now → IsQuiet g.B.Bench c.start.new.spare
+pub spare_quiet_started : (g : Over) (c : goal.After-drop-schema-inside-in-Ok-start-3 g) → g.B.Bench.told → IsQuiet g.B.Bench c.args.spare.now →
+    IsQuiet g.B.Bench c.start.new.spare
 spare_quiet_started g c told quiet = c.in-Ok-start.ensures.spare_quiet told quiet (λ is. cc)
 
-pub catching : (g : Over) (c : goal.After-drop-schema-inside-in-Ok-start-3 g) → g.P.Source.told → g.B.Bench.told → IsQuiet g.B.Bench c.args.bench.now → (base : Database) (main other whole : List Answered) → IsGiven g c base main other whole →
+pub catching : (g : Over) (c : goal.After-drop-schema-inside-in-Ok-start-3 g) → g.P.Source.told → g.B.Bench.told → IsQuiet g.B.Bench c.args.bench.now →
+    (base : Database) (main other whole : List Answered) → IsGiven g c base main other whole →
     LeavesOnly g.B.Bench c.args.bench.now c.start.new.bench (CatchesUp base.secret.shape main whole (g.B.Bench.sent c.args.bench.now))
 catching g c ptold told quiet base main other whole over =
     let started = c.start.new.bench in
@@ -98,9 +107,11 @@ catching g c ptold told quiet base main other whole over =
     (c.in-Ok-start.ensures.main_moments main other whole told told (subst (λ b. IsQuiet g.B.Bench b) (sym (unopened g c)) quiet)
     (keep g c ptold base main other whole over)))
 
-pub spare_catching : (g : Over) (c : goal.After-drop-schema-inside-in-Ok-start-3 g) → g.P.Source.told → g.B.Bench.told → IsQuiet g.B.Bench c.args.spare.now → (base : Database) (main other whole : List Answered) → IsGiven g c base main other whole →
+pub spare_catching : (g : Over) (c : goal.After-drop-schema-inside-in-Ok-start-3 g) → g.P.Source.told → g.B.Bench.told → IsQuiet g.B.Bench c.args.spare.now →
+    (base : Database) (main other whole : List Answered) → IsGiven g c base main other whole →
     LeavesOnly g.B.Bench c.args.spare.now c.start.new.spare (CatchesUp base.secret.shape other whole (g.B.Bench.sent c.args.spare.now))
 spare_catching g c ptold told quiet base main other whole over =
     let spare = c.args.spare.now in
-    subst (λ (b : Database). LeavesOnly g.B.Bench spare c.start.new.spare (CatchesUp b.secret.shape other whole (g.B.Bench.sent spare))) (is_seen g c ptold base over.files)
+    subst (λ (b : Database). LeavesOnly g.B.Bench spare c.start.new.spare (CatchesUp b.secret.shape other whole (g.B.Bench.sent spare)))
+    (is_seen g c ptold base over.files)
     (c.in-Ok-start.ensures.spare_moments main other whole told told quiet (keep g c ptold base main other whole over))

@@ -35,7 +35,8 @@ use Rattle.auditor_top.proofs.running.run.Goals as goal
 abbrev seen : (g : Over) → goal.After-drop-schema-inside-in-Ok-Twin-3 g → Database
 seen g c = base_of c.in-Ok-Twin.schema.columns c.in-Ok-Twin.index.public c.in-Ok-Twin.protected c.in-Ok-Twin.secret
 
-are : (g : Over) (c : goal.After-drop-schema-inside-in-Ok-Twin-3 g) → g.P.Source.told → AreSoundFilesOf (g.P.Source.left c.args.schema.now) (g.P.Source.left c.args.table.now) (seen g c)
+are : (g : Over) (c : goal.After-drop-schema-inside-in-Ok-Twin-3 g) → g.P.Source.told →
+    AreSoundFilesOf (g.P.Source.left c.args.schema.now) (g.P.Source.left c.args.table.now) (seen g c)
 are g c ptold =
     let ready = subst (IsReady g.B.Bench c.open.new.bench) c.in-Ok-Twin.field-0-is c.in-Ok-Twin.ensures.ready in
     subst (λ (l : Protection). AreSoundFilesOf (g.P.Source.left c.args.schema.now) (g.P.Source.left c.args.table.now)
@@ -52,7 +53,8 @@ unopened g c = c.open.ensures.unopened (ap opens_store (same_command _ _ _ c.in-
 
 -- so the journals were opened as they were given
 keep : (g : Over) (c : goal.After-drop-schema-inside-in-Ok-Twin-3 g) → g.P.Source.told → (base : Database) (main other whole : List Answered) →
-    TwinsOver (g.P.Source.left c.args.schema.now) (g.P.Source.left c.args.table.now) (g.B.Bench.file c.args.bench.now) (g.B.Bench.file c.args.spare.now) base main other
+    TwinsOver (g.P.Source.left c.args.schema.now) (g.P.Source.left c.args.table.now) (g.B.Bench.file c.args.bench.now)
+    (g.B.Bench.file c.args.spare.now) base main other
     whole → KeepTogether (table_in (seen g c)) (g.B.Bench.file c.open.new.bench) (g.B.Bench.file c.args.spare.now) main other whole
 keep g c ptold base main other whole over =
     subst (λ b. KeepTogether (table_in (seen g c)) (g.B.Bench.file b) (g.B.Bench.file c.args.spare.now) main other whole) (sym (unopened g c))
@@ -73,14 +75,16 @@ refused_faults : (g : Over) (c : goal.After-drop-schema-inside-in-Ok-Twin-3 g) �
     (faults_of g.P.Source g.I.Source g.B.Bench (objects c.open.new.schema c.open.new.table c.args.input.now c.start.new.bench c.start.new.spare))
 refused_faults g c =
     let does = c.in-Err-start.ensures in
-    faults_so c.from.result _ (faults_of g.P.Source g.I.Source g.B.Bench (objects c.args.schema.now c.args.table.now c.args.input.now c.args.bench.now c.args.spare.now)) _
+    faults_so c.from.result _ (faults_of g.P.Source g.I.Source g.B.Bench
+    (objects c.args.schema.now c.args.table.now c.args.input.now c.args.bench.now c.args.spare.now)) _
     _ c.from.ensures c.in-Ok-Twin.ensures.steady
     (twin_faults c.in-Err-start.fault _ _ _ (own g c) does.fault.failed does.fault.steady does.spare_fault.failed does.spare_fault.steady)
 
 -- what is given: the files of a table, and two journals of it of which one begins the other
 abbrev IsGiven : (g : Over) → goal.After-drop-schema-inside-in-Ok-Twin-3 g → Database → List Answered → List Answered → List Answered → Type 0
 IsGiven g c base main other whole =
-    TwinsOver (g.P.Source.left c.args.schema.now) (g.P.Source.left c.args.table.now) (g.B.Bench.file c.args.bench.now) (g.B.Bench.file c.args.spare.now) base main other whole
+    TwinsOver (g.P.Source.left c.args.schema.now) (g.P.Source.left c.args.table.now) (g.B.Bench.file c.args.bench.now)
+    (g.B.Bench.file c.args.spare.now) base main other whole
 
 sent_same : (g : Over) (c : goal.After-drop-schema-inside-in-Ok-Twin-3 g) → g.B.Bench.sent c.start.new.bench ≡ g.B.Bench.sent c.args.bench.now
 sent_same g c = c.in-Err-start.ensures.sent ∙ ap g.B.Bench.sent (unopened g c)
@@ -88,7 +92,8 @@ sent_same g c = c.in-Err-start.ensures.sent ∙ ap g.B.Bench.sent (unopened g c)
 quiet_opened : (g : Over) (c : goal.After-drop-schema-inside-in-Ok-Twin-3 g) → IsQuiet g.B.Bench c.args.bench.now → IsQuiet g.B.Bench c.open.new.bench
 quiet_opened g c quiet = subst (λ b. IsQuiet g.B.Bench b) (sym (unopened g c)) quiet
 
-catching : (g : Over) (c : goal.After-drop-schema-inside-in-Ok-Twin-3 g) → g.P.Source.told → g.B.Bench.told → IsQuiet g.B.Bench c.args.bench.now → (base : Database) (main other whole : List Answered) → IsGiven g c base main other whole →
+catching : (g : Over) (c : goal.After-drop-schema-inside-in-Ok-Twin-3 g) → g.P.Source.told → g.B.Bench.told → IsQuiet g.B.Bench c.args.bench.now →
+    (base : Database) (main other whole : List Answered) → IsGiven g c base main other whole →
     LeavesOnly g.B.Bench c.args.bench.now c.start.new.bench (CatchesUp base.secret.shape main whole (g.B.Bench.sent c.args.bench.now))
 catching g c ptold told quiet base main other whole over =
     let later = c.start.new.bench in
@@ -97,26 +102,33 @@ catching g c ptold told quiet base main other whole over =
     (subst (λ b. LeavesOnly g.B.Bench b later (CatchesUp c.in-Ok-Twin.secret.shape main whole (g.B.Bench.sent b))) (unopened g c)
     (c.in-Err-start.ensures.main_moments main other whole told told (quiet_opened g c quiet) (keep g c ptold base main other whole over)))
 
-spare_catching : (g : Over) (c : goal.After-drop-schema-inside-in-Ok-Twin-3 g) → g.P.Source.told → g.B.Bench.told → IsQuiet g.B.Bench c.args.spare.now → (base : Database) (main other whole : List Answered) → IsGiven g c base main other whole →
+spare_catching : (g : Over) (c : goal.After-drop-schema-inside-in-Ok-Twin-3 g) → g.P.Source.told → g.B.Bench.told → IsQuiet g.B.Bench c.args.spare.now →
+    (base : Database) (main other whole : List Answered) → IsGiven g c base main other whole →
     LeavesOnly g.B.Bench c.args.spare.now c.start.new.spare (CatchesUp base.secret.shape other whole (g.B.Bench.sent c.args.spare.now))
 spare_catching g c ptold told quiet base main other whole over =
     let spare = c.args.spare.now in
-    subst (λ (b : Database). LeavesOnly g.B.Bench spare c.start.new.spare (CatchesUp b.secret.shape other whole (g.B.Bench.sent spare))) (is_seen g c ptold base over.files)
+    subst (λ (b : Database). LeavesOnly g.B.Bench spare c.start.new.spare (CatchesUp b.secret.shape other whole (g.B.Bench.sent spare)))
+    (is_seen g c ptold base over.files)
     (c.in-Err-start.ensures.spare_moments main other whole told told quiet (keep g c ptold base main other whole over))
 
-gave : (g : Over) (c : goal.After-drop-schema-inside-in-Ok-Twin-3 g) → g.P.Source.told → g.B.Bench.told → (base : Database) (main other whole : List Answered) → IsGiven g c base main other whole → TwinGivesUp c.in-Err-start.fault
+gave : (g : Over) (c : goal.After-drop-schema-inside-in-Ok-Twin-3 g) → g.P.Source.told → g.B.Bench.told → (base : Database) (main other whole : List Answered) →
+    IsGiven g c base main other whole → TwinGivesUp c.in-Err-start.fault
 gave g c ptold told base main other whole over = c.in-Err-start.ensures.opens main other whole told told (keep g c ptold base main other whole over)
 
 -- if memory ran out both files still catch up
-still_caught : (g : Over) (c : goal.After-drop-schema-inside-in-Ok-Twin-3 g) → g.P.Source.told → g.B.Bench.told → (base : Database) (main other whole : List Answered) → IsGiven g c base main other whole →
+still_caught : (g : Over) (c : goal.After-drop-schema-inside-in-Ok-Twin-3 g) → g.P.Source.told → g.B.Bench.told →
+    (base : Database) (main other whole : List Answered) → IsGiven g c base main other whole →
     c.in-Err-start.fault ≡ twin.NoMemory →
-    BothCatchUp base main other whole (g.B.Bench.sent c.args.bench.now) (g.B.Bench.sent c.start.new.bench) (g.B.Bench.file c.start.new.bench) (g.B.Bench.file c.start.new.spare)
+    BothCatchUp base main other whole (g.B.Bench.sent c.args.bench.now) (g.B.Bench.sent c.start.new.bench) (g.B.Bench.file c.start.new.bench)
+    (g.B.Bench.file c.start.new.spare)
 still_caught g c ptold told base main other whole over is =
     let found = c.in-Err-start.ensures.no_memory main other whole told told (keep g c ptold base main other whole over) (ap refusal is) in
-    subst (λ (b : Database). BothCatchUp b main other whole (g.B.Bench.sent c.args.bench.now) (g.B.Bench.sent c.start.new.bench) (g.B.Bench.file c.start.new.bench)
+    subst (λ (b : Database). BothCatchUp b main other whole (g.B.Bench.sent c.args.bench.now) (g.B.Bench.sent c.start.new.bench)
+    (g.B.Bench.file c.start.new.bench)
     (g.B.Bench.file c.start.new.spare)) (is_seen g c ptold base over.files) (sent_same g c, found.0, found.1)
 
-both_left : (g : Over) (c : goal.After-drop-schema-inside-in-Ok-Twin-3 g) → g.P.Source.told → g.B.Bench.told → IsQuiet g.B.Bench c.args.bench.now → IsQuiet g.B.Bench c.args.spare.now →
+both_left : (g : Over) (c : goal.After-drop-schema-inside-in-Ok-Twin-3 g) → g.P.Source.told → g.B.Bench.told → IsQuiet g.B.Bench c.args.bench.now →
+    IsQuiet g.B.Bench c.args.spare.now →
     (base : Database) (main other whole : List Answered) → IsGiven g c base main other whole → (image spare : List ℕ) →
     g.B.Bench.leaves c.start.new.bench image → g.B.Bench.leaves c.start.new.spare spare →
     BothCatchUp base main other whole (g.B.Bench.sent c.args.bench.now) (g.B.Bench.sent c.start.new.bench) image spare
@@ -131,7 +143,8 @@ both_left g c ptold told quiet spare_quiet base main other whole over image spar
 )
 
 -- the files don't keep together
-apart : (g : Over) (c : goal.After-drop-schema-inside-in-Ok-Twin-3 g) → g.P.Source.told → ((base : Database) (main other whole : List Answered) → IsGiven g c base main other whole → ⊥) →
+apart : (g : Over) (c : goal.After-drop-schema-inside-in-Ok-Twin-3 g) → g.P.Source.told →
+    ((base : Database) (main other whole : List Answered) → IsGiven g c base main other whole → ⊥) →
     KeepApart (table_in (seen g c)) (g.B.Bench.file c.open.new.bench) (g.B.Bench.file c.args.spare.now)
 apart g c ptold none main other whole all =
     none (seen g c) main other whole (record {
@@ -139,17 +152,20 @@ apart g c ptold none main other whole all =
       together = subst (λ b. KeepTogether (table_in (seen g c)) (g.B.Bench.file b) (g.B.Bench.file c.args.spare.now) main other whole) (unopened g c) all;
     })
 
-untouched : (g : Over) (c : goal.After-drop-schema-inside-in-Ok-Twin-3 g) → g.B.Bench.told → IsQuiet g.B.Bench c.args.bench.now → KeepApart (table_in (seen g c)) (g.B.Bench.file c.open.new.bench) (g.B.Bench.file c.args.spare.now) →
+untouched : (g : Over) (c : goal.After-drop-schema-inside-in-Ok-Twin-3 g) → g.B.Bench.told → IsQuiet g.B.Bench c.args.bench.now →
+    KeepApart (table_in (seen g c)) (g.B.Bench.file c.open.new.bench) (g.B.Bench.file c.args.spare.now) →
     LeavesOnly g.B.Bench c.args.bench.now c.start.new.bench (IsUntouched (g.B.Bench.file c.args.bench.now) (g.B.Bench.sent c.args.bench.now))
 untouched g c told quiet apart =
     subst (λ b. LeavesOnly g.B.Bench b c.start.new.bench (IsUntouched (g.B.Bench.file b) (g.B.Bench.sent b))) (unopened g c)
     (c.in-Err-start.ensures.untouched told told (quiet_opened g c quiet) apart)
 
-is_named : (g : Over) (c : goal.After-drop-schema-inside-in-Ok-Twin-3 g) → command_of (map string_bytes c.args.words.now.items) ≡ Some (command.Serve c.in-Ok-Twin.batch true)
+is_named : (g : Over) (c : goal.After-drop-schema-inside-in-Ok-Twin-3 g) → command_of (map string_bytes c.args.words.now.items)
+    ≡ Some (command.Serve c.in-Ok-Twin.batch true)
 is_named g c = asked_for _ _ _ _ c.in-Ok.ensures.command c.in-Ok-Twin.field-0-is c.in-Ok-Twin.ensures.asked
 
 refusing : (g : Over) (c : goal.After-drop-schema-inside-in-Ok-Twin-3 g) →
-    TwinServing g.P.Source g.I.Source g.B.Bench c.in-Ok-Twin.batch c.from.result (objects c.args.schema.now c.args.table.now c.args.input.now c.args.bench.now c.args.spare.now)
+    TwinServing g.P.Source g.I.Source g.B.Bench c.in-Ok-Twin.batch c.from.result
+    (objects c.args.schema.now c.args.table.now c.args.input.now c.args.bench.now c.args.spare.now)
     (objects c.open.new.schema c.open.new.table c.args.input.now c.start.new.bench c.start.new.spare)
 refusing g c =
     let at = c.args.bench.now in
@@ -164,17 +180,20 @@ refusing g c =
     let does = c.in-Err-start.ensures in
     subst (λ (s : Status). TwinServing g.P.Source g.I.Source g.B.Bench n s old new) (sym c.from.ensures) (record {
       twins_served = λ ptold itold told base main other whole over.
-          twin_gave_up fault n base main other whole (outside g.I.Source g.B.Bench old.input at) (outside g.I.Source g.B.Bench new.input later) (g.B.Bench.file spare_later)
+          twin_gave_up fault n base main other whole (outside g.I.Source g.B.Bench old.input at) (outside g.I.Source g.B.Bench new.input later)
+          (g.B.Bench.file spare_later)
           (gave g c ptold told base main other whole over) (still_caught g c ptold told base main other whole over);
       twin_moment = λ ptold itold told quiet base main other whole over.
-          weakens g.B.Bench at later (CatchesUp base.secret.shape main whole (g.B.Bench.sent at)) _ (λ image sent is. inl is) (catching g c ptold told quiet base main other whole over);
+          weakens g.B.Bench at later (CatchesUp base.secret.shape main whole (g.B.Bench.sent at)) _ (λ image sent is. inl is)
+          (catching g c ptold told quiet base main other whole over);
       spare_moment = λ ptold itold told quiet base main other whole over.
           weakens g.B.Bench spare spare_later (CatchesUp base.secret.shape other whole (g.B.Bench.sent spare)) _ (λ image sent is. inl is)
           (spare_catching g c ptold told quiet base main other whole over);
       twins_left = λ ptold itold told quiet spare_quiet base main other whole over image found left left_there.
           inl (both_left g c ptold told quiet spare_quiet base main other whole over image found left left_there);
       spare_lives = λ ptold itold told quiet spare_quiet.
-          spare_goes_on g.P.Source g.I.Source g.B.Bench n old new c.lives.ensures.longer c.one_reading.ensures (c.read_words.ensures.batch n true (is_named g c))
+          spare_goes_on g.P.Source g.I.Source g.B.Bench n old new c.lives.ensures.longer c.one_reading.ensures
+          (c.read_words.ensures.batch n true (is_named g c))
           (λ base main other whole over image sent left all. left_of_spare base n main other whole lines (g.B.Bench.sent at) sent (g.B.Bench.sent later)
           (g.B.Bench.file later) image all
           (inl (both_left g c ptold told quiet spare_quiet base main other whole over (g.B.Bench.file later) image (g.met.B.Bench.reads later told) left)));
@@ -194,14 +213,17 @@ refusing g c =
       twin_calls = λ ptold itold told done. absurd ((twin_says fault).undone done);
       spare_calls = λ ptold itold told done. absurd ((twin_says fault).undone done);
       twins_complete = λ ptold itold told base main other whole over within none fine.
-          twin_wants fault (faults_of g.P.Source g.I.Source g.B.Bench old) (faults_of g.P.Source g.I.Source g.B.Bench new) (gave g c ptold told base main other whole over)
+          twin_wants fault (faults_of g.P.Source g.I.Source g.B.Bench old) (faults_of g.P.Source g.I.Source g.B.Bench new)
+          (gave g c ptold told base main other whole over)
           (subst (λ (s : Status). FaultCause s (faults_of g.P.Source g.I.Source g.B.Bench old) (faults_of g.P.Source g.I.Source g.B.Bench new)) c.from.ensures
           (refused_faults g c)) none fine;
     })
 
 -- over files of which the journal's isn't one of a legal history, nothing began
-nothing_began : (g : Over) (c : goal.After-drop-schema-inside-in-Ok-Twin-3 g) → g.P.Source.told → g.B.Bench.told → (asked : Command) → NamesCommand c.args.words.now.items asked → IsQuiet g.B.Bench c.args.bench.now →
-    ((base : Database) → AreSoundFilesOf (g.P.Source.left c.args.schema.now) (g.P.Source.left c.args.table.now) base → IsReadyFor asked (g.B.Bench.file c.args.bench.now) (table_in base) → ⊥) →
+nothing_began : (g : Over) (c : goal.After-drop-schema-inside-in-Ok-Twin-3 g) → g.P.Source.told → g.B.Bench.told → (asked : Command) →
+    NamesCommand c.args.words.now.items asked → IsQuiet g.B.Bench c.args.bench.now →
+    ((base : Database) → AreSoundFilesOf (g.P.Source.left c.args.schema.now) (g.P.Source.left c.args.table.now) base →
+    IsReadyFor asked (g.B.Bench.file c.args.bench.now) (table_in base) → ⊥) →
     LeavesOnly g.B.Bench c.args.bench.now c.start.new.bench (IsUntouched (g.B.Bench.file c.args.bench.now) (g.B.Bench.sent c.args.bench.now))
 nothing_began g c ptold told asked named quiet none =
     untouched g c told quiet (λ main other whole all. none (seen g c) (are g c ptold)
@@ -231,7 +253,8 @@ twin_refused g c =
           subst (λ (b : Database). FileCause (twin_status fault) one file (table_in b)) (is_seen g c ptold base sound)
           (twin_file fault c.in-Ok-Twin.batch _ _ _ (cause g c told)));
       input = λ itold command asked reads.
-          subst (λ (s : Status). InputCause s (g.I.Source.left c.args.input.now) (g.I.Source.left c.args.input.now)) (sym c.from.ensures) ((twin_says fault).input _);
+          subst (λ (s : Status). InputCause s (g.I.Source.left c.args.input.now) (g.I.Source.left c.args.input.now)) (sym c.from.ensures)
+          ((twin_says fault).input _);
       faults = refused_faults g c;
       schema_last = schema_was_read status last;
       table_last = table_was_read status last;
@@ -254,7 +277,8 @@ twin_refused g c =
       before_spare = λ other. subst (λ (s : Status). Before opening_spare s (c.start.new.spare ≡ c.args.spare.now)) (sym c.from.ensures)
           ((twin_says fault).at_spare _ (λ f is. does.main_first f (ap refusal is)));
       before_lines = at_lines _ _ _ c.from.ensures ((twin_says fault).at_lines _ (λ refuses. (refl, sent_same g c)));
-      unwritten = λ told. at_lines _ _ _ c.from.ensures ((twin_says fault).at_lines _ (λ refuses. (does.reads fault refl refuses).0.file ∙ ap g.B.Bench.file (unopened g c)));
+      unwritten = λ told. at_lines _ _ _ c.from.ensures
+          ((twin_says fault).at_lines _ (λ refuses. (does.reads fault refl refuses).0.file ∙ ap g.B.Bench.file (unopened g c)));
       unread = λ none. none_asked _ _ none named;
       no_files = λ command asked none. takes_step reads_files _ _ _ named asked refl none;
       no_lines = λ command asked none. refl;

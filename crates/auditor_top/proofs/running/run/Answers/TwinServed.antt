@@ -22,7 +22,8 @@ use Rattle.auditor_top.proofs.running.run.Answers.TwinOpened.{IsGiven, asked, ca
 use Rattle.auditor_top.proofs.running.run.Given.{Over}
 use Rattle.auditor_top.proofs.running.run.Goals as goal
 
-pub served : (g : Over) (c : goal.After-drop-schema-inside-in-Ok-start-3 g) → g.P.Source.told → g.I.Source.told → g.B.Bench.told → (base : Database) (main other whole : List Answered) → IsGiven g c base main other whole →
+pub served : (g : Over) (c : goal.After-drop-schema-inside-in-Ok-start-3 g) → g.P.Source.told → g.I.Source.told → g.B.Bench.told →
+    (base : Database) (main other whole : List Answered) → IsGiven g c base main other whole →
     TwinEnds c.in-Ok-Twin.batch (twin_session_status c.serve_twin.result) base main other whole (outside g.I.Source g.B.Bench c.args.input.now c.args.bench.now)
     (outside g.I.Source g.B.Bench c.serve_twin.new.source c.serve_twin.new.bench) (g.B.Bench.file c.serve_twin.new.spare)
 served g c ptold itold told base main other whole over =
@@ -33,8 +34,10 @@ served g c ptold itold told base main other whole over =
     let spare = g.B.Bench.file c.serve_twin.new.spare in
     let does = c.serve_twin.ensures in
     let now = c.serve_twin.new.twin.store.history in
-    said g c (λ (b : Database) (h : List Answered). TwinEnds n (twin_session_status ended) b main other h before after spare) ptold told base main other whole over
-    (subst (λ (bytes : List ℕ). TwinEnds n (twin_session_status ended) (asked g c) main other c.in-Ok-start.twin.store.history (record before { sent = bytes }) after spare)
+    said g c (λ (b : Database) (h : List Answered). TwinEnds n (twin_session_status ended) b main other h before after spare) ptold told base main other whole
+    over
+    (subst (λ (bytes : List ℕ). TwinEnds n (twin_session_status ended) (asked g c) main other c.in-Ok-start.twin.store.history
+    (record before { sent = bytes }) after spare)
     (sent_same g c)
     (twins_end ended (asked g c) n main other c.in-Ok-start.twin.store.history now (record before { sent = g.B.Bench.sent c.start.new.bench }) after spare
     (does.done itold told) (does.input_end itold told) (does.limit_end itold told) (does.memory_end itold told)
@@ -43,7 +46,8 @@ served g c ptold itold told base main other whole over =
       subst (λ (s : SecretView). StandsFor spare s.shape now) does.table.0 (does.spare_stands told bench_fine spare_fine),
     ))))
 
-pub moments_so : (g : Over) (c : goal.After-drop-schema-inside-in-Ok-start-3 g) → g.P.Source.told → g.I.Source.told → g.B.Bench.told → IsQuiet g.B.Bench c.args.bench.now →
+pub moments_so : (g : Over) (c : goal.After-drop-schema-inside-in-Ok-start-3 g) → g.P.Source.told → g.I.Source.told → g.B.Bench.told →
+    IsQuiet g.B.Bench c.args.bench.now →
     (base : Database) (main other whole : List Answered) → IsGiven g c base main other whole → LeavesOnly g.B.Bench c.args.bench.now c.serve_twin.new.bench
     (CatchesUpOrStops base c.in-Ok-Twin.batch main whole (counted_lines (g.I.Source.left c.args.input.now)) (g.B.Bench.sent c.args.bench.now))
 moments_so g c ptold itold told quiet base main other whole over =
@@ -57,7 +61,8 @@ moments_so g c ptold itold told quiet base main other whole over =
     (subst (λ (bytes : List ℕ). LeavesOnly g.B.Bench started later (StopsOver (asked g c) n c.in-Ok-start.twin.store.history lines bytes)) (sent_same g c)
     (c.serve_twin.ensures.any_moment itold told (quiet_started g c told quiet))))
 
-pub spare_moments_so : (g : Over) (c : goal.After-drop-schema-inside-in-Ok-start-3 g) → g.P.Source.told → g.I.Source.told → g.B.Bench.told → IsQuiet g.B.Bench c.args.spare.now →
+pub spare_moments_so : (g : Over) (c : goal.After-drop-schema-inside-in-Ok-start-3 g) → g.P.Source.told → g.I.Source.told → g.B.Bench.told →
+    IsQuiet g.B.Bench c.args.spare.now →
     (base : Database) (main other whole : List Answered) → IsGiven g c base main other whole → LeavesOnly g.B.Bench c.args.spare.now c.serve_twin.new.spare
     (SpareCatchesUpOrStops base c.in-Ok-Twin.batch other whole (counted_lines (g.I.Source.left c.args.input.now)) (g.B.Bench.sent c.args.spare.now))
 spare_moments_so g c ptold itold told quiet base main other whole over =
@@ -68,10 +73,12 @@ spare_moments_so g c ptold itold told quiet base main other whole over =
     let sent = g.B.Bench.sent c.args.spare.now in
     then_spare_stops g.B.Bench c.args.spare.now started later base other whole (spare_catching g c ptold told quiet base main other whole over) n lines
     (said g c (λ (b : Database) (h : List Answered). LeavesOnly g.B.Bench started later (SpareStops b n h lines sent)) ptold told base main other whole over
-    (subst (λ (bytes : List ℕ). LeavesOnly g.B.Bench started later (SpareStops (asked g c) n c.in-Ok-start.twin.store.history lines bytes)) c.in-Ok-start.ensures.spare_sent
+    (subst (λ (bytes : List ℕ). LeavesOnly g.B.Bench started later (SpareStops (asked g c) n c.in-Ok-start.twin.store.history lines bytes))
+    c.in-Ok-start.ensures.spare_sent
     (c.serve_twin.ensures.spare_moments itold told (spare_quiet_started g c told quiet))))
 
-pub both_left : (g : Over) (c : goal.After-drop-schema-inside-in-Ok-start-3 g) → g.P.Source.told → g.I.Source.told → g.B.Bench.told → IsQuiet g.B.Bench c.args.bench.now → IsQuiet g.B.Bench c.args.spare.now →
+pub both_left : (g : Over) (c : goal.After-drop-schema-inside-in-Ok-start-3 g) → g.P.Source.told → g.I.Source.told → g.B.Bench.told →
+    IsQuiet g.B.Bench c.args.bench.now → IsQuiet g.B.Bench c.args.spare.now →
     (base : Database) (main other whole : List Answered) → IsGiven g c base main other whole → (image spare : List ℕ) →
     g.B.Bench.leaves c.serve_twin.new.bench image → g.B.Bench.leaves c.serve_twin.new.spare spare →
     LeavesTwins base c.in-Ok-Twin.batch main other whole (counted_lines (g.I.Source.left c.args.input.now)) (g.B.Bench.sent c.args.bench.now)
@@ -86,7 +93,8 @@ both_left g c ptold itold told quiet spare_quiet base main other whole over imag
     (c.serve_twin.ensures.both itold told told (quiet_started g c told quiet) (spare_quiet_started g c told spare_quiet) image spare left spare_left)))
 
 -- what is harmless for the table that was read is so for every one that the files mean
-pub harmless_for : (g : Over) (c : goal.After-drop-schema-inside-in-Ok-start-3 g) → g.P.Source.told → (base : Database) → AreSoundFilesOf (g.P.Source.left c.args.schema.now) (g.P.Source.left c.args.table.now) base →
+pub harmless_for : (g : Over) (c : goal.After-drop-schema-inside-in-Ok-start-3 g) → g.P.Source.told → (base : Database) →
+    AreSoundFilesOf (g.P.Source.left c.args.schema.now) (g.P.Source.left c.args.table.now) base →
     (started later : g.row.B.Denot) → LeavesOnly g.B.Bench started later (λ image sent. IsHarmless (store_table c.in-Ok-start.twin.store) image) →
     LeavesOnly g.B.Bench started later (λ image sent. IsHarmless (table_in base) image)
 harmless_for g c ptold base sound started later harmless =
@@ -102,20 +110,25 @@ pub discloses_nothing : (g : Over) (c : goal.After-drop-schema-inside-in-Ok-star
     g.B.Bench.since c.serve_twin.new.bench (g.B.Bench.moment c.args.bench.now) image sent → StandsFor image base.secret.shape now →
     IsLegal (table_in base) now × IsUndisclosed (table_in base) now
 discloses_nothing g c ptold told quiet base main other whole over =
-    always_harmless g.B.Bench c.args.bench.now c.start.new.bench c.serve_twin.new.bench base main whole (catching g c ptold told quiet base main other whole over)
+    always_harmless g.B.Bench c.args.bench.now c.start.new.bench c.serve_twin.new.bench base main whole
+    (catching g c ptold told quiet base main other whole over)
     c.stops_are_legal.ensures _ _ over.files over.together.legal
     (harmless_for g c ptold base over.files c.start.new.bench c.serve_twin.new.bench (c.serve_twin.ensures.legal told (quiet_started g c told quiet)))
 
-pub spare_discloses_nothing : (g : Over) (c : goal.After-drop-schema-inside-in-Ok-start-3 g) → g.P.Source.told → g.B.Bench.told → IsQuiet g.B.Bench c.args.spare.now →
+pub spare_discloses_nothing : (g : Over) (c : goal.After-drop-schema-inside-in-Ok-start-3 g) → g.P.Source.told → g.B.Bench.told →
+    IsQuiet g.B.Bench c.args.spare.now →
     (base : Database) (main other whole : List Answered) → IsGiven g c base main other whole → (image sent : List ℕ) (now : List Answered) →
     g.B.Bench.since c.serve_twin.new.spare (g.B.Bench.moment c.args.spare.now) image sent → StandsFor image base.secret.shape now →
     IsLegal (table_in base) now × IsUndisclosed (table_in base) now
 spare_discloses_nothing g c ptold told quiet base main other whole over =
-    always_harmless g.B.Bench c.args.spare.now c.start.new.spare c.serve_twin.new.spare base other whole (spare_catching g c ptold told quiet base main other whole over)
+    always_harmless g.B.Bench c.args.spare.now c.start.new.spare c.serve_twin.new.spare base other whole
+    (spare_catching g c ptold told quiet base main other whole over)
     c.stops_are_legal.ensures _ _ over.files over.together.legal
-    (harmless_for g c ptold base over.files c.start.new.spare c.serve_twin.new.spare (c.serve_twin.ensures.spare_legal told (spare_quiet_started g c told quiet)))
+    (harmless_for g c ptold base over.files c.start.new.spare c.serve_twin.new.spare
+    (c.serve_twin.ensures.spare_legal told (spare_quiet_started g c told quiet)))
 
-pub takes_calls : (g : Over) (c : goal.After-drop-schema-inside-in-Ok-start-3 g) → g.P.Source.told → g.I.Source.told → g.B.Bench.told → twin_session_status c.serve_twin.result ≡ Done →
+pub takes_calls : (g : Over) (c : goal.After-drop-schema-inside-in-Ok-start-3 g) → g.P.Source.told → g.I.Source.told → g.B.Bench.told →
+    twin_session_status c.serve_twin.result ≡ Done →
     (base : Database) (main other whole : List Answered) → IsGiven g c base main other whole →
     TakesCalls base whole c.in-Ok-Twin.batch (counted_lines (g.I.Source.left c.args.input.now)) (g.B.Bench.moment c.args.bench.now + calls_to_open main whole)
     (g.B.Bench.moment c.serve_twin.new.bench)
@@ -125,12 +138,14 @@ takes_calls g c ptold itold told done base main other whole over =
     let later = g.B.Bench.moment c.serve_twin.new.bench in
     let ticks = c.in-Ok-start.ensures.ticks main other whole told told (keep g c ptold base main other whole over)
     ∙ ap (λ b. g.B.Bench.moment b + calls_to_open main whole) (unopened g c) in
-    said g c (λ (b : Database) (h : List Answered). TakesCalls b h n lines (g.B.Bench.moment c.args.bench.now + calls_to_open main whole) later) ptold told base main other
+    said g c (λ (b : Database) (h : List Answered). TakesCalls b h n lines (g.B.Bench.moment c.args.bench.now + calls_to_open main whole) later) ptold told base
+    main other
     whole over
     (subst (λ (m : ℕ). TakesCalls (asked g c) c.in-Ok-start.twin.store.history n lines m later) ticks
     ((twins_say c.serve_twin.result).done _ done (c.serve_twin.ensures.calls itold told)))
 
-pub spare_takes_calls : (g : Over) (c : goal.After-drop-schema-inside-in-Ok-start-3 g) → g.P.Source.told → g.I.Source.told → g.B.Bench.told → twin_session_status c.serve_twin.result ≡ Done →
+pub spare_takes_calls : (g : Over) (c : goal.After-drop-schema-inside-in-Ok-start-3 g) → g.P.Source.told → g.I.Source.told → g.B.Bench.told →
+    twin_session_status c.serve_twin.result ≡ Done →
     (base : Database) (main other whole : List Answered) → IsGiven g c base main other whole →
     KeepsCalls base whole c.in-Ok-Twin.batch (counted_lines (g.I.Source.left c.args.input.now)) (g.B.Bench.moment c.args.spare.now + calls_to_open other whole)
     (g.B.Bench.moment c.serve_twin.new.spare)
@@ -138,7 +153,8 @@ spare_takes_calls g c ptold itold told done base main other whole over =
     let n = c.in-Ok-Twin.batch in
     let lines = counted_lines (g.I.Source.left c.args.input.now) in
     let later = g.B.Bench.moment c.serve_twin.new.spare in
-    said g c (λ (b : Database) (h : List Answered). KeepsCalls b h n lines (g.B.Bench.moment c.args.spare.now + calls_to_open other whole) later) ptold told base main
+    said g c (λ (b : Database) (h : List Answered). KeepsCalls b h n lines (g.B.Bench.moment c.args.spare.now + calls_to_open other whole) later) ptold told
+    base main
     other whole over
     (subst (λ (m : ℕ). KeepsCalls (asked g c) c.in-Ok-start.twin.store.history n lines m later)
     (c.in-Ok-start.ensures.spare_ticks main other whole told told (keep g c ptold base main other whole over))

@@ -9,7 +9,8 @@ pub marks_of-requires-clause-narrow : goal.marks_of-requires-clause-narrow
 marks_of-requires-clause-narrow c =
     let setting = c.args.core.now.setting in
     let history = c.args.core.now.history in
-    let fit = subst (λ (list : List Answered). All (λ (r : Answered). FitsShape setting.shape r.column r.rows) list) c.history-history.ensures.is c.history-history.ensures.fit in
+    let fit = subst (λ (list : List Answered). All (λ (r : Answered). FitsShape setting.shape r.column r.rows) list) c.history-history.ensures.is
+    c.history-history.ensures.fit in
     let some = subst (λ (k : ℕ). 0 < k) c.in-Sum.ensures.n c.n.ensures.some in
     let are = c.legal_sums.ensures setting history c.args.column fit c.groups.ensures.fit c.requires.legal some c.requires.column c.in-Sum.ensures.own_kind in
     (subst (λ (list : List Answered). AreOpenSums c.n.result c.args.column list) (sym c.history-history.ensures.is)
@@ -19,7 +20,8 @@ pub marks_of-requires-clause-open : goal.marks_of-requires-clause-open
 marks_of-requires-clause-open c =
     let setting = c.args.core.now.setting in
     let history = c.args.core.now.history in
-    let fit = subst (λ (list : List Answered). All (λ (r : Answered). FitsShape setting.shape r.column r.rows) list) c.history-history.ensures.is c.history-history.ensures.fit in
+    let fit = subst (λ (list : List Answered). All (λ (r : Answered). FitsShape setting.shape r.column r.rows) list) c.history-history.ensures.is
+    c.history-history.ensures.fit in
     let some = subst (λ (k : ℕ). 0 < k) c.in-Sum.ensures.n c.n.ensures.some in
     let are = c.legal_sums.ensures setting history c.args.column fit c.groups.ensures.fit c.requires.legal some c.requires.column c.in-Sum.ensures.own_kind in
     (subst (λ (list : List Answered). AreOpenSums c.n.result c.args.column list) (sym c.history-history.ensures.is)

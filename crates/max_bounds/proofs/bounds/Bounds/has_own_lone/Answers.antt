@@ -26,7 +26,7 @@ strands-requires c =
     record {
       same_n = subst (AllByRecursion (λ p. p.rows.n ≡ c.new-none.result.n)) (sym c.deref.ensures.value)
           (subst (λ n. AllByRecursion (λ p. p.rows.n ≡ n) c.self.inside.least.items)
-              (same_n ∙ sym c.n.ensures.n ∙ sym c.new-none.ensures.n) c.self.invariant.same_n_least);
+          (same_n ∙ sym c.n.ensures.n ∙ sym c.new-none.ensures.n) c.self.invariant.same_n_least);
       descend = subst (λ l. Descend (answers_of l)) (sym c.deref.ensures.value) c.self.invariant.descend;
       shared = sym c.n.ensures.n ∙ sym c.new-none.ensures.n;
     }

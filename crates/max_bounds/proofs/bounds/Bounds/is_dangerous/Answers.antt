@@ -27,14 +27,14 @@ pub has_own_lone-requires-clause-consistent : goal.has_own_lone-requires-clause-
 has_own_lone-requires-clause-consistent c =
     subst (λ (m : Maxima). IsConsistent m.answers) c.self.view_is
     (consistent (answers_of c.self.inside.pairs.items) c.self.inside.counts.items c.self.inside.fewest
-        (answers_of c.self.inside.least.items) c.self.invariant.tells (omega arith))
+    (answers_of c.self.inside.least.items) c.self.invariant.tells (omega arith))
 
 pub returns-then-has_own_lone : goal.returns-then-has_own_lone
 returns-then-has_own_lone c = (
   λ yes. record {
     consistent = subst (λ (m : Maxima). IsConsistent m.answers) c.self.view_is
         (consistent (answers_of c.self.inside.pairs.items) c.self.inside.counts.items c.self.inside.fewest
-            (answers_of c.self.inside.least.items) c.self.invariant.tells (omega arith));
+        (answers_of c.self.inside.least.items) c.self.invariant.tells (omega arith));
     cause = inl (c.has_own_lone.ensures.0 c.if-has_own_lone.true);
   },
   λ danger. refl,
@@ -87,5 +87,5 @@ returns-else-one_highest_of c =
       (λ danger. c.strands.ensures.1 (subst (λ l. HasStranded shared (λ a. a.rows) l rows) (sym least)
           (decides answers c.self.inside.counts.items c.self.inside.fewest sets kept.tells shared c.self.inside.n kept.are_rows rows none danger
           (λ highest. true≢false (sym (c.one_highest_of.ensures.1 (subst (λ u. HasOwnHighest shared u rows) (sym bounds) highest))
-              ∙ c.if-one_highest_of.false))))),
+          ∙ c.if-one_highest_of.false))))),
     )

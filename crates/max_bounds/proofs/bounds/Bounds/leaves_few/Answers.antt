@@ -72,5 +72,5 @@ returns-else-few_highest c =
       (λ told. c.nearly_holds.ensures.1 (subst (λ l. HasNearlyHeld c.args.most (λ a. a.rows) l rows) (sym least)
           (few_decides c.args.most answers c.self.inside.counts.items c.self.inside.fewest sets kept.tells c.self.inside.n kept.are_rows rows (omega arith) told
           (λ highest. true≢false (sym (c.few_highest.ensures.1 (subst (λ u. HasFewHighest c.args.most u rows) (sym bounds) highest))
-              ∙ c.if-few_highest.false))))),
+          ∙ c.if-few_highest.false))))),
     )

@@ -17,7 +17,7 @@ returns c =
     let reaches : is_at_least c.args.self.now.cut (bound found.0) ≡ true =
     ap (λ a. is_at_least a (bound found.0)) (sym (to_z-of_z w64 c.args.self.now.cut fits)) ∙ found.2 in
     let told : IsTrue c.one_highest.result ↔ HasOwnHighest c.args.shared.now.list bound
-            (intersection c.args.rows.now.n c.args.rows.now.list c.args.self.now.rows.list) =
+    (intersection c.args.rows.now.n c.args.rows.now.list c.args.self.now.rows.list) =
     subst (λ l. IsTrue c.one_highest.result ↔ HasOwnHighest c.args.shared.now.list bound l) c.and_with.ensures.both c.one_highest.ensures in
     let same = same_highest c.args.rows.now.n bound c.args.self.now c.requires.high c.args.rows.now.list c.n.ensures.are_rows c.args.shared.now.list found.0
     (ap (λ l. has_row l found.0) (sym c.and_with.ensures.both) ∙ found.1) reaches in

@@ -17,22 +17,28 @@ pub returns-clause-judged : goal.returns-clause-judged
 returns-clause-judged c =
     let old = c.in_ok-basis.basis in
     let right = subst (IsRightAmong c.args.self.now c.args.shared.now.list c.args.several.now.list c.args.rows.now.list) (sym c.verdict_inside.ensures)
-    (right_among c.ties_but.ensures c.self.inside.n c.self.inside.basis.width c.self.inside.reach (answers_of c.self.inside.pairs.items) c.args.self.now c.self.view_is c.args.shared.now.list c.args.several.now.list c.requires.alone c.args.rows.now.list c.args.rows.now.n
+    (right_among c.ties_but.ensures c.self.inside.n c.self.inside.basis.width c.self.inside.reach
+    (answers_of c.self.inside.pairs.items) c.args.self.now c.self.view_is c.args.shared.now.list c.args.several.now.list c.requires.alone
+    c.args.rows.now.list c.args.rows.now.n
     c.self.invariant.are_rows c.n.ensures.are_rows c.requires.same_n old c.extend.new.self c.in_ok-grown.grown c.in_ok-within.within c.is_either.result
     (ap (λ (e : Echelon). e.n) c.in_ok-basis.ensures ∙ c.self.invariant.same_n) c.in_ok-grown.ensures.n
     (ap (λ (e : Echelon). e.width) c.in_ok-basis.ensures) c.in_ok-grown.ensures.width
     (subst (λ (e : Echelon). Reduced c.self.inside.n (sets_of (answers_of c.self.inside.pairs.items)) e.rows) (sym c.in_ok-basis.ensures) c.self.invariant.form)
-    c.in_ok-grown.ensures.stands c.rank.ensures.narrow c.in_ok-within.ensures (either c.is_either.ensures c.spans_own-own.ensures c.shows_tie_but-tied.ensures)) in
+    c.in_ok-grown.ensures.stands c.rank.ensures.narrow c.in_ok-within.ensures
+    (either c.is_either.ensures c.spans_own-own.ensures c.shows_tie_but-tied.ensures)) in
     right.judged
 
 pub returns-clause-decided : goal.returns-clause-decided
 returns-clause-decided c =
     let old = c.in_ok-basis.basis in
     let right = subst (IsRightAmong c.args.self.now c.args.shared.now.list c.args.several.now.list c.args.rows.now.list) (sym c.verdict_inside.ensures)
-    (right_among c.ties_but.ensures c.self.inside.n c.self.inside.basis.width c.self.inside.reach (answers_of c.self.inside.pairs.items) c.args.self.now c.self.view_is c.args.shared.now.list c.args.several.now.list c.requires.alone c.args.rows.now.list c.args.rows.now.n
+    (right_among c.ties_but.ensures c.self.inside.n c.self.inside.basis.width c.self.inside.reach
+    (answers_of c.self.inside.pairs.items) c.args.self.now c.self.view_is c.args.shared.now.list c.args.several.now.list c.requires.alone
+    c.args.rows.now.list c.args.rows.now.n
     c.self.invariant.are_rows c.n.ensures.are_rows c.requires.same_n old c.extend.new.self c.in_ok-grown.grown c.in_ok-within.within c.is_either.result
     (ap (λ (e : Echelon). e.n) c.in_ok-basis.ensures ∙ c.self.invariant.same_n) c.in_ok-grown.ensures.n
     (ap (λ (e : Echelon). e.width) c.in_ok-basis.ensures) c.in_ok-grown.ensures.width
     (subst (λ (e : Echelon). Reduced c.self.inside.n (sets_of (answers_of c.self.inside.pairs.items)) e.rows) (sym c.in_ok-basis.ensures) c.self.invariant.form)
-    c.in_ok-grown.ensures.stands c.rank.ensures.narrow c.in_ok-within.ensures (either c.is_either.ensures c.spans_own-own.ensures c.shows_tie_but-tied.ensures)) in
+    c.in_ok-grown.ensures.stands c.rank.ensures.narrow c.in_ok-within.ensures
+    (either c.is_either.ensures c.spans_own-own.ensures c.shows_tie_but-tied.ensures)) in
     right.decided

@@ -48,7 +48,11 @@ stands_told r old new list =
     (λ grown g. stands_for old new list grown g)
 
 pub invariant_of-self : goal.invariant_of-self
-invariant_of-self c = (omega (arith, c.join.ensures.n, c.self.invariant.0), tt, subst (AllByRecursion (IsKeptOf c.join.new.self)) (sym c.clear.ensures.items) tt)
+invariant_of-self c = (
+  omega (arith, c.join.ensures.n, c.self.invariant.0),
+  tt,
+  subst (AllByRecursion (IsKeptOf c.join.new.self)) (sym c.clear.ensures.items) tt,
+)
 
 pub returns : goal.returns
 returns c =

@@ -21,7 +21,8 @@ grown_from n old list new rows same reduced = subst (λ (l : List FreeEntry). Is
 
 pub common_multiple-requires : goal.common_multiple-requires
 common_multiple-requires c =
-    let j = after_growth c.self.inside.width c.args.self.now c.self.inside.columns c.self.inside.rows.items c.reserve.new.self.items c.grow_rows.new.rows.items c.args.new.items
+    let j = after_growth c.self.inside.width c.args.self.now c.self.inside.columns c.self.inside.rows.items c.reserve.new.self.items c.grow_rows.new.rows.items
+    c.args.new.items
     c.self.view_is c.reserve.ensures.items c.self.invariant.width_fits c.requires.narrow
     (grown_from _ _ _ _ _ (c.in_ok-list.ensures.same ∙ c.deref.ensures.value) c.grow_rows.ensures.reduced) c.grow_rows.ensures.kept in
     subst (AllByRecursion (λ (r : SparseRow). (pos 0 <ℤ r.head) × (unsigned_abs r.head ≤ 2 ^ 56))) (sym c.deref-3.ensures.value) j.small
@@ -29,11 +30,13 @@ common_multiple-requires c =
 pub invariant_of-self-in-Some : goal.invariant_of-self-in-Some
 invariant_of-self-in-Some c =
     let fits : FitsSigned w128 c.in-Some.common = search rules in
-    let j = after_growth c.self.inside.width c.args.self.now c.self.inside.columns c.self.inside.rows.items c.reserve.new.self.items c.grow_rows.new.rows.items c.args.new.items
+    let j = after_growth c.self.inside.width c.args.self.now c.self.inside.columns c.self.inside.rows.items c.reserve.new.self.items c.grow_rows.new.rows.items
+    c.args.new.items
     c.self.view_is c.reserve.ensures.items c.self.invariant.width_fits c.requires.narrow
     (grown_from _ _ _ _ _ (c.in_ok-list.ensures.same ∙ c.deref.ensures.value) c.grow_rows.ensures.reduced) c.grow_rows.ensures.kept in
     let least = rw c.in-Some.is at c.common_multiple.ensures in
-    joined_form c.self.inside.columns c.self.inside.width c.grow_rows.new.rows.items least.0 _ c.greatest_bound-self-inside.result c.self.invariant.some c.self.invariant.at_most
+    joined_form c.self.inside.columns c.self.inside.width c.grow_rows.new.rows.items least.0 _ c.greatest_bound-self-inside.result c.self.invariant.some
+    c.self.invariant.at_most
     c.self.invariant.width_fits c.grow_rows.ensures.kept j
     (subst (λ (l : List SparseRow). IsLeastCommonMultiple (heads l) least.0) c.deref-3.ensures.value least.1)
     (to_z-of_z w128 c.in-Some.common fits ∙ least.2.0) least.2.1
@@ -41,7 +44,8 @@ invariant_of-self-in-Some c =
 
 pub unreachable-requires : goal.unreachable-requires
 unreachable-requires c =
-    let j = after_growth c.self.inside.width c.args.self.now c.self.inside.columns c.self.inside.rows.items c.reserve.new.self.items c.grow_rows.new.rows.items c.args.new.items
+    let j = after_growth c.self.inside.width c.args.self.now c.self.inside.columns c.self.inside.rows.items c.reserve.new.self.items c.grow_rows.new.rows.items
+    c.args.new.items
     c.self.view_is c.reserve.ensures.items c.self.invariant.width_fits c.requires.narrow
     (grown_from _ _ _ _ _ (c.in_ok-list.ensures.same ∙ c.deref.ensures.value) c.grow_rows.ensures.reduced) c.grow_rows.ensures.kept in
     let least = rw c.in-None.is at c.common_multiple.ensures in
@@ -53,7 +57,8 @@ unreachable-requires c =
 
 pub returns : goal.returns
 returns c =
-    let j = after_growth c.self.inside.width c.args.self.now c.self.inside.columns c.self.inside.rows.items c.reserve.new.self.items c.grow_rows.new.rows.items c.args.new.items
+    let j = after_growth c.self.inside.width c.args.self.now c.self.inside.columns c.self.inside.rows.items c.reserve.new.self.items c.grow_rows.new.rows.items
+    c.args.new.items
     c.self.view_is c.reserve.ensures.items c.self.invariant.width_fits c.requires.narrow
     (grown_from _ _ _ _ _ (c.in_ok-list.ensures.same ∙ c.deref.ensures.value) c.grow_rows.ensures.reduced) c.grow_rows.ensures.kept in
     record {
@@ -66,10 +71,12 @@ returns c =
     }
 
 pub invariant_of-self : goal.invariant_of-self
-invariant_of-self c = subst (IsForm c.self.inside.columns c.self.inside.width c.self.inside.common c.self.inside.greatest_bound) (sym c.reserve.ensures.items) c.self.invariant
+invariant_of-self c = subst (IsForm c.self.inside.columns c.self.inside.width c.self.inside.common c.self.inside.greatest_bound)
+    (sym c.reserve.ensures.items) c.self.invariant
 
 pub invariant_of-self-in_err-room : goal.invariant_of-self-in_err-room
-invariant_of-self-in_err-room c = subst (IsForm c.self.inside.columns c.self.inside.width c.self.inside.common c.self.inside.greatest_bound) (sym c.reserve.ensures.items) c.self.invariant
+invariant_of-self-in_err-room c = subst (IsForm c.self.inside.columns c.self.inside.width c.self.inside.common c.self.inside.greatest_bound)
+    (sym c.reserve.ensures.items) c.self.invariant
 
 pub grow_rows-requires-clause-space : goal.grow_rows-requires-clause-space
 grow_rows-requires-clause-space c = omega (arith, c.in_ok-reserve.ensures)

@@ -40,7 +40,8 @@ returns c =
       grows = (
         left.1.outside,
         grown_to c.args.self.now c.insert_list.new.self c.in-Some.new.items c.args.row.now c.in_ok-prospect.field-0.prospect
-            c.in_ok-prospect.ensures.foresees c.in_default.not-Wide c.in_ok-insert_list.ensures.n c.in_ok-insert_list.ensures.width left.1 c.in_ok-insert_list.ensures.reduced,
+            c.in_ok-prospect.ensures.foresees c.in_default.not-Wide c.in_ok-insert_list.ensures.n c.in_ok-insert_list.ensures.width left.1
+            c.in_ok-insert_list.ensures.reduced,
       );
       n = c.in_ok-insert_list.ensures.n;
       width = c.in_ok-insert_list.ensures.width;

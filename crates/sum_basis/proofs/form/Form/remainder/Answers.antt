@@ -41,7 +41,8 @@ pub reduce-requires-clause-small : goal.reduce-requires-clause-small
 reduce-requires-clause-small c =
     let fits : FitsSigned w128 c.self.inside.common = search rules in
     subst IsSmall (sym (is_multiple c.scale.new.row c.args.row.now c.self.inside.common fits c.scale.ensures))
-    (multiple_small c.args.row.now c.self.inside.common c.requires.bits (let within = c.self.invariant.within in let fits = c.self.invariant.width_fits.1 in omega arith))
+    (multiple_small c.args.row.now c.self.inside.common c.requires.bits
+    (let within = c.self.invariant.within in let fits = c.self.invariant.width_fits.1 in omega arith))
 
 pub reduce-requires-clause-divides : goal.reduce-requires-clause-divides
 reduce-requires-clause-divides c =

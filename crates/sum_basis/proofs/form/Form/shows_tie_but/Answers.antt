@@ -10,5 +10,7 @@ pub returns : goal.returns
 returns c =
     let several = c.args.several.now.list in
     subst (λ (e : Echelon). IsTrue c.ties_some_but.result ↔ ShowsTieBut several e.rows) c.self.view_is
-    (subst (λ (k : ℕ). IsTrue c.ties_some_but.result ↔ ShowsTieBut several (rows_of k c.self.inside.rows.items)) (c.requires ∙ sym (ap (λ (e : Echelon). e.n) c.self.view_is))
-    (subst (λ (l : List SparseRow). IsTrue c.ties_some_but.result ↔ ShowsTieBut several (rows_of c.args.several.now.n l)) c.deref.ensures.value c.ties_some_but.ensures))
+    (subst (λ (k : ℕ). IsTrue c.ties_some_but.result ↔ ShowsTieBut several (rows_of k c.self.inside.rows.items))
+    (c.requires ∙ sym (ap (λ (e : Echelon). e.n) c.self.view_is))
+    (subst (λ (l : List SparseRow). IsTrue c.ties_some_but.result ↔ ShowsTieBut several (rows_of c.args.several.now.n l)) c.deref.ensures.value
+    c.ties_some_but.ensures))

@@ -15,7 +15,8 @@ look_ahead-prospect-requires-clause-kept c = subst (AllByRecursion (IsKept c.sel
 
 pub look_ahead-prospect-requires-clause-form : goal.look_ahead-prospect-requires-clause-form
 look_ahead-prospect-requires-clause-form c =
-    subst (λ rows. IsFormWithin c.self.inside.width c.self.inside.columns (rows_of c.self.inside.columns rows)) (sym c.deref.ensures.value) c.self.invariant.form
+    subst (λ rows. IsFormWithin c.self.inside.width c.self.inside.columns (rows_of c.self.inside.columns rows))
+    (sym c.deref.ensures.value) c.self.invariant.form
 
 pub look_ahead-prospect-requires-clause-positive : goal.look_ahead-prospect-requires-clause-positive
 look_ahead-prospect-requires-clause-positive c =

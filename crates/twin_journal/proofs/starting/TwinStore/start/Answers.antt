@@ -52,15 +52,18 @@ returns-in-Err-open_other-clause-cause g c = λ fault told spare_told refused.
     let table = secret_table c.args.secret c.args.protected in
     let store = c.in-Ok.store in
     let is = c.in-Ok.ensures.store in
-    let same_table : table_of store ≡ table = ap (λ (s : SecretView). secret_table s store.protected) is.0 ∙ ap (λ (p : Protection). secret_table c.args.secret p) is.1 in
+    let same_table : table_of store ≡ table = ap (λ (s : SecretView). secret_table s store.protected) is.0
+    ∙ ap (λ (p : Protection). secret_table c.args.secret p) is.1 in
     let same_shape : store.secret.shape ≡ c.args.secret.shape = ap (λ (s : SecretView). s.shape) is.0 in
     let main = store.history in
     let legal : IsLegal table main = subst (λ (t : Table). IsLegal t main) same_table is.3.legal in
-    let stands : StandsFor file c.args.secret.shape main = (store.journal.gate, subst (λ (s : Shape). StandsAt file s main store.journal.gate) same_shape (c.in-Ok.ensures.stands told)) in
+    let stands : StandsFor file c.args.secret.shape main =
+    (store.journal.gate, subst (λ (s : Shape). StandsAt file s main store.journal.gate) same_shape (c.in-Ok.ensures.stands told)) in
     let none : (d : StartFault) → (GivesUp d → ⊥) → StartCause d file table → ⊥ = λ d some cause. c.in-Ok.ensures.due d told some cause in
     let given = c.in-Err-open_other.fault in
     let answered : c.spare_fault.result ≡ fault = cc in
-    let cause : StartCause given spare table = subst (λ (t : Table). StartCause given spare t) same_table (c.in-Err-open_other.ensures.cause given spare_told refl) in
+    let cause : StartCause given spare table = subst (λ (t : Table). StartCause given spare t) same_table
+    (c.in-Err-open_other.ensures.cause given spare_told refl) in
     subst (λ (f : TwinFault). TwinCause f file spare table) (sym c.spare_fault.ensures ∙ answered)
     (spare_cause file spare table none given (main, stands, legal) cause)
 
@@ -71,7 +74,8 @@ returns-in-Err-open_other-clause-due g c = λ due told spare_told some cause.
     let table = secret_table c.args.secret c.args.protected in
     let store = c.in-Ok.store in
     let is = c.in-Ok.ensures.store in
-    let same_table : table_of store ≡ table = ap (λ (s : SecretView). secret_table s store.protected) is.0 ∙ ap (λ (p : Protection). secret_table c.args.secret p) is.1 in
+    let same_table : table_of store ≡ table = ap (λ (s : SecretView). secret_table s store.protected) is.0
+    ∙ ap (λ (p : Protection). secret_table c.args.secret p) is.1 in
     let same_shape : store.secret.shape ≡ c.args.secret.shape = ap (λ (s : SecretView). s.shape) is.0 in
     let none : (d : StartFault) → (GivesUp d → ⊥) → StartCause d file table → ⊥ = λ d some cause. c.in-Ok.ensures.due d told some cause in
     let given = c.in-Err-open_other.fault in
@@ -88,7 +92,8 @@ returns-in-Err-open_other-clause-opens g c = λ m o whole told spare_told keep.
     let table = secret_table c.args.secret c.args.protected in
     let store = c.in-Ok.store in
     let is = c.in-Ok.ensures.store in
-    let same_table : table_of store ≡ table = ap (λ (s : SecretView). secret_table s store.protected) is.0 ∙ ap (λ (p : Protection). secret_table c.args.secret p) is.1 in
+    let same_table : table_of store ≡ table = ap (λ (s : SecretView). secret_table s store.protected) is.0
+    ∙ ap (λ (p : Protection). secret_table c.args.secret p) is.1 in
     let same_shape : store.secret.shape ≡ c.args.secret.shape = ap (λ (s : SecretView). s.shape) is.0 in
     let given = c.in-Err-open_other.fault in
     subst (λ (f : TwinFault). TwinGivesUp f) (sym c.spare_fault.ensures)
@@ -101,7 +106,8 @@ returns-in-Err-open_other-clause-main_moments g c = λ main other whole told spa
 
 pub returns-in-Err-open_other-clause-spare_moments : goal.returns-in-Err-open_other-clause-spare_moments
 returns-in-Err-open_other-clause-spare_moments g c = λ main other whole told spare_told quiet keep.
-    while_read g.S.Bench c.args.spare.now c.open_other.new.spare c.args.secret.shape other whole c.open_other.ensures.reads quiet keep.spare_stands keep.spare_front
+    while_read g.S.Bench c.args.spare.now c.open_other.new.spare c.args.secret.shape other whole c.open_other.ensures.reads quiet keep.spare_stands
+    keep.spare_front
 
 pub returns-in-Err-open_other-clause-no_memory : goal.returns-in-Err-open_other-clause-no_memory
 returns-in-Err-open_other-clause-no_memory g c = λ main other whole told spare_told keep refused.
@@ -120,15 +126,18 @@ returns-in-Err-catch_up-clause-cause g c = λ fault told spare_told refused.
     let table = secret_table c.args.secret c.args.protected in
     let store = c.in-Ok.store in
     let is = c.in-Ok.ensures.store in
-    let same_table : table_of store ≡ table = ap (λ (s : SecretView). secret_table s store.protected) is.0 ∙ ap (λ (p : Protection). secret_table c.args.secret p) is.1 in
+    let same_table : table_of store ≡ table = ap (λ (s : SecretView). secret_table s store.protected) is.0
+    ∙ ap (λ (p : Protection). secret_table c.args.secret p) is.1 in
     let same_shape : store.secret.shape ≡ c.args.secret.shape = ap (λ (s : SecretView). s.shape) is.0 in
     let main = store.history in
     let legal : IsLegal table main = subst (λ (t : Table). IsLegal t main) same_table is.3.legal in
-    let stands : StandsFor file c.args.secret.shape main = (store.journal.gate, subst (λ (s : Shape). StandsAt file s main store.journal.gate) same_shape (c.in-Ok.ensures.stands told)) in
+    let stands : StandsFor file c.args.secret.shape main =
+    (store.journal.gate, subst (λ (s : Shape). StandsAt file s main store.journal.gate) same_shape (c.in-Ok.ensures.stands told)) in
     let found = c.in-Ok-open_other.found in
     let other = c.deref.result.now in
     let listed : found.1.items ≡ other = sym c.deref.ensures.value in
-    let other_legal : IsLegal table other = subst (λ (t : Table). IsLegal t other) same_table (subst (λ (h : List Answered). IsLegal (table_of store) h) listed c.in-Ok-open_other.ensures.legal) in
+    let other_legal : IsLegal table other = subst (λ (t : Table). IsLegal t other) same_table
+    (subst (λ (h : List Answered). IsLegal (table_of store) h) listed c.in-Ok-open_other.ensures.legal) in
     let spare_stands : StandsFor spare c.args.secret.shape other = (
       found.0.gate,
       subst (λ (s : Shape). StandsAt spare s other found.0.gate) same_shape
@@ -138,7 +147,8 @@ returns-in-Err-catch_up-clause-cause g c = λ fault told spare_told refused.
     let why = c.in-Err-catch_up.ensures.cause in
     let differ = λ (place : ℕ). λ (is : given ≡ Differ place). c.in-Err-catch_up.ensures.differ place (ap (λ (f : TwinFault). err f) is) in
     let answered : given ≡ fault = cc in
-    subst (λ (f : TwinFault). TwinCause f file spare table) answered (refused_cause c.one_reading.ensures table file spare main other stands spare_stands legal other_legal given why differ)
+    subst (λ (f : TwinFault). TwinCause f file spare table) answered
+    (refused_cause c.one_reading.ensures table file spare main other stands spare_stands legal other_legal given why differ)
 
 pub returns-in-Err-catch_up-clause-due : goal.returns-in-Err-catch_up-clause-due
 returns-in-Err-catch_up-clause-due g c = λ due told spare_told some cause.
@@ -147,15 +157,18 @@ returns-in-Err-catch_up-clause-due g c = λ due told spare_told some cause.
     let table = secret_table c.args.secret c.args.protected in
     let store = c.in-Ok.store in
     let is = c.in-Ok.ensures.store in
-    let same_table : table_of store ≡ table = ap (λ (s : SecretView). secret_table s store.protected) is.0 ∙ ap (λ (p : Protection). secret_table c.args.secret p) is.1 in
+    let same_table : table_of store ≡ table = ap (λ (s : SecretView). secret_table s store.protected) is.0
+    ∙ ap (λ (p : Protection). secret_table c.args.secret p) is.1 in
     let same_shape : store.secret.shape ≡ c.args.secret.shape = ap (λ (s : SecretView). s.shape) is.0 in
     let main = store.history in
     let legal : IsLegal table main = subst (λ (t : Table). IsLegal t main) same_table is.3.legal in
-    let stands : StandsFor file c.args.secret.shape main = (store.journal.gate, subst (λ (s : Shape). StandsAt file s main store.journal.gate) same_shape (c.in-Ok.ensures.stands told)) in
+    let stands : StandsFor file c.args.secret.shape main =
+    (store.journal.gate, subst (λ (s : Shape). StandsAt file s main store.journal.gate) same_shape (c.in-Ok.ensures.stands told)) in
     let found = c.in-Ok-open_other.found in
     let other = c.deref.result.now in
     let listed : found.1.items ≡ other = sym c.deref.ensures.value in
-    let other_legal : IsLegal table other = subst (λ (t : Table). IsLegal t other) same_table (subst (λ (h : List Answered). IsLegal (table_of store) h) listed c.in-Ok-open_other.ensures.legal) in
+    let other_legal : IsLegal table other = subst (λ (t : Table). IsLegal t other) same_table
+    (subst (λ (h : List Answered). IsLegal (table_of store) h) listed c.in-Ok-open_other.ensures.legal) in
     let spare_stands : StandsFor spare c.args.secret.shape other = (
       found.0.gate,
       subst (λ (s : Shape). StandsAt spare s other found.0.gate) same_shape
@@ -176,15 +189,18 @@ returns-in-Err-catch_up-clause-opens g c = λ m o whole told spare_told keep.
     let table = secret_table c.args.secret c.args.protected in
     let store = c.in-Ok.store in
     let is = c.in-Ok.ensures.store in
-    let same_table : table_of store ≡ table = ap (λ (s : SecretView). secret_table s store.protected) is.0 ∙ ap (λ (p : Protection). secret_table c.args.secret p) is.1 in
+    let same_table : table_of store ≡ table = ap (λ (s : SecretView). secret_table s store.protected) is.0
+    ∙ ap (λ (p : Protection). secret_table c.args.secret p) is.1 in
     let same_shape : store.secret.shape ≡ c.args.secret.shape = ap (λ (s : SecretView). s.shape) is.0 in
     let main = store.history in
     let legal : IsLegal table main = subst (λ (t : Table). IsLegal t main) same_table is.3.legal in
-    let stands : StandsFor file c.args.secret.shape main = (store.journal.gate, subst (λ (s : Shape). StandsAt file s main store.journal.gate) same_shape (c.in-Ok.ensures.stands told)) in
+    let stands : StandsFor file c.args.secret.shape main =
+    (store.journal.gate, subst (λ (s : Shape). StandsAt file s main store.journal.gate) same_shape (c.in-Ok.ensures.stands told)) in
     let found = c.in-Ok-open_other.found in
     let other = c.deref.result.now in
     let listed : found.1.items ≡ other = sym c.deref.ensures.value in
-    let other_legal : IsLegal table other = subst (λ (t : Table). IsLegal t other) same_table (subst (λ (h : List Answered). IsLegal (table_of store) h) listed c.in-Ok-open_other.ensures.legal) in
+    let other_legal : IsLegal table other = subst (λ (t : Table). IsLegal t other) same_table
+    (subst (λ (h : List Answered). IsLegal (table_of store) h) listed c.in-Ok-open_other.ensures.legal) in
     let spare_stands : StandsFor spare c.args.secret.shape other = (
       found.0.gate,
       subst (λ (s : Shape). StandsAt spare s other found.0.gate) same_shape
@@ -202,24 +218,30 @@ returns-in-Err-catch_up-clause-no_memory g c = λ m o whole told spare_told keep
     let table = secret_table c.args.secret c.args.protected in
     let store = c.in-Ok.store in
     let is = c.in-Ok.ensures.store in
-    let same_table : table_of store ≡ table = ap (λ (s : SecretView). secret_table s store.protected) is.0 ∙ ap (λ (p : Protection). secret_table c.args.secret p) is.1 in
+    let same_table : table_of store ≡ table = ap (λ (s : SecretView). secret_table s store.protected) is.0
+    ∙ ap (λ (p : Protection). secret_table c.args.secret p) is.1 in
     let same_shape : store.secret.shape ≡ c.args.secret.shape = ap (λ (s : SecretView). s.shape) is.0 in
     let main = store.history in
     let legal : IsLegal table main = subst (λ (t : Table). IsLegal t main) same_table is.3.legal in
-    let stands : StandsFor file c.args.secret.shape main = (store.journal.gate, subst (λ (s : Shape). StandsAt file s main store.journal.gate) same_shape (c.in-Ok.ensures.stands told)) in
+    let stands : StandsFor file c.args.secret.shape main =
+    (store.journal.gate, subst (λ (s : Shape). StandsAt file s main store.journal.gate) same_shape (c.in-Ok.ensures.stands told)) in
     let found = c.in-Ok-open_other.found in
     let other = c.deref.result.now in
     let listed : found.1.items ≡ other = sym c.deref.ensures.value in
-    let other_legal : IsLegal table other = subst (λ (t : Table). IsLegal t other) same_table (subst (λ (h : List Answered). IsLegal (table_of store) h) listed c.in-Ok-open_other.ensures.legal) in
+    let other_legal : IsLegal table other = subst (λ (t : Table). IsLegal t other) same_table
+    (subst (λ (h : List Answered). IsLegal (table_of store) h) listed c.in-Ok-open_other.ensures.legal) in
     let spare_stands : StandsFor spare c.args.secret.shape other = (
       found.0.gate,
       subst (λ (s : Shape). StandsAt spare s other found.0.gate) same_shape
           (subst (λ (h : List Answered). StandsAt spare store.secret.shape h found.0.gate) listed (c.in-Ok-open_other.ensures.stands spare_told)),
     ) in
     let memory = let same : c.in-Err-catch_up.fault ≡ NoMemory = cc in ap (λ (f : TwinFault). err f) same in
-    left_between c.one_reading.ensures table file spare main other stands spare_stands legal other_legal (g.B.Bench.file c.catch_up.new.bench) (g.S.Bench.file c.catch_up.new.spare)
-    (λ w meet. subst (λ (s : Shape). StandsBetween s main w (g.B.Bench.file c.catch_up.new.bench)) same_shape (c.in-Err-catch_up.ensures.no_memory w told meet memory))
-    (λ w meet. subst (λ (s : Shape). StandsBetween s other w (g.S.Bench.file c.catch_up.new.spare)) same_shape (c.in-Err-catch_up.ensures.spare_no_memory w spare_told meet memory))
+    left_between c.one_reading.ensures table file spare main other stands spare_stands legal other_legal (g.B.Bench.file c.catch_up.new.bench)
+    (g.S.Bench.file c.catch_up.new.spare)
+    (λ w meet. subst (λ (s : Shape). StandsBetween s main w (g.B.Bench.file c.catch_up.new.bench)) same_shape
+    (c.in-Err-catch_up.ensures.no_memory w told meet memory))
+    (λ w meet. subst (λ (s : Shape). StandsBetween s other w (g.S.Bench.file c.catch_up.new.spare)) same_shape
+    (c.in-Err-catch_up.ensures.spare_no_memory w spare_told meet memory))
     m o whole keep
 
 pub returns-in-Err-catch_up-clause-main_moments : goal.returns-in-Err-catch_up-clause-main_moments
@@ -229,22 +251,27 @@ returns-in-Err-catch_up-clause-main_moments g c = λ m o whole told spare_told q
     let table = secret_table c.args.secret c.args.protected in
     let store = c.in-Ok.store in
     let is = c.in-Ok.ensures.store in
-    let same_table : table_of store ≡ table = ap (λ (s : SecretView). secret_table s store.protected) is.0 ∙ ap (λ (p : Protection). secret_table c.args.secret p) is.1 in
+    let same_table : table_of store ≡ table = ap (λ (s : SecretView). secret_table s store.protected) is.0
+    ∙ ap (λ (p : Protection). secret_table c.args.secret p) is.1 in
     let same_shape : store.secret.shape ≡ c.args.secret.shape = ap (λ (s : SecretView). s.shape) is.0 in
     let main = store.history in
     let legal : IsLegal table main = subst (λ (t : Table). IsLegal t main) same_table is.3.legal in
-    let stands : StandsFor file c.args.secret.shape main = (store.journal.gate, subst (λ (s : Shape). StandsAt file s main store.journal.gate) same_shape (c.in-Ok.ensures.stands told)) in
+    let stands : StandsFor file c.args.secret.shape main =
+    (store.journal.gate, subst (λ (s : Shape). StandsAt file s main store.journal.gate) same_shape (c.in-Ok.ensures.stands told)) in
     let found = c.in-Ok-open_other.found in
     let other = c.deref.result.now in
     let listed : found.1.items ≡ other = sym c.deref.ensures.value in
-    let other_legal : IsLegal table other = subst (λ (t : Table). IsLegal t other) same_table (subst (λ (h : List Answered). IsLegal (table_of store) h) listed c.in-Ok-open_other.ensures.legal) in
+    let other_legal : IsLegal table other = subst (λ (t : Table). IsLegal t other) same_table
+    (subst (λ (h : List Answered). IsLegal (table_of store) h) listed c.in-Ok-open_other.ensures.legal) in
     let spare_stands : StandsFor spare c.args.secret.shape other = (
       found.0.gate,
       subst (λ (s : Shape). StandsAt spare s other found.0.gate) same_shape
           (subst (λ (h : List Answered). StandsAt spare store.secret.shape h found.0.gate) listed (c.in-Ok-open_other.ensures.stands spare_told)),
     ) in
-    main_catches c.one_reading.ensures table file spare main other stands spare_stands legal other_legal g.B.Bench c.args.bench.now c.start.new.bench c.catch_up.new.bench refl c.start.ensures.reads quiet
-    (λ w still meet. subst (λ (s : Shape). LeavesOnly g.B.Bench c.start.new.bench c.catch_up.new.bench (CatchesUp s main w (g.B.Bench.sent c.start.new.bench))) same_shape
+    main_catches c.one_reading.ensures table file spare main other stands spare_stands legal other_legal g.B.Bench c.args.bench.now c.start.new.bench
+    c.catch_up.new.bench refl c.start.ensures.reads quiet
+    (λ w still meet. subst (λ (s : Shape). LeavesOnly g.B.Bench c.start.new.bench c.catch_up.new.bench (CatchesUp s main w (g.B.Bench.sent c.start.new.bench)))
+    same_shape
     (c.catch_up.ensures.moments w told still meet)) m o whole keep
 
 pub returns-in-Err-catch_up-clause-spare_moments : goal.returns-in-Err-catch_up-clause-spare_moments
@@ -254,22 +281,27 @@ returns-in-Err-catch_up-clause-spare_moments g c = λ m o whole told spare_told 
     let table = secret_table c.args.secret c.args.protected in
     let store = c.in-Ok.store in
     let is = c.in-Ok.ensures.store in
-    let same_table : table_of store ≡ table = ap (λ (s : SecretView). secret_table s store.protected) is.0 ∙ ap (λ (p : Protection). secret_table c.args.secret p) is.1 in
+    let same_table : table_of store ≡ table = ap (λ (s : SecretView). secret_table s store.protected) is.0
+    ∙ ap (λ (p : Protection). secret_table c.args.secret p) is.1 in
     let same_shape : store.secret.shape ≡ c.args.secret.shape = ap (λ (s : SecretView). s.shape) is.0 in
     let main = store.history in
     let legal : IsLegal table main = subst (λ (t : Table). IsLegal t main) same_table is.3.legal in
-    let stands : StandsFor file c.args.secret.shape main = (store.journal.gate, subst (λ (s : Shape). StandsAt file s main store.journal.gate) same_shape (c.in-Ok.ensures.stands told)) in
+    let stands : StandsFor file c.args.secret.shape main =
+    (store.journal.gate, subst (λ (s : Shape). StandsAt file s main store.journal.gate) same_shape (c.in-Ok.ensures.stands told)) in
     let found = c.in-Ok-open_other.found in
     let other = c.deref.result.now in
     let listed : found.1.items ≡ other = sym c.deref.ensures.value in
-    let other_legal : IsLegal table other = subst (λ (t : Table). IsLegal t other) same_table (subst (λ (h : List Answered). IsLegal (table_of store) h) listed c.in-Ok-open_other.ensures.legal) in
+    let other_legal : IsLegal table other = subst (λ (t : Table). IsLegal t other) same_table
+    (subst (λ (h : List Answered). IsLegal (table_of store) h) listed c.in-Ok-open_other.ensures.legal) in
     let spare_stands : StandsFor spare c.args.secret.shape other = (
       found.0.gate,
       subst (λ (s : Shape). StandsAt spare s other found.0.gate) same_shape
           (subst (λ (h : List Answered). StandsAt spare store.secret.shape h found.0.gate) listed (c.in-Ok-open_other.ensures.stands spare_told)),
     ) in
-    spare_catches c.one_reading.ensures table file spare main other stands spare_stands legal other_legal g.S.Bench c.args.spare.now c.open_other.new.spare c.catch_up.new.spare refl c.open_other.ensures.reads quiet
-    (λ w still meet. subst (λ (s : Shape). LeavesOnly g.S.Bench c.open_other.new.spare c.catch_up.new.spare (CatchesUp s other w (g.S.Bench.sent c.open_other.new.spare))) same_shape
+    spare_catches c.one_reading.ensures table file spare main other stands spare_stands legal other_legal g.S.Bench c.args.spare.now c.open_other.new.spare
+    c.catch_up.new.spare refl c.open_other.ensures.reads quiet
+    (λ w still meet. subst (λ (s : Shape). LeavesOnly g.S.Bench c.open_other.new.spare c.catch_up.new.spare
+    (CatchesUp s other w (g.S.Bench.sent c.open_other.new.spare))) same_shape
     (c.catch_up.ensures.spare_moments w spare_told still meet)) m o whole keep
 
 pub returns-in-Err-catch_up-clause-untouched : goal.returns-in-Err-catch_up-clause-untouched
@@ -279,22 +311,26 @@ returns-in-Err-catch_up-clause-untouched g c = λ told spare_told quiet apart.
     let table = secret_table c.args.secret c.args.protected in
     let store = c.in-Ok.store in
     let is = c.in-Ok.ensures.store in
-    let same_table : table_of store ≡ table = ap (λ (s : SecretView). secret_table s store.protected) is.0 ∙ ap (λ (p : Protection). secret_table c.args.secret p) is.1 in
+    let same_table : table_of store ≡ table = ap (λ (s : SecretView). secret_table s store.protected) is.0
+    ∙ ap (λ (p : Protection). secret_table c.args.secret p) is.1 in
     let same_shape : store.secret.shape ≡ c.args.secret.shape = ap (λ (s : SecretView). s.shape) is.0 in
     let main = store.history in
     let legal : IsLegal table main = subst (λ (t : Table). IsLegal t main) same_table is.3.legal in
-    let stands : StandsFor file c.args.secret.shape main = (store.journal.gate, subst (λ (s : Shape). StandsAt file s main store.journal.gate) same_shape (c.in-Ok.ensures.stands told)) in
+    let stands : StandsFor file c.args.secret.shape main =
+    (store.journal.gate, subst (λ (s : Shape). StandsAt file s main store.journal.gate) same_shape (c.in-Ok.ensures.stands told)) in
     let found = c.in-Ok-open_other.found in
     let other = c.deref.result.now in
     let listed : found.1.items ≡ other = sym c.deref.ensures.value in
-    let other_legal : IsLegal table other = subst (λ (t : Table). IsLegal t other) same_table (subst (λ (h : List Answered). IsLegal (table_of store) h) listed c.in-Ok-open_other.ensures.legal) in
+    let other_legal : IsLegal table other = subst (λ (t : Table). IsLegal t other) same_table
+    (subst (λ (h : List Answered). IsLegal (table_of store) h) listed c.in-Ok-open_other.ensures.legal) in
     let spare_stands : StandsFor spare c.args.secret.shape other = (
       found.0.gate,
       subst (λ (s : Shape). StandsAt spare s other found.0.gate) same_shape
           (subst (λ (h : List Answered). StandsAt spare store.secret.shape h found.0.gate) listed (c.in-Ok-open_other.ensures.stands spare_told)),
     ) in
     let same = (c.catch_up.ensures.apart (apart_never_meet c.one_reading.ensures table file spare main other stands spare_stands legal other_legal apart)).0 in
-    subst (λ (b : g.row.B.Denot). LeavesOnly g.B.Bench c.args.bench.now b (IsUntouched file (g.B.Bench.sent c.args.bench.now))) (sym same) (c.start.ensures.reads.untouched quiet)
+    subst (λ (b : g.row.B.Denot). LeavesOnly g.B.Bench c.args.bench.now b (IsUntouched file (g.B.Bench.sent c.args.bench.now))) (sym same)
+    (c.start.ensures.reads.untouched quiet)
 
 pub returns-in-Err-catch_up-clause-spare_untouched : goal.returns-in-Err-catch_up-clause-spare_untouched
 returns-in-Err-catch_up-clause-spare_untouched g c = λ told spare_told quiet apart.
@@ -303,22 +339,26 @@ returns-in-Err-catch_up-clause-spare_untouched g c = λ told spare_told quiet ap
     let table = secret_table c.args.secret c.args.protected in
     let store = c.in-Ok.store in
     let is = c.in-Ok.ensures.store in
-    let same_table : table_of store ≡ table = ap (λ (s : SecretView). secret_table s store.protected) is.0 ∙ ap (λ (p : Protection). secret_table c.args.secret p) is.1 in
+    let same_table : table_of store ≡ table = ap (λ (s : SecretView). secret_table s store.protected) is.0
+    ∙ ap (λ (p : Protection). secret_table c.args.secret p) is.1 in
     let same_shape : store.secret.shape ≡ c.args.secret.shape = ap (λ (s : SecretView). s.shape) is.0 in
     let main = store.history in
     let legal : IsLegal table main = subst (λ (t : Table). IsLegal t main) same_table is.3.legal in
-    let stands : StandsFor file c.args.secret.shape main = (store.journal.gate, subst (λ (s : Shape). StandsAt file s main store.journal.gate) same_shape (c.in-Ok.ensures.stands told)) in
+    let stands : StandsFor file c.args.secret.shape main =
+    (store.journal.gate, subst (λ (s : Shape). StandsAt file s main store.journal.gate) same_shape (c.in-Ok.ensures.stands told)) in
     let found = c.in-Ok-open_other.found in
     let other = c.deref.result.now in
     let listed : found.1.items ≡ other = sym c.deref.ensures.value in
-    let other_legal : IsLegal table other = subst (λ (t : Table). IsLegal t other) same_table (subst (λ (h : List Answered). IsLegal (table_of store) h) listed c.in-Ok-open_other.ensures.legal) in
+    let other_legal : IsLegal table other = subst (λ (t : Table). IsLegal t other) same_table
+    (subst (λ (h : List Answered). IsLegal (table_of store) h) listed c.in-Ok-open_other.ensures.legal) in
     let spare_stands : StandsFor spare c.args.secret.shape other = (
       found.0.gate,
       subst (λ (s : Shape). StandsAt spare s other found.0.gate) same_shape
           (subst (λ (h : List Answered). StandsAt spare store.secret.shape h found.0.gate) listed (c.in-Ok-open_other.ensures.stands spare_told)),
     ) in
     let same = (c.catch_up.ensures.apart (apart_never_meet c.one_reading.ensures table file spare main other stands spare_stands legal other_legal apart)).1 in
-    subst (λ (s : g.row.S.Denot). LeavesOnly g.S.Bench c.args.spare.now s (IsUntouched spare (g.S.Bench.sent c.args.spare.now))) (sym same) (c.open_other.ensures.reads.untouched quiet)
+    subst (λ (s : g.row.S.Denot). LeavesOnly g.S.Bench c.args.spare.now s (IsUntouched spare (g.S.Bench.sent c.args.spare.now))) (sym same)
+    (c.open_other.ensures.reads.untouched quiet)
 
 pub returns-in-Err-catch_up-clause-spare_quiet : goal.returns-in-Err-catch_up-clause-spare_quiet
 returns-in-Err-catch_up-clause-spare_quiet g c = λ told quiet other.
@@ -335,15 +375,18 @@ returns-in-Ok-catch_up-clause-together g c = λ told spare_told.
     let table = secret_table c.args.secret c.args.protected in
     let store = c.in-Ok.store in
     let is = c.in-Ok.ensures.store in
-    let same_table : table_of store ≡ table = ap (λ (s : SecretView). secret_table s store.protected) is.0 ∙ ap (λ (p : Protection). secret_table c.args.secret p) is.1 in
+    let same_table : table_of store ≡ table = ap (λ (s : SecretView). secret_table s store.protected) is.0
+    ∙ ap (λ (p : Protection). secret_table c.args.secret p) is.1 in
     let same_shape : store.secret.shape ≡ c.args.secret.shape = ap (λ (s : SecretView). s.shape) is.0 in
     let main = store.history in
     let legal : IsLegal table main = subst (λ (t : Table). IsLegal t main) same_table is.3.legal in
-    let stands : StandsFor file c.args.secret.shape main = (store.journal.gate, subst (λ (s : Shape). StandsAt file s main store.journal.gate) same_shape (c.in-Ok.ensures.stands told)) in
+    let stands : StandsFor file c.args.secret.shape main =
+    (store.journal.gate, subst (λ (s : Shape). StandsAt file s main store.journal.gate) same_shape (c.in-Ok.ensures.stands told)) in
     let found = c.in-Ok-open_other.found in
     let other = c.deref.result.now in
     let listed : found.1.items ≡ other = sym c.deref.ensures.value in
-    let other_legal : IsLegal table other = subst (λ (t : Table). IsLegal t other) same_table (subst (λ (h : List Answered). IsLegal (table_of store) h) listed c.in-Ok-open_other.ensures.legal) in
+    let other_legal : IsLegal table other = subst (λ (t : Table). IsLegal t other) same_table
+    (subst (λ (h : List Answered). IsLegal (table_of store) h) listed c.in-Ok-open_other.ensures.legal) in
     let spare_stands : StandsFor spare c.args.secret.shape other = (
       found.0.gate,
       subst (λ (s : Shape). StandsAt spare s other found.0.gate) same_shape
@@ -360,15 +403,18 @@ returns-in-Ok-catch_up-clause-longer g c = λ m o whole told spare_told keep.
     let table = secret_table c.args.secret c.args.protected in
     let store = c.in-Ok.store in
     let is = c.in-Ok.ensures.store in
-    let same_table : table_of store ≡ table = ap (λ (s : SecretView). secret_table s store.protected) is.0 ∙ ap (λ (p : Protection). secret_table c.args.secret p) is.1 in
+    let same_table : table_of store ≡ table = ap (λ (s : SecretView). secret_table s store.protected) is.0
+    ∙ ap (λ (p : Protection). secret_table c.args.secret p) is.1 in
     let same_shape : store.secret.shape ≡ c.args.secret.shape = ap (λ (s : SecretView). s.shape) is.0 in
     let main = store.history in
     let legal : IsLegal table main = subst (λ (t : Table). IsLegal t main) same_table is.3.legal in
-    let stands : StandsFor file c.args.secret.shape main = (store.journal.gate, subst (λ (s : Shape). StandsAt file s main store.journal.gate) same_shape (c.in-Ok.ensures.stands told)) in
+    let stands : StandsFor file c.args.secret.shape main =
+    (store.journal.gate, subst (λ (s : Shape). StandsAt file s main store.journal.gate) same_shape (c.in-Ok.ensures.stands told)) in
     let found = c.in-Ok-open_other.found in
     let other = c.deref.result.now in
     let listed : found.1.items ≡ other = sym c.deref.ensures.value in
-    let other_legal : IsLegal table other = subst (λ (t : Table). IsLegal t other) same_table (subst (λ (h : List Answered). IsLegal (table_of store) h) listed c.in-Ok-open_other.ensures.legal) in
+    let other_legal : IsLegal table other = subst (λ (t : Table). IsLegal t other) same_table
+    (subst (λ (h : List Answered). IsLegal (table_of store) h) listed c.in-Ok-open_other.ensures.legal) in
     let spare_stands : StandsFor spare c.args.secret.shape other = (
       found.0.gate,
       subst (λ (s : Shape). StandsAt spare s other found.0.gate) same_shape
@@ -385,15 +431,18 @@ returns-in-Ok-catch_up-clause-due g c = λ due told spare_told some cause.
     let table = secret_table c.args.secret c.args.protected in
     let store = c.in-Ok.store in
     let is = c.in-Ok.ensures.store in
-    let same_table : table_of store ≡ table = ap (λ (s : SecretView). secret_table s store.protected) is.0 ∙ ap (λ (p : Protection). secret_table c.args.secret p) is.1 in
+    let same_table : table_of store ≡ table = ap (λ (s : SecretView). secret_table s store.protected) is.0
+    ∙ ap (λ (p : Protection). secret_table c.args.secret p) is.1 in
     let same_shape : store.secret.shape ≡ c.args.secret.shape = ap (λ (s : SecretView). s.shape) is.0 in
     let main = store.history in
     let legal : IsLegal table main = subst (λ (t : Table). IsLegal t main) same_table is.3.legal in
-    let stands : StandsFor file c.args.secret.shape main = (store.journal.gate, subst (λ (s : Shape). StandsAt file s main store.journal.gate) same_shape (c.in-Ok.ensures.stands told)) in
+    let stands : StandsFor file c.args.secret.shape main =
+    (store.journal.gate, subst (λ (s : Shape). StandsAt file s main store.journal.gate) same_shape (c.in-Ok.ensures.stands told)) in
     let found = c.in-Ok-open_other.found in
     let other = c.deref.result.now in
     let listed : found.1.items ≡ other = sym c.deref.ensures.value in
-    let other_legal : IsLegal table other = subst (λ (t : Table). IsLegal t other) same_table (subst (λ (h : List Answered). IsLegal (table_of store) h) listed c.in-Ok-open_other.ensures.legal) in
+    let other_legal : IsLegal table other = subst (λ (t : Table). IsLegal t other) same_table
+    (subst (λ (h : List Answered). IsLegal (table_of store) h) listed c.in-Ok-open_other.ensures.legal) in
     let spare_stands : StandsFor spare c.args.secret.shape other = (
       found.0.gate,
       subst (λ (s : Shape). StandsAt spare s other found.0.gate) same_shape
@@ -412,7 +461,8 @@ returns-in-Ok-catch_up-clause-quiet g c = λ told quiet done.
 
 pub returns-in-Ok-catch_up-clause-spare_quiet : goal.returns-in-Ok-catch_up-clause-spare_quiet
 returns-in-Ok-catch_up-clause-spare_quiet g c = λ told quiet done.
-    c.in-Ok-catch_up.ensures.spare_quiet told (still_quiet g.S.Bench c.args.spare.now c.open_other.new.spare c.open_other.ensures.reads quiet) (λ is. no_refusal _ _ is)
+    c.in-Ok-catch_up.ensures.spare_quiet told (still_quiet g.S.Bench c.args.spare.now c.open_other.new.spare c.open_other.ensures.reads quiet)
+    (λ is. no_refusal _ _ is)
 
 pub returns-in-Ok-catch_up-clause-ticks : goal.returns-in-Ok-catch_up-clause-ticks
 returns-in-Ok-catch_up-clause-ticks g c = λ m o whole told spare_told keep.
@@ -421,15 +471,18 @@ returns-in-Ok-catch_up-clause-ticks g c = λ m o whole told spare_told keep.
     let table = secret_table c.args.secret c.args.protected in
     let store = c.in-Ok.store in
     let is = c.in-Ok.ensures.store in
-    let same_table : table_of store ≡ table = ap (λ (s : SecretView). secret_table s store.protected) is.0 ∙ ap (λ (p : Protection). secret_table c.args.secret p) is.1 in
+    let same_table : table_of store ≡ table = ap (λ (s : SecretView). secret_table s store.protected) is.0
+    ∙ ap (λ (p : Protection). secret_table c.args.secret p) is.1 in
     let same_shape : store.secret.shape ≡ c.args.secret.shape = ap (λ (s : SecretView). s.shape) is.0 in
     let main = store.history in
     let legal : IsLegal table main = subst (λ (t : Table). IsLegal t main) same_table is.3.legal in
-    let stands : StandsFor file c.args.secret.shape main = (store.journal.gate, subst (λ (s : Shape). StandsAt file s main store.journal.gate) same_shape (c.in-Ok.ensures.stands told)) in
+    let stands : StandsFor file c.args.secret.shape main =
+    (store.journal.gate, subst (λ (s : Shape). StandsAt file s main store.journal.gate) same_shape (c.in-Ok.ensures.stands told)) in
     let found = c.in-Ok-open_other.found in
     let other = c.deref.result.now in
     let listed : found.1.items ≡ other = sym c.deref.ensures.value in
-    let other_legal : IsLegal table other = subst (λ (t : Table). IsLegal t other) same_table (subst (λ (h : List Answered). IsLegal (table_of store) h) listed c.in-Ok-open_other.ensures.legal) in
+    let other_legal : IsLegal table other = subst (λ (t : Table). IsLegal t other) same_table
+    (subst (λ (h : List Answered). IsLegal (table_of store) h) listed c.in-Ok-open_other.ensures.legal) in
     let spare_stands : StandsFor spare c.args.secret.shape other = (
       found.0.gate,
       subst (λ (s : Shape). StandsAt spare s other found.0.gate) same_shape
@@ -437,7 +490,8 @@ returns-in-Ok-catch_up-clause-ticks g c = λ m o whole told spare_told keep.
     ) in
     let now = c.catch_up.new.store.history in
     let meet : Meet main other now = c.in-Ok-catch_up.ensures.meet in
-    main_calls c.one_reading.ensures table file spare main other stands spare_stands legal other_legal now meet (g.B.Bench.moment c.args.bench.now) (g.B.Bench.moment c.start.new.bench) (g.B.Bench.moment c.catch_up.new.bench)
+    main_calls c.one_reading.ensures table file spare main other stands spare_stands legal other_legal now meet (g.B.Bench.moment c.args.bench.now)
+    (g.B.Bench.moment c.start.new.bench) (g.B.Bench.moment c.catch_up.new.bench)
     (c.in-Ok.ensures.ticks told) (c.in-Ok-catch_up.ensures.ticks told) m o whole keep
 
 pub returns-in-Ok-catch_up-clause-spare_ticks : goal.returns-in-Ok-catch_up-clause-spare_ticks
@@ -447,15 +501,18 @@ returns-in-Ok-catch_up-clause-spare_ticks g c = λ m o whole told spare_told kee
     let table = secret_table c.args.secret c.args.protected in
     let store = c.in-Ok.store in
     let is = c.in-Ok.ensures.store in
-    let same_table : table_of store ≡ table = ap (λ (s : SecretView). secret_table s store.protected) is.0 ∙ ap (λ (p : Protection). secret_table c.args.secret p) is.1 in
+    let same_table : table_of store ≡ table = ap (λ (s : SecretView). secret_table s store.protected) is.0
+    ∙ ap (λ (p : Protection). secret_table c.args.secret p) is.1 in
     let same_shape : store.secret.shape ≡ c.args.secret.shape = ap (λ (s : SecretView). s.shape) is.0 in
     let main = store.history in
     let legal : IsLegal table main = subst (λ (t : Table). IsLegal t main) same_table is.3.legal in
-    let stands : StandsFor file c.args.secret.shape main = (store.journal.gate, subst (λ (s : Shape). StandsAt file s main store.journal.gate) same_shape (c.in-Ok.ensures.stands told)) in
+    let stands : StandsFor file c.args.secret.shape main =
+    (store.journal.gate, subst (λ (s : Shape). StandsAt file s main store.journal.gate) same_shape (c.in-Ok.ensures.stands told)) in
     let found = c.in-Ok-open_other.found in
     let other = c.deref.result.now in
     let listed : found.1.items ≡ other = sym c.deref.ensures.value in
-    let other_legal : IsLegal table other = subst (λ (t : Table). IsLegal t other) same_table (subst (λ (h : List Answered). IsLegal (table_of store) h) listed c.in-Ok-open_other.ensures.legal) in
+    let other_legal : IsLegal table other = subst (λ (t : Table). IsLegal t other) same_table
+    (subst (λ (h : List Answered). IsLegal (table_of store) h) listed c.in-Ok-open_other.ensures.legal) in
     let spare_stands : StandsFor spare c.args.secret.shape other = (
       found.0.gate,
       subst (λ (s : Shape). StandsAt spare s other found.0.gate) same_shape
@@ -463,7 +520,8 @@ returns-in-Ok-catch_up-clause-spare_ticks g c = λ m o whole told spare_told kee
     ) in
     let now = c.catch_up.new.store.history in
     let meet : Meet main other now = c.in-Ok-catch_up.ensures.meet in
-    spare_calls c.one_reading.ensures table file spare main other stands spare_stands legal other_legal now meet (g.S.Bench.moment c.args.spare.now) (g.S.Bench.moment c.open_other.new.spare) (g.S.Bench.moment c.catch_up.new.spare)
+    spare_calls c.one_reading.ensures table file spare main other stands spare_stands legal other_legal now meet (g.S.Bench.moment c.args.spare.now)
+    (g.S.Bench.moment c.open_other.new.spare) (g.S.Bench.moment c.catch_up.new.spare)
     (c.in-Ok-open_other.ensures.ticks spare_told) (c.in-Ok-catch_up.ensures.spare_ticks spare_told) m o whole keep
 
 pub returns-in-Ok-catch_up-clause-main_moments : goal.returns-in-Ok-catch_up-clause-main_moments
@@ -473,22 +531,27 @@ returns-in-Ok-catch_up-clause-main_moments g c = λ m o whole told spare_told qu
     let table = secret_table c.args.secret c.args.protected in
     let store = c.in-Ok.store in
     let is = c.in-Ok.ensures.store in
-    let same_table : table_of store ≡ table = ap (λ (s : SecretView). secret_table s store.protected) is.0 ∙ ap (λ (p : Protection). secret_table c.args.secret p) is.1 in
+    let same_table : table_of store ≡ table = ap (λ (s : SecretView). secret_table s store.protected) is.0
+    ∙ ap (λ (p : Protection). secret_table c.args.secret p) is.1 in
     let same_shape : store.secret.shape ≡ c.args.secret.shape = ap (λ (s : SecretView). s.shape) is.0 in
     let main = store.history in
     let legal : IsLegal table main = subst (λ (t : Table). IsLegal t main) same_table is.3.legal in
-    let stands : StandsFor file c.args.secret.shape main = (store.journal.gate, subst (λ (s : Shape). StandsAt file s main store.journal.gate) same_shape (c.in-Ok.ensures.stands told)) in
+    let stands : StandsFor file c.args.secret.shape main =
+    (store.journal.gate, subst (λ (s : Shape). StandsAt file s main store.journal.gate) same_shape (c.in-Ok.ensures.stands told)) in
     let found = c.in-Ok-open_other.found in
     let other = c.deref.result.now in
     let listed : found.1.items ≡ other = sym c.deref.ensures.value in
-    let other_legal : IsLegal table other = subst (λ (t : Table). IsLegal t other) same_table (subst (λ (h : List Answered). IsLegal (table_of store) h) listed c.in-Ok-open_other.ensures.legal) in
+    let other_legal : IsLegal table other = subst (λ (t : Table). IsLegal t other) same_table
+    (subst (λ (h : List Answered). IsLegal (table_of store) h) listed c.in-Ok-open_other.ensures.legal) in
     let spare_stands : StandsFor spare c.args.secret.shape other = (
       found.0.gate,
       subst (λ (s : Shape). StandsAt spare s other found.0.gate) same_shape
           (subst (λ (h : List Answered). StandsAt spare store.secret.shape h found.0.gate) listed (c.in-Ok-open_other.ensures.stands spare_told)),
     ) in
-    main_catches c.one_reading.ensures table file spare main other stands spare_stands legal other_legal g.B.Bench c.args.bench.now c.start.new.bench c.catch_up.new.bench refl c.start.ensures.reads quiet
-    (λ w still meet. subst (λ (s : Shape). LeavesOnly g.B.Bench c.start.new.bench c.catch_up.new.bench (CatchesUp s main w (g.B.Bench.sent c.start.new.bench))) same_shape
+    main_catches c.one_reading.ensures table file spare main other stands spare_stands legal other_legal g.B.Bench c.args.bench.now c.start.new.bench
+    c.catch_up.new.bench refl c.start.ensures.reads quiet
+    (λ w still meet. subst (λ (s : Shape). LeavesOnly g.B.Bench c.start.new.bench c.catch_up.new.bench (CatchesUp s main w (g.B.Bench.sent c.start.new.bench)))
+    same_shape
     (c.catch_up.ensures.moments w told still meet)) m o whole keep
 
 pub returns-in-Ok-catch_up-clause-spare_moments : goal.returns-in-Ok-catch_up-clause-spare_moments
@@ -498,22 +561,27 @@ returns-in-Ok-catch_up-clause-spare_moments g c = λ m o whole told spare_told q
     let table = secret_table c.args.secret c.args.protected in
     let store = c.in-Ok.store in
     let is = c.in-Ok.ensures.store in
-    let same_table : table_of store ≡ table = ap (λ (s : SecretView). secret_table s store.protected) is.0 ∙ ap (λ (p : Protection). secret_table c.args.secret p) is.1 in
+    let same_table : table_of store ≡ table = ap (λ (s : SecretView). secret_table s store.protected) is.0
+    ∙ ap (λ (p : Protection). secret_table c.args.secret p) is.1 in
     let same_shape : store.secret.shape ≡ c.args.secret.shape = ap (λ (s : SecretView). s.shape) is.0 in
     let main = store.history in
     let legal : IsLegal table main = subst (λ (t : Table). IsLegal t main) same_table is.3.legal in
-    let stands : StandsFor file c.args.secret.shape main = (store.journal.gate, subst (λ (s : Shape). StandsAt file s main store.journal.gate) same_shape (c.in-Ok.ensures.stands told)) in
+    let stands : StandsFor file c.args.secret.shape main =
+    (store.journal.gate, subst (λ (s : Shape). StandsAt file s main store.journal.gate) same_shape (c.in-Ok.ensures.stands told)) in
     let found = c.in-Ok-open_other.found in
     let other = c.deref.result.now in
     let listed : found.1.items ≡ other = sym c.deref.ensures.value in
-    let other_legal : IsLegal table other = subst (λ (t : Table). IsLegal t other) same_table (subst (λ (h : List Answered). IsLegal (table_of store) h) listed c.in-Ok-open_other.ensures.legal) in
+    let other_legal : IsLegal table other = subst (λ (t : Table). IsLegal t other) same_table
+    (subst (λ (h : List Answered). IsLegal (table_of store) h) listed c.in-Ok-open_other.ensures.legal) in
     let spare_stands : StandsFor spare c.args.secret.shape other = (
       found.0.gate,
       subst (λ (s : Shape). StandsAt spare s other found.0.gate) same_shape
           (subst (λ (h : List Answered). StandsAt spare store.secret.shape h found.0.gate) listed (c.in-Ok-open_other.ensures.stands spare_told)),
     ) in
-    spare_catches c.one_reading.ensures table file spare main other stands spare_stands legal other_legal g.S.Bench c.args.spare.now c.open_other.new.spare c.catch_up.new.spare refl c.open_other.ensures.reads quiet
-    (λ w still meet. subst (λ (s : Shape). LeavesOnly g.S.Bench c.open_other.new.spare c.catch_up.new.spare (CatchesUp s other w (g.S.Bench.sent c.open_other.new.spare))) same_shape
+    spare_catches c.one_reading.ensures table file spare main other stands spare_stands legal other_legal g.S.Bench c.args.spare.now c.open_other.new.spare
+    c.catch_up.new.spare refl c.open_other.ensures.reads quiet
+    (λ w still meet. subst (λ (s : Shape). LeavesOnly g.S.Bench c.open_other.new.spare c.catch_up.new.spare
+    (CatchesUp s other w (g.S.Bench.sent c.open_other.new.spare))) same_shape
     (c.catch_up.ensures.spare_moments w spare_told still meet)) m o whole keep
 
 pub returns-in-Ok-catch_up-clause-untouched : goal.returns-in-Ok-catch_up-clause-untouched
@@ -523,22 +591,26 @@ returns-in-Ok-catch_up-clause-untouched g c = λ told spare_told quiet apart.
     let table = secret_table c.args.secret c.args.protected in
     let store = c.in-Ok.store in
     let is = c.in-Ok.ensures.store in
-    let same_table : table_of store ≡ table = ap (λ (s : SecretView). secret_table s store.protected) is.0 ∙ ap (λ (p : Protection). secret_table c.args.secret p) is.1 in
+    let same_table : table_of store ≡ table = ap (λ (s : SecretView). secret_table s store.protected) is.0
+    ∙ ap (λ (p : Protection). secret_table c.args.secret p) is.1 in
     let same_shape : store.secret.shape ≡ c.args.secret.shape = ap (λ (s : SecretView). s.shape) is.0 in
     let main = store.history in
     let legal : IsLegal table main = subst (λ (t : Table). IsLegal t main) same_table is.3.legal in
-    let stands : StandsFor file c.args.secret.shape main = (store.journal.gate, subst (λ (s : Shape). StandsAt file s main store.journal.gate) same_shape (c.in-Ok.ensures.stands told)) in
+    let stands : StandsFor file c.args.secret.shape main =
+    (store.journal.gate, subst (λ (s : Shape). StandsAt file s main store.journal.gate) same_shape (c.in-Ok.ensures.stands told)) in
     let found = c.in-Ok-open_other.found in
     let other = c.deref.result.now in
     let listed : found.1.items ≡ other = sym c.deref.ensures.value in
-    let other_legal : IsLegal table other = subst (λ (t : Table). IsLegal t other) same_table (subst (λ (h : List Answered). IsLegal (table_of store) h) listed c.in-Ok-open_other.ensures.legal) in
+    let other_legal : IsLegal table other = subst (λ (t : Table). IsLegal t other) same_table
+    (subst (λ (h : List Answered). IsLegal (table_of store) h) listed c.in-Ok-open_other.ensures.legal) in
     let spare_stands : StandsFor spare c.args.secret.shape other = (
       found.0.gate,
       subst (λ (s : Shape). StandsAt spare s other found.0.gate) same_shape
           (subst (λ (h : List Answered). StandsAt spare store.secret.shape h found.0.gate) listed (c.in-Ok-open_other.ensures.stands spare_told)),
     ) in
     let same = (c.catch_up.ensures.apart (apart_never_meet c.one_reading.ensures table file spare main other stands spare_stands legal other_legal apart)).0 in
-    subst (λ (b : g.row.B.Denot). LeavesOnly g.B.Bench c.args.bench.now b (IsUntouched file (g.B.Bench.sent c.args.bench.now))) (sym same) (c.start.ensures.reads.untouched quiet)
+    subst (λ (b : g.row.B.Denot). LeavesOnly g.B.Bench c.args.bench.now b (IsUntouched file (g.B.Bench.sent c.args.bench.now))) (sym same)
+    (c.start.ensures.reads.untouched quiet)
 
 pub returns-in-Ok-catch_up-clause-spare_untouched : goal.returns-in-Ok-catch_up-clause-spare_untouched
 returns-in-Ok-catch_up-clause-spare_untouched g c = λ told spare_told quiet apart.
@@ -547,22 +619,26 @@ returns-in-Ok-catch_up-clause-spare_untouched g c = λ told spare_told quiet apa
     let table = secret_table c.args.secret c.args.protected in
     let store = c.in-Ok.store in
     let is = c.in-Ok.ensures.store in
-    let same_table : table_of store ≡ table = ap (λ (s : SecretView). secret_table s store.protected) is.0 ∙ ap (λ (p : Protection). secret_table c.args.secret p) is.1 in
+    let same_table : table_of store ≡ table = ap (λ (s : SecretView). secret_table s store.protected) is.0
+    ∙ ap (λ (p : Protection). secret_table c.args.secret p) is.1 in
     let same_shape : store.secret.shape ≡ c.args.secret.shape = ap (λ (s : SecretView). s.shape) is.0 in
     let main = store.history in
     let legal : IsLegal table main = subst (λ (t : Table). IsLegal t main) same_table is.3.legal in
-    let stands : StandsFor file c.args.secret.shape main = (store.journal.gate, subst (λ (s : Shape). StandsAt file s main store.journal.gate) same_shape (c.in-Ok.ensures.stands told)) in
+    let stands : StandsFor file c.args.secret.shape main =
+    (store.journal.gate, subst (λ (s : Shape). StandsAt file s main store.journal.gate) same_shape (c.in-Ok.ensures.stands told)) in
     let found = c.in-Ok-open_other.found in
     let other = c.deref.result.now in
     let listed : found.1.items ≡ other = sym c.deref.ensures.value in
-    let other_legal : IsLegal table other = subst (λ (t : Table). IsLegal t other) same_table (subst (λ (h : List Answered). IsLegal (table_of store) h) listed c.in-Ok-open_other.ensures.legal) in
+    let other_legal : IsLegal table other = subst (λ (t : Table). IsLegal t other) same_table
+    (subst (λ (h : List Answered). IsLegal (table_of store) h) listed c.in-Ok-open_other.ensures.legal) in
     let spare_stands : StandsFor spare c.args.secret.shape other = (
       found.0.gate,
       subst (λ (s : Shape). StandsAt spare s other found.0.gate) same_shape
           (subst (λ (h : List Answered). StandsAt spare store.secret.shape h found.0.gate) listed (c.in-Ok-open_other.ensures.stands spare_told)),
     ) in
     let same = (c.catch_up.ensures.apart (apart_never_meet c.one_reading.ensures table file spare main other stands spare_stands legal other_legal apart)).1 in
-    subst (λ (s : g.row.S.Denot). LeavesOnly g.S.Bench c.args.spare.now s (IsUntouched spare (g.S.Bench.sent c.args.spare.now))) (sym same) (c.open_other.ensures.reads.untouched quiet)
+    subst (λ (s : g.row.S.Denot). LeavesOnly g.S.Bench c.args.spare.now s (IsUntouched spare (g.S.Bench.sent c.args.spare.now))) (sym same)
+    (c.open_other.ensures.reads.untouched quiet)
 
 -- ---- no fault of a file is one that may come whatever it is
 
