@@ -2,8 +2,8 @@
 """Checks that what the documents name is there: links, paths, edits, clauses and words of specs/; that README's questions are the
 demo's and have its replies; that the demo and the gate's case of the program have the same files; that the pages name the newest release;
 that each entry of DECISIONS stands under its crates, and these in the order of crates.txt; that README and ARCHITECTURE are no longer than
-they may be; that the gate tries no more wrong bodies than it may, and the others apply; and that the promise stands on no more lines of
-definitions than it may (promise_size.py).
+they may be; that the gate tries no more wrong bodies than it may, and the others apply; that no line of a proof is over 160 characters;
+and that the promise stands on no more lines of definitions than it may (promise_size.py).
 
     docs/check.py           # prints each name that isn't there; exits with 1 if there is one
 """
@@ -171,6 +171,7 @@ def too_long():
 
 
 MOST_EDITS, MOST_EDITS_OF_ALL = 6, 200
+MOST_OF_A_LINE = 160
 
 
 def too_many_edits():
@@ -199,6 +200,14 @@ def stale_plants():
                 yield f"{plant.relative_to(TOP)}: its old text stands {texts[file].count(old)} times in {file.relative_to(TOP)}"
 
 
+def wide_proofs():
+    """Lines of proofs over 160 characters, use lines and texts of programs aside."""
+    for path in sorted(TOP.glob("crates/*/proofs/**/*.antt")):
+        for number, line in enumerate(path.read_text().splitlines(), 1):
+            if len(line) > MOST_OF_A_LINE and not line.lstrip().startswith(("use ", "codes ")):
+                yield f"{path.relative_to(TOP)}:{number}: {len(line)} characters, and {MOST_OF_A_LINE} at most"
+
+
 CHECKS = [missing_links, missing_paths, missing_edits, missing_rows, missing_entries, missing_tests]
 
 
@@ -211,7 +220,7 @@ def main():
         for fault in check(page, page.read_text())
     ]
     faults += [*stale_transcript(), *stale_copies(), *stale_version(), *wrong_entries(), *too_long()]
-    faults += [*too_many_edits(), *stale_plants(), *promise_size.too_long()]
+    faults += [*too_many_edits(), *stale_plants(), *wide_proofs(), *promise_size.too_long()]
     print("\n".join(faults) if faults else f"{len(PAGES)} pages, and all that they name is there")
     return 1 if faults else 0
 

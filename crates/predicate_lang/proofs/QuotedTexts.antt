@@ -156,7 +156,8 @@ pub next_quote : (text old front out rest : List ℕ) (x : Bor (List ℕ) × Bor
     → front ≡ old ++ x.0.now → out ≡ front ++ (39 ∷ 39 ∷ []) → IsUtf8 rest
     → IsUtf8 x.1.now × (out ++ doubled x.1.now ≡ text)
 next_quote text old front out rest x h same first second utf8 =
-    let parts : (rest ≡ x.0.now ++ (39 ∷ x.1.now)) × ((i : ℕ) → i < length x.0.now → get_or x.0.now i 0 ≢ 39) = split_parts 39 rest (Some x) h (omega arith) in (
+    let parts : (rest ≡ x.0.now ++ (39 ∷ x.1.now)) × ((i : ℕ) → i < length x.0.now → get_or x.0.now i 0 ≢ 39) =
+    split_parts 39 rest (Some x) h (omega arith) in (
       cut_behind x.0.now x.1.now (subst IsUtf8 parts.0 utf8),
       ap (λ xs. xs ++ doubled x.1.now) second ∙ append_assoc front (39 ∷ 39 ∷ []) (doubled x.1.now) ∙ ap (λ xs. xs ++ 39 ∷ 39 ∷ doubled x.1.now) first
           ∙ append_assoc old x.0.now (39 ∷ 39 ∷ doubled x.1.now) ∙ ap (λ xs. old ++ xs) (sym (split_quote rest x h)) ∙ same,
