@@ -94,11 +94,7 @@ fn write_bounds(
 }
 
 /// Writes the line with a proof of a denial of what is taken, in place of what the buffer held.
-pub(crate) fn write_proof(
-    line: &mut Vec<u8>,
-    take: Take,
-    proof: &Proof,
-) -> Result<(), AllocError>
+pub(crate) fn write_proof(line: &mut Vec<u8>, take: Take, proof: &Proof) -> Result<(), AllocError>
     ensures { OnOk result (line.new.items ≡ spec.proof_line take proof.now) }
 {
     match proof {

@@ -50,11 +50,7 @@ pub fn put_stated(
 }
 
 // Appends numbers that were kept as the table has them, with commas between them.
-fn put_numbers(
-    line: &mut Vec<u8>,
-    least: bool,
-    numbers: &[i128],
-) -> Result<(), AllocError>
+fn put_numbers(line: &mut Vec<u8>, least: bool, numbers: &[i128]) -> Result<(), AllocError>
     ensures { OnOk result (line.new.items ≡ line.old.items ++ spec.with_commas (map (spec.stated least) numbers.now)) }
 {
     let mut first = true;
