@@ -33,7 +33,7 @@ MOST = {
     "formats of files": 219,
     "journal and crash": 95,
     "lives": 288,
-    "the promise": 1190,
+    "the promise": 1202,
 }
 
 IMPORT = re.compile(r"(?:ghost )?use (?:Rattle\.)?([\w.]+?)(?:\.\{(.*)\}| as (\w+));?$")
