@@ -64,7 +64,9 @@ def prepare(program, rows, sets, ask, questions, command):
 
 
 def leave_the_public_part():
-    """Takes the secret columns, which are the last two, out of the table, and makes a transcript of questions and replies."""
+    """Takes the secret columns, which are the last two, out of the table, makes a transcript of questions and replies, and leaves no journal:
+    `simulate` would begin with its answers."""
+    os.unlink("answers.journal")
     with open("table.csv") as table:
         lines = [line.rsplit(",", 2)[0] for line in table]
     with open("table.csv", "w") as table:

@@ -108,6 +108,9 @@ each_request try_explain explain
 
 paste -d '\n' questions.jsonl "$demo/replies.jsonl" >transcript.jsonl
 cp "$demo/public.csv" table.csv
-"$program" simulate <transcript.jsonl >due || exit 1
-each_request try_simulate simulate
+for journal in answers.journal none; do
+    "$program" simulate <transcript.jsonl >due || exit 1
+    each_request try_simulate "simulate, journal $journal"
+    rm -f answers.journal
+done
 [ $wrong = 0 ]

@@ -51,6 +51,19 @@ class Denied:
         return hash(("Denied", self.reason))
 
 
+class Verdict(str):
+    """What would be said now, a word. `new` is false if the answer would add nothing new, since it follows from earlier ones; true of another
+    answer, and None where there would be none, or a count."""
+
+    def __new__(cls, word, new=None):
+        verdict = super().__new__(cls, word)
+        verdict.new = new
+        return verdict
+
+    def __repr__(self):
+        return f"Verdict({str(self)!r}{'' if self.new is None else f', new={self.new}'})"
+
+
 class Refused(ValueError):
     """No question of this table. `at` is the byte of the condition from which on it isn't understood, if that is why."""
 
@@ -242,6 +255,11 @@ def max_words(line, value):
     return f"were the answer {answer}, row {row} would be the only one of record {line['pair']} that can have the {value(bounds[row])}"
 
 
+def only_words(where):
+    """Over which rows every question is, if not over all."""
+    return f"; every question is over the rows where {where}" if where else ""
+
+
 def rows_words(rows, more, fewer):
     """How many rows a question is over, and how they differ from another one's."""
     counts = [f"{number} {word}" for number, word in ((more, "more"), (fewer, "fewer")) if number]
@@ -342,7 +360,7 @@ class Table(Asker):
     """One table behind a door: the only one, or that of a name."""
 
     def __repr__(self):
-        return f"Table({self.door.url!r}, {self.name!r}: {', '.join(self.kinds)})"
+        return f"Table({self.door.url!r}, {self.name!r}: {', '.join(self.kinds)}{only_words(self.only)})"
 
     def __init__(self, url, name="", headers=None, timeout=90, patience=10, token=None, login=None):
         self.door, self.name = Door(url, headers, timeout, patience, token, login), name
@@ -350,6 +368,7 @@ class Table(Asker):
         schema = parsed("schema.json", self.door.request("GET", self.base + "schema.json"))
         self.columns, self.protected = schema["columns"], schema.get("protect") or []
         self.kinds = {column["name"]: column["is"] for column in self.columns}
+        self.only = schema["only"] if isinstance(schema.get("only"), str) else ""       # what the rows of every question satisfy
         self.words, self.notes = self._optional("words.json"), self._optional(self.base + "notes.json")
 
     def _optional(self, path):
@@ -389,8 +408,12 @@ class Table(Asker):
         return fractions.Fraction(reply["num"], reply["den"]) if kind == "avg" else reply[kind]
 
     def would(self, kind, column, where="all"):
-        """What would be said now: released, unsafe, wide, refused or count. Nothing is asked and nothing is kept."""
-        return self._post("would", kind, column, where)["verdict"]
+        """What would be said now, as a Verdict: released, unsafe, wide, refused or count. Nothing is asked and nothing is kept."""
+        said = self._post("would", kind, column, where)
+        try:
+            return Verdict(said["verdict"], said.get("new", True) if said["verdict"] == "released" else None)
+        except (LookupError, TypeError):
+            raise DoorFault(f"would: what came isn't the reply of a door, but {ascii(json.dumps(said)[:60])}", 200) from None
 
     def why(self, kind, column, where="all"):
         """Why the question is denied, after the answers given so far; nothing is asked and nothing is kept."""
@@ -429,7 +452,7 @@ class Table(Asker):
         raise LookupError(line["group"])
 
     def public(self):
-        """The public columns, a dict for each row."""
+        """The public columns, a dict for each row of the table: also for those that don't satisfy `only`, which no question is over."""
         text = self.door.request("GET", self.base + "table.csv").removeprefix("\ufeff")
         return [{name: int(value) if self.kinds[name] == "number" else value for name, value in row.items()}
                 for row in csv.DictReader(io.StringIO(text, newline=""))]
@@ -442,6 +465,10 @@ class Table(Asker):
 
 class Parts(Asker):
     """Tables as parts of one. A question is asked of all that have rows for it, or of none if one of them wouldn't answer."""
+
+    def __repr__(self):
+        only = " or ".join(dict.fromkeys(table.only or "all" for table in self.tables))
+        return f"Parts({', '.join(table.name for table in self.tables)}: {', '.join(self.kinds)}{only_words('' if only == 'all' else only)})"
 
     def __init__(self, tables):
         self.tables = list(tables)
@@ -478,11 +505,11 @@ class Parts(Asker):
         for table, _ in asked:
             verdict = table.would(kind, column, where)
             if verdict in ("unsafe", "wide"):
-                return Denied(verdict, self.sentence("denied", verdict), table.name)
+                return Denied(str(verdict), self.sentence("denied", verdict), table.name)
         return together(kind, [(table.ask(kind, column, where), rows) for table, rows in asked])
 
     def public(self):
-        """The public columns of all parts, a dict for each row."""
+        """The public columns of all parts, a dict for each row of theirs."""
         return [row for table in self.tables for row in table.public()]
 
 

@@ -24,7 +24,6 @@ JOURNAL = "answers.journal"
 SHOWN = ("schema.json", "table.csv", "notes.json")
 TRANSCRIPT, REPORT = "transcript.jsonl", "report.jsonl"
 ENDED = "ended.json"
-SIMULATE_BEGINS_WITH_A_JOURNAL = False      # whether `auditor simulate` begins with the history of a journal in its folder
 
 
 @dataclass(frozen=True)
@@ -38,10 +37,9 @@ class Period:
 
     @property
     def simulating(self):
-        """The folder in which `simulate` decides as the program does, or None if it hasn't the answers of before there."""
-        if self.number == 1:
-            return self.public
-        return self.folder if SIMULATE_BEGINS_WITH_A_JOURNAL and (self.folder / JOURNAL).is_file() else None
+        """The folder in which `simulate` decides as the program does, or None if it hasn't the answers of before there. It is the period's own:
+        a journal beside the public files may be the copy for the period to come."""
+        return self.folder if self.number == 1 or (self.folder / JOURNAL).is_file() else None
 
     def need_simulating(self):
         """That folder. Without it nobody can say what would be answered."""

@@ -24,6 +24,7 @@ let written = "all";     // the condition as far as it was typed by hand
 let counting = null;     // the count that is under way
 let drawing = null;      // the chart that is under way
 let asking = false;
+let rowsAsked = null;    // how many rows questions are over, if a schema keeps some out, once they were counted
 
 const byId = id => document.getElementById(id);
 const pause = milliseconds => new Promise(done => setTimeout(done, milliseconds));

@@ -44,7 +44,7 @@ class Part {
   }
 
   texts() {
-    return textsOf(this.name).map(([value, rows]) => [value, `${value || "(empty)"} (${showCount(rows)})`]);
+    return textsOf(this.name).map(([value, rows]) => [value, (value || "(empty)") + (isWhole() ? ` (${showCount(rows)})` : "")]);
   }
 
   list() {
@@ -119,7 +119,9 @@ async function countSoon() {
 function sayHolds(where, outcome) {
   byId("where").setAttribute("aria-invalid", String(outcome.state === "refused"));
   if (outcome.state === "answered") {
-    byId("holds").textContent = `holds for ${showCount(outcome.numerator)} of ${showCount(rowsInAll())} rows`;
+    if (where.trim() === "all") rowsAsked = outcome.numerator;
+    const whole = isWhole() ? rowsInAll() : rowsAsked;
+    byId("holds").textContent = `holds for ${showCount(outcome.numerator)}${whole === null ? "" : ` of ${showCount(whole)}`} rows`;
   } else if (outcome.reason === "where") byId("holds").replaceChildren(...marked(where, outcome.at));
   else byId("holds").replaceChildren(element("span", outcome.sentence, {class: "bad"}));
 }

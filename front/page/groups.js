@@ -48,7 +48,7 @@ function sayGroups() {
 // Which of a column's groups are left out, if some are.
 function cutOf(name) {
   const number = groupsOf(name).length, all = valuesOf(name).size;
-  return columnOf(name).is === "text" && all > number ? `the ${number} largest of ${all} groups` : "";
+  return columnOf(name).is === "text" && all > number ? `the ${number} ${isWhole() ? "largest " : ""}of ${all} groups` : "";
 }
 
 async function draw() {

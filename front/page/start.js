@@ -98,13 +98,16 @@ function listColumns() {
   }));
 }
 
-// The limits on sums that schema.json states, in words: a width, a reach, or neither.
+// Over which rows questions are, if not over all, and the limits on sums that schema.json states, in words.
 function showLimits() {
+  const wheres = [...new Set(chosen.map(table => table.only || "all"))];
+  const each = wheres.length > 1 ? chosen.map(table => `${table.only || "all"} (${table.name})`) : wheres;
+  const rows = isWhole() ? "" : sentence("limits", "only").replace("CONDITION", () => each.join("; where "));
   const said = ["width", "reach"].map(key => {
     const numbers = [...new Set(chosen.map(table => table.limits[key]).filter(Number.isInteger))];
     return numbers.length ? sentence("limits", key).replace("NUMBER", numbers.map(showLimit).join(" or ")) : "";
   });
-  byId("limits").textContent = said.filter(words => words).join(" ");
+  byId("limits").textContent = [rows, ...said].filter(words => words).join(" ");
 }
 
 // Beyond the numbers that JavaScript keeps exactly it isn't told exactly.
@@ -136,6 +139,7 @@ function choose() {
   byId("title").textContent = document.title = typeof title === "string" && title ? title : "Ask the table";
   byId("size").textContent = `${showCount(rowsInAll())} rows, ${publics().length} public and ${secrets().length} secret columns`;
   byId("free").replaceChildren();
+  rowsAsked = null;
   for (const fill of [fillKinds, fillChart, listColumns, showLimits, listFiles, showState]) fill();
   writeCondition("all");
 }

@@ -8,8 +8,9 @@ class Table {
 
   async load() {
     const [schema, text, notes] = await Promise.all([this.file("schema.json"), this.file("table.csv"), this.file("notes.json", true)]);
-    const {columns, protect, ...limits} = parsed("schema.json", schema);
+    const {columns, protect, only, ...limits} = parsed("schema.json", schema);
     this.columns = columns;
+    this.only = typeof only === "string" ? only : "";   // what the rows of every question satisfy
     this.limits = limits;
     this.protect = Array.isArray(protect) ? protect : [];
     this.rows = records(text.replace(/^\uFEFF/, "")).slice(1);
@@ -58,6 +59,7 @@ const publics = () => chosen[0].publics;
 const secrets = () => chosen[0].secrets;
 const columnOf = name => chosen[0].columns.find(column => column.name === name);
 const rowsInAll = () => chosen.reduce((sum, table) => sum + table.rows.length, 0);
+const isWhole = () => chosen.every(table => !table.only);       // whether questions are over all rows of the chosen tables
 
 function noteOf(name) {
   const columns = chosen[0].notes.columns;

@@ -21,7 +21,7 @@ MISSING = "no Chromium here (apt-get install --no-install-recommends chromium ch
 class Browser:
     """One Chromium with a profile of its own, and short words for what tests do with it."""
 
-    def __init__(self):
+    def __init__(self, any_certificate=False):
         if webdriver is None or not shutil.which("chromedriver") or not shutil.which("chromium"):
             print("skipped:", MISSING, flush=True)
             raise unittest.SkipTest(MISSING)
@@ -30,6 +30,7 @@ class Browser:
         for argument in ("--headless=new", "--no-sandbox", "--disable-gpu", "--disable-dev-shm-usage", "--hide-scrollbars",
                          "--window-size=1200,1000", f"--user-data-dir={self.profile}"):
             options.add_argument(argument)
+        options.accept_insecure_certs = any_certificate
         options.set_capability("goog:loggingPrefs", {"browser": "ALL"})
         self.driver = webdriver.Chrome(service=Service(shutil.which("chromedriver")), options=options)
 

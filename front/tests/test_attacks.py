@@ -23,6 +23,8 @@ HEADS = (
     ({}, 200), ({"Host": "evil.example"}, 421), ({"Host": None}, 421), ({"Host": "a@127.0.0.1:{port}"}, 421),
     ({"Host": "127.0.0.1:{port}\r\nHost: evil.example"}, 400),
     ({"Sec-Fetch-Site": "cross-site"}, 403), ({"Sec-Fetch-Site": "same-site"}, 403), ({"Content-Type": "text/plain"}, 415),
+    ({"Origin": "http://evil.example"}, 200), ({"X": "a\r\n b"}, 200), ({"X": "a\r\n Content-Length: 3"}, 200), ({"X": "a\nContent-Length: 3"}, 400),
+    ({"X": "a\rContent-Length: 3"}, 400),
     ({"Content-Type": "application/x-www-form-urlencoded"}, 415), ({"Content-Encoding": "gzip"}, 415), ({"Expect": "100-continue"}, 200),
     ({"Expect": "something"}, 417),
     ({"Content-Length": "-1"}, 400), ({"Content-Length": "0x1d"}, 400), ({"Content-Length": "+29"}, 400), ({"Content-Length": "29, 29"}, 400),
@@ -67,6 +69,7 @@ class Hostile(DoorCase):
             got = b""
         writer.close()
         head, _, body = got.removeprefix(b"HTTP/1.1 100 Continue\r\n\r\n").partition(b"\r\n\r\n")
+        self.head = head.lower()
         return int(head.split(b" ")[1]) if head else 0, body
 
     async def post(self, heads, body, address="/ask"):
@@ -89,9 +92,27 @@ class Hostile(DoorCase):
             await self.goes_on(path)
         self.assertEqual((await self.get("http://evil.example/health"))[0], 421)
         self.assertEqual((await self.get("/health", host="evil.example"))[0], 421)
+        self.assertEqual((await self.send(b"GET /health HTTP/1.0\r\n\r\n"))[0], 421)
+        self.assertEqual((await self.get("/ask"))[0], 405)
+
+    async def test_no_other_sites_page_may_read_a_reply(self):
+        """A browser reads another site's reply, and sends JSON there, only if a head of the reply allows it."""
+        await self.begin()
         status, body = await self.get("/ask", "OPTIONS")
         self.assertEqual((status, json.loads(body)["code"]), (405, "method"))
-        self.assertEqual((await self.get("/ask"))[0], 405)
+        self.assertNotIn(b"access-control", self.head)
+        for heads in ({"Origin": "http://evil.example"}, {"Origin": "null"}):
+            self.assertEqual(await self.post(heads, GOOD), (200, COUNTED))
+            self.assertNotIn(b"access-control", self.head)
+        for path in ("/health", "/transcript.jsonl", "/schema.json"):
+            self.assertEqual((await self.get(path))[0], 200)
+            self.assertNotIn(b"access-control", self.head)
+
+    async def test_lines_that_end_with_a_line_feed_alone_are_one_request(self):
+        await self.begin()
+        lines = ["POST /ask HTTP/1.1", f"Host: 127.0.0.1:{self.port}", "Content-Type: application/json", f"Content-Length: {len(GOOD)}", "Connection: close", "", ""]
+        self.assertEqual(await self.send("\n".join(lines).encode() + GOOD), (200, COUNTED))
+        await self.goes_on("line feeds")
 
     async def test_no_head_gets_past_the_guard(self):
         await self.begin()

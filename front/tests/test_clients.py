@@ -10,6 +10,7 @@ import os
 import shutil
 import subprocess
 import sys
+import tempfile
 import unittest
 
 import staff
@@ -132,6 +133,14 @@ class OverTheProgram(OneOffice):
             with self.assertRaises(auditor.Refused) as raised:
                 ask()
             self.assertEqual((raised.exception.reason, raised.exception.at), (reason, at))
+
+    def test_what_adds_nothing_new_is_said(self):
+        where = "age >= 25"
+        first = self.table.would("sum", "balance", where)
+        self.table.sum("balance", where)
+        known = self.table.would("sum", "balance", where)
+        self.assertEqual((first, first.new in (True, False), known, known.new), ("released", True, "released", False))
+        self.assertEqual((self.table.would("count", None).new, self.table.would("sum", "salary", self.alone()).new), (None, None))
 
     def test_public_rows_and_the_transcript(self):
         self.assertEqual([tuple(row.values()) for row in self.table.public()], [row[:4] for row in self.rows])
@@ -394,6 +403,60 @@ class Scripted(unittest.TestCase):
             with self.subTest(text=text), self.assertRaisesRegex(auditor.DoorFault, "isn't a line of auditor explain"):
                 self.table(self.door(text)).why("sum", "pay")
 
+    VERDICTS = [('{"verdict":"released"}', "released", True), ('{"verdict":"released","new":false}', "released", False),
+                ('{"verdict":"unsafe"}', "unsafe", None), ('{"verdict":"count"}', "count", None)]
+
+    def test_a_verdict_is_a_word_that_says_whether_its_answer_would_be_new(self):
+        for text, word, new in self.VERDICTS:
+            with self.subTest(text=text):
+                verdict = self.table(self.door(text)).would("sum", "pay")
+                self.assertEqual((verdict, verdict.new, f"{verdict}"), (word, new, word))
+                self.assertEqual(repr(verdict), f"Verdict({word!r})" if new is None else f"Verdict({word!r}, new={new})")
+        for text in ("{}", "[]", '"released"'):
+            with self.subTest(text=text), self.assertRaisesRegex(auditor.DoorFault, "would: what came isn't the reply of a door"):
+                self.table(self.door(text)).would("sum", "pay")
+
+    @missing(not shutil.which("Rscript"), NO_R)
+    def test_r_has_the_same_verdicts(self):
+        for text, word, new in self.VERDICTS:
+            with self.subTest(text=text):
+                said = in_r(f'v <- auditor_would("{self.door(text).url}", "sum", "pay"); cat(v, is.null(attr(v, "new")), isTRUE(attr(v, "new")))')
+                self.assertEqual(said, [f"{word} {str(new is None).upper()} {str(new is True).upper()}"])
+        for reply, words in (((422, '{"error":"fewer than 5 rows"}'), "fewer than 5 rows"), ((200, "{}"), "isn't the reply of a door")):
+            door = self.door(lambda *_, reply=reply: reply)
+            self.assertIn(words, in_r(f'cat(tryCatch(auditor_would("{door.url}", "sum", "pay"), error = conditionMessage))')[0])
+
+    @missing(not shutil.which("Rscript"), NO_R)
+    def test_r_takes_what_comes_for_json_and_for_no_address(self):
+        with tempfile.NamedTemporaryFile("w", suffix=".json") as other:
+            other.write('{"sum":7}')
+            other.flush()
+            said = in_r(f'cat(tryCatch(auditor_sum("{self.door(other.name).url}", "pay"), error = conditionMessage))')
+        self.assertEqual(said, ["what came isn't the reply of a door"])
+
+    ONLY = {"schema.json": json.dumps({"columns": [{"name": name, "is": kind} for name, kind in COLUMNS.items()], "only": "age < 99"})}
+    OVER = "every question is over the rows where age < 99"
+
+    def test_rows_that_no_question_is_over_are_said_with_the_columns(self):
+        door = self.door("", **self.ONLY)
+        table = self.table(door)
+        self.assertEqual((table.only, repr(table)), ("age < 99", f"Table({door.url!r}, '': team, age, pay, best; {self.OVER})"))
+        self.assertEqual(typed(door.url, "columns")[0][-1], f"  {self.OVER}")
+        plain = self.door("")
+        self.assertEqual((self.table(plain).only, repr(self.table(plain))), ("", f"Table({plain.url!r}, '': team, age, pay, best)"))
+        files = {f"{name}/{file}": text for name in ("north", "south") for file, text in self.ONLY.items()}
+        parts = auditor.connect(self.door("", **{"tables.json": '["north","south"]', **files}).url)
+        for part in parts.tables:
+            self.addCleanup(part.door.close)
+        self.assertEqual(repr(parts), f"Parts(north, south: team, age, pay, best; {self.OVER})")
+
+    @missing(not shutil.which("Rscript"), NO_R)
+    def test_r_shows_the_columns_with_the_rows_that_questions_are_over(self):
+        script = 'columns <- auditor_columns("{}"); columns; cat(columns$name, columns$is, columns$unit, columns$decimals, sep = "|")'
+        said = in_r(script.format(self.door("", **self.ONLY).url))
+        self.assertEqual(said[-2:], [self.OVER, "team|age|pay|best|text|number|sum|max|||EUR||0|0|2|0"])
+        self.assertNotIn("every question", "".join(in_r(script.format(self.door("").url))))
+
     def test_protected_totals_are_said_with_the_columns(self):
         total = {"column": "pay", "where": "team = 'A\u202e'"}
         schema = {"columns": [{"name": name, "is": kind} for name, kind in COLUMNS.items()], "protect": [total]}
@@ -484,13 +547,14 @@ class Scripted(unittest.TestCase):
         for settings, in_words, environment, due in cases:
             door = self.door('{"sum":5}')
             self.table(door, **settings).sum("pay")
-            if environment:
-                subprocess.run([sys.executable, FRONT / "ask.py", door.url, "sum pay"], check=True, capture_output=True,
-                               env={**os.environ, **environment})
+            typed_in = [] if environment else ["--login", settings["login"][0]]
+            subprocess.run([sys.executable, "-W", "ignore", FRONT / "ask.py", *typed_in, door.url, "sum pay"], check=True, capture_output=True, text=True,
+                           input="" if environment else settings["login"][1] + "\n", start_new_session=True, encoding="utf-8",
+                           env={**os.environ, "PYTHONIOENCODING": "utf-8", **(environment or {})})
             if shutil.which("Rscript"):
                 in_r(f'auditor_login({in_words}); auditor_sum("{door.url}", "pay", steps = TRUE)')
             self.assertEqual({headers["Authorization"] for _, _, headers in door.asked}, {due})
-            self.assertGreaterEqual(len(door.asked), 1 + bool(environment) + bool(shutil.which("Rscript")))
+            self.assertEqual(len(door.asked), 2 + bool(shutil.which("Rscript")))
         with self.assertRaises(ValueError):
             auditor.connect("http://127.0.0.1:1", token="x", login=("a", "b"))
         asked = subprocess.run([sys.executable, FRONT / "ask.py", "http://ann:x@127.0.0.1:1", "count"], capture_output=True, text=True)

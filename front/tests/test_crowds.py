@@ -6,13 +6,15 @@ import os
 import pathlib
 import resource
 import signal
+import subprocess
+import sys
 import time
 import unittest
 
 import aiohttp
 
 from case import DoorCase
-from kit import AUDITOR, HERE, PATIENCE, Door, ask, free_port, health, line_of
+from kit import AUDITOR, FRONT, HERE, PATIENCE, Door, ask, free_port, health, line_of
 
 HEAD = b"POST /ask HTTP/1.1\r\nHost: door\r\nX: "
 COUNT = line_of("count", 0, 9)
@@ -64,6 +66,17 @@ class Crowds(DoorCase):
             sending.cancel()
             # One that asks nothing just then stays for a while.
             self.assertEqual((await ask(session, COUNT))[0], 200)
+        self.assertEqual(self.door.stop(), 0)
+
+    async def test_by_itself_the_door_gives_a_head_ten_seconds(self):
+        async with await self.begin():
+            reader, writer = await self.open()
+            writer.write(HEAD)
+            began = time.monotonic()
+            sending = asyncio.ensure_future(self.slowly(writer))
+            await asyncio.wait_for(self.closes(reader), 30)
+            self.assertGreaterEqual(time.monotonic() - began, 9.9)
+            sending.cancel()
         self.assertEqual(self.door.stop(), 0)
 
     async def test_slow_connections_keep_nobody_out(self):
@@ -140,10 +153,30 @@ class Shares(DoorCase):
                 flood = [asyncio.ensure_future(self.greedy(session, path, {"X-Real-IP": "192.0.2.1"}, stop)) for _ in range(many)]
                 await asyncio.sleep(1)
                 found = [(await ask(session, line_of("sum", 0, 90 + number), path, **{"X-Real-IP": "192.0.2.2"}))[0] for number in range(10)]
+                asked = [await ask(session, line_of("sum", 0, 150 + many), **{"X-Real-IP": "192.0.2.2"})]
                 stop.set()
                 await asyncio.gather(*flood)
                 self.assertEqual(found, [200] * 10, path)
+                self.assertEqual(asked, [(200, json.dumps(self.folder.due("sum", 0, 150 + many), separators=(",", ":")).encode() + b"\n")], path)
             self.assertEqual((await health(session))["restarts"], 0)
+        self.assertEqual(self.door.stop(), 0)
+
+    async def test_another_token_gets_a_verdict_and_a_reason(self):
+        file = self.folder.path / "tokens.json"
+        tokens = [subprocess.run([sys.executable, FRONT / "tokens.py", "--file", file, "add", name], check=True, capture_output=True, text=True)
+                  .stdout.strip() for name in ("ann", "bob")]
+        ann, bob = ({"Authorization": f"Bearer {token}"} for token in tokens)
+        self.door.words += ["--tokens", str(file)]
+        async with self.door.start().session() as session:
+            await self.door.ready(session)
+            for path, many in (("/would", 24), ("/why", 80)):
+                stop = asyncio.Event()
+                flood = [asyncio.ensure_future(self.greedy(session, path, ann, stop)) for _ in range(many)]
+                await asyncio.sleep(1)
+                found = [(await ask(session, line_of("sum", 0, 90 + number), path, **bob))[0] for number in range(4)]
+                stop.set()
+                await asyncio.gather(*flood)
+                self.assertEqual(found, [200] * 4, path)
         self.assertEqual(self.door.stop(), 0)
 
     async def test_whom_nothing_tells_apart_has_all_places(self):

@@ -57,6 +57,7 @@ class Described(DoorCase):
                 for path in ("/ask", "/would", "/why"):
                     if line != b"x":
                         await self.described(session, "POST", path, 200, line)
+            self.assertEqual(await self.described(session, "POST", "/would", 200, line_of("sum", 0, 30)), {"verdict": "released", "new": False})
             for line in (line_of("sum", 1, 30), line_of("sum", 0, 30), b'{"ask":"sum","column":"salary","where":"k == 1"}'):
                 await self.described(session, "POST", "/near", 200, line)
                 await self.described(session, "POST", "/hint", 200, line)

@@ -1,6 +1,8 @@
 """The transcript is bounded: no denial is written down twice in a row, none past a length, and a long one stops nothing."""
+import asyncio
 import json
 import pathlib
+import signal
 import sys
 import tempfile
 import threading
@@ -17,6 +19,8 @@ from doorway.transcript import Transcript, pairs_of  # noqa: E402
 MILLION = 1_000_000
 REPEATS = 40
 MEBIBYTES = 1024                    # KiB in one
+SIMULATED = 2**30                   # bytes that `simulate` takes
+AT_ONCE = 128                       # pairs that are written at a time
 
 
 def denied(number=0, user=None):
@@ -99,6 +103,26 @@ class LongTranscript(DoorCase):
             await self.ask(session, ("sum", 0, 99), line_of("sum", 0, 99))
             memory = pathlib.Path(f"/proc/{self.door.process.pid}/status").read_text()
             self.assertLess(int(memory.split("VmHWM:")[1].split()[0]), 100 * MEBIBYTES)
+        self.assertEqual(self.door.stop(), 0)
+
+    async def test_more_denials_than_simulate_takes_stop_nothing(self):
+        """In a transcript as a door wrote it that kept the user of each: verdicts go on, and the way back after a kill goes on."""
+        pairs = (denied(7, user="x" * 8000) + b'\n{"denied":"unsafe"}\n') * AT_ONCE
+        with open(self.path, "wb") as file:
+            for _ in range(SIMULATED // len(pairs) + 1):
+                file.write(pairs)
+        async with self.door.start().session() as session:
+            await self.door.ready(session)
+            self.assertGreater((await health(session))["transcript"], SIMULATED)
+            await self.ask(session, ("sum", 0, 199), line_of("sum", 0, 199))
+            self.assertEqual(await ask(session, line_of("sum", 0, 100), "/would"), (200, b'{"verdict":"released"}\n'))
+            self.door.signal_programs(signal.SIGSTOP)
+            asking = asyncio.ensure_future(ask(session, line_of("sum", 0, 99)))
+            await self.until_health(session, "waiting")
+            self.door.kill_programs()
+            status, body = await asking
+            self.assertEqual((status, json.loads(body)), (200, self.folder.due("sum", 0, 99)))
+            self.assertEqual((await health(session))["restarts"], 1)
         self.assertEqual(self.door.stop(), 0)
 
 

@@ -10,6 +10,7 @@ from kit import PATIENCE
 from scripted_door import ScriptedDoor
 from test_page import PageCase
 
+CONTROL, ENTER = "\ue009", "\ue007"      # keys, as the browser's driver has them
 COLUMNS = [{"name": "constructor", "is": "text"}, {"name": "age", "is": "number"},
            {"name": "pay", "is": "sum"}, {"name": "best", "is": "max"}]
 ROWS = "constructor,age\r\nA,30\r\n\r\n\"B, \"\"x\"\"\",40\r\nA, +50\r\n"
@@ -22,7 +23,9 @@ def files(base="", rows=ROWS, notes=None):
 
 
 class OneTable(PageCase):
-    """A door that counts 3 rows of every condition, and says `reply` to all else."""
+    """A door that counts `whole` rows of every condition, and says `reply` to all else."""
+
+    whole = 3
 
     def open(self, reply, more=None):
         self.reply = reply
@@ -32,7 +35,7 @@ class OneTable(PageCase):
 
     def each(self, path, question):
         if question["ask"] == "count" and path.endswith("ask"):
-            return 200, '{"count":0}' if question["where"] == "age > 99" else '{"count":3}'
+            return 200, '{"count":0}' if question["where"] == "age > 99" else '{"count":%d}' % self.whole
         return self.reply(path, question) if callable(self.reply) else (200, self.reply)
 
     def say(self, reply, kind="sum"):
@@ -102,6 +105,24 @@ class Scripted(OneTable):
         self.assertEqual((holds["tax"], holds["pay"]), (
             "totals and averages", "totals and averages. Protected: the total where constructor = '<b>A</b>'; where age > 0; where age > 1; "
             "where age > 2; where age > 3; and 2 more in schema.json"))
+
+    def test_rows_that_no_question_is_over_are_told_in_words_and_not_counted(self):
+        only = {"schema.json": json.dumps({"columns": COLUMNS, "only": "age < 50", "width": 4})}
+        self.whole = 2
+        self.open("", only)
+        self.browser.wait(lambda: "holds for 2 of 2 rows" in self.browser.text("holds"))
+        self.assertTrue(self.browser.text("limits").startswith("Every question is over the rows where age < 50. This table has a width of 4:"))
+        self.browser.write("age > 99")
+        self.browser.wait(lambda: "holds for 0 of 2 rows" in self.browser.text("holds"))
+        self.browser.click("#everyone")
+        self.browser.click("#add")
+        self.assertEqual([one.text for one in self.browser.all("li select[aria-label=value] option")], ["A", 'B, "x"'])
+        self.open("", {**files("north/"), **files("south/"), "tables.json": '["north","south"]', "north/schema.json": only["schema.json"]})
+        self.assertTrue(self.browser.text("limits").startswith("Every question is over the rows where age < 50 (north); where all (south). "))
+        self.open("")
+        self.browser.click("#add")
+        self.assertEqual([one.text for one in self.browser.all("li select[aria-label=value] option")], ["A (2)", 'B, "x" (1)'])
+        self.assertEqual(self.browser.text("limits"), "")
 
     def test_a_width_and_a_reach_are_told_in_words(self):
         for limits, due in (({}, []), ({"width": 4}, ["a width of 4:"]), ({"reach": 1024}, ["a reach of 1,024:"]),
@@ -312,6 +333,41 @@ class Scripted(OneTable):
         self.assertEqual(self.browser.text("chart-hint"), "Draw asks 30 questions, one for each group (the 30 largest of 40 groups).")
         self.draw("sum pay", "constructor", 30)
         self.assertNotIn("rare", [label for label, _, _ in self.bars()])
+
+    def test_control_and_enter_ask_and_enter_alone_begins_a_line(self):
+        self.open('{"sum":500}')
+        area = self.browser.find("#where")
+        area.send_keys(CONTROL + ENTER)
+        self.browser.wait(lambda: "5.00 EUR" in self.browser.text("answer"))
+        area.send_keys(ENTER)
+        self.assertEqual(area.get_property("value").strip(), "all")
+        self.assertIn("\n", area.get_property("value"))
+        self.assertEqual(len(self.door.questions("sum")), 1)
+
+    def test_fifty_tables_are_asked_as_parts_of_one(self):
+        names = [f"t{number}" for number in range(50)]
+        parts = {"tables.json": json.dumps(names)}
+        for name in names:
+            parts |= files(f"{name}/")
+        self.open(lambda path, _: (200, '{"verdict":"released"}' if path.endswith("would") else '{"sum":500}'), parts)
+        self.assertTrue(self.browser.ask().startswith("250.00 EUR"))
+        self.assertEqual(sorted({path for path, question, _ in self.door.asked if question["ask"] == "sum" and path.endswith("ask")}),
+                         sorted(f"/{name}/ask" for name in names))
+
+    def test_the_group_of_the_most_rows_is_asked_first(self):
+        """As the program counts them within the condition, and not as the public columns have them."""
+        counts = {"constructor = 'A'": 2, "constructor = 'B'": 7, "constructor = 'C'": 5, "all": 20}
+        rows = "constructor,age\n" + "A,30\n" * 4 + "B,30\n" * 3 + "C,30\n" * 2
+        self.open('{"sum":500}', {"table.csv": rows})
+        self.door.reply = lambda _, question: (200, json.dumps({question["ask"]: next(
+            (size for part, size in counts.items() if part in question["where"]), 14)}))
+        self.draw("sum pay", "constructor", 3)
+        self.assertEqual([question["where"][-3:] for question in self.door.questions("sum")], ["'B'", "'C'", "'A'"])
+        self.assertEqual([label for label, _, _ in self.bars()], ["A", "B", "C"])
+        self.browser.choose("#by-too", "age")
+        self.browser.click("#draw")
+        self.browser.wait(lambda: self.browser.text("draw") == "Draw" and self.browser.all(".cross"))
+        self.assertEqual([question["where"] for question in self.door.questions("sum")[3:]][:3], ["all", "age = 30", "constructor = 'B' and age = 30"])
 
     def test_ranges_of_a_number_that_most_rows_share(self):
         rows = "constructor,age\n" + "A,0\n" * 500 + "".join(f"A,{age}\n" for age in range(1, 14))

@@ -39,6 +39,14 @@ BROKEN = """return [...document.querySelectorAll(".bars th")].filter(one => {
     return !one.textContent.includes(" ") && new Set([...range.getClientRects()].map(box => box.top)).size > 1;
 }).map(one => one.textContent)"""
 
+# Bars that have less than half of the chart's width, so that they can hardly be compared, and numbers that don't stand on one line.
+SQUEEZED = """return [...document.querySelectorAll(".bars tr")].filter(one => {
+    const range = document.createRange();
+    range.selectNodeContents(one.lastElementChild);
+    return 2 * one.querySelector(".track").clientWidth < document.getElementById("chart").clientWidth
+        || new Set([...range.getClientRects()].map(box => box.top)).size > 1;
+}).map(one => one.textContent)"""
+
 
 class Sharing(PageCase):
     """Over the door and the built program."""
@@ -182,6 +190,7 @@ class Sharing(PageCase):
         self.draw("avg salary", "team", 6)
         self.assertEqual(self.browser.run(CUT), [])
         self.assertEqual(self.browser.run(BROKEN), [])
+        self.assertEqual(self.browser.run(SQUEEZED), [])
         self.assertEqual(self.browser.too_wide(360), [])
         self.assertIn("bonus", self.browser.text("columns"))
         shown = "return [...document.querySelectorAll('#history tr')].filter(one => one.offsetParent).length"

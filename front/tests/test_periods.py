@@ -169,17 +169,25 @@ class Begun(unittest.TestCase):
         self.assertEqual([records_in(text) for text in (TWO, GROWN, TWO[:-1] + b"\1", TWO[:-1])], [2, 2, None, None])
 
     def test_without_a_copy_nobody_can_say_what_would_be_answered(self):
-        self.assertEqual(self.open().simulating, self.public)
+        self.assertEqual(self.open().simulating, self.keep / "period.1")
         self.put(NOVEMBER)
         self.tell()
-        with mock.patch.object(periods, "SIMULATE_BEGINS_WITH_A_JOURNAL", True):
-            self.assertIsNone(self.open().simulating)
-            self.assertIn("so nobody can say what would be answered", self.said[-2])
-            self.put(DECEMBER, TWO)
-            self.tell()
-            self.assertEqual(self.open().simulating, self.keep / "period.3")
-        with mock.patch.object(periods, "SIMULATE_BEGINS_WITH_A_JOURNAL", False):
-            self.assertIsNone(self.open().simulating)
+        self.assertIsNone(self.open().simulating)
+        self.assertIn("so nobody can say what would be answered", self.said[-2])
+        self.put(DECEMBER, TWO)
+        self.tell()
+        self.assertEqual(self.open().simulating, self.keep / "period.3")
+
+    def test_a_copy_for_the_period_to_come_is_no_history_of_this_one(self):
+        self.put(OCTOBER, TWO)
+        self.assertEqual(self.open().simulating, self.keep / "period.1")
+        self.assertFalse((self.keep / "period.1/answers.journal").exists())
+        self.put(NOVEMBER, TWO)
+        self.tell()
+        self.put(NOVEMBER, GROWN)
+        period = self.open()
+        (self.public / "answers.journal").write_bytes(TWO)
+        self.assertEqual((period.simulating / "answers.journal").read_bytes(), GROWN)
 
     def test_public_files_that_grew_are_those_of_the_period(self):
         self.put(OCTOBER + "DEV,2\n")
@@ -347,6 +355,37 @@ class Renewed(DoorCase):
             self.door.start()
             await self.ends()
         self.assertIn("the journal holds 0 answers and 3 were given", self.folder.said())
+
+    async def test_what_would_be_goes_by_the_answers_of_before(self):
+        async with self.door.session() as session:
+            await self.first_period(session)
+            self.move()
+            self.tell()
+            self.door.start()
+            await self.door.ready(session)
+            # The first 30 rows alone are meant now, and their sum was told. With one row less the difference would be one number.
+            self.assertEqual(await ask(session, self.ALL, "/would"), (200, b'{"verdict":"released","new":false}\n'))
+            self.assertEqual(await ask(session, self.REST, "/would"), (200, b'{"verdict":"unsafe"}\n'))
+            near = json.loads((await ask(session, self.REST, "/near"))[1])
+            self.assertEqual(near["verdict"], "unsafe")
+            self.assertEqual(await ask(session, self.REST), (200, b'{"denied":"unsafe"}\n'))
+            await self.check_second_period(session)
+            self.assertEqual(self.door.stop(), 0)
+
+    async def check_second_period(self, session):
+        """Others check the second period by what the door has of it, and `simulate`, which begins with the journal's answers."""
+        with tempfile.TemporaryDirectory() as folder:
+            for path in ("/period.2/schema.json", "/period.2/table.csv", "/period.2/answers.journal", "/transcript.jsonl"):
+                async with session.get(path) as response:
+                    self.assertEqual(response.status, 200)
+                    pathlib.Path(folder, path.rsplit("/")[-1]).write_bytes(await response.read())
+            text = pathlib.Path(folder, "transcript.jsonl").read_bytes()
+            run = subprocess.run([AUDITOR, "simulate"], cwd=folder, input=text, capture_output=True)
+            self.assertEqual((run.returncode, run.stdout), (0, b'{"verdict":"unsafe"}\n'))
+            # Without the answers of before the question isn't one to deny.
+            pathlib.Path(folder, "answers.journal").unlink()
+            run = subprocess.run([AUDITOR, "simulate"], cwd=folder, input=text, capture_output=True)
+            self.assertEqual((run.returncode, run.stdout), (14, b'{"verdict":"released"}\n'))
 
     async def test_what_would_be_isnt_said_without_the_answers_of_before(self):
         async with self.door.session() as session:

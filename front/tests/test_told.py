@@ -107,14 +107,15 @@ class Told(unittest.IsolatedAsyncioTestCase):
             await self.door.ready(session)
             for code in CODES:
                 self.code.write_text(str(code))
-                for path in ("/would", "/why"):
+                for path in ("/would", "/why", "/near"):
                     status, body = await ask(session, line_of("sum", 0, 9), path)
                     if path == "/why" and code == "signal":
                         continue        # the shell around it makes a code of it
                     self.assertEqual((status, json.loads(body)), (503, {"error": due(code), "code": "away"}), (path, code))
             self.assertEqual((await ask(session, line_of("count", 0, 9)))[0], 200)
         self.assertEqual(self.door.stop(), 0)
-        self.assertGreaterEqual(self.folder.said().count(loud.SAID), 2 * len(CODES) - 2)
+        # Of a `simulate` that a signal ended the log has the signal alone, and of one with code 14 that the transcript has a gap.
+        self.assertGreaterEqual(self.folder.said().count(loud.SAID), 3 * len(CODES) - 4)
 
     async def test_a_program_that_doesnt_begin_is_said_with_a_sentence_for_its_code(self):
         self.set_loud("serve")

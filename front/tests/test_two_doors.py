@@ -16,6 +16,7 @@ import unittest
 
 import aiohttp
 
+from browser import Browser
 from kit import FRONT, PATIENCE, SEED, Door, Folder, ask, free_port, line_of
 
 NGINX = shutil.which("nginx") or shutil.which("/usr/sbin/nginx")
@@ -159,6 +160,8 @@ class TwoDoors(unittest.IsolatedAsyncioTestCase):
 class OneDoor(unittest.IsolatedAsyncioTestCase):
     """The block before one door. Its rates are so low that hardly one request more is let in while they ask."""
 
+    block, base = "nginx.conf", ""
+
     async def asyncSetUp(self):
         self.folder = Folder(60)
         self.folder.path.chmod(0o755)
@@ -173,10 +176,13 @@ class OneDoor(unittest.IsolatedAsyncioTestCase):
 
     async def begin(self, secret=False, more=(), **rates):
         changes = {**{f"rate={rate}r/s": "rate=1r/m" for rate in rates.values()}, **dict(more)}
-        self.nginx = Nginx("nginx.conf", self.port, {"/run/auditor-door/http.sock": self.path, **changes}, secret)
+        self.nginx = Nginx(self.block, self.port, {**self.places(), **changes}, secret)
         async with self.door.start().session() as session:
-            await self.door.ready(session, Host=NAME)
+            await self.door.ready(session, path=f"{self.base}/health", Host=NAME)
         os.chmod(self.path, 0o666)
+
+    def places(self):
+        return {"/run/auditor-door/http.sock": self.path}
 
     def session(self, address="127.0.0.1", limit=0):
         return aiohttp.ClientSession(f"http://127.0.0.1:{self.port}", headers={"Host": NAME},
@@ -184,7 +190,7 @@ class OneDoor(unittest.IsolatedAsyncioTestCase):
 
     async def count(self, session, who="", word="secret"):
         auth = aiohttp.BasicAuth(who, word) if who else None
-        async with session.post("/ask", data=line_of("count", 0, 9), headers={"Content-Type": "application/json"}, auth=auth) as response:
+        async with session.post(f"{self.base}/ask", data=line_of("count", 0, 9), headers={"Content-Type": "application/json"}, auth=auth) as response:
             if response.status == 429:
                 self.assertEqual((response.headers["Retry-After"], list(await response.json())), ("1", ["error", "code"]))
             return response.status
@@ -209,28 +215,73 @@ class OneDoor(unittest.IsolatedAsyncioTestCase):
             self.assertEqual([await self.count(inside, "ann") for _ in range(40)], [200] * 40)
 
     async def test_tokens_work_behind_tls(self):
-        """From Python and in a terminal, with the block's login left out."""
-        file = self.folder.path / "tokens.json"
-        made = subprocess.run([sys.executable, FRONT / "tokens.py", "--file", file, "add", "ann"], capture_output=True, text=True, check=True)
-        self.door.words += ["--tokens", str(file), "--host", "127.0.0.1"]
-        await self.begin(secret=True, more={'    auth_basic "auditor";\n': "", "    auth_basic_user_file /etc/nginx/auditor.users;\n": ""})
+        """From Python and R and in a terminal."""
+        mine = await self.begin_with_a_token()
         address, due = f"https://127.0.0.1:{self.port}", self.folder.due("sum", 0, 59)["sum"]
         python = f"import auditor, os; print(auditor.connect('{address}', token=os.environ.get('AUDITOR_TOKEN')).sum('salary'))"
-        for token, status in ((made.stdout.strip(), 0), ("", 1), ("x", 1)):
-            environment = {**os.environ, "SSL_CERT_FILE": str(self.nginx.folder / "pem"), "AUDITOR_TOKEN": token, "PYTHONPATH": str(FRONT / "clients")}
-            for words in ([sys.executable, "-c", python], [sys.executable, FRONT / "ask.py", address, "sum salary"]):
+        script = f"source('{FRONT}/clients/auditor.R'); auditor_login(token = Sys.getenv('AUDITOR_TOKEN')); cat(auditor_sum('{address}', 'salary'))"
+        in_r = [["Rscript", "--vanilla", "-e", script]] if shutil.which("Rscript") else []
+        for token, status in ((mine, 0), ("", 1), ("x", 1)):
+            environment = {**os.environ, **dict.fromkeys(("SSL_CERT_FILE", "CURL_CA_BUNDLE"), str(self.nginx.folder / "pem")), "AUDITOR_TOKEN": token, "PYTHONPATH": str(FRONT / "clients")}
+            for words in ([sys.executable, "-c", python], [sys.executable, FRONT / "ask.py", address, "sum salary"], *in_r):
                 run = await asyncio.to_thread(subprocess.run, words, capture_output=True, text=True, env=environment)
                 self.assertEqual((run.returncode, run.stdout.strip()), (status, str(due) if not status else ""), run.stderr)
                 self.assertTrue(not status or "who asks?" in run.stderr, run.stderr)
 
+    async def begin_with_a_token(self):
+        """With the block's login left out, and one token."""
+        file = self.folder.path / "tokens.json"
+        made = subprocess.run([sys.executable, FRONT / "tokens.py", "--file", file, "add", "ann"], capture_output=True, text=True, check=True)
+        self.door.words += ["--tokens", str(file), "--host", "127.0.0.1"]
+        await self.begin(secret=True, more={'    auth_basic "auditor";\n': "", "    auth_basic_user_file /etc/nginx/auditor.users;\n": ""})
+        return made.stdout.strip()
+
+    async def test_the_page_works_with_a_token_behind_tls(self):
+        mine = await self.begin_with_a_token()
+        said = await asyncio.to_thread(self.asked_on_the_page, f"ann:{mine}")
+        self.assertIn(f"{self.folder.due('sum', 0, 59)['sum']:,}", said)
+
+    def asked_on_the_page(self, login):
+        """What the page says to the first question that it offers. The first address stands for what is typed when the browser asks."""
+        browser = Browser(any_certificate=True)
+        try:
+            browser.driver.get(f"https://{login}@127.0.0.1:{self.port}/schema.json")
+            browser.open(f"https://127.0.0.1:{self.port}")
+            return browser.ask()
+        finally:
+            browser.close()
+
     async def test_no_request_goes_unencrypted(self):
         await self.begin(secret=True)
         async with aiohttp.ClientSession(headers={"Host": NAME}) as session:
-            async with session.get(f"http://127.0.0.1:{self.nginx.plain}/health?x=1", allow_redirects=False) as response:
-                self.assertEqual((response.status, response.headers["Location"]), (301, f"https://{NAME}/health?x=1"))
-            async with session.get(f"https://127.0.0.1:{self.port}/health", ssl=False, auth=aiohttp.BasicAuth("ann", "secret")) as response:
+            async with session.get(f"http://127.0.0.1:{self.nginx.plain}{self.base}/health?x=1", allow_redirects=False) as response:
+                self.assertEqual((response.status, response.headers["Location"]), (301, f"https://{NAME}{self.base}/health?x=1"))
+            async with session.get(f"https://127.0.0.1:{self.port}{self.base}/health", ssl=False, auth=aiohttp.BasicAuth("ann", "secret")) as response:
                 self.assertEqual(response.status, 200)
                 self.assertEqual(response.headers["Strict-Transport-Security"], "max-age=31536000")
+
+
+class OneDoorOfTwo(OneDoor):
+    """The same with the block before two doors, of which one is there."""
+
+    block, base = "nginx-parts.conf", "/north"
+
+    async def asyncSetUp(self):
+        self.parent = pathlib.Path(tempfile.mkdtemp(prefix="parts-"))
+        self.folder = Folder(60, path=self.parent / "north")
+        self.parent.chmod(0o755)
+        self.port, self.path = free_port(), f"{self.folder.path}/door.sock"
+        self.door, self.nginx = Door(self.folder, "--table", "north", "--folder", f"{self.parent}/{{table}}", "--host", NAME, plain=True), None
+
+    async def asyncTearDown(self):
+        await super().asyncTearDown()
+        shutil.rmtree(self.parent, ignore_errors=True)
+
+    def places(self):
+        return {"10.0.0.11:8087": f"unix:{self.path}"}
+
+    # Over tables by their names the clients ask both doors, as TwoDoors does.
+    test_tokens_work_behind_tls = test_the_page_works_with_a_token_behind_tls = None
 
 
 if __name__ == "__main__":

@@ -59,9 +59,11 @@ fn words_of(rt: &HostRuntime) -> io::Result<Vec<String>> {
     Ok(words)
 }
 
-// The journal. `audit` and `explain` only read it, so a copy will do that may only be read: no other command has these arguments.
+// The commands that only read the journal, so that a copy will do that may only be read. No other command has these arguments.
+const READERS: [&str; 3] = ["audit", "explain", "simulate"];
+
 fn journal<'a>(rt: &'a HostRuntime, words: &Vec<String>) -> FileBench<'a, HostRuntime> {
-    if words.iter().any(|word| word.as_str() == "audit" || word.as_str() == "explain") {
+    if words.iter().any(|word| READERS.contains(&word.as_str())) {
         FileBench::to_read(rt, JOURNAL)
     } else {
         FileBench::new(rt, JOURNAL)

@@ -9,6 +9,8 @@ use Rattle.bench_core.specs.declared.bench.Bench.{Ghosts}
 use Rattle.bench_core.specs.declared.source.Source as source
 use Rattle.bench_core.specs.Calls.{IsQuiet, IsUntouched, LeavesOnly, OnlyReads}
 use Rattle.bench_core.specs.Moments.{started, weakens}
+use Rattle.schema_json.specs.Columns.{Column}
+use Rattle.set_index.specs.Indexed.{IndexView}
 use Rattle.table_load.specs.Database.{Database, table_in}
 use Rattle.journal_form.specs.Journal.{StandsFor}
 use Rattle.answer_journal.specs.Moments.{IsMade}
@@ -26,8 +28,9 @@ use Rattle.twin_journal.specs.Fronts.{main_is_legal, spare_is_legal}
 use Rattle.twin_journal.specs.Twins.{StandsBetween}
 use Rattle.auditor_top.specs.Stages.{opening_journal}
 use Rattle.auditor_top.specs.Twins.{TwinEnds}
-use Rattle.auditor_top.specs.Causes.{BothCause, FaultCause, NothingFailed, IsDoneOrWants}
-use Rattle.auditor_top.specs.Commands.{AreSoundFilesOf, opens_store}
+use Rattle.transcript_sim.specs.Beginning.{public_setting}
+use Rattle.auditor_top.specs.Causes.{BeginningCause, BothCause, FaultCause, NothingFailed, IsDoneOrWants}
+use Rattle.auditor_top.specs.Commands.{ArePublicFilesOf, AreSoundFilesOf, opens_store}
 use Rattle.auditor_top.specs.Compactions.{CompactEnds}
 use Rattle.auditor_top.specs.Ends.{AuditEnds, GrowEnds, LeavesFile, ServeEnds, SimulateEnds, SendsLines, StandsForWhat, ExplainEnds, audit_over, outside, public_part}
 use Rattle.auditor_top.specs.Promise.{RunsMakeLives}
@@ -53,7 +56,8 @@ never_done : {Y : Type 0} (status : Status) → EndsEarly status → status ≡ 
 never_done status early done = absurd (subst EndsEarly done early)
 
 -- a file that is left as it was stands for a history between its own and the whole
-pub at_first : (shape : Shape) (first whole : List Answered) {file : List ℕ} → StandsFor file shape first → IsFront first whole → (image : List ℕ) → image ≡ file →
+pub at_first : (shape : Shape) (first whole : List Answered) {file : List ℕ} → StandsFor file shape first → IsFront first whole → (image : List ℕ) →
+    image ≡ file →
     StandsBetween shape first whole image
 at_first shape first whole stands front image same = record {
   now = first;
@@ -129,7 +133,8 @@ module _ {P I B : Type 0} (files : source.Ghosts P) (lines : source.Ghosts I) (b
         (subst (λ (sent : List ℕ). some (bench.file at) sent) (sym reads.sent)
         (nothing_served base batch history text (bench.sent at) (bench.file at) over.stands)));
     any_moment = λ ptold itold told quiet base history over.
-        still quiet (λ image sent. untouched_stops base batch history (counted_lines (lines.left input)) (bench.file at) (bench.sent at) image sent over.stands);
+        still quiet (λ image sent. untouched_stops base batch history (counted_lines (lines.left input)) (bench.file at) (bench.sent at) image sent
+        over.stands);
     undisclosed = λ ptold told quiet base history over image sent now was stands.
         legal _ _ _ image sent base batch history now [] over.files over.legal
         (untouched_stops base batch history [] (bench.file at) (bench.sent at) image sent over.stands
@@ -145,14 +150,19 @@ module _ {P I B : Type 0} (files : source.Ghosts P) (lines : source.Ghosts I) (b
       let gave = λ (ptold : files.told) (told : bench.told). gives_up (Serve batch true) is ptold (λ opens. told) in
       record {
         twins_served = λ ptold itold told base main other whole over.
-            by_giving_up (λ (s : Status). TwinEnds batch s base main other whole (outside lines bench input at) (outside lines bench input later) (bench.file spare))
+            by_giving_up (λ (s : Status). TwinEnds batch s base main other whole (outside lines bench input at) (outside lines bench input later)
+            (bench.file spare))
             status (gave ptold told (base, over.files)) (reads.sent, reads.file) (reads.sent, reads.file) tt (inl (
               reads.sent,
               at_first base.secret.shape main whole over.together.main_stands over.together.main_front (bench.file later) reads.file,
               at_first base.secret.shape other whole over.together.spare_stands over.together.spare_front (bench.file spare) refl,
             ));
         twin_moment = λ ptold itold told quiet base main other whole over.
-            still quiet (λ image sent same. inl (same.0, at_first base.secret.shape main whole over.together.main_stands over.together.main_front image same.1));
+            still quiet (λ image sent same. inl (
+              same.0,
+              at_first base.secret.shape main whole over.together.main_stands over.together.main_front
+                  image same.1,
+            ));
         spare_moment = λ ptold itold told quiet base main other whole over.
             weakens bench spare spare (IsUntouched (bench.file spare) (bench.sent spare)) _
             (λ image sent same. inl (same.0, at_first base.secret.shape other whole over.together.spare_stands over.together.spare_front image same.1))
@@ -169,7 +179,8 @@ module _ {P I B : Type 0} (files : source.Ghosts P) (lines : source.Ghosts I) (b
             ));
         undisclosed = λ ptold told quiet base main other whole over image sent now was.
             legal _ _ (bench.sent at) image sent base batch main now [] over.files (main_is_legal (table_in base) _ _ main other whole over.together)
-            (untouched_stops base batch main [] (bench.file at) (bench.sent at) image sent over.together.main_stands ((reads.untouched quiet).each image sent was));
+            (untouched_stops base batch main [] (bench.file at) (bench.sent at) image sent over.together.main_stands ((reads.untouched quiet).each
+            image sent was));
         spare_undisclosed = λ ptold told quiet base main other whole over image sent now was.
             legal _ _ (bench.sent spare) image sent base batch other now [] over.files (spare_is_legal (table_in base) _ _ main other whole over.together)
             (untouched_stops base batch other [] (bench.file spare) (bench.sent spare) image sent over.together.spare_stands
@@ -177,7 +188,8 @@ module _ {P I B : Type 0} (files : source.Ghosts P) (lines : source.Ghosts I) (b
         apart = λ ptold told quiet none. reads.untouched quiet;
         spare_apart = λ ptold told quiet none. spared.untouched quiet;
         cause = λ ptold told base sound.
-            by_giving_up (λ (s : Status). BothCause s (Serve batch true) (bench.file at) (bench.file spare) (table_in base)) status (gave ptold told (base, sound)) tt tt tt tt;
+            by_giving_up (λ (s : Status). BothCause s (Serve batch true) (bench.file at) (bench.file spare) (table_in base)) status (gave ptold told
+            (base, sound)) tt tt tt tt;
         spare_quiet = λ told quiet fine. quiet;
         spare_unsent = refl;
         twin_calls = λ ptold itold told done base main other whole over. never_done status early done;
@@ -192,7 +204,10 @@ module _ {P I B : Type 0} (files : source.Ghosts P) (lines : source.Ghosts I) (b
         restored = λ ptold told done base sound. never_done status early done;
         same = λ told done. never_done status early done;
         cause = λ ptold told base sound.
-            by_giving_up (λ (s : Status). BothCause s Restore (bench.file at) (bench.file spare) (table_in base)) status (gave ptold told (base, sound)) tt tt tt tt;
+            by_giving_up (λ (s : Status). BothCause s Restore (bench.file at) (bench.file spare) (table_in base)) status (gave ptold told (
+              base,
+              sound,
+            )) tt tt tt tt;
         no_memory = λ is. (reads.file, refl);
         restoring = λ ptold told quiet base history sound lost.
             still quiet (λ image sent same. (same.0, inl (λ made. lost.unmade (subst IsMade same.1 made))));
@@ -224,23 +239,31 @@ module _ {P I B : Type 0} (files : source.Ghosts P) (lines : source.Ghosts I) (b
   }
 
   unsimulated : asked ≡ Some Simulate → Simulating files lines bench status old new
-  unsimulated is = record {
-    simulated = λ ptold itold columns public given.
-        let text = lines.left input in
-        let begun = none_begun columns public (counted_lines text) in
-        let same = reads.sent ∙ sym (append-nil (bench.sent at)) in
-        let gave_up = gives_up Simulate is ptold (λ opens. absurd (false≢true opens)) (columns, public, given) in (
-          [],
-          by_giving_up (λ (s : Status). SimulateEnds s columns public text text []) status gave_up refl refl begun begun,
-          λ told. by_giving_up (λ (s : Status). SendsLines s [] (bench.sent at) (bench.sent later)) status gave_up same same (0, same) same,
-        );
-    simulating = λ ptold told quiet columns public given.
-        still quiet (λ image sent same. no_verdict lines.told columns public (counted_lines (lines.left input)) (bench.file at) (bench.sent at) image sent same.1 same.0);
-    undisturbed = left_alone;
-    simulate_calls = λ itold told done. never_done status early done;
-    simulates = λ ptold itold columns public given verdicts agree within none.
-        wants (gives_up Simulate is ptold (λ opens. absurd (false≢true opens)) (columns, public, given)) none;
-  }
+  unsimulated is =
+      let gave = λ (ptold : files.told) (columns : List Column) (public : IndexView) (given : ArePublicFilesOf (files.left schema) (files.left table)
+      columns public).
+      gives_up Simulate is ptold (λ opens. absurd (false≢true opens)) (columns, public, given) in
+      record {
+        simulated = λ ptold itold told columns public history over.
+            let text = lines.left input in
+            let begun = none_begun columns public history (counted_lines text) in
+            let same = reads.sent ∙ sym (append-nil (bench.sent at)) in
+            let gave_up = gave ptold columns public over.files in (
+              [],
+              by_giving_up (λ (s : Status). SimulateEnds s columns public history text text []) status gave_up refl refl begun begun,
+              by_giving_up (λ (s : Status). SendsLines s [] (bench.sent at) (bench.sent later)) status gave_up same same (0, same) same,
+            );
+        simulating = λ ptold told quiet columns public history over.
+            still quiet (λ image sent same.
+            no_verdict lines.told columns public history (counted_lines (lines.left input)) (bench.file at) (bench.sent at) image sent same.1 same.0);
+        cause = λ ptold told columns public given.
+            by_giving_up (λ (s : Status). BeginningCause s (bench.file at) (public_setting columns public)) status (gave ptold columns public given)
+            tt tt tt tt;
+        undisturbed = left_alone;
+        untouched = λ ptold told quiet none. reads.untouched quiet;
+        simulate_calls = λ itold told done. never_done status early done;
+        simulates = λ ptold itold told columns public history over verdicts agree within none. wants (gave ptold columns public over.files) none;
+      }
 
   ungrown : asked ≡ Some Grow → Growing files lines bench status old new
   ungrown is = record {

@@ -12,7 +12,7 @@ use Rattle.transcript_sim.specs.Verdicts.{AreVerdicts}
 use Rattle.auditor_top.specs.declared.status.Which.TheVariants.{Input}
 use Rattle.auditor_top.specs.declared.status.Status.{Status}
 use Rattle.auditor_top.specs.declared.status.Status.TheVariants.{Done, SourceFault, BenchFault, NoMemory}
-use Rattle.auditor_top.specs.Commands.{ArePublicFilesOf}
+use Rattle.auditor_top.specs.Commands.{SimulatesOver}
 use Rattle.auditor_top.specs.Compactions.{CompactEnds, SendsCounts}
 use Rattle.auditor_top.specs.Ends.{AuditEnds, audit_over, public_part}
 use Rattle.auditor_top.specs.Shown.{AreShownAlike}
@@ -50,6 +50,6 @@ twins_alike base other history twins =
       certificates = λ asked lines. same_public (λ cs i. AreExplained cs i history asked lines) base other twins.0;
       compacted = λ status spare before after. same_said (λ (s : Shape). CompactEnds status s history spare before after) base.secret.shape other.secret.shape twins.1;
       compacting = λ file before image sent. same_said (λ (s : Shape). SendsCounts s history file before image sent) base.secret.shape other.secret.shape twins.1;
-      files = λ schema table. same_public (ArePublicFilesOf schema table) base other twins.0;
-      verdicts = λ lines verdicts. same_public (λ cs i. AreVerdicts cs i lines verdicts) base other twins.0;
+      files = λ schema table file begun. same_public (λ cs i. SimulatesOver schema table file cs i begun) base other twins.0;
+      verdicts = λ begun lines verdicts. same_public (λ cs i. AreVerdicts cs i begun lines verdicts) base other twins.0;
     }

@@ -13,15 +13,16 @@ use Rattle.line_wire.specs.Lines.{CountedLine, counted_lines}
 use Rattle.question_plan.specs.Session.{Replied, bytes_of}
 use Rattle.transcript_sim.specs.declared.simulating.SimulationFault.{SimulationFault}
 use Rattle.transcript_sim.specs.declared.simulating.SimulationFault.TheVariants as verdict
+use Rattle.transcript_sim.specs.Beginning.{EndBegins, OnRefused}
 use Rattle.transcript_sim.specs.Verdicts.{AreVerdicts}
 use Rattle.transcript_sim.specs.Laws.{FirstLinesHaveVerdicts}
 use Rattle.transcript_sim.specs.Ends.{BeginVerdicts, EndVerdicts, EndSends, EndReads, SimulatesMeanwhile}
-use Rattle.audit_types.specs.History.{Protection, Table as Guarded}
+use Rattle.audit_types.specs.History.{Protection, Setting, Table as Guarded}
 use Rattle.auditor_top.specs.declared.words.Command.TheVariants as command
 use Rattle.auditor_top.specs.Faults.{simulation_status}
 use Rattle.auditor_top.specs.Ends.{SimulateEnds, SendsLines}
 use Rattle.auditor_top.specs.Commands.{ArePublicFilesOf}
-use Rattle.auditor_top.specs.Causes.{FaultCounts, FaultCause, InputCause, NothingFailed, IsDoneOrWants, WordCause, FileCause}
+use Rattle.auditor_top.specs.Causes.{BeginningCause, FaultCounts, FaultCause, InputCause, NothingFailed, IsDoneOrWants, WordCause, FileCause}
 use Rattle.auditor_top.proofs.OneTable.{same_ok}
 use Rattle.auditor_top.proofs.StepFaults.{same_counts}
 use Rattle.auditor_top.specs.declared.status.Which.TheVariants.{Input}
@@ -59,13 +60,49 @@ carried_public law P schema table opened columns shown index read files holds =
 -- ---- before the first line
 
 -- there is no verdict yet
-pub none_begun : (columns : List Column) (public : IndexView) (lines : List CountedLine) → BeginVerdicts columns public lines []
-none_begun columns public lines = ([], record { count = 0; are = refl }, tt)
+pub none_begun : (columns : List Column) (public : IndexView) (history : List Answered) (lines : List CountedLine) → BeginVerdicts columns public
+    history lines []
+none_begun columns public history lines = ([], record { count = 0; are = refl }, tt)
 
 -- and nothing was sent
-pub no_verdict : (told : Type 0) (columns : List Column) (public : IndexView) (lines : List CountedLine) (file before image sent : List ℕ) → image ≡ file →
-    sent ≡ before → SimulatesMeanwhile told columns public lines file before image sent
-no_verdict told columns public lines file before image sent same none = (same, λ t. ([], none_begun columns public lines, (0, none ∙ sym (append-nil before))))
+pub no_verdict : (told : Type 0) (columns : List Column) (public : IndexView) (history : List Answered) (lines : List CountedLine) (file before image
+    sent : List ℕ) →
+    image ≡ file → sent ≡ before → SimulatesMeanwhile told columns public history lines file before image sent
+no_verdict told columns public history lines file before image sent same none =
+    (same, λ t. ([], none_begun columns public history lines, (0, none ∙ sym (append-nil before))))
+
+-- ---- beginning with a journal
+
+-- what holds anyway, and what follows
+pub refused_too : {X P : Type 0} (ended : Result X SimulationFault) → P → OnRefused ended P
+refused_too (Err (verdict.Damaged at)) holds = holds
+refused_too (Err (verdict.OtherShape kept now)) holds = holds
+refused_too (Err (verdict.Illegal place group)) holds = holds
+refused_too (Err verdict.Input) holds = tt
+refused_too (Err verdict.Bench) holds = tt
+refused_too (Err verdict.Limit) holds = tt
+refused_too (Err (verdict.Disagrees line due)) holds = tt
+refused_too (Err verdict.NoMemory) holds = tt
+refused_too (Ok done) holds = tt
+
+pub refused_so : {X P Q : Type 0} (ended : Result X SimulationFault) → (P → Q) → OnRefused ended P → OnRefused ended Q
+refused_so (Err (verdict.Damaged at)) follows holds = follows holds
+refused_so (Err (verdict.OtherShape kept now)) follows holds = follows holds
+refused_so (Err (verdict.Illegal place group)) follows holds = follows holds
+refused_so (Err verdict.Input) follows holds = tt
+refused_so (Err verdict.Bench) follows holds = tt
+refused_so (Err verdict.Limit) follows holds = tt
+refused_so (Err (verdict.Disagrees line due)) follows holds = tt
+refused_so (Err verdict.NoMemory) follows holds = tt
+refused_so (Ok done) follows holds = tt
+
+-- the cause of a refusal is in the journal's file, and any other end has a history to begin with
+pub simulation_cause : {X : Type 0} (ended : Result X SimulationFault) (file : List ℕ) (setting : Setting) → EndBegins ended file setting →
+    BeginningCause (simulation_status ended) file setting
+simulation_cause (Err verdict.Input) file setting cause = cause
+simulation_cause (Err verdict.Bench) file setting cause = tt
+simulation_cause (Err verdict.NoMemory) file setting cause = tt
+simulation_cause ended file setting cause = cause
 
 -- what its status says by itself
 pub record SimulationSays {X : Type 0} (ended : Result X SimulationFault) : Type 1 where
@@ -74,7 +111,7 @@ pub record SimulationSays {X : Type 0} (ended : Result X SimulationFault) : Type
   pub bench : simulation_status ended ≡ BenchFault → ended ≡ Err verdict.Bench
   pub input : simulation_status ended ≡ SourceFault Input → ended ≡ Err verdict.Input
   pub done : (P : Type 0) → simulation_status ended ≡ Done → OnOk ended P → P
-  pub at_lines : (P : Type 0) → Before reading_lines (simulation_status ended) P
+  pub at_lines : (P : Type 0) → OnRefused ended P → Before reading_lines (simulation_status ended) P
   pub file : (file : List ℕ) (table : Guarded) → FileCause (simulation_status ended) command.Simulate file table
 
 pub simulation_says : {X : Type 0} (ended : Result X SimulationFault) → SimulationSays ended
@@ -84,11 +121,11 @@ simulation_says ended = search rules
 -- ---- reading the transcript
 
 -- the ends of a simulation are those of the run
-pub simulation_ends : (ended : Result (Unit {0}) SimulationFault) (columns : List Column) (public : IndexView) (input left : List ℕ)
+pub simulation_ends : (ended : Result (Unit {0}) SimulationFault) (columns : List Column) (public : IndexView) (history : List Answered) (input left : List ℕ)
     (verdicts : List (Replied Answered)) →
-    EndVerdicts ended columns public input left verdicts → SimulateEnds (simulation_status ended) columns public input left verdicts
-simulation_ends (Err verdict.Input) columns public input left verdicts are = are
-simulation_ends ended columns public input left verdicts are = are
+    EndVerdicts ended columns public history input left verdicts → SimulateEnds (simulation_status ended) columns public history input left verdicts
+simulation_ends (Err verdict.Input) columns public history input left verdicts are = are
+simulation_ends ended columns public history input left verdicts are = are
 
 pub simulation_sends : (ended : Result (Unit {0}) SimulationFault) (verdicts : List (Replied Answered)) (before after : List ℕ) →
     EndSends ended verdicts before after → SendsLines (simulation_status ended) (bytes_of verdicts) before after
@@ -96,11 +133,14 @@ simulation_sends (Err verdict.Input) verdicts before after sends = sends
 simulation_sends ended verdicts before after sends = sends
 
 -- how much of the input there was, by the end
-pub simulation_reads : (ended : Result (Unit {0}) SimulationFault) (before after : List ℕ) → EndReads ended before after →
+pub simulation_reads : (ended : Result (Unit {0}) SimulationFault) (before after : List ℕ) → EndReads ended before after → OnRefused ended (after ≡ before) →
     InputCause (simulation_status ended) before after
-simulation_reads (Err verdict.Bench) before after reads = tt
-simulation_reads (Err verdict.NoMemory) before after reads = tt
-simulation_reads ended before after reads = reads
+simulation_reads (Err verdict.Bench) before after reads unread = tt
+simulation_reads (Err verdict.NoMemory) before after reads unread = tt
+simulation_reads (Err (verdict.Damaged at)) before after reads unread = unread
+simulation_reads (Err (verdict.OtherShape kept now)) before after reads unread = unread
+simulation_reads (Err (verdict.Illegal place group)) before after reads unread = unread
+simulation_reads ended before after reads unread = reads
 
 -- the count of what failed rose, and no other changed
 pub simulation_faults : (ended : Result (Unit {0}) SimulationFault) (before : FaultCounts) (input bench : ℕ)
@@ -116,17 +156,24 @@ simulation_faults ended before input bench input_rose input_same bench_rose benc
 
 -- if every reply agrees, the input is within its limit and nothing failed, it is done, or there was no memory
 pub simulation_wants : FirstLinesHaveVerdicts
-    → (ended : Result (Unit {0}) SimulationFault) (columns : List Column) (public : IndexView) (input left : List ℕ)
+    → (ended : Result (Unit {0}) SimulationFault) (columns : List Column) (public : IndexView) (history : List Answered) (input left : List ℕ)
     (verdicts others : List (Replied Answered)) (before after : FaultCounts)
-    → EndVerdicts ended columns public input left verdicts → EndReads ended input left
-    → AreVerdicts columns public (counted_lines input) others → length input ≤ 2 ^ 30 → FaultCause (simulation_status ended) before after →
+    → EndVerdicts ended columns public history input left verdicts → EndReads ended input left
+    → AreVerdicts columns public history (counted_lines input) others → length input ≤ 2 ^ 30 → FaultCause (simulation_status ended) before after →
     NothingFailed before after → IsDoneOrWants (simulation_status ended)
-simulation_wants first (Ok done) columns public input left verdicts others before after are reads agree within rose none = inl refl
-simulation_wants first (Err verdict.Input) columns public input left verdicts others before after are reads agree within rose none = absurd (none.input rose.0)
-simulation_wants first (Err verdict.Bench) columns public input left verdicts others before after are reads agree within rose none = absurd (none.bench rose.0)
-simulation_wants first (Err verdict.Limit) columns public input left verdicts others before after are reads agree within rose none =
+simulation_wants first (Ok done) columns public history input left verdicts others before after are reads agree within rose none = inl refl
+simulation_wants first (Err verdict.Input) columns public history input left verdicts others before after are reads agree within rose none = absurd
+    (none.input rose.0)
+simulation_wants first (Err verdict.Bench) columns public history input left verdicts others before after are reads agree within rose none = absurd
+    (none.bench rose.0)
+simulation_wants first (Err verdict.Limit) columns public history input left verdicts others before after are reads agree within rose none =
     absurd (omega (arith, reads, within))
-simulation_wants first (Err (verdict.Disagrees line due)) columns public input left verdicts others before after are reads agree within rose none =
-    let begun = first columns public (counted_lines input) others line agree in
+simulation_wants first (Err (verdict.Disagrees line due)) columns public history input left verdicts others before after are reads agree within rose none =
+    let begun = first columns public history (counted_lines input) others line agree in
     absurd (are.none_with begun.0 begun.1)
-simulation_wants first (Err verdict.NoMemory) columns public input left verdicts others before after are reads agree within rose none = inr refl
+simulation_wants first (Err verdict.NoMemory) columns public history input left verdicts others before after are reads agree within rose none = inr refl
+simulation_wants first (Err (verdict.Damaged at)) columns public history input left verdicts others before after are reads agree within rose none = absurd are
+simulation_wants first (Err (verdict.OtherShape kept now)) columns public history input left verdicts others before after are reads agree within rose
+    none = absurd are
+simulation_wants first (Err (verdict.Illegal place group)) columns public history input left verdicts others before after are reads agree within rose
+    none = absurd are

@@ -8,7 +8,7 @@ use Rattle.auditor_top.specs.declared.words.Command.{Command}
 use Rattle.auditor_top.specs.declared.status.Which.TheVariants.{Input}
 use Rattle.auditor_top.specs.declared.status.Status.TheVariants.{Done, SourceFault, BenchFault, SpareFault, NoMemory}
 use Rattle.auditor_top.specs.Causes.{FaultCounts, FaultCause, FileCause, InputCause, OpeningCause, SpareCause, WordCause}
-use Rattle.auditor_top.specs.Commands.{opens_journal}
+use Rattle.auditor_top.specs.Commands.{comes_to_journal}
 use Rattle.auditor_top.specs.Ready.{EndsEarly}
 use Rattle.auditor_top.specs.Ready as ready
 use Rattle.auditor_top.specs.Stages.{Before, opening_journal, opening_spare, reading_lines}
@@ -19,7 +19,7 @@ use Rattle.auditor_top.proofs.StepStatuses.{EndsLastStep}
 pub record StartSays (fault : StartFault) : Type 1 where
   pub early : EndsEarly (start_status fault)
   pub last : EndsLastStep (start_status fault)
-  pub words : (asked : Command) → opens_journal asked ≡ true → WordCause (start_status fault) (Some asked)
+  pub words : (asked : Command) → comes_to_journal asked ≡ true → WordCause (start_status fault) (Some asked)
   pub file : (asked : Command) (file : List ℕ) (table : Guarded) → OpeningCause fault asked file table → FileCause (start_status fault) asked file table
   pub spare : (asked : Command) (file : List ℕ) → SpareCause (start_status fault) asked file
   pub input : (bytes : List ℕ) → InputCause (start_status fault) bytes bytes

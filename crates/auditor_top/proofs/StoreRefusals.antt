@@ -31,7 +31,7 @@ use Rattle.auditor_top.specs.declared.words.Command.{Command}
 use Rattle.auditor_top.specs.declared.words.Command.TheVariants.{Init, Serve, Audit, Simulate, Drill, Grow, Explain, Compact, Restore}
 use Rattle.auditor_top.specs.Faults.{index_status, start_status, started_status}
 use Rattle.auditor_top.specs.Causes.{FaultCounts, FaultCause, FileCause, OpeningCause, counts}
-use Rattle.auditor_top.specs.Commands.{AreSoundFilesOf, ServesOver, opens_journal, opens_store, reads_files, reads_groups}
+use Rattle.auditor_top.specs.Commands.{AreSoundFilesOf, ServesOver, comes_to_journal, opens_journal, opens_store, reads_files, reads_groups}
 use Rattle.auditor_top.specs.Ready.{IsGiven, Refuses}
 use Rattle.auditor_top.proofs.GroupRefusals.{groups_refused, group_gives_up}
 use Rattle.auditor_top.proofs.OneTable.{same_ok, one_base, table_is_ok}
@@ -46,6 +46,13 @@ opens_too Init opens = opens
 opens_too Simulate opens = opens
 opens_too (Drill number) opens = opens
 opens_too asked opens = refl
+
+-- so it comes to the journal
+comes_too : (asked : Command) → opens_store asked ≡ true → comes_to_journal asked ≡ true
+comes_too Init opens = opens
+comes_too Simulate opens = refl
+comes_too (Drill number) opens = opens
+comes_too asked opens = refl
 
 refused_so : (fault : StartFault) (asked : Command) (file : List ℕ) (table : Guarded) → opens_store asked ≡ true → StartCause fault file table →
     OpeningCause fault asked file table
@@ -129,7 +136,7 @@ module _ {P B : Type 0} (files : source.Ghosts P) (bench : Ghosts B) (law : OneL
       let last = says.last in
       let are = λ (ptold : files.told). sound_files ptold public protected all entries in
       record {
-        words = says.words asked (opens_too asked opens);
+        words = says.words asked (comes_too asked opens);
         schema = λ ptold reads. schema_so status _ _ _ last (are ptold).files;
         table = λ ptold reads. table_so status _ _ _ last (are ptold).files;
         public = λ ptold is. not_public asked (opens_too asked opens) is;

@@ -137,12 +137,15 @@ restore_status restore.MainFailed = BenchFault
 restore_status restore.SpareFailed = SpareFault
 restore_status restore.NoMemory = NoMemory
 
--- of reading a transcript
+-- of beginning with a journal, and reading a transcript
 abbrev pub verdict_status : SimulationFault → Status
 verdict_status verdict.Input = SourceFault Input
 verdict_status verdict.Bench = BenchFault
 verdict_status verdict.Limit = InputLimit
 verdict_status (verdict.Disagrees line due) = Disagrees line due
+verdict_status (verdict.Damaged at) = Damaged at
+verdict_status (verdict.OtherShape kept now) = OtherShape kept now
+verdict_status (verdict.Illegal place group) = Illegal place group
 verdict_status verdict.NoMemory = NoMemory
 
 -- of making a journal, by how it ended

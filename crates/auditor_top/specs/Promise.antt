@@ -24,7 +24,8 @@ use Rattle.audit_session.specs.Lives.{Standing, Run, Follows, GoesFrom, IsLife, 
 use Rattle.audit_session.specs.Hidden.{IsHidden, HidesWhatStood, IsOpenWithin}
 use Rattle.audit_session.specs.Laws.{KeepsNumbers, KeepsGroups}
 use Rattle.twin_journal.specs.Twins.{CatchesUpOrStops, SpareCatchesUpOrStops}
-use Rattle.auditor_top.specs.Commands.{AreSoundFilesOf, GrowsOver, ServesOver, TwinsOver}
+use Rattle.auditor_top.specs.Commands.{ArePublicFilesOf, AreSoundFilesOf, GrowsOver, ServesOver, SimulatesOver, TwinsOver}
+use Rattle.auditor_top.specs.Ends.{public_part}
 
 -- a life decides as every life over tables that differ in their secrets alone, whose runs do the same and left the same histories
 -- and rows: to the next line both give one reply, or each the true answer of its own table
@@ -68,6 +69,13 @@ GrowthsAreTaken =
     (schema table file image before sent : List ℕ) (base : Database) (rows : ℕ) (history : List Answered) → GrowsOver schema table file base rows history →
     IsBeforeOrGrown (over rows base.secret.shape) history base.secret.shape.rows before image sent →
     GrowsOver schema table image base rows history ⊎ ServesOver schema table image base (widened base.secret.shape.rows history)
+
+-- what `serve` takes, and so what every run that it takes left, `simulate` begins with, over the public files of the table
+abbrev pub ServedIsSimulated : Type 0
+ServedIsSimulated =
+    (schema table file public_schema public_table : List ℕ) (base : Database) (history : List Answered) → ServesOver schema table file base history →
+    ArePublicFilesOf public_schema public_table base.columns (public_part base) →
+    SimulatesOver public_schema public_table file base.columns (public_part base) history
 
 -- every life whose last table is that of two files keeps the promise
 abbrev pub LivesKeepPromise : Type 0

@@ -21,6 +21,7 @@ use Rattle.audit_session.specs.Lives.{IsLife, Run, Standing, shape_in, serves}
 use Rattle.journal_audit.specs.Reports.{SendsMeanwhile, subjects}
 use Rattle.certificate_lines.specs.Ends.{ExplainsMeanwhile}
 use Rattle.certificate_lines.specs.Explained.{AreExplained}
+use Rattle.transcript_sim.specs.Beginning.{public_setting}
 use Rattle.transcript_sim.specs.Ends.{SimulatesMeanwhile}
 use Rattle.transcript_sim.specs.Verdicts.{AreVerdicts, exchanges}
 use Rattle.auditor_top.specs.declared.words.Command.{Command}
@@ -34,8 +35,8 @@ use Rattle.twin_journal.specs.Restoring.{CanRestore, IsLost, IsLostOf, Restored,
 use Rattle.twin_journal.specs.Twins.{CatchesUpOrStops, SpareCatchesUpOrStops, calls_to_open}
 use Rattle.auditor_top.specs.Stages.{Before, opening_journal}
 use Rattle.auditor_top.specs.Twins.{LeavesTwins, TwinEnds}
-use Rattle.auditor_top.specs.Causes.{BothCause, FaultCounts, counts, NothingFailed, IsDoneOrWants}
-use Rattle.auditor_top.specs.Commands.{AreFilesOf, ArePublicFilesOf, AreSoundFilesOf, GoesOnOver, GrowsOver, ServesOver, TwinsOver}
+use Rattle.auditor_top.specs.Causes.{BeginningCause, BothCause, FaultCounts, counts, NothingFailed, IsDoneOrWants}
+use Rattle.auditor_top.specs.Commands.{AreFilesOf, ArePublicFilesOf, AreSoundFilesOf, GoesOnOver, GrowsOver, ServesOver, SimulatesOver, TwinsOver}
 use Rattle.auditor_top.specs.Promise.{GoesOn}
 use Rattle.auditor_top.specs.Drills.{DrillEnds}
 use Rattle.auditor_top.specs.Ends.{AuditEnds, GrowEnds, LeavesFile, ServeEnds, SimulateEnds, SendsLines, ExplainEnds, audit_over, outside, public_part}
@@ -104,25 +105,34 @@ pub record Auditing {P I B : Type 0} (files : source.Ghosts P) (lines : source.G
 -- a run of `simulate`
 pub record Simulating {P I B : Type 0} (files : source.Ghosts P) (lines : source.Ghosts I) (bench : Ghosts B) (status : Status)
     (old new : Objects P I B) : Type 0 where
-  -- over a schema and the public part of a table: a verdict for each question of the input, whether or not the bench tells
-  -- what was sent; their lines were, or a front of them, at the end and at every moment
-  pub simulated : files.told → lines.told → (columns : List Column) (index : IndexView) →
-      ArePublicFilesOf (files.left old.schema) (files.left old.table) columns index →
-      (verdicts : List (Replied Answered)) × SimulateEnds status columns index (lines.left old.input) (lines.left new.input) verdicts ×
-      (bench.told → SendsLines status (bytes_of verdicts) (bench.sent old.bench) (bench.sent new.bench))
-  pub simulating : files.told → bench.told → IsQuiet bench old.bench → (columns : List Column) (index : IndexView) →
-      ArePublicFilesOf (files.left old.schema) (files.left old.table) columns index →
+  -- over a schema, the public part of a table, and a journal that gives a history to begin with: a verdict for each question of the input,
+  -- after that history; their lines were sent, or a front of them, at the end and at every moment
+  pub simulated : files.told → lines.told → bench.told → (columns : List Column) (index : IndexView) (history : List Answered) →
+      SimulatesOver (files.left old.schema) (files.left old.table) (bench.file old.bench) columns index history →
+      (verdicts : List (Replied Answered)) × SimulateEnds status columns index history (lines.left old.input) (lines.left new.input) verdicts ×
+      SendsLines status (bytes_of verdicts) (bench.sent old.bench) (bench.sent new.bench)
+  pub simulating : files.told → bench.told → IsQuiet bench old.bench → (columns : List Column) (index : IndexView) (history : List Answered) →
+      SimulatesOver (files.left old.schema) (files.left old.table) (bench.file old.bench) columns index history →
       LeavesOnly bench old.bench new.bench
-      (SimulatesMeanwhile lines.told columns index (counted_lines (lines.left old.input)) (bench.file old.bench) (bench.sent old.bench))
+      (SimulatesMeanwhile lines.told columns index history (counted_lines (lines.left old.input)) (bench.file old.bench) (bench.sent old.bench))
+  -- each refusal of the journal has its cause in the file, and no run comes to the lines over one that gives no history
+  pub cause : files.told → bench.told → (columns : List Column) (index : IndexView) →
+      ArePublicFilesOf (files.left old.schema) (files.left old.table) columns index →
+      BeginningCause status (bench.file old.bench) (public_setting columns index)
   -- the file stays, over whatever files
   pub undisturbed : bench.told → IsQuiet bench old.bench → LeavesOnly bench old.bench new.bench (LeavesFile (bench.file old.bench))
-  -- it took one call of the bench for each question
+  -- over any other files nothing began
+  pub untouched : files.told → bench.told → IsQuiet bench old.bench →
+      ((columns : List Column) (index : IndexView) (history : List Answered) →
+      SimulatesOver (files.left old.schema) (files.left old.table) (bench.file old.bench) columns index history → ⊥) →
+      LeavesOnly bench old.bench new.bench (IsUntouched (bench.file old.bench) (bench.sent old.bench))
+  -- it took two calls of the bench to open the journal, and one for each question
   pub simulate_calls : lines.told → bench.told → status ≡ Done →
-      bench.moment new.bench ≡ bench.moment old.bench + length (exchanges (counted_lines (lines.left old.input)))
+      bench.moment new.bench ≡ bench.moment old.bench + 2 + length (exchanges (counted_lines (lines.left old.input)))
   -- if nothing is wrong, all replies agree and nothing fails, it is done
-  pub simulates : files.told → lines.told → (columns : List Column) (index : IndexView) →
-      ArePublicFilesOf (files.left old.schema) (files.left old.table) columns index → (verdicts : List (Replied Answered)) →
-      AreVerdicts columns index (counted_lines (lines.left old.input)) verdicts → length (lines.left old.input) ≤ most_input →
+  pub simulates : files.told → lines.told → bench.told → (columns : List Column) (index : IndexView) (history : List Answered) →
+      SimulatesOver (files.left old.schema) (files.left old.table) (bench.file old.bench) columns index history → (verdicts : List (Replied Answered)) →
+      AreVerdicts columns index history (counted_lines (lines.left old.input)) verdicts → length (lines.left old.input) ≤ most_input →
       NothingFailed (faults_of files lines bench old) (faults_of files lines bench new) → IsDoneOrWants status
 
 -- a run of `init`

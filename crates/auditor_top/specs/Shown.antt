@@ -1,5 +1,6 @@
 -- What is shown of a table beside the replies, and that it tells nothing more than they do: a report follows from the schema, the number of
--- rows and the history, so do the counts of a compaction; a certificate from these and the public part, and a verdict from that and its transcript.
+-- rows and the history, so do the counts of a compaction; a certificate from these and the public part, and a verdict from that, its
+-- transcript and the history that it begins with.
 --
 -- The other commands show nothing of a table: `init` and `grow` send no byte (`unsent` of their records in Runs.antt), and `drill` reads
 -- no file (`no_files` of `run`).
@@ -18,13 +19,13 @@ use Rattle.certificate_lines.specs.Explained.{AreExplained}
 use Rattle.transcript_sim.specs.Verdicts.{AreVerdicts}
 use Rattle.auditor_top.specs.declared.status.Status.{Status}
 use Rattle.auditor_top.specs.declared.status.Status.TheVariants.{Done}
-use Rattle.auditor_top.specs.Commands.{AreSoundFilesOf, ArePublicFilesOf}
+use Rattle.auditor_top.specs.Commands.{AreSoundFilesOf, SimulatesOver}
 use Rattle.auditor_top.specs.Compactions.{CompactEnds, SendsCounts}
 use Rattle.auditor_top.specs.Ends.{AuditEnds, audit_over, public_part}
 
 -- after one history the same is shown of both tables: `audit` and `compact` may send of the one what they may send of the other, and nothing
--- else, by each status and at every moment; `explain` has the same line for every line that is asked; and `simulate` takes the same files, and
--- has the same verdicts on every transcript
+-- else, by each status and at every moment; `explain` has the same line for every line that is asked; and `simulate` takes the same files, with
+-- every journal, and has the same verdicts on every transcript, whatever history it begins with
 pub record AreShownAlike (base other : Database) (history : List Answered) : Type 0 where
   pub report : (status : Status) (before after : List ℕ) → AuditEnds status base history before after ↔ AuditEnds status other history before after
   pub meanwhile : (file before image sent : List ℕ) →
@@ -36,10 +37,10 @@ pub record AreShownAlike (base other : Database) (history : List Answered) : Typ
       CompactEnds status base.secret.shape history spare before after ↔ CompactEnds status other.secret.shape history spare before after
   pub compacting : (file before image sent : List ℕ) →
       SendsCounts base.secret.shape history file before image sent ↔ SendsCounts other.secret.shape history file before image sent
-  pub files : (schema table : List ℕ) →
-      ArePublicFilesOf schema table base.columns (public_part base) ↔ ArePublicFilesOf schema table other.columns (public_part other)
-  pub verdicts : (lines : List CountedLine) (verdicts : List (Replied Answered)) →
-      AreVerdicts base.columns (public_part base) lines verdicts ↔ AreVerdicts other.columns (public_part other) lines verdicts
+  pub files : (schema table file : List ℕ) (begun : List Answered) →
+      SimulatesOver schema table file base.columns (public_part base) begun ↔ SimulatesOver schema table file other.columns (public_part other) begun
+  pub verdicts : (begun : List Answered) (lines : List CountedLine) (verdicts : List (Replied Answered)) →
+      AreVerdicts base.columns (public_part base) begun lines verdicts ↔ AreVerdicts other.columns (public_part other) begun lines verdicts
 
 -- other secrets, which differ in this of a column, lead the same life, byte for byte, which keeps the promise of them too, so that `audit`
 -- takes its journal; and wherever it stands the same is shown of them

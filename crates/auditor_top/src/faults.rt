@@ -244,6 +244,9 @@ impl From<SimulationFault> for Status {
             SimulationFault::Bench => Status::BenchFault,
             SimulationFault::Limit => Status::InputLimit,
             SimulationFault::Disagrees { line, due } => Status::Disagrees { line, due },
+            SimulationFault::Damaged { at } => Status::Damaged { at },
+            SimulationFault::OtherShape { kept, now } => Status::OtherShape { kept, now },
+            SimulationFault::Illegal { place, group } => Status::Illegal { place, group },
             SimulationFault::NoMemory => Status::NoMemory,
         }
     }

@@ -12,7 +12,7 @@ ghost use Rattle.auditor_top.specs.Commands.{AreSoundFilesOf};
 ghost use Rattle.auditor_top.specs.Compactions.{DecideAlike, IsUnmadeOrKept};
 ghost use Rattle.auditor_top.specs.declared.words.Command.TheVariants.{Init, Serve, Audit, Simulate, Drill, Grow, Explain, Compact, Restore};
 ghost use Rattle.auditor_top.specs.Words.{command_of, number_of};
-ghost use Rattle.auditor_top.specs.Promise.{LivesKeepPromise, LivesGoOn, LivesGrow, GrowthsAreTaken, MadeIsTaken, StopsAreTaken, TwinStopsAreTaken, RunsMakeLives};
+ghost use Rattle.auditor_top.specs.Promise.{LivesKeepPromise, LivesGoOn, LivesGrow, GrowthsAreTaken, MadeIsTaken, StopsAreTaken, TwinStopsAreTaken, RunsMakeLives, ServedIsSimulated};
 ghost use Rattle.auditor_top.specs.Shown.{TwinsAreShownAlike, TwinsHaveOneReport, LivesTellNothingMore};
 
 // What files without fault mean is a database, and its secrets are those of a table.
@@ -85,15 +85,18 @@ pub fn nothing_more()
 
 /// What `init` made, and what a stop of `serve`, with two journals or one, or of `grow` at any moment left, is never refused: with the
 /// files of the table it is what the clauses `served`, `twins_served`, `audited` and `grown` of `run` take, whose ends have no status that
-/// refuses it. Nor is what a life left refused by `grow` over a table with more rows that keeps its numbers and its groups.
+/// refuses it. Nor is what a life left refused by `grow` over a table with more rows that keeps its numbers and its groups; nor what `serve`
+/// takes by `simulate`, over the public files of the table.
 pub fn never_refused()
     ensures made { MadeIsTaken }
     ensures left { StopsAreTaken }
     ensures twins { TwinStopsAreTaken }
     ensures grown { GrowthsAreTaken }
     ensures grows { LivesGrow }
+    ensures simulated { ServedIsSimulated }
 {
     stops_are_legal();
+    audit_core::laws::released_histories();
     twin_journal::laws::stay_together();
     sound_files();
     table_load::lists_of_secrets();

@@ -2,5 +2,7 @@ pub mod Stops
 pub mod Averages
 pub mod OneVerdict
 pub mod Exchanges
+pub mod Beginnings
+pub mod Begun
 pub mod SoFar
 pub mod Turns

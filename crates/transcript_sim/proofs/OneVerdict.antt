@@ -90,9 +90,10 @@ module _ (replies : LineIsOneReply) (plans : OnePlanIsMade) (judgements : OneJud
         let made : List ℕ → Option Answered → Replied Answered = λ bytes added. record { bytes = bytes; added = added } in
         ap (λ (l : List ℕ). made l a.added) bytes ∙ ap (λ (r : Option Answered). made b.bytes r) added
 
-    pub same_verdicts : (lines : List CountedLine) (verdicts others : List (Replied Answered)) → AreVerdicts columns index lines verdicts →
-        AreVerdicts columns index lines others → verdicts ≡ others
-    same_verdicts lines verdicts others first second = same_replies (IsVerdict columns index) one_verdict [] (exchanges lines) verdicts others first second
+    pub same_verdicts : (history : List Answered) (lines : List CountedLine) (verdicts others : List (Replied Answered)) →
+        AreVerdicts columns index history lines verdicts → AreVerdicts columns index history lines others → verdicts ≡ others
+    same_verdicts history lines verdicts others first second =
+        same_replies (IsVerdict columns index) one_verdict history (exchanges lines) verdicts others first second
 
 module _ (columns : List Column) (index : IndexView) where
   -- the verdict on a question doesn't wait for its reply
@@ -117,6 +118,6 @@ module _ (columns : List Column) (index : IndexView) where
       (out ∷ rest.0, (are.0, rest.1))
 
   -- the first lines of a transcript have verdicts
-  pub first_lines : (lines : List CountedLine) (verdicts : List (Replied Answered)) (count : ℕ) → AreVerdicts columns index lines verdicts →
-      (first : List (Replied Answered)) × AreVerdicts columns index (take count lines) first
-  first_lines lines verdicts count are = first_verdicts count [] lines verdicts are
+  pub first_lines : (history : List Answered) (lines : List CountedLine) (verdicts : List (Replied Answered)) (count : ℕ) →
+      AreVerdicts columns index history lines verdicts → (first : List (Replied Answered)) × AreVerdicts columns index history (take count lines) first
+  first_lines history lines verdicts count are = first_verdicts count history lines verdicts are

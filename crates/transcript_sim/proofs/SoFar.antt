@@ -22,6 +22,7 @@ use Rattle.transcript_sim.specs.declared.simulating.SimulationFault.TheVariants 
 use Rattle.transcript_sim.specs.Verdicts.{Expects, line_of, Exchange, exchanges, IsVerdict, AreVerdicts}
 use Rattle.line_wire.specs.Calls.{Cuts, GivesLine, GivesNone}
 use Rattle.transcript_sim.specs.Steps.{IsCutShort}
+use Rattle.transcript_sim.specs.Beginning.{OnRefused}
 use Rattle.transcript_sim.specs.Ends.{BeginVerdicts, EndVerdicts, EndSends, EndReads, SimulatesMeanwhile, Simulates}
 use Rattle.transcript_sim.proofs.Exchanges.{exchanges-append}
 
@@ -49,15 +50,16 @@ records-push verdicts out =
 pub no_fault : (fault : SimulationFault) → (let done : Result (Unit {0}) SimulationFault = Ok tt in done) ≡ Err fault → ⊥
 no_fault fault is = search rules
 
-module _ {P B : Type 0} (source : SourceGhosts P) (bench : Ghosts B) (columns : List Column) (index : IndexView) (first_source : P) (first : B) where
+module _ {P B : Type 0} (source : SourceGhosts P) (bench : Ghosts B) (columns : List Column) (index : IndexView) (begun : List Answered) (first_source : P)
+    (first : B) where
   -- what a crash finds meanwhile
   abbrev pub Meanwhile : List ℕ → List ℕ → Type 0
-  Meanwhile = SimulatesMeanwhile source.told columns index (counted_lines (source.left first_source)) (bench.file first) (bench.sent first)
+  Meanwhile = SimulatesMeanwhile source.told columns index begun (counted_lines (source.left first_source)) (bench.file first) (bench.sent first)
 
   -- these lines were read, and these are the verdicts on them
   pub record SoFar (cutter : Cutter) (from : P) (at : B) (lines : List CountedLine) (verdicts : List (Replied Answered)) : Type 0 where
     pub read : LinesSoFar source first_source from cutter lines
-    pub are : AreVerdicts columns index lines verdicts
+    pub are : AreVerdicts columns index begun lines verdicts
     pub sends : SentSoFar bench first at Meanwhile (bytes_of verdicts) (length verdicts)
 
   -- before the first line nothing was sent
@@ -83,21 +85,22 @@ module _ {P B : Type 0} (source : SourceGhosts P) (bench : Ghosts B) (columns : 
       read_now = one_line_more source first_source from cutter lines so_far.read after new cuts line gives
 
       -- a question, whose verdict is sent
-      module _ (half : ℕ) (even : length lines ≡ 2 * half) (expected : Expected) (expects : Expects columns index (records_of verdicts) line expected) where
-        are_with : AreVerdicts columns index (lines ++ line ∷ []) (verdicts ++ sent_for expected ∷ [])
+      module _ (half : ℕ) (even : length lines ≡ 2 * half) (expected : Expected) (expects : Expects columns index (begun ++ records_of verdicts) line
+          expected) where
+        are_with : AreVerdicts columns index begun (lines ++ line ∷ []) (verdicts ++ sent_for expected ∷ [])
         are_with =
             let asked : Exchange = record { question = line; shown = None } in
-            let verdict : IsVerdict columns index (records_of verdicts) asked (sent_for expected) = record {
+            let verdict : IsVerdict columns index (begun ++ records_of verdicts) asked (sent_for expected) = record {
               expected = expected;
               expects = expects;
               bytes_are = refl;
               taken = refl;
             } in
-            subst (λ (es : List Exchange). AreReplies (IsVerdict columns index) [] es (verdicts ++ sent_for expected ∷ []))
+            subst (λ (es : List Exchange). AreReplies (IsVerdict columns index) begun es (verdicts ++ sent_for expected ∷ []))
             (sym (exchanges-append lines (line ∷ []) half even))
-            (replies-append (IsVerdict columns index) [] (exchanges lines) (asked ∷ []) verdicts (sent_for expected ∷ []) so_far.are (verdict, tt))
+            (replies-append (IsVerdict columns index) begun (exchanges lines) (asked ∷ []) verdicts (sent_for expected ∷ []) so_far.are (verdict, tt))
 
-        begun_with : source.told → BeginVerdicts columns index (counted_lines (source.left first_source)) (verdicts ++ sent_for expected ∷ [])
+        begun_with : source.told → BeginVerdicts columns index begun (counted_lines (source.left first_source)) (verdicts ++ sent_for expected ∷ [])
         begun_with t = (lines ++ line ∷ [], first_lines source first_source after new (lines ++ line ∷ []) read_now t, are_with)
 
         -- a front of the verdicts, whose last one was sent so far
@@ -125,7 +128,7 @@ module _ {P B : Type 0} (source : SourceGhosts P) (bench : Ghosts B) (columns : 
           -- it couldn't be
           pub question_unsent : (bench.told → AppendsFront (bench.sent at) (line_of expected) (bench.sent sending))
               → Rose (bench.faults at) (bench.faults sending) → bench.last_failed sending ≡ true → bench.faults at ≤ bench.faults sending
-              → Simulates source bench columns index first_source after first sending (Err fault.Bench)
+              → Simulates source bench columns index begun first_source after first sending (Err fault.Bench)
           question_unsent part rose last later = record {
             verdicts =
                 λ t. (
@@ -150,20 +153,21 @@ module _ {P B : Type 0} (source : SourceGhosts P) (bench : Ghosts B) (columns : 
             bench_last = λ is. last;
             source_steady = λ other. gives.steady ∙ so_far.read.steady;
             bench_steady = λ other. absurd (other refl);
+            begun = tt;
           }
 
     -- ---- ends without a call of the bench
 
     -- by what is said of the verdicts and of the input
     pub ends : (after : P) (result : Result (Unit {0}) SimulationFault) → result ≢ Err fault.Bench
-        → (source.told → EndVerdicts result columns index (source.left first_source) (source.left after) verdicts)
+        → (source.told → EndVerdicts result columns index begun (source.left first_source) (source.left after) verdicts)
         → (bench.told → EndSends result verdicts (bench.sent first) (bench.sent at)) →
         (source.told → bench.told → OnOk result (bench.moment at ≡ bench.moment first + length (exchanges (counted_lines (source.left first_source))))) →
         (source.told → EndReads result (source.left first_source) (source.left after)) → source.faults from ≤ source.faults after
         → (result ≡ Err fault.Input → Rose (source.faults from) (source.faults after)) → (result ≡ Err fault.Input → source.last_failed after ≡ true) →
         (result ≢ Err fault.Input → source.faults after ≡ source.faults from)
-        → Simulates source bench columns index first_source after first at result
-    ends after result fine are sends calls reads later rose last steady = record {
+        → OnRefused result ⊥ → Simulates source bench columns index begun first_source after first at result
+    ends after result fine are sends calls reads later rose last steady taken = record {
       verdicts = λ t. (verdicts, are t, sends);
       calls = calls;
       reads = reads;
@@ -178,44 +182,49 @@ module _ {P B : Type 0} (source : SourceGhosts P) (bench : Ghosts B) (columns : 
       bench_last = λ is. absurd (fine is);
       source_steady = λ other. steady other ∙ so_far.read.steady;
       bench_steady = λ other. so_far.sends.steady;
+      begun = taken;
     }
 
     -- there was no memory
     pub wants_memory : (after : P) → source.faults after ≡ source.faults from →
-        Simulates source bench columns index first_source after first at (Err fault.NoMemory)
+        Simulates source bench columns index begun first_source after first at (Err fault.NoMemory)
     wants_memory after steady =
-        ends after (Err fault.NoMemory) (search rules) (λ t. (lines, first_lines source first_source from cutter lines so_far.read t, so_far.are)) so_far.sends.sent
-        (λ t told. tt) (λ t. tt) (omega (arith, steady)) (λ is. absurd (search rules)) (λ is. absurd (search rules)) (λ other. steady)
+        ends after (Err fault.NoMemory) (search rules) (λ t. (lines, first_lines source first_source from cutter lines so_far.read t, so_far.are))
+        so_far.sends.sent
+        (λ t told. tt) (λ t. tt) (omega (arith, steady)) (λ is. absurd (search rules)) (λ is. absurd (search rules)) (λ other. steady) tt
 
     module _ (new : Cutter) (after : P) (cuts : Cuts source cutter new from after) where
       -- no line is left
-      pub all_read : GivesNone source cutter new from after → Simulates source bench columns index first_source after first at (Ok tt)
+      pub all_read : GivesNone source cutter new from after → Simulates source bench columns index begun first_source after first at (Ok tt)
       all_read gives =
           let all = all_lines source first_source from cutter lines so_far.read after new cuts gives in
           ends after (Ok tt) (no_fault fault.Bench)
-          (λ t. subst (λ (ls : List CountedLine). AreVerdicts columns index ls verdicts) (sym (all t)) so_far.are) so_far.sends.sent
+          (λ t. subst (λ (ls : List CountedLine). AreVerdicts columns index begun ls verdicts) (sym (all t)) so_far.are) so_far.sends.sent
           (λ t told.
           omega (
             arith,
             so_far.sends.ticks told,
-            length-replies (IsVerdict columns index) [] (exchanges lines) verdicts so_far.are,
+            length-replies (IsVerdict columns index) begun (exchanges lines) verdicts so_far.are,
             ap (λ (ls : List CountedLine). length (exchanges ls)) (all t),
           )) (all_input source first_source from cutter lines so_far.read after new cuts gives) cuts.later (λ is. absurd (no_fault fault.Input is))
-          (λ is. absurd (no_fault fault.Input is)) (λ other. gives.steady)
+          (λ is. absurd (no_fault fault.Input is)) (λ other. gives.steady) tt
 
       -- no line was given
       pub cut_short : (why : SimulationFault) → IsCutShort source cutter new from after why →
-          Simulates source bench columns index first_source after first at (Err why)
+          Simulates source bench columns index begun first_source after first at (Err why)
       cut_short fault.Input short =
           ends after (Err fault.Input) (search rules)
           (λ t. (lines, lines_read source first_source from cutter lines so_far.read after new cuts short t, so_far.are)) so_far.sends.sent (λ t told. tt)
           (input_read source first_source from cutter lines so_far.read after new cuts short) cuts.later (λ is. short.rose) (λ is. short.last)
-          (λ other. absurd (other refl))
+          (λ other. absurd (other refl)) tt
       cut_short fault.Limit short =
           ends after (Err fault.Limit) (search rules)
           (λ t. (lines, lines_within source first_source from cutter lines so_far.read after new cuts short t, so_far.are)) so_far.sends.sent (λ t told. tt)
           (input_over source first_source from cutter lines so_far.read after new cuts short) cuts.later (λ is. absurd (search rules))
-          (λ is. absurd (search rules)) (λ other. short.steady)
+          (λ is. absurd (search rules)) (λ other. short.steady) tt
       cut_short fault.NoMemory short = wants_memory after short
       cut_short fault.Bench short = absurd short
       cut_short (fault.Disagrees line due) short = absurd short
+      cut_short (fault.Damaged place) short = absurd short
+      cut_short (fault.OtherShape kept now) short = absurd short
+      cut_short (fault.Illegal place group) short = absurd short

@@ -4,6 +4,8 @@ use Rattle.std.specs.Option.{option_to_list}
 use Rattle.audit_types.specs.History.{Setting, setting_of, FitsShape, known_of}
 use Rattle.audit_types.specs.Judgement.{IsWithinWidth}
 use Rattle.audit_types.specs.declared.records.Answered.{Answered}
+use Rattle.audit_core.specs.declared.replaying.ReplayFault.{ReplayFault}
+use Rattle.audit_core.specs.declared.replaying.ReplayFault.TheVariants as replay
 use Rattle.bench_core.specs.declared.bench.Bench.{Ghosts as BenchGhosts}
 use Rattle.bench_core.specs.declared.source.Source.{Ghosts}
 use Rattle.bench_core.specs.Bench.{AppendsFront, Elapses, Sending}
@@ -47,8 +49,7 @@ abbrev pub IsCutShort : {P : Type 0} → Ghosts P → Cutter → Cutter → P �
 IsCutShort source old new before after fault.Input = FailsRead source old new before after
 IsCutShort source old new before after fault.Limit = PassesLimit source old new before after
 IsCutShort source old new before after fault.NoMemory = source.faults after ≡ source.faults before
-IsCutShort source old new before after fault.Bench = ⊥
-IsCutShort source old new before after (fault.Disagrees line due) = ⊥
+IsCutShort source old new before after why = ⊥
 
 -- ---- the two lines of an exchange
 
@@ -148,3 +149,8 @@ abbrev pub plan_fault : PlanStop → SimulationFault
 plan_fault plan.Input = fault.Input
 plan_fault plan.Limit = fault.Limit
 plan_fault plan.NoMemory = fault.NoMemory
+
+-- and the one that a history makes which wasn't to be released
+abbrev pub replay_fault : ReplayFault → SimulationFault
+replay_fault (replay.Unreleased place group) = fault.Illegal place group
+replay_fault replay.NoMemory = fault.NoMemory

@@ -1,7 +1,6 @@
 //! One exchange of a transcript: a question, whose verdict is sent, and the line that was shown to it.
 ghost use Rattle.std.specs.Prelude.{◌≡◌, ◌++◌, [], true, false, OnOk, OnErr, IfOk, IfErr};
-ghost use Rattle.audit_types.specs.History.{IsPlainFor, setting_of};
-ghost use Rattle.audit_types.specs.Shapes.{IsShape};
+ghost use Rattle.audit_types.specs.History.{setting_of};
 ghost use Rattle.schema_json.specs.SecretShape.{shape_of};
 ghost use Rattle.table_load.specs.Cells.{FitsSchema};
 ghost use Rattle.line_wire.specs.Calls.{Cuts};
@@ -12,7 +11,7 @@ use crate::questions::next_shown;
 use crate::shown::Shown;
 use crate::simulating::SimulationFault;
 use audit_core::Core;
-use audit_types::{Guard, NoMemory, Shape};
+use audit_types::NoMemory;
 use bench_core::{Bench, Failed, Source};
 use question_plan::{Due, Planner};
 use schema_json::Schema;
@@ -39,7 +38,7 @@ fn take_answer(core: &mut Core, shown: &Option<Shown>) -> Result<(), NoMemory>
     }
 }
 
-/// What is kept from line to line: the lines that are to come, and the answers that were shown.
+/// What is kept from line to line: the lines that are to come, and the answers that were given and shown.
 #[derive(Drop)]
 pub(crate) struct Simulation {
     pub(crate) lines: Planner,
@@ -47,21 +46,14 @@ pub(crate) struct Simulation {
 }
 
 impl Simulation {
-    /// Nothing was read, and no answer was shown.
-    pub(crate) fn new(
-        alloc: Global,
-        shape: Shape,
-        protected: &Guard,
-    ) -> Result<Simulation, NoMemory>
-        requires valid { IsShape shape }
-        requires fit { IsPlainFor shape protected.now }
+    /// Nothing was read, and the answers so far are those of the core.
+    pub(crate) fn new(alloc: Global, core: Core) -> Result<Simulation, NoMemory>
         ensures fresh { IfOk result (λ simulation. (simulation.lines.taken ≡ 0) × (simulation.lines.pending ≡ []) × (simulation.lines.ended ≡ false)) }
-        ensures setting { IfOk result (λ simulation. simulation.core.setting ≡ setting_of shape protected.now) }
-        ensures nothing { IfOk result (λ simulation. simulation.core.history ≡ []) }
+        ensures core { IfOk result (λ simulation. simulation.core ≡ core) }
     {
         Ok(Simulation {
             lines: Planner::new(alloc)?,
-            core: Core::new(alloc, shape, protected.copy(alloc)?)?,
+            core,
         })
     }
 

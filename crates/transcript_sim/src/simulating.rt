@@ -3,35 +3,46 @@ ghost use Rattle.std.specs.Prelude.{◌≡◌, ◌≢◌, ◌≤◌, ◌+◌, []
 ghost use Rattle.audit_types.specs.History.{IsPlainFor, setting_of};
 ghost use Rattle.audit_types.specs.declared.records.Answered.{Answered};
 ghost use Rattle.bench_core.specs.Causes.{Rose};
-ghost use Rattle.bench_core.specs.Calls.{IsQuiet, LeavesOnly};
+ghost use Rattle.bench_core.specs.Calls.{IsQuiet, IsUntouched, LeavesOnly};
 ghost use Rattle.schema_json.specs.SecretShape.{shape_of};
 ghost use Rattle.table_load.specs.Cells.{FitsSchema};
 ghost use Rattle.line_wire.specs.Lines.{counted_lines};
 ghost use Rattle.question_plan.specs.Session.{Replied};
 ghost use Rattle.transcript_sim.specs.Verdicts.{exchanges};
 ghost use Rattle.transcript_sim.specs.Steps.{plan_fault, stop_fault};
+ghost use Rattle.transcript_sim.specs.Beginning.{BeginsWith, EndBegins, OnRefused, public_setting};
 ghost use Rattle.transcript_sim.specs.Ends.{EndReads, EndSends, EndVerdicts, Simulates, SimulatesMeanwhile};
 ghost use Rattle.transcript_sim.specs.declared.simulating.SimulationFault.TheVariants as fault;
 
+use crate::beginning::begin;
 use crate::judging::{Simulation, goes_on};
 use crate::laws::one_verdict;
-use audit_types::NoMemory;
+use audit_core::ReplayFault;
+use audit_types::{NoMemory, Shape};
 use bench_core::{Bench, Failed, Source};
+use journal_form::laws::{no_break_in_a_journal, one_reading};
 use line_wire::LineStop;
 use question_plan::{Due, PlanStop};
 use schema_json::Schema;
 use set_index::Index;
 use std::alloc::Global;
 
-/// Why reading a transcript ended before its input did.
+/// Why reading a transcript ended before its input did, or didn't begin.
 #[derive(Clone, Copy)]
 pub enum SimulationFault {
     /// The input failed.
     Input,
-    /// A verdict couldn't be sent.
+    /// A call on the journal failed, or a verdict couldn't be sent.
     Bench,
     /// The input has more than 2^30 bytes.
     Limit,
+    /// The place of the first byte that breaks the journal's grammar.
+    Damaged { at: u64 },
+    /// The journal is that of a table of another shape.
+    OtherShape { kept: Shape, now: Shape },
+    /// The first record of the journal, from 0, whose question was not to be released, and the place in the schema of the first protected
+    /// group that alone keeps it from being, if it would be released with no group protected.
+    Illegal { place: u32, group: Option<u8> },
     /// The line of this number, from 1, is the first reply that doesn't agree, and its question has this verdict. Lines that
     /// are passed over have no number.
     Disagrees { line: u64, due: Due },
@@ -77,6 +88,19 @@ impl From<NoMemory> for SimulationFault {
     }
 }
 
+impl From<ReplayFault> for SimulationFault {
+    ghost use Rattle.transcript_sim.specs.Steps.{replay_fault};
+
+    ghost from_gives = { λ given e. e ≡ replay_fault given };
+
+    fn from(given: ReplayFault) -> SimulationFault {
+        match given {
+            ReplayFault::Unreleased { place, group } => SimulationFault::Illegal { place, group },
+            ReplayFault::NoMemory => SimulationFault::NoMemory,
+        }
+    }
+}
+
 // Judges the exchanges that are still to come. A reply is looked at once the verdict on its question was sent.
 fn judge<P: Source, B: Bench>(
     alloc: Global,
@@ -89,8 +113,7 @@ fn judge<P: Source, B: Bench>(
     requires fresh { (simulation.old.lines.taken ≡ 0) × (simulation.old.lines.pending ≡ []) × (simulation.old.lines.ended ≡ false) }
     requires fits { FitsSchema schema.now.columns index.now.public }
     requires setting { simulation.old.core.setting ≡ setting_of (shape_of schema.now.columns index.now.public.rows) index.now.protected }
-    requires nothing { simulation.old.core.history ≡ [] }
-    ensures { Simulates P.Source B.Bench schema.now.columns index.now source.old source.new bench.old bench.new result }
+    ensures { Simulates P.Source B.Bench schema.now.columns index.now simulation.old.core.history source.old source.new bench.old bench.new result }
 {
     one_verdict();
     let mut line = 0;
@@ -105,8 +128,8 @@ fn judge<P: Source, B: Bench>(
 }
 
 /// Sends the verdict on each question of a transcript, by one call before its reply is looked at, and takes an answer only from
-/// a reply that agrees. No verdict depends on its own reply. The index is that of the schema's public columns and protected
-/// groups; no secret is read, and nothing is written.
+/// a reply that agrees. No verdict depends on its own reply. The transcript begins with the history of the bench's journal, if one is
+/// made there. The index is that of the schema's public columns and protected groups; no secret is read, and nothing is written.
 pub fn simulate<P: Source, B: Bench>(
     alloc: Global,
     schema: &Schema,
@@ -117,16 +140,24 @@ pub fn simulate<P: Source, B: Bench>(
     requires fits { FitsSchema schema.now.columns index.now.public }
     requires protected { IsPlainFor (shape_of schema.now.columns index.now.public.rows) index.now.protected }
 
-    // Which verdicts there are, whether or not the bench tells what was sent, and that their lines were, by one call for each
-    // question and no other.
-    ensures verdicts { P.told → (verdicts : List (Replied Answered)) × EndVerdicts result schema.now.columns index.now (P.left source.old) (P.left source.new) verdicts
-        × (B.told → EndSends result verdicts (B.sent bench.old) (B.sent bench.new)) }
-    ensures calls { P.told → B.told → OnOk result (B.moment bench.new ≡ B.moment bench.old + length (exchanges (counted_lines (P.left source.old)))) }
+    // Which verdicts there are after the history that it begins with, and that their lines were sent, by one call for each question and no
+    // other after the two that open the journal.
+    ensures verdicts { (history : List Answered) → P.told → B.told → BeginsWith (B.file bench.old) (public_setting schema.now.columns index.now) history
+        → (verdicts : List (Replied Answered)) × EndVerdicts result schema.now.columns index.now history (P.left source.old) (P.left source.new) verdicts
+        × EndSends result verdicts (B.sent bench.old) (B.sent bench.new) }
+    ensures calls { P.told → B.told → OnOk result (B.moment bench.new ≡ B.moment bench.old + 2 + length (exchanges (counted_lines (P.left source.old)))) }
     ensures reads { P.told → EndReads result (P.left source.old) (P.left source.new) }
 
-    // The file isn't touched, at the end and at every moment.
-    ensures any_moment { B.told → IsQuiet B.Bench bench.old
-        → LeavesOnly B.Bench bench.old bench.new (SimulatesMeanwhile P.told schema.now.columns index.now (counted_lines (P.left source.old)) (B.file bench.old) (B.sent bench.old)) }
+    // A journal is refused only for what it is, before anything is read or sent; over any other there is a history to begin with.
+    ensures begins { B.told → EndBegins result (B.file bench.old) (public_setting schema.now.columns index.now) }
+    ensures unbegun { OnRefused result ((source.new ≡ source.old) × (B.sent bench.new ≡ B.sent bench.old)) }
+
+    // The file isn't touched, at the end and at every moment. If no history can be begun with, nothing is sent.
+    ensures any_moment { (history : List Answered) → B.told → IsQuiet B.Bench bench.old → BeginsWith (B.file bench.old) (public_setting schema.now.columns index.now) history
+        → LeavesOnly B.Bench bench.old bench.new (SimulatesMeanwhile P.told schema.now.columns index.now history (counted_lines (P.left source.old)) (B.file bench.old) (B.sent bench.old)) }
+    ensures undisturbed { B.told → IsQuiet B.Bench bench.old → LeavesOnly B.Bench bench.old bench.new (λ image sent. image ≡ B.file bench.old) }
+    ensures untouched { B.told → IsQuiet B.Bench bench.old → ((history : List Answered) → BeginsWith (B.file bench.old) (public_setting schema.now.columns index.now) history → ⊥)
+        → LeavesOnly B.Bench bench.old bench.new (IsUntouched (B.file bench.old) (B.sent bench.old)) }
     ensures file { B.file bench.new ≡ B.file bench.old }
     ensures crash { (image : List ℕ) → B.leaves bench.new image → B.leaves bench.old image }
 
@@ -137,8 +168,11 @@ pub fn simulate<P: Source, B: Bench>(
     ensures last_call { (result ≡ Err SimulationFault.Input → P.last_failed source.new ≡ true) × (result ≡ Err SimulationFault.Bench → B.last_failed bench.new ≡ true) }
     ensures steady { (result ≢ Err SimulationFault.Input → P.faults source.new ≡ P.faults source.old) × (result ≢ Err SimulationFault.Bench → B.faults bench.new ≡ B.faults bench.old) }
 {
+    one_reading();
+    no_break_in_a_journal();
     // A public part says of itself that it has 1 to 1,024 rows.
     let rows = index.public().rows();
-    let mut simulation = Simulation::new(alloc, schema.shape(rows), index.protected())?;
+    let core = begin(alloc, schema.shape(rows), index.protected(), bench)?;
+    let mut simulation = Simulation::new(alloc, core)?;
     judge(alloc, &mut simulation, schema, index, source, bench)
 }

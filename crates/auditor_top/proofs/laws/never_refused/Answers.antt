@@ -1,4 +1,8 @@
-use Rattle.std.proofs.Common.{inl, inr}
+use Rattle.std.proofs.Common.{inl, inr, subst}
+use Rattle.audit_types.specs.declared.shapes.Shape.{Shape}
+use Rattle.audit_types.specs.History.{setting_of}
+use Rattle.audit_core.specs.Released.{WereReleased}
+use Rattle.journal_form.specs.Journal.{StandsFor}
 use Rattle.table_load.specs.Database.{table_in}
 use Rattle.auditor_top.proofs.NextRuns.{grows_next}
 use Rattle.auditor_top.proofs.OneRunMore.{nothing_is_legal}
@@ -35,3 +39,17 @@ pub returns-clause-grows : goal.returns-clause-grows
 returns-clause-grows c = λ schema table image base now runs last files life follows numbers keeps more stands.
     grows_next c.lives.ensures.legal c.followers.ensures schema table image base now runs last files (c.sound_files.ensures.database schema table now files)
     (c.lists_of_secrets.ensures now.secret (c.sound_files.ensures.secret schema table now files)) life follows numbers keeps more stands
+
+pub returns-clause-simulated : goal.returns-clause-simulated
+returns-clause-simulated c = λ schema table file public_schema public_table base history over given.
+    let is = c.sound_files.ensures.database schema table base over.files in
+    let released = c.released_histories.ensures (table_in base) history (c.lists_of_secrets.ensures base.secret (c.sound_files.ensures.secret schema
+    table base over.files))
+    is.protected.0 over.legal in
+    record {
+      files = given;
+      begins = inr (
+        subst (λ (s : Shape). StandsFor file s history) is.shape over.stands,
+        subst (λ (s : Shape). WereReleased (setting_of s base.protected) history) is.shape released,
+      );
+    }

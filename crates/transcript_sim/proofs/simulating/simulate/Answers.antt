@@ -1,40 +1,99 @@
-use Rattle.std.proofs.Common.{rules, ◌≡◌, List, [], Result, Err, refl, sym, subst}
-use Rattle.std.proofs.lemmas.List.{append-nil}
+use Rattle.std.proofs.Common.{rules, ◌≡◌, ◌≢◌, List, Result, Ok, Err, sym, ap, subst}
+use Rattle.audit_types.specs.History.{Setting, setting_of}
 use Rattle.audit_types.specs.declared.records.Answered.{Answered}
-use Rattle.question_plan.specs.Session.{Replied}
+use Rattle.audit_core.specs.Audited.{Audited}
+use Rattle.bench_core.specs.Calls.{TellsFault}
 use Rattle.transcript_sim.specs.declared.simulating.SimulationFault.{SimulationFault}
 use Rattle.transcript_sim.specs.declared.simulating.SimulationFault.TheVariants as fault
-use Rattle.transcript_sim.specs.Ends.{EndVerdicts, EndSends}
-use Rattle.transcript_sim.proofs.SoFar.{nothing_sent}
+use Rattle.transcript_sim.specs.Beginning.{BeginsWith, EndBegins, public_setting}
+use Rattle.transcript_sim.proofs.Beginnings.{ended_by}
+use Rattle.transcript_sim.proofs.Begun.{EndsSo, judged_so, not_begun, said_too, told_by_fault}
 use Rattle.transcript_sim.proofs.simulating.simulate.Goals as goal
 
-abbrev ended_by : SimulationFault → Result (Unit {0}) SimulationFault
-ended_by fault = Err fault
-
-pub returns-in_err-simulation-clause-verdicts : goal.returns-in_err-simulation-clause-verdicts
-returns-in_err-simulation-clause-verdicts g c = λ t.
-    let input = g.P.Source.left c.args.source.now in
-    let sent = g.B.Bench.sent c.args.bench.now in
-    let same : c.from_residual.result ≡ ended_by fault.NoMemory = search rules in
-    subst
-    (λ (r : Result (Unit {0}) SimulationFault). (verdicts : List (Replied Answered)) ×
-    EndVerdicts r c.args.schema.now.columns c.args.index.now input input verdicts × (g.B.Bench.told → EndSends r verdicts sent sent))
-    (sym same)
-    ([], ([], record { count = 0; are = refl }, tt), λ u. sym (append-nil sent))
-
-pub returns-in_err-simulation-clause-any_moment : goal.returns-in_err-simulation-clause-any_moment
-returns-in_err-simulation-clause-any_moment g c = λ told quiet.
-    (nothing_sent g.P.Source g.B.Bench c.args.schema.now.columns c.args.index.now c.args.source.now c.args.bench.now
-    (λ image bytes was. g.met.B.Bench.only_now c.args.bench.now image bytes was)).moments told quiet
-
-pub returns : goal.returns
-returns g c =
-    let all = c.judge.ensures in
+pub returns-in_err-core : goal.returns-in_err-core
+returns-in_err-core g c =
+    let columns = c.args.schema.now.columns in
+    let index = c.args.index.now in
+    let file = g.B.Bench.file c.args.bench.now in
+    let why = c.in_err-core.field-0.0 in
+    let same : c.from_residual.result ≡ ended_by (Unit {0}) why = search rules in
+    let setting : setting_of c.shape.result c.protected.result.now ≡ public_setting columns index = search rules in
+    let cause = λ (told : g.B.Bench.told).
+    subst (λ (s : Setting). EndBegins (ended_by (Unit {0}) why) file s) setting (said_too Audited why file (setting_of c.shape.result
+    c.protected.result.now) (c.in_err-core.ensures.cause told)) in
+    let all = subst (λ r. EndsSo g.P.Source g.B.Bench columns index c.args.source.now c.args.source.now c.args.bench.now c.begin.new.bench r) (sym same)
+    (not_begun g.P.Source g.B.Bench columns index c.args.source.now c.args.bench.now c.one_reading.ensures c.no_break_in_a_journal.ensures c.begin.new.bench
+    c.begin.ensures.reads why c.in_err-core.ensures.unbegun
+    (told_by_fault g.B.Bench c.args.bench.now c.begin.new.bench _ why c.in_err-core.ensures.fault) cause) in
     record {
       verdicts = all.verdicts;
       calls = all.calls;
       reads = all.reads;
+      begins = all.begins;
+      unbegun = all.unbegun;
       any_moment = all.moments;
+      undisturbed = all.undisturbed;
+      untouched = all.untouched;
+      file = all.file;
+      crash = all.crash;
+      later = (all.source_later, all.bench_later);
+      input = all.source_rose;
+      bench = all.bench_rose;
+      last_call = (all.source_last, all.bench_last);
+      steady = (all.source_steady, all.bench_steady);
+    }
+
+pub returns-in_err-simulation : goal.returns-in_err-simulation
+returns-in_err-simulation g c =
+    let columns = c.args.schema.now.columns in
+    let index = c.args.index.now in
+    let same : c.from_residual-in_err-simulation.result ≡ ended_by (Unit {0}) fault.NoMemory = search rules in
+    let tells = c.in_ok-core.ensures.fault in
+    let all = subst (λ r. EndsSo g.P.Source g.B.Bench columns index c.args.source.now c.args.source.now c.args.bench.now c.begin.new.bench r) (sym same)
+    (not_begun g.P.Source g.B.Bench columns index c.args.source.now c.args.bench.now c.one_reading.ensures c.no_break_in_a_journal.ensures c.begin.new.bench
+    c.begin.ensures.reads fault.NoMemory tt
+    (record { later = tells.later; failed = λ is. absurd cc; last_call = λ is. absurd cc; steady = λ other. tells.steady (λ is. cc) }) (λ told. tt)) in
+    record {
+      verdicts = all.verdicts;
+      calls = all.calls;
+      reads = all.reads;
+      begins = all.begins;
+      unbegun = all.unbegun;
+      any_moment = all.moments;
+      undisturbed = all.undisturbed;
+      untouched = all.untouched;
+      file = all.file;
+      crash = all.crash;
+      later = (all.source_later, all.bench_later);
+      input = all.source_rose;
+      bench = all.bench_rose;
+      last_call = (all.source_last, all.bench_last);
+      steady = (all.source_steady, all.bench_steady);
+    }
+
+pub returns : goal.returns
+returns g c =
+    let columns = c.args.schema.now.columns in
+    let index = c.args.index.now in
+    let file = g.B.Bench.file c.args.bench.now in
+    let history = c.in_ok-simulation.simulation.core.history in
+    let setting : setting_of c.shape.result c.protected.result.now ≡ public_setting columns index = search rules in
+    let begun = λ (told : g.B.Bench.told).
+    subst (λ (s : Setting). BeginsWith file s history) setting
+    (subst (λ (a : Audited). BeginsWith file (setting_of c.shape.result c.protected.result.now) a.history) (sym c.in_ok-simulation.ensures.core)
+    (c.in_ok-core.ensures.begins told)) in
+    let all = judged_so g.P.Source g.B.Bench columns index c.args.source.now c.args.bench.now c.one_reading.ensures c.begin.new.bench c.judge.new.bench
+    c.judge.new.source history c.judge.result c.begin.ensures.reads (c.in_ok-core.ensures.fault.steady (λ is. cc)) c.in_ok-core.ensures.ticks begun
+    c.judge.ensures in
+    record {
+      verdicts = all.verdicts;
+      calls = all.calls;
+      reads = all.reads;
+      begins = all.begins;
+      unbegun = all.unbegun;
+      any_moment = all.moments;
+      undisturbed = all.undisturbed;
+      untouched = all.untouched;
       file = all.file;
       crash = all.crash;
       later = (all.source_later, all.bench_later);

@@ -1,19 +1,19 @@
 -- What `run` says of `simulate`.
 use Rattle.std.proofs.Common.{◌≡◌, ◌+◌, List, length, Some, refl, sym, ◌∙◌, ap, subst, map, string_bytes}
 use Rattle.audit_types.specs.declared.records.Answered.{Answered}
-use Rattle.bench_core.specs.Calls.{IsQuiet, LeavesOnly}
-use Rattle.bench_core.specs.Moments.{weakens}
+use Rattle.bench_core.specs.Calls.{IsQuiet, IsUntouched, LeavesOnly}
 use Rattle.schema_json.specs.Columns.{Column}
 use Rattle.table_load.specs.Database.{table_in}
 use Rattle.table_load.specs.Tables.{public_of}
 use Rattle.line_wire.specs.Lines.{counted_lines}
 use Rattle.question_plan.specs.Session.{Replied}
+use Rattle.transcript_sim.specs.Beginning.{BeginsWith, EndBegins, public_setting}
 use Rattle.transcript_sim.specs.Ends.{EndSends, EndVerdicts, SimulatesMeanwhile}
 use Rattle.transcript_sim.specs.Verdicts.{exchanges}
 use Rattle.auditor_top.specs.declared.words.Command.TheVariants as command
 use Rattle.auditor_top.specs.declared.status.Status.{Status}
 use Rattle.auditor_top.specs.Words.{command_of}
-use Rattle.auditor_top.specs.Commands.{opens_journal, opens_store, reads_files, reads_lines, reads_secrets, calls_spare, ArePublicFilesOf}
+use Rattle.auditor_top.specs.Commands.{opens_journal, opens_store, reads_files, reads_lines, reads_secrets, calls_spare, ArePublicFilesOf, SimulatesOver}
 use Rattle.auditor_top.specs.Causes.{InputCause, FaultCause}
 use Rattle.auditor_top.specs.Ready.{IsReadyOver}
 use Rattle.auditor_top.specs.Runs.{objects, faults_of, Simulating}
@@ -22,7 +22,7 @@ use Rattle.auditor_top.proofs.OneRunMore.{does_so, never_goes_on}
 use Rattle.auditor_top.proofs.OneTable.{schema_is_ok, table_is_ok, groups_are_sound}
 use Rattle.auditor_top.proofs.Openings.{stays}
 use Rattle.auditor_top.proofs.Refusals.{as_quiet}
-use Rattle.auditor_top.proofs.SimulationEndings.{carried_public, simulation_ends, simulation_sends, simulation_reads, simulation_faults, simulation_wants, simulation_says}
+use Rattle.auditor_top.proofs.SimulationEndings.{carried_public, refused_so, refused_too, simulation_cause, simulation_ends, simulation_sends, simulation_reads, simulation_faults, simulation_wants, simulation_says}
 use Rattle.auditor_top.specs.Stages.{opening_spare}
 use Rattle.auditor_top.proofs.StepStatuses.{at_lines, EndsLastStep, schema_read, table_read, past_table, past_journal, no_schema_fault, no_table_fault, schema_was_read, table_was_read, always_before, groups_read}
 use Rattle.set_index.specs.Indexed.{IndexView}
@@ -35,12 +35,19 @@ are : (g : Over) (c : goal.After-drop-schema-inside-in-Ok-Simulate-3 g) → g.P.
     ArePublicFilesOf (g.P.Source.left c.args.schema.now) (g.P.Source.left c.args.table.now) c.in-Ok-Simulate.schema.columns c.in-Ok-Simulate.index
 are g c ptold = subst (IsReadyOver _ _) c.in-Ok-Simulate.field-0-is (c.in-Ok-Simulate.ensures.over ptold)
 
+-- opening doesn't call the bench
+same_bench : (g : Over) (c : goal.After-drop-schema-inside-in-Ok-Simulate-3 g) → c.open.new.bench ≡ c.args.bench.now
+same_bench g c =
+    let same : c.in-Ok.command ≡ command.Simulate = same_command _ _ _ c.in-Ok-Simulate.field-0-is c.in-Ok-Simulate.ensures.asked in
+    c.open.ensures.unopened (ap opens_store same)
+
 judged_faults : (g : Over) (c : goal.After-drop-schema-inside-in-Ok-Simulate-3 g) → FaultCause c.judged.result
     (faults_of g.P.Source g.I.Source g.B.Bench (objects c.args.schema.now c.args.table.now c.args.input.now c.args.bench.now c.args.spare.now))
     (faults_of g.P.Source g.I.Source g.B.Bench (objects c.open.new.schema c.open.new.table c.simulate.new.source c.simulate.new.bench c.args.spare.now))
 judged_faults g c =
     let does = c.simulate.ensures in
-    faults_so c.judged.result _ (faults_of g.P.Source g.I.Source g.B.Bench (objects c.args.schema.now c.args.table.now c.args.input.now c.args.bench.now c.args.spare.now)) _
+    faults_so c.judged.result _ (faults_of g.P.Source g.I.Source g.B.Bench (objects c.args.schema.now c.args.table.now c.args.input.now
+    c.args.bench.now c.args.spare.now)) _
     _ c.judged.ensures c.in-Ok-Simulate.ensures.steady (simulation_faults c.simulate.result _ _ _ does.input does.steady.0 does.bench does.steady.1)
 
 judging : (g : Over) (c : goal.After-drop-schema-inside-in-Ok-Simulate-3 g) →
@@ -55,38 +62,63 @@ judging g c =
     let table = g.P.Source.left old.table in
     let text = g.I.Source.left old.input in
     let left = g.I.Source.left new.input in
+    let file = g.B.Bench.file at in
+    let sent = g.B.Bench.sent at in
+    let ended = c.simulate.result in
     let columns = c.in-Ok-Simulate.schema.columns in
     let index = c.in-Ok-Simulate.index in
-    let same : c.in-Ok.command ≡ command.Simulate = same_command _ _ _ c.in-Ok-Simulate.field-0-is c.in-Ok-Simulate.ensures.asked in
-    let unopened : c.open.new.bench ≡ at = c.open.ensures.unopened (ap opens_store same) in
-    let sends = subst (λ b. g.I.Source.told → (verdicts : List (Replied Answered)) × EndVerdicts c.simulate.result columns index text left verdicts
-    × (g.B.Bench.told → EndSends c.simulate.result verdicts (g.B.Bench.sent b) (g.B.Bench.sent later))) unopened c.simulate.ensures.verdicts in
-    let moments = subst (λ b. g.B.Bench.told → IsQuiet g.B.Bench b → LeavesOnly g.B.Bench b later
-    (SimulatesMeanwhile g.I.Source.told columns index (counted_lines text) (g.B.Bench.file b) (g.B.Bench.sent b))) unopened c.simulate.ensures.any_moment in
+    let unopened = same_bench g c in
+    let sends = subst (λ b. (history : List Answered) → g.I.Source.told → g.B.Bench.told → BeginsWith (g.B.Bench.file b) (public_setting columns
+    index) history →
+    (verdicts : List (Replied Answered)) × EndVerdicts ended columns index history text left verdicts
+    × EndSends ended verdicts (g.B.Bench.sent b) (g.B.Bench.sent later)) unopened c.simulate.ensures.verdicts in
+    let moments = subst (λ b. (history : List Answered) → g.B.Bench.told → IsQuiet g.B.Bench b → BeginsWith (g.B.Bench.file b) (public_setting
+    columns index) history →
+    LeavesOnly g.B.Bench b later (SimulatesMeanwhile g.I.Source.told columns index history (counted_lines text) (g.B.Bench.file b) (g.B.Bench.sent b)))
+    unopened c.simulate.ensures.any_moment in
+    -- what is said of what was read is said of what the files mean
+    let carried : ((ptold : g.P.Source.told) (Says : List Column → IndexView → Type 0) (columns_given : List Column) (given : IndexView) →
+    ArePublicFilesOf schema table columns_given given → Says columns index → Says columns_given given) = λ ptold Says columns_given given files.
+    carried_public c.groups_of_a_schema.ensures.entries Says schema table columns columns_given index given (are g c ptold) files in
+    let verdicts_over : ((ptold : g.P.Source.told) (itold : g.I.Source.told) (told : g.B.Bench.told) (columns_given : List Column) (given : IndexView)
+    (history : List Answered) → SimulatesOver schema table file columns_given given history →
+    (verdicts : List (Replied Answered)) × EndVerdicts ended columns_given given history text left verdicts × EndSends ended verdicts sent
+    (g.B.Bench.sent later)) =
+    λ ptold itold told columns_given given history over.
+    carried ptold (λ cs p. BeginsWith file (public_setting cs p) history →
+    (verdicts : List (Replied Answered)) × EndVerdicts ended cs p history text left verdicts × EndSends ended verdicts sent (g.B.Bench.sent later))
+    columns_given given over.files (sends history itold told) over.begins in
     subst (λ (s : Status). Simulating g.P.Source g.I.Source g.B.Bench s old new) (sym c.judged.ensures) (record {
-      simulated = λ ptold itold columns_given given files.
-          let all = sends itold in (
+      simulated = λ ptold itold told columns_given given history over.
+          let all = verdicts_over ptold itold told columns_given given history over in (
             all.0,
-            simulation_ends c.simulate.result columns_given given text left all.0
-                (carried_public c.groups_of_a_schema.ensures.entries (λ (cs : List Column) (p : IndexView). EndVerdicts c.simulate.result cs p text left all.0) schema table columns columns_given index
-                given (are g c ptold) files all.1),
-            λ told. simulation_sends c.simulate.result all.0 (g.B.Bench.sent at) (g.B.Bench.sent later) (all.2 told),
+            simulation_ends ended columns_given given history text left all.0 all.1,
+            simulation_sends ended all.0 sent (g.B.Bench.sent later) all.2,
           );
-      simulating = λ ptold told quiet columns_given given files.
-          carried_public c.groups_of_a_schema.ensures.entries (λ (cs : List Column) (p : IndexView). LeavesOnly g.B.Bench at later
-          (SimulatesMeanwhile g.I.Source.told cs p (counted_lines text) (g.B.Bench.file at) (g.B.Bench.sent at))) schema table columns columns_given index given
-          (are g c ptold) files (moments told quiet);
-      undisturbed = λ told quiet. weakens g.B.Bench at later _ _ (λ image sent found. found.0) (moments told quiet);
+      simulating = λ ptold told quiet columns_given given history over.
+          carried ptold (λ cs p. BeginsWith file (public_setting cs p) history →
+          LeavesOnly g.B.Bench at later (SimulatesMeanwhile g.I.Source.told cs p history (counted_lines text) file sent))
+          columns_given given over.files (moments history told quiet) over.begins;
+      cause = λ ptold told columns_given given files.
+          simulation_cause ended file (public_setting columns_given given)
+          (carried ptold (λ cs p. EndBegins ended file (public_setting cs p)) columns_given given files
+          (subst (λ b. EndBegins ended (g.B.Bench.file b) (public_setting columns index)) unopened (c.simulate.ensures.begins told)));
+      undisturbed = λ told.
+          subst (λ b. IsQuiet g.B.Bench b → LeavesOnly g.B.Bench b later (λ image bytes. image ≡ g.B.Bench.file b)) unopened
+          (c.simulate.ensures.undisturbed told);
+      untouched = λ ptold told quiet none.
+          subst (λ b. IsQuiet g.B.Bench b → ((history : List Answered) → BeginsWith (g.B.Bench.file b) (public_setting columns index) history → ⊥) →
+          LeavesOnly g.B.Bench b later (IsUntouched (g.B.Bench.file b) (g.B.Bench.sent b))) unopened (c.simulate.ensures.untouched told) quiet
+          (λ history begins. none columns index history (record { files = are g c ptold; begins = begins }));
       simulate_calls = λ itold told done.
-          (simulation_says c.simulate.result).done _ done (c.simulate.ensures.calls itold told)
-          ∙ ap (λ b. g.B.Bench.moment b + length (exchanges (counted_lines text))) unopened;
-      simulates = λ ptold itold columns_given given files verdicts agree within none.
-          let all = sends itold in
-          simulation_wants c.one_verdict.ensures.first c.simulate.result columns_given given text left all.0 verdicts
-          (faults_of g.P.Source g.I.Source g.B.Bench old) (faults_of g.P.Source g.I.Source g.B.Bench new)
-          (carried_public c.groups_of_a_schema.ensures.entries (λ (cs : List Column) (p : IndexView). EndVerdicts c.simulate.result cs p text left all.0) schema table columns columns_given index
-          given (are g c ptold) files all.1)
-          (c.simulate.ensures.reads itold) agree within (subst (λ (s : Status). FaultCause s (faults_of g.P.Source g.I.Source g.B.Bench old) (faults_of g.P.Source g.I.Source g.B.Bench new)) c.judged.ensures (judged_faults g c)) none;
+          (simulation_says ended).done _ done (c.simulate.ensures.calls itold told)
+          ∙ ap (λ b. g.B.Bench.moment b + 2 + length (exchanges (counted_lines text))) unopened;
+      simulates = λ ptold itold told columns_given given history over verdicts agree within none.
+          let all = verdicts_over ptold itold told columns_given given history over in
+          simulation_wants c.one_verdict.ensures.first ended columns_given given history text left all.0 verdicts
+          (faults_of g.P.Source g.I.Source g.B.Bench old) (faults_of g.P.Source g.I.Source g.B.Bench new) all.1 (c.simulate.ensures.reads itold) agree within
+          (subst (λ (s : Status). FaultCause s (faults_of g.P.Source g.I.Source g.B.Bench old) (faults_of g.P.Source g.I.Source g.B.Bench new)) c.judged.ensures
+          (judged_faults g c)) none;
     })
 
 pub simulate_ends : goal.returns-in-Ok-Simulate
@@ -105,7 +137,8 @@ simulate_ends g c =
       schema = λ ptold command asked reads. schema_read status _ last (schema_is_ok _ _ (are g c ptold).schema_is);
       table = λ ptold command asked reads. lacks_step reads_secrets _ _ command is_named asked refl reads;
       public = λ ptold asked meant is. table_read status _ last
-          (table_is_ok (λ (cs : List Column). public_of cs (g.P.Source.left c.args.table.now)) _ _ meant _ (are g c ptold).schema_is (are g c ptold).public_is is);
+          (table_is_ok (λ (cs : List Column). public_of cs (g.P.Source.left c.args.table.now)) _ _ meant _ (are g c ptold).schema_is (are g c
+          ptold).public_is is);
       groups = λ ptold command asked reads meant is. groups_read status _ _ last
           (groups_are_sound c.groups_of_a_schema.ensures.entries _ _ _ _ _ meant (are g c ptold).schema_is (are g c ptold).entries is);
       own_schema_fault = no_schema_fault status last;
@@ -113,7 +146,8 @@ simulate_ends g c =
       file = λ ptold told. file_so _ command.Simulate status _ is_named c.judged.ensures refl _ _ file
           (λ base sound. (simulation_says c.simulate.result).file file (table_in base));
       input = λ itold command asked reads. subst (λ (s : Status). InputCause s text left) (sym c.judged.ensures)
-          (simulation_reads c.simulate.result text left (c.simulate.ensures.reads itold));
+          (simulation_reads c.simulate.result text left (c.simulate.ensures.reads itold)
+          (refused_so c.simulate.result (λ unbegun. ap g.I.Source.left unbegun.0) c.simulate.ensures.unbegun));
       faults = judged_faults g c;
       schema_last = schema_was_read status last;
       table_last = table_was_read status last;
@@ -132,8 +166,10 @@ simulate_ends g c =
       before_table = past_table _ status last;
       before_bench = past_journal _ status last;
       before_spare = λ other. always_before opening_spare status refl;
-      before_lines = at_lines _ _ _ c.judged.ensures ((simulation_says c.simulate.result).at_lines _);
-      unwritten = λ told. at_lines _ _ _ c.judged.ensures ((simulation_says c.simulate.result).at_lines _);
+      before_lines = at_lines _ _ _ c.judged.ensures ((simulation_says c.simulate.result).at_lines _
+          (refused_so c.simulate.result (λ unbegun. (unbegun.0, unbegun.1 ∙ reads.sent)) c.simulate.ensures.unbegun));
+      unwritten = λ told. at_lines _ _ _ c.judged.ensures ((simulation_says c.simulate.result).at_lines _
+          (refused_too c.simulate.result (c.simulate.ensures.file ∙ reads.file)));
       unread = λ none. none_asked _ _ none is_named;
       no_files = λ command asked none. takes_step reads_files _ _ _ is_named asked refl none;
       no_lines = λ command asked none. takes_step reads_lines _ _ _ is_named asked refl none;
