@@ -67,7 +67,7 @@ def write_schema(columns, groups, keys):
         json.dump({"columns": columns, **guarded, **keys}, schema)
 
 
-def write_table(rows, groups, keys):
+def write_table(rows, groups, **keys):
     draw = random.Random(29)
     halves = [f"h{k}" for k in range(12)]
     roles = {"k": "number", "g": "number", **dict.fromkeys(halves, "number"), "v": "sum", "m": "max"}
@@ -129,7 +129,7 @@ def main():
             name = f"{rows}-{sets}-{ask}" + (f"-{groups}-protected" if groups else "")
             if given.only not in name:
                 continue
-            write_table(rows, groups, keys)
+            write_table(rows, groups, **keys)
             write_questions(sets, ask, rows, count)
             best, equal = compare(programs, given.rounds, given.opening)
             (auditor, peak), (plain, _) = best["auditor"], best["plain"]
