@@ -100,7 +100,7 @@ class Plans(PlanCase):
         self.assertGreater(len(sums), 40)
         for line, reply in zip(sums, self.serve(sums)):
             self.assertTrue("sum" in reply or "num" in reply, (line, reply))
-        self.assertIn("1 question on maxima stand last", said)
+        self.assertIn("1 question on maxima or minima stand last", said)
 
     def test_a_question_is_written_as_the_clients_write_it(self):
         self.office()
