@@ -66,20 +66,20 @@ abbrev pub IsProtected : Shape → Protected → Type 0
 IsProtected shape p = FitsShape shape p.column p.rows × (kind_at shape p.column ≡ Sum)
 
 -- protection that fits: at most 64 groups, an asker knows at most one number, her own, a row of one person is guarded, a width from 1 to
--- 2 ^ 56, and a reach from 2 to the most rows of a table
+-- 2 ^ 56, a reach from 2 to the most rows of a table, and shared rows of the table
 abbrev pub AreProtected : Shape → Protection → Type 0
 AreProtected shape protected =
     All (IsProtected shape) protected.groups × (length protected.groups ≤ most_groups) × (protected.own ≤ 1)
     × ((row : ℕ) → has_row protected.several row ≡ false → has_row protected.shared row ≡ false) × (0 < protected.width) × (protected.width ≤ most_width)
-    × (1 < protected.reach) × (protected.reach ≤ most_rows)
+    × (1 < protected.reach) × (protected.reach ≤ most_rows) × AreRows shape.rows protected.shared
 
--- plain protection: each row is guarded, and no asker is in the table
-abbrev pub IsPlain : Protection → Type 0
-IsPlain protected = protected ≡ against_outsiders protected.groups [] protected.width protected.reach
+-- what is guarded if no asker is in the table
+abbrev pub IsAgainstOutsiders : Protection → Type 0
+IsAgainstOutsiders protected = protected ≡ against_outsiders protected.groups protected.shared protected.width protected.reach
 
--- plain protection that fits
-abbrev pub IsPlainFor : Shape → Protection → Type 0
-IsPlainFor shape protected = AreProtected shape protected × IsPlain protected
+-- the same, if it fits a table of this shape
+abbrev pub IsGuardFor : Shape → Protection → Type 0
+IsGuardFor shape protected = AreProtected shape protected × IsAgainstOutsiders protected
 
 -- what a history tells of a column
 abbrev pub known_of : Setting → List Answered → ℕ → Known

@@ -1,7 +1,7 @@
 -- Files without fault are those of a database.
 use Rattle.std.proofs.Common.{◌≡◌, ℕ, List, Ok, sym, subst}
 use Rattle.audit_types.specs.declared.shapes.Shape.{Shape}
-use Rattle.audit_types.specs.History.{IsPlainFor}
+use Rattle.audit_types.specs.History.{IsGuardFor}
 use Rattle.schema_json.specs.Columns.{Column, SchemaView, AreColumns, IsSchema}
 use Rattle.schema_json.specs.Reading.{schema_of}
 use Rattle.schema_json.specs.SecretShape.{shape_of}
@@ -37,7 +37,7 @@ module _ (fit : MeaningsFit) (schema table : List ℕ) (base : Database) (sound 
       record {
         schema = is_schema.columns;
         shape = shape;
-        protected = subst (λ (s : Shape). IsPlainFor s base.protected) (sym shape)
+        protected = subst (λ (s : Shape). IsGuardFor s base.protected) (sym shape)
             (fit.entries base.columns base.public sound.files.guards base.protected is_schema.columns
             (record { some = seen.some; at_most = seen.at_most; columns = seen.columns }) is_schema.guards sound.entries);
       }

@@ -13,12 +13,12 @@ use Rattle.audit_types.specs.Shapes.{columns, kind_at}
 use Rattle.audit_types.specs.Truth.{sum_over}
 use Rattle.audit_types.specs.Form.{set_row, InSpan}
 use Rattle.audit_types.specs.Column.{Agrees, IsDangerous, known_sum, total, with_groups, with_bounds}
-use Rattle.audit_types.specs.History.{Table, Protection, AreSecrets, IsPlainFor, AgreeWithHistory, IsLegal, answers_of, groups_of, known_of, list_of}
+use Rattle.audit_types.specs.History.{Table, Protection, AreSecrets, IsGuardFor, AgreeWithHistory, IsLegal, answers_of, groups_of, known_of, list_of}
 use Rattle.audit_types.specs.Laws.{TrueAnswersKeepAgreement}
 use Rattle.audit_types.specs.ListLaws.{all-get_or, all-push, all-weaker}
-use Rattle.audit_types.specs.PlainLaws.{some_row}
+use Rattle.audit_types.specs.OutsiderLaws.{some_row}
 use Rattle.audit_core.specs.Laws.{LegalIsUndisclosed, LegalPinsNothing}
-use Rattle.audit_core.specs.PlainColumns.{plain_sums, plain_danger}
+use Rattle.audit_core.specs.OutsiderColumns.{outsiders_sums, outsiders_danger}
 use Rattle.sum_audit.specs.Laws.{FixedTotalsBySpan, DangerousByPins}
 use Rattle.sum_basis.specs.Spans.{span_trans}
 use Rattle.denial_proof.proofs.KeptIndependent.{span_first, span_more}
@@ -42,7 +42,7 @@ pub record LegalLaws : Type 0 where
   pub dangerous : DangerousByPins
 
 module _ (laws : LegalLaws) (table : Table) (history : List Answered) (secrets : AreSecrets table.setting.shape table.secrets)
-    (protected : IsPlainFor table.setting.shape table.setting.protected)
+    (protected : IsGuardFor table.setting.shape table.setting.protected)
     (legal : IsLegal table history) where
   -- the table's own secrets agree with each front of the history
   front_agrees : (i : ℕ) → i ≤ length history → AgreeWithHistory table.setting (take i history) table.secrets
@@ -65,7 +65,7 @@ module _ (laws : LegalLaws) (table : Table) (history : List Answered) (secrets :
     -- what agrees with the history on a column of sums
     as_sums : (w : List ℤ) → Agrees (known_of table.setting history column) w → Agrees (known_sum table.setting.shape.rows (answers_of column history)) w
     as_sums w agrees =
-        let of_sums = subst (λ known. Agrees known w) (plain_sums table.setting history column protected.1 sums) agrees in
+        let of_sums = subst (λ known. Agrees known w) (outsiders_sums table.setting history column protected.1 sums) agrees in
         record { one_each = of_sums.one_each; same = of_sums.same }
 
     pub own_agrees : Agrees (known_sum table.setting.shape.rows (answers_of column history)) (list_of table.secrets column)
@@ -97,10 +97,10 @@ module _ (laws : LegalLaws) (table : Table) (history : List Answered) (secrets :
           let sets : List (List ℕ) = map (λ a. a.rows) answers in
           let groups_are = groups_of column table.setting.protected.groups in
           let known = with_groups (with_bounds (known_sum n answers) table.setting.protected.width table.setting.protected.reach) groups_are in
-          let of_sums : IsDangerous known rows = subst (λ k. IsDangerous k rows) (plain_sums table.setting history column protected.1 sums) danger in
+          let of_sums : IsDangerous known rows = subst (λ k. IsDangerous k rows) (outsiders_sums table.setting history column protected.1 sums) danger in
           let with_asked = all-push (AreRows n) sets rows are own in
           let group_rows = All-weaker (λ group. AreRows n group × (group ≢ [])) (AreRows n) (λ group is. is.0) groups_are groups in
-          elim (plain_danger known (sets ++ rows ∷ []) refl refl
+          elim (outsiders_danger known (sets ++ rows ∷ []) refl refl
           ((laws.dangerous n answers [] [] groups_are 0 table.setting.protected.width table.setting.protected.reach rows with_asked group_rows
           (list_of table.secrets column, own_agrees)).0 of_sums)) [
             | inl (i, pinned) ↦

@@ -11,7 +11,7 @@ use Rattle.audit_types.specs.declared.shapes.Kind.TheVariants as kind
 use Rattle.audit_types.specs.Rows.{IsLeast}
 use Rattle.audit_types.specs.Column.{Known, known_max}
 use Rattle.audit_types.specs.Extremes.{IsLone, IsLeastLone}
-use Rattle.audit_types.specs.History.{Setting, FitsShape, IsPlainFor, IsDecisionAfter, answers_of}
+use Rattle.audit_types.specs.History.{Setting, FitsShape, IsGuardFor, IsDecisionAfter, answers_of}
 use Rattle.max_audit.specs.Witnesses.{highest}
 use Rattle.denial_proof.specs.declared.proof_parts.Proof.{Proof}
 use Rattle.denial_proof.specs.declared.proof_parts.Proof.TheVariants.{Sum, Max}
@@ -71,7 +71,7 @@ same_maxima n history asked answer other row else place pair high numbers first 
 
 -- ---- both
 
-module _ (unsafe : DeniedSumsAreUnsafe) (setting : Setting) (history : List Answered) (asked : Asked) (fit : IsPlainFor setting.shape setting.protected)
+module _ (unsafe : DeniedSumsAreUnsafe) (setting : Setting) (history : List Answered) (asked : Asked) (fit : IsGuardFor setting.shape setting.protected)
     (legal : IsLegalIn setting history) (question : FitsShape setting.shape asked.column asked.rows)
     (denied : IsDecisionAfter setting history asked.column asked.rows.list DeniedUnsafe) where
   records_fit : All (λ r. FitsShape setting.shape r.column r.rows) history

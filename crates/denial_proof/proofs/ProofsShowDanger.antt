@@ -31,8 +31,8 @@ use Rattle.denial_proof.specs.Weights.{weight_of, weights_of, rows_at}
 use Rattle.denial_proof.specs.Certificates.{IsTerm, IsTarget, rows_of, ShowsTotal, ShowsRow, answers_after}
 use Rattle.denial_proof.specs.Laws.{ProofsShowDanger}
 use Rattle.max_bounds.specs.RowListLaws.{row_below}
-use Rattle.audit_types.specs.PlainLaws.{some_row}
-use Rattle.audit_core.specs.PlainColumns.{plain_as, plain_known}
+use Rattle.audit_types.specs.OutsiderLaws.{some_row}
+use Rattle.audit_core.specs.OutsiderColumns.{outsiders_as, outsiders_known}
 use Rattle.denial_proof.proofs.TotalsFollow.{same_total}
 use Rattle.denial_proof.proofs.LoneRowsAreKnown.{lone_row_has_it}
 
@@ -94,7 +94,7 @@ module _ (shape : Shape) (history : List Answered) (protected : List Protected) 
     (question : FitsShape shape asked.column asked.rows) where
   -- what is known of the column before, were it of this kind
   abbrev known_as : Kind → Known
-  known_as kind = plain_as kind shape.rows (answers_of asked.column history) (groups_of asked.column protected) width reach
+  known_as kind = outsiders_as kind shape.rows (answers_of asked.column history) (groups_of asked.column protected) width reach
 
   -- were it one of sums
   abbrev known : Known
@@ -225,13 +225,13 @@ module _ (shape : Shape) (history : List Answered) (protected : List Protected) 
 pub proofs_show_danger : GreatestIsBoundAndReached → ProofsShowDanger
 proofs_show_danger greatest setting history asked (Sum target times terms own) records entries plain question possible (sums, shown) =
     let known = known_as setting.shape history setting.protected.groups setting.protected.width setting.protected.reach asked records entries question in
-    let same : known kind.Sum ≡ known_of setting history asked.column = ap known (sym sums) ∙ sym (plain_known setting history asked.column plain) in
+    let same : known kind.Sum ≡ known_of setting history asked.column = ap known (sym sums) ∙ sym (outsiders_known setting history asked.column plain) in
     subst (λ (k : Known). IsDangerous k asked.rows.list) same
     (sums_show_danger setting.shape history setting.protected.groups setting.protected.width setting.protected.reach asked records entries question target times
     terms own shown (subst IsPossible (sym same) possible))
 proofs_show_danger greatest setting history asked (Max answer row place high) records entries plain question possible (maxima, shown) =
     let known = known_as setting.shape history setting.protected.groups setting.protected.width setting.protected.reach asked records entries question in
-    let same : known kind.Max ≡ known_of setting history asked.column = ap known (sym maxima) ∙ sym (plain_known setting history asked.column plain) in
+    let same : known kind.Max ≡ known_of setting history asked.column = ap known (sym maxima) ∙ sym (outsiders_known setting history asked.column plain) in
     subst (λ (k : Known). IsDangerous k asked.rows.list) same
     (maxima_show_danger setting.shape history setting.protected.groups setting.protected.width setting.protected.reach asked records entries question greatest
     answer row place high shown)

@@ -20,11 +20,11 @@ use Rattle.audit_types.specs.Form.{set_row, InSpan}
 use Rattle.audit_types.specs.Judgement.{IsWithinWidth}
 use Rattle.audit_types.specs.Limits.{most_width}
 use Rattle.audit_types.specs.WidthLaws.{dangerous_from, has_narrow_by_more, narrow_within}
-use Rattle.audit_types.specs.History.{Setting, Protection, Table, FitsShape, IsProtected, IsPlainFor, IsDecisionAfter, list_of, answers_of, answer_in, groups_of}
+use Rattle.audit_types.specs.History.{Setting, Protection, Table, FitsShape, IsProtected, IsGuardFor, IsDecisionAfter, list_of, answers_of, answer_in, groups_of}
 use Rattle.audit_types.specs.ListLaws.{all-map, all-filter, all-push, all-weaker}
 use Rattle.audit_core.specs.Laws.{LegalIsNarrow, LegalPinsNothing, sets_before}
 use Rattle.audit_core.specs.GroupEntries.{entry_of_group}
-use Rattle.audit_core.specs.PlainColumns.{plain_sums, plain_maxima, plain_danger}
+use Rattle.audit_core.specs.OutsiderColumns.{outsiders_sums, outsiders_maxima, outsiders_danger}
 use Rattle.max_audit.specs.Laws.{DangerousByCandidates, HasBadCandidate}
 use Rattle.sum_audit.specs.Laws.{PinnedByUnitRow}
 use Rattle.denial_proof.specs.Canonical.{sets_with_asked, IsSpannedGroup}
@@ -34,7 +34,7 @@ use Rattle.denial_proof.proofs.SumParts.{sets_at_end}
 
 -- ---- groups
 
-module _ (setting : Setting) (protected : IsPlainFor setting.shape setting.protected) where
+module _ (setting : Setting) (protected : IsGuardFor setting.shape setting.protected) where
   -- an entry that is there fits
   entry_fits : (place : ℕ) (p : Protected) → slice_get setting.protected.groups place ≡ Some p → IsProtected setting.shape p
   entry_fits place p there =
@@ -102,7 +102,7 @@ module _ (setting : Setting) (history : List Answered) (fit : All (λ (r : Answe
       InSpan (map (set_row setting.shape.rows) (map (λ a. a.rows) (answers_of column history))) row
   at_end column row span = subst (λ (sets : List (List ℕ)). InSpan (map (set_row setting.shape.rows) sets) row) (sets_at_end column history) span
 
-  pub open_sums : LegalIsNarrow → PinnedByUnitRow → LegalPinsNothing → IsPlainFor setting.shape setting.protected → IsLegalIn setting history →
+  pub open_sums : LegalIsNarrow → PinnedByUnitRow → LegalPinsNothing → IsGuardFor setting.shape setting.protected → IsLegalIn setting history →
       0 < setting.shape.rows → (column : ℕ) →
       column < columns setting.shape → kind_at setting.shape column ≡ Sum → AreOpenSums setting.shape.rows column history
   open_sums narrow by_unit_row pins_nothing protected legal some column below sums =
@@ -120,7 +120,7 @@ module _ (setting : Setting) (history : List Answered) (fit : All (λ (r : Answe
 
   -- ---- the question
 
-  module _ (protected : IsPlainFor setting.shape setting.protected) (asked : Asked) (question : FitsShape setting.shape asked.column asked.rows)
+  module _ (protected : IsGuardFor setting.shape setting.protected) (asked : Asked) (question : FitsShape setting.shape asked.column asked.rows)
       (denied : IsDecisionAfter setting history asked.column asked.rows.list DeniedUnsafe) where
     -- its set
     own_rows : AreRows setting.shape.rows asked.rows.list
@@ -135,7 +135,7 @@ module _ (setting : Setting) (history : List Answered) (fit : All (λ (r : Answe
         let danger =
         dangerous_from known setting.protected.width setting.protected.reach asked.rows.list
         (subst (λ k. IsDangerous k asked.rows.list)
-        (plain_maxima setting history asked.column protected.1 maxima (no_groups setting protected asked.column maxima)) denied.1) in
+        (outsiders_maxima setting history asked.column protected.1 maxima (no_groups setting protected asked.column maxima)) denied.1) in
         (by_candidates setting.shape.rows (answers_of asked.column history) [] asked.rows.list formed own_rows question.some).0 danger
 
     module _ (laws : LegalLaws) (legal : IsLegalIn setting history) (sums : kind_at setting.shape asked.column ≡ Sum) where
@@ -153,8 +153,8 @@ module _ (setting : Setting) (history : List Answered) (fit : All (λ (r : Answe
           let with_asked = all-push (AreRows n) (map (λ a. a.rows) answers) asked.rows.list (all_sets asked.column) own_rows in
           let group_rows = All-weaker (λ group. AreRows n group × (group ≢ [])) (AreRows n) (λ group is. is.0) groups
           (groups_are_rows setting protected asked.column) in
-          let danger = subst (λ k. IsDangerous k asked.rows.list) (plain_sums setting history asked.column protected.1 sums) denied.1 in
-          let told = plain_danger (with_groups (with_bounds (known_sum n answers) setting.protected.width setting.protected.reach) groups)
+          let danger = subst (λ k. IsDangerous k asked.rows.list) (outsiders_sums setting history asked.column protected.1 sums) denied.1 in
+          let told = outsiders_danger (with_groups (with_bounds (known_sum n answers) setting.protected.width setting.protected.reach) groups)
           (sets_with_asked history asked) refl refl
           ((laws.dangerous n answers [] [] groups 0 setting.protected.width setting.protected.reach asked.rows.list with_asked group_rows
           (list_of legal.secrets asked.column, agrees)).0 danger) in
@@ -182,6 +182,6 @@ module _ (setting : Setting) (history : List Answered) (fit : All (λ (r : Answe
         narrow = narrow_within (with_groups (with_bounds (known_sum setting.shape.rows (answers_of asked.column history)) setting.protected.width
             setting.protected.reach)
             (groups_of asked.column setting.protected.groups)) asked.rows.list
-            (subst (λ k. IsWithinWidth k asked.rows.list) (plain_sums setting history asked.column protected.1 sums) denied.0);
+            (subst (λ k. IsWithinWidth k asked.rows.list) (outsiders_sums setting history asked.column protected.1 sums) denied.0);
         gives_away = gives_away;
       }

@@ -18,7 +18,7 @@ use Rattle.audit_core.specs.Columns.{HasItsPart}
 use Rattle.journal_compact.specs.Kept.{IsImplied, IsImpliedBy, IsForced}
 use Rattle.journal_compact.specs.Follows.{Follows, FollowsFrom, IsForcedToOne}
 use Rattle.journal_compact.specs.Laws.{ImpliedBySpan, ImpliedByExtremes}
-use Rattle.audit_core.specs.PlainColumns.{plain_as}
+use Rattle.audit_core.specs.OutsiderColumns.{outsiders_as}
 use Rattle.audit_types.specs.Limits.{most_rows, most_width}
 use Rattle.journal_compact.proofs.Pushes.{own_answers}
 
@@ -68,7 +68,7 @@ module _ (audited : Audited) (r : Answered) (fits : FitsShape audited.setting.sh
 
   -- what is known of a column, apart from protected groups
   abbrev knows : Kind → List Answer → Known
-  knows kind answers = plain_as kind size answers [] most_width most_rows
+  knows kind answers = outsiders_as kind size answers [] most_width most_rows
 
   rows_are : AreRows size r.rows.list
   rows_are = subst (λ m. AreRows m r.rows.list) fits.same_n fits.are_rows

@@ -8,7 +8,7 @@ use Rattle.audit_types.specs.Column.{Known, IsGuarded, number, total, IsDangerou
 use Rattle.audit_types.specs.Judgement.{IsWithinWidthFor, IsDecision}
 use Rattle.audit_types.specs.Limits.{most_rows, most_width}
 use Rattle.audit_types.specs.WidthLaws.{released_by_more}
-use Rattle.audit_types.specs.History.{Protection, Table, IsPlainFor, IsLegal, against_outsiders, known_of, setting_of}
+use Rattle.audit_types.specs.History.{Protection, Table, IsGuardFor, IsLegal, against_outsiders, known_of, setting_of}
 use Rattle.journal_compact.specs.Kept.{no_groups}
 
 -- the same table if no group is protected
@@ -39,7 +39,7 @@ within_still Max known rows within = within
 released_still : (known : Known) (rows : List ℕ) → IsDecision known rows Released → IsDecision (with_groups known []) rows Released
 released_still known rows is = (within_still known.kind known rows is.0, λ danger. is.1 (danger_still known rows danger))
 
-pub legal_without_groups : (table : Table) (history : List Answered) → IsPlainFor table.setting.shape table.setting.protected → IsLegal table history →
+pub legal_without_groups : (table : Table) (history : List Answered) → IsGuardFor table.setting.shape table.setting.protected → IsLegal table history →
     IsLegal (without_groups table) history
 legal_without_groups table history fit legal = record {
   few = legal.few;

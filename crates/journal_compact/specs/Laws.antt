@@ -9,7 +9,7 @@ use Rattle.audit_types.specs.Rows.{AreRows}
 use Rattle.audit_types.specs.Shapes.{kind_at, columns, IsShape}
 use Rattle.audit_types.specs.Form.{set_row, InSpan, Reduced}
 use Rattle.audit_types.specs.Column.{Answer, Agrees, IsPossible, IsWellFormed, known_sum, known_max, with_answer}
-use Rattle.audit_types.specs.History.{Setting, Table, AreSecrets, IsPlainFor, IsLegal, IsDecisionAfter, known_of, answers_of}
+use Rattle.audit_types.specs.History.{Setting, Table, AreSecrets, IsGuardFor, IsLegal, IsDecisionAfter, known_of, answers_of}
 use Rattle.journal_compact.specs.Kept.{IsImplied, IsKeptOf, IsForced}
 
 -- the sets of a column in a history, in order
@@ -69,6 +69,6 @@ pub record IsLegalForSome (shape : Shape) (history : List Answered) : Type 0 whe
   pub valid : IsShape shape
   pub table : Table
   pub same_shape : table.setting.shape ≡ shape
-  pub plain : IsPlainFor table.setting.shape table.setting.protected
+  pub plain : IsGuardFor table.setting.shape table.setting.protected
   pub are_secrets : AreSecrets table.setting.shape table.secrets
   pub legal : IsLegal table history

@@ -7,8 +7,8 @@ use Rattle.std.proofs.lemmas.Option.{same_Some}
 use Rattle.audit_types.specs.Rows.{AreRows}
 use Rattle.audit_types.specs.RowLaws.{AreRows-rows_that}
 use Rattle.audit_types.specs.Limits.{most_groups}
-use Rattle.audit_types.specs.PlainLaws.{plain_fits}
-use Rattle.audit_types.specs.History.{Protection, IsProtected, IsPlainFor, FitsShape, against_outsiders, entry_of}
+use Rattle.audit_types.specs.OutsiderLaws.{guard_fits}
+use Rattle.audit_types.specs.History.{Protection, IsProtected, IsGuardFor, FitsShape, against_outsiders, entry_of}
 use Rattle.audit_types.specs.declared.records.Protected.{Protected}
 use Rattle.audit_types.specs.declared.shapes.Kind.TheVariants as kind
 use Rattle.schema_json.specs.Columns.{Column, Group, Guards, AreColumns, place_of, role_at, secret_place}
@@ -155,5 +155,5 @@ entries_are_protected places columns public guards protected are is guarded prot
     let shape = shape_of columns public.rows in
     let fit = entries_fit places columns public 0 guards.groups protected.groups are protects.0 in
     let few : length protected.groups ≤ most_groups = omega (arith, fit.1, guarded.few) in
-    let plain = plain_fits shape protected.groups guards.width guards.reach fit.0 few guarded.width.0 guarded.width.1 guarded.reach.0 guarded.reach.1 in
-    subst (IsPlainFor shape) (sym protects.1) plain
+    let plain = guard_fits shape protected.groups guards.width guards.reach fit.0 few guarded.width.0 guarded.width.1 guarded.reach.0 guarded.reach.1 in
+    subst (IsGuardFor shape) (sym protects.1) plain

@@ -3,7 +3,7 @@ ghost use Rattle.std.specs.Prelude.{◌≡◌, ◌<◌, ◌≤◌, ℕ, true, No
 ghost use Rattle.std.specs.List.Sorted.{IsSorted};
 ghost use Rattle.std.specs.Option.{option_to_list};
 ghost use Rattle.std.specs.Ordering.{nat_cmp};
-ghost use Rattle.audit_types.specs.History.{IsPlainFor, entry_of};
+ghost use Rattle.audit_types.specs.History.{IsGuardFor, entry_of};
 ghost use Rattle.audit_types.specs.Limits.{most_rows};
 ghost use Rattle.audit_types.specs.Rows.{intersection, rows_that};
 ghost use Rattle.schema_json.specs.Columns.{Group};
@@ -244,7 +244,7 @@ impl Index {
         ensures public { IfOk result (λ index. whole index.public ≡ public) }
         ensures entries { IfOk result (λ index. Protects schema.now.columns index.public schema.now.guards index.protected) }
         ensures bad { (part : GuardPart) → result ≡ Err (IndexFault.Bad part) → IsFirstBad schema.now.columns schema.now.guards part }
-        ensures fit { IfOk result (λ index. IsPlainFor (shape_of schema.now.columns index.public.rows) index.protected) }
+        ensures fit { IfOk result (λ index. IsGuardFor (shape_of schema.now.columns index.public.rows) index.protected) }
         ensures fits { IfOk result (λ index. FitsSchema schema.now.columns index.public) }
     {
         groups_of_a_schema();

@@ -14,7 +14,7 @@ use Rattle.audit_types.specs.Column.{Known, IsGuarded, number, total}
 use Rattle.audit_types.specs.Form.{set_row, Reduced, IsNarrow}
 use Rattle.audit_types.specs.Direction.{IsDirection, is_pivot}
 use Rattle.audit_types.specs.Extents.{zero_by_free, sum_over_zeros}
-use Rattle.audit_types.specs.PlainLaws.{some_row}
+use Rattle.audit_types.specs.OutsiderLaws.{some_row}
 use Rattle.audit_types.specs.Reach.{Changes, IsWithinBounds}
 use Rattle.audit_types.specs.Totals.{product, products_from_sums, products_in_span, sums_from_products}
 use Rattle.sum_basis.specs.Reach.{IsAlong, ReachesAll}

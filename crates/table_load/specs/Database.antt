@@ -1,6 +1,6 @@
 -- What the files of a table mean to the auditor.
 use Rattle.std.specs.Prelude.{◌≡◌, ℕ, ◌<◌, List, map, take}
-use Rattle.audit_types.specs.History.{Table, Protection, IsPlainFor, setting_of}
+use Rattle.audit_types.specs.History.{Table, Protection, IsGuardFor, setting_of}
 use Rattle.audit_types.specs.Widening.{over, protection_among}
 use Rattle.schema_json.specs.Columns.{Column, AreColumns}
 use Rattle.schema_json.specs.SecretShape.{shape_of}
@@ -21,7 +21,7 @@ base_of columns public protected secret = record { columns = columns; public = p
 pub record IsDatabase (base : Database) : Type 0 where
   pub schema : AreColumns base.columns
   pub shape : base.secret.shape ≡ shape_of base.columns base.public.rows
-  pub protected : IsPlainFor base.secret.shape base.protected
+  pub protected : IsGuardFor base.secret.shape base.protected
 
 -- tables that differ in their secrets alone, which are of one shape
 abbrev pub AreTwins : Database → Database → Type 0
