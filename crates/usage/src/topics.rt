@@ -122,7 +122,7 @@ fn note_of(topic: Topic) -> &'static str
             "A question that is denied as unsafe has a certificate: how answers are to be counted so that one person's value is left."
         }
         Topic::Simulate => {
-            "table.csv holds the public columns alone. It ends at the first reply that wasn't due."
+            "table.csv holds the public columns alone. A journal beside it comes first, if there is one. It ends at the first reply that wasn't due."
         }
         Topic::Grow => {
             "Each answer is tested against the table first. The earlier rows keep their places."
