@@ -3,7 +3,7 @@
 -- Of a line with several people the number of one may be another while the line tells the same: in a sum somebody else makes up for it, and of
 -- numbers of which only the greatest is told, somebody else may have that. A line of one person is guarded: if another number there gives the
 -- same answers, it is this person's.
-use Rattle.std.proofs.Common.{◌≡◌, ◌≢◌, ℕ, zero, suc, ◌<◌, Bool, true, false, ℤ, pos, List, [], ◌∷◌, ◌++◌, map, length, replicate, refl, sym, ap, ◌∙◌, subst, arith, inl, inr, length-append}
+use Rattle.std.proofs.Common.{◌≡◌, ◌≢◌, ℕ, zero, suc, ◌<◌, Bool, true, false, ℤ, pos, List, [], ◌∷◌, ◌++◌, map, length, replicate, refl, sym, ap, ◌∙◌, subst, arith, ◌⊎◌, inl, inr, length-append}
 use Rattle.std.specs.Prelude.{◌+ℤ◌, ◌-ℤ◌, ◌≤ℤ◌, slice_set}
 use Rattle.std.specs.List.{AllByRecursion, fold, range_with_len}
 use Rattle.std.specs.Int.{int_max}
@@ -22,9 +22,9 @@ use Rattle.audit_types.specs.Truth.{number_at, sum_over, greatest_over}
 use Rattle.audit_types.specs.Numbers.{zero_or_not}
 use Rattle.audit_types.specs.ListLaws.{all-get_or}
 use Rattle.audit_types.specs.Column.{number}
-use Rattle.audit_types.specs.History.{Secrets, AreSecrets, list_of}
+use Rattle.audit_types.specs.History.{Secrets, AreSecrets, AgreeWithHistory, list_of}
 use Rattle.audit_types.specs.People.{People, of_line, of_lines, told, people_in, AreBehind, count_at, HasOtherPeople}
-use Rattle.audit_types.specs.PeopleLaws.{TruthIsOverPeople, PeopleAreCounted, UndisclosedHidesPeople}
+use Rattle.audit_types.specs.PeopleLaws.{TruthIsOverPeople, PeopleAreCounted, HasOthersBehind, PeopleMayDiffer, UndisclosedHidesPeople}
 
 -- ---- answers over lines
 
@@ -316,51 +316,66 @@ module _ (shape : Shape) (counts : List ℕ) (secrets : Secrets) (all : AreSecre
       first Sum = refl
       first Max = refl
 
+module _ (shape : Shape) (counts : List ℕ) (secrets : Secrets) (everyone : List People) (column line person : ℕ) (behind : AreBehind shape counts secrets everyone)
+    (rows : length counts ≡ shape.rows) (some : AllByRecursion (λ count. 0 < count) counts) (column_below : column < columns shape) (line_below : line < length counts)
+    (person_below : person < count_at counts line) where
+  numbered : length (of_line (people_in everyone column) line) ≡ count_at counts line
+  numbered = as_many shape counts secrets everyone behind column line column_below line_below
+
+  of_several : 1 < count_at counts line → HasOthersBehind shape counts secrets everyone column line person
+  of_several more =
+      let other = other_told (kind_at shape column) (count_at counts line) (told (kind_at shape column) (of_line (people_in everyone column) line))
+      person (number_at (of_line (people_in everyone column) line) person) more person_below in
+      let same_length = other.long ∙ sym numbered in
+      record {
+        others = others shape counts secrets everyone behind column line column_below line_below other.numbers same_length other.tells;
+        behind = still_behind shape counts secrets everyone behind column line column_below line_below other.numbers same_length other.tells;
+        differs = λ e. other.differs (sym (ap (λ l. number_at l person)
+            (new_there shape counts secrets everyone behind column line column_below line_below other.numbers same_length other.tells)) ∙ e);
+      }
+
+  of_one : (other : Secrets) → AreSecrets shape other → count_at counts line ≡ 1 → number_at (list_of other column) line ≢ number_at (list_of secrets column) line →
+      HasOthersBehind shape counts other everyone column line person
+  of_one other all one differs =
+      let first : person ≡ 0 = omega arith in
+      let tells = tells_line shape counts secrets everyone behind column line column_below line_below in
+      let before = sym (single (kind_at shape column) (of_line (people_in everyone column) line) (numbered ∙ one)) ∙ tells in
+      let after = single_there shape counts other all rows some column line column_below line_below one in
+      record {
+        others = all_people shape counts other all rows some;
+        behind = all_behind shape counts other all rows some;
+        differs = λ e. differs (sym after ∙ ap (number_at (of_line (people_in (all_people shape counts other all rows some) column) line)) (sym first)
+            ∙ e ∙ ap (number_at (of_line (people_in everyone column) line)) first ∙ before);
+      }
+
+pub people_may_differ : PeopleMayDiffer
+people_may_differ shape counts secrets other everyone column line person behind all rows some column_below line_below person_below (inl several) =
+    subst (λ lists. HasOthersBehind shape counts lists everyone column line person) (sym several.1)
+    (of_several shape counts secrets everyone column line person behind rows some column_below line_below person_below several.0)
+people_may_differ shape counts secrets other everyone column line person behind all rows some column_below line_below person_below (inr one) =
+    of_one shape counts secrets everyone column line person behind rows some column_below line_below person_below other all one.0 one.1
+
 pub undisclosed_hides_people : UndisclosedHidesPeople
-undisclosed_hides_people table history counts secrets agree rows some several undisclosed everyone column line person behind column_below line_below
-    person_below =
+undisclosed_hides_people table history counts secrets agree rows some several undisclosed everyone column line person behind column_below line_below person_below =
     elim (cases_lt 1 (count_at counts line))
-    [ inl more ↦ shared more | inr one ↦ own (let least = all-get_or (λ count. 0 < count) counts line 1 some line_below in omega arith) ]
+    [ inl more ↦ of_others table.secrets secrets agree (inl (more, refl)) | inr one ↦ alone (let least = all-get_or (λ count. 0 < count) counts line 1 some line_below in omega arith) ]
   where
-    shared : 1 < count_at counts line → HasOtherPeople table history counts everyone column line person
-    shared more =
-        let other = other_told (kind_at table.setting.shape column) (count_at counts line)
-        (told (kind_at table.setting.shape column) (of_line (people_in everyone column) line))
-        person (number_at (of_line (people_in everyone column) line) person) more person_below in
-        let as_many = as_many table.setting.shape counts table.secrets everyone behind column line column_below line_below in
-        record {
-          others = others table.setting.shape counts table.secrets everyone behind column line column_below line_below other.numbers
-              (other.long ∙ sym as_many) other.tells;
-          twin = table.secrets;
-          are_secrets = secrets;
-          behind = still_behind table.setting.shape counts table.secrets everyone behind column line column_below line_below other.numbers
-              (other.long ∙ sym as_many) other.tells;
-          agree = agree;
-          differs = λ e. other.differs (sym (ap (λ l. number_at l person)
-              (new_there table.setting.shape counts table.secrets everyone behind column line column_below line_below other.numbers
-              (other.long ∙ sym as_many) other.tells)) ∙ e);
-        }
+    shape : Shape
+    shape = table.setting.shape
+
+    of_others : (other : Secrets) → AreSecrets shape other → AgreeWithHistory table.setting history other →
+        ((1 < count_at counts line) × (other ≡ table.secrets)) ⊎ ((count_at counts line ≡ 1) × (number_at (list_of other column) line ≢ number_at (list_of table.secrets column) line)) →
+        HasOtherPeople shape (AgreeWithHistory table.setting history) counts everyone column line person
+    of_others other all agrees which =
+        let found = people_may_differ shape counts table.secrets other everyone column line person behind all rows some column_below line_below person_below which in
+        record { others = found.others; told_of = other; are_secrets = all; behind = found.behind; still = agrees; differs = found.differs }
 
     not_shared : count_at counts line ≡ 1 → (b : Bool) → has_row table.setting.protected.shared line ≡ b → has_row table.setting.protected.shared line ≡ false
     not_shared one true there = let more = several line there in absurd (omega arith)
     not_shared one false there = there
 
-    own : count_at counts line ≡ 1 → HasOtherPeople table history counts everyone column line person
-    own one =
+    alone : count_at counts line ≡ 1 → HasOtherPeople shape (AgreeWithHistory table.setting history) counts everyone column line person
+    alone one =
         let twin = undisclosed column [] (λ w. number_at w line) column_below (tt, omega arith, tt)
         (number line (omega (arith, rows)) refl (not_shared one (has_row table.setting.protected.shared line) refl)) in
-        let first : person ≡ 0 = omega arith in
-        let as_many = as_many table.setting.shape counts table.secrets everyone behind column line column_below line_below in
-        let tells = tells_line table.setting.shape counts table.secrets everyone behind column line column_below line_below in
-        let before = sym (single (kind_at table.setting.shape column) (of_line (people_in everyone column) line) (as_many ∙ one)) ∙ tells in
-        let after = single_there table.setting.shape counts twin.twin twin.are_secrets rows some column line column_below line_below one in
-        record {
-          others = all_people table.setting.shape counts twin.twin twin.are_secrets rows some;
-          twin = twin.twin;
-          are_secrets = twin.are_secrets;
-          behind = all_behind table.setting.shape counts twin.twin twin.are_secrets rows some;
-          agree = twin.agree;
-          differs = λ e. twin.differs (sym after ∙ ap
-              (number_at (of_line (people_in (all_people table.setting.shape counts twin.twin twin.are_secrets rows some) column) line)) (sym first)
-              ∙ e ∙ ap (number_at (of_line (people_in everyone column) line)) first ∙ before);
-        }
+        of_others twin.twin twin.are_secrets twin.agree (inr (one, twin.differs))

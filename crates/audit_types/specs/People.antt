@@ -6,12 +6,11 @@ use Rattle.std.specs.Int.{int_max}
 use Rattle.audit_types.specs.declared.shapes.Kind.{Kind}
 use Rattle.audit_types.specs.declared.shapes.Kind.TheVariants.{Sum, Max}
 use Rattle.audit_types.specs.declared.shapes.Shape.{Shape}
-use Rattle.audit_types.specs.declared.records.Answered.{Answered}
 use Rattle.audit_types.specs.declared.records.Protected.{Protected}
 use Rattle.audit_types.specs.Rows.{rows_that}
 use Rattle.audit_types.specs.Shapes.{columns, kind_at}
 use Rattle.audit_types.specs.Truth.{number_at}
-use Rattle.audit_types.specs.History.{Protection, Secrets, Table, AreSecrets, AgreeWithHistory, list_of}
+use Rattle.audit_types.specs.History.{Protection, Secrets, AreSecrets, list_of}
 
 -- the numbers of the people of each line, in one column
 abbrev pub People : Type 0
@@ -58,17 +57,17 @@ abbrev pub protection_over : List Protected → List ℕ → ℕ → ℕ → ℕ
 protection_over groups counts own width reach =
     record { groups = groups; shared = lines_above (1 + own) counts; several = lines_above 1 counts; own = own; width = width; reach = reach }
 
--- other people may be behind the lines, of whom this one has another number
-pub record HasOtherPeople (table : Table) (history : List Answered) (counts : List ℕ) (everyone : List People) (column line person : ℕ) : Type 0 where
+-- other people may be behind the lines, of whom this one has another number, while this is still so of what is told of them
+pub record HasOtherPeople (shape : Shape) (IsStill : Secrets → Type 0) (counts : List ℕ) (everyone : List People) (column line person : ℕ) : Type 0 where
   pub others : List People
-  pub twin : Secrets
-  pub are_secrets : AreSecrets table.setting.shape twin
-  pub behind : AreBehind table.setting.shape counts twin others
-  pub agree : AgreeWithHistory table.setting history twin
+  pub told_of : Secrets
+  pub are_secrets : AreSecrets shape told_of
+  pub behind : AreBehind shape counts told_of others
+  pub still : IsStill told_of
   pub differs : number_at (of_line (people_in others column) line) person ≢ number_at (of_line (people_in everyone column) line) person
 
--- nobody's number can be worked out
-abbrev pub HidesPeople : Table → List Answered → List ℕ → Type 0
-HidesPeople table history counts =
-    (everyone : List People) (column line person : ℕ) → AreBehind table.setting.shape counts table.secrets everyone → column < columns table.setting.shape → line < length counts →
-    person < count_at counts line → HasOtherPeople table history counts everyone column line person
+-- nobody's number can be worked out from what is so of the secrets
+abbrev pub HidesPeople : Shape → Secrets → (Secrets → Type 0) → List ℕ → Type 0
+HidesPeople shape secrets IsStill counts =
+    (everyone : List People) (column line person : ℕ) → AreBehind shape counts secrets everyone → column < columns shape → line < length counts →
+    person < count_at counts line → HasOtherPeople shape IsStill counts everyone column line person

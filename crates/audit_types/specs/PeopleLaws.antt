@@ -1,14 +1,16 @@
 -- What shows the definitions of people right: laws that the functions of `laws` state.
-use Rattle.std.specs.Prelude.{◌≡◌, ◌≢◌, ◌↔◌, ℕ, ◌+◌, ◌<◌, List, [], ◌∷◌, map, length, true}
+use Rattle.std.specs.Prelude.{◌≡◌, ◌≢◌, ◌↔◌, ◌⊎◌, ℕ, ◌+◌, ◌<◌, List, [], ◌∷◌, map, length, true}
 use Rattle.std.specs.List.{AllByRecursion}
 use Rattle.audit_types.specs.declared.shapes.Kind.{Kind}
+use Rattle.audit_types.specs.declared.shapes.Shape.{Shape}
+use Rattle.audit_types.specs.Shapes.{columns}
 use Rattle.audit_types.specs.declared.records.Answered.{Answered}
 use Rattle.audit_types.specs.Limits.{most_width, most_rows}
 use Rattle.audit_types.specs.Rows.{AreRows, has_row}
 use Rattle.audit_types.specs.Truth.{number_at, truth}
 use Rattle.audit_types.specs.Column.{Known, Answer, IsDangerous}
-use Rattle.audit_types.specs.History.{Table, AreSecrets, AgreeWithHistory, IsUndisclosed}
-use Rattle.audit_types.specs.People.{People, told, of_line, of_lines, count_at, shared_of, HidesPeople}
+use Rattle.audit_types.specs.History.{Secrets, Table, AreSecrets, AgreeWithHistory, IsUndisclosed, list_of}
+use Rattle.audit_types.specs.People.{People, AreBehind, people_in, told, of_line, of_lines, count_at, shared_of, HidesPeople}
 
 -- the true answer over some lines is what is told of all their people together
 abbrev pub TruthIsOverPeople : Type 0
@@ -26,13 +28,29 @@ abbrev pub PeopleAreCounted : Type 0
 PeopleAreCounted =
     (people : People) (lines : List ℕ) → AllByRecursion (λ line. line < length people) lines → people_behind (map length people) lines ≡ length (of_lines people lines)
 
+-- behind the lines there may be others, of whom this one has another number
+pub record HasOthersBehind (shape : Shape) (counts : List ℕ) (secrets : Secrets) (everyone : List People) (column line person : ℕ) : Type 0 where
+  pub others : List People
+  pub behind : AreBehind shape counts secrets others
+  pub differs : number_at (of_line (people_in others column) line) person ≢ number_at (of_line (people_in everyone column) line) person
+
+-- of several people behind a line one may have another number while all lines tell the same, and of one, if her line tells another number
+abbrev pub PeopleMayDiffer : Type 0
+PeopleMayDiffer =
+    (shape : Shape) (counts : List ℕ) (secrets other : Secrets) (everyone : List People) (column line person : ℕ) → AreBehind shape counts secrets everyone →
+    AreSecrets shape other → length counts ≡ shape.rows → AllByRecursion (λ count. 0 < count) counts → column < columns shape → line < length counts →
+    person < count_at counts line →
+    ((1 < count_at counts line) × (other ≡ secrets)) ⊎ ((count_at counts line ≡ 1) × (number_at (list_of other column) line ≢ number_at (list_of secrets column) line)) →
+    HasOthersBehind shape counts other everyone column line person
+
 -- if behind each line is somebody, and behind each shared one somebody else too, then no person's number can be worked out from what
 -- discloses nothing that is guarded of the lines
 abbrev pub UndisclosedHidesPeople : Type 0
 UndisclosedHidesPeople =
     (table : Table) (history : List Answered) (counts : List ℕ) → AreSecrets table.setting.shape table.secrets → AgreeWithHistory table.setting history table.secrets →
     length counts ≡ table.setting.shape.rows → AllByRecursion (λ count. 0 < count) counts →
-    ((line : ℕ) → has_row table.setting.protected.shared line ≡ true → 1 < count_at counts line) → IsUndisclosed table history → HidesPeople table history counts
+    ((line : ℕ) → has_row table.setting.protected.shared line ≡ true → 1 < count_at counts line) → IsUndisclosed table history →
+    HidesPeople table.setting.shape table.secrets (AgreeWithHistory table.setting history) counts
 
 -- what is known of a column over lines with so many people, of which no group is protected
 abbrev pub known_over : Kind → List ℕ → List Answer → Known

@@ -2,7 +2,7 @@
 ghost use Rattle.audit_types.specs.Laws.{SameSetInAnyOrder, SameTruthInAnyOrder, GreatestIsBoundAndReached};
 ghost use Rattle.audit_types.specs.Minima.{LeastByGreatest, LeastIsBoundAndReached, TwinsNegated};
 ghost use Rattle.audit_types.specs.Laws.{TrueAnswersKeepAgreement, SomeAnswerStaysPossible, LegalIsPossible};
-ghost use Rattle.audit_types.specs.PeopleLaws.{TruthIsOverPeople, PeopleAreCounted, UndisclosedHidesPeople, DangerIsThatOfPeople};
+ghost use Rattle.audit_types.specs.PeopleLaws.{TruthIsOverPeople, PeopleAreCounted, PeopleMayDiffer, UndisclosedHidesPeople, DangerIsThatOfPeople};
 ghost use Rattle.audit_types.specs.Laws.{OneRowIsDangerous, OtherColumnsTellNothing, OwnAnswersDecide, OneCanonicalDirection};
 
 /// The order in which the rows of a set were added changes neither the set nor the truth over it.
@@ -55,6 +55,7 @@ pub fn canonical_direction()
 pub fn people_behind_lines()
     ensures truth { TruthIsOverPeople }
     ensures counted { PeopleAreCounted }
+    ensures differ { PeopleMayDiffer }
     ensures hidden { UndisclosedHidesPeople }
     ensures dangerous { DangerIsThatOfPeople }
 {}
