@@ -1,5 +1,5 @@
 -- A file that stands for a history is made.
-use Rattle.std.proofs.Common.{◌≡◌, ℕ, List, ◌++◌, length, get_or, ap, arith, length-append}
+use Rattle.std.proofs.Common.{ℕ, List, ◌++◌, length, get_or, ap, arith, length-append}
 use Rattle.audit_types.specs.declared.shapes.Shape.{Shape}
 use Rattle.audit_types.specs.declared.records.Answered.{Answered}
 use Rattle.journal_form.specs.Journal.{texts, StandsFor}
