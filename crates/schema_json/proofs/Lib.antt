@@ -7,3 +7,4 @@ pub mod ShapeKinds
 pub mod KeyCount
 pub mod GatheredColumns
 pub mod ValidShapes
+pub mod CountPlaces

@@ -1,9 +1,9 @@
 -- Eight kind bytes, written one by one.
-use Rattle.std.proofs.Common.{◌≡◌, ℕ, zero, suc, ◌+◌, ◌<◌, ◌≤◌, true, cond, List, [], ◌∷◌, ◌++◌, length, take, set, replicate, filter, Some, refl, sym, ap, ◌∙◌, arith, add-one, append_assoc, length-append}
+use Rattle.std.proofs.Common.{◌||◌, ◌≡◌, ℕ, zero, suc, ◌+◌, ◌<◌, ◌≤◌, true, cond, List, [], ◌∷◌, ◌++◌, length, take, set, replicate, filter, Some, refl, sym, ap, ◌∙◌, arith, add-one, append_assoc, length-append}
 use Rattle.std.specs.Prelude.{is_some, unwrap_or, nat_lt}
 use Rattle.std.proofs.lemmas.Bool.{false≢true, ltb-false, or_parts}
 use Rattle.std.proofs.lemmas.List.{append-nil}
-use Rattle.schema_json.specs.Columns.{Column, AreColumns, is_secret, secret_count, role_at}
+use Rattle.schema_json.specs.Columns.{Column, AreColumns, is_secret, secret_count, count_count, role_at}
 use Rattle.schema_json.specs.SecretShape.{kind_bytes, kind_byte_and}
 use Rattle.schema_json.proofs.SecretPlaces.{filtered}
 use Rattle.schema_json.specs.declared.roles.Role.{Role}
@@ -17,6 +17,7 @@ byte_of r = kind_byte_and r []
 kinds_and : (r : Role) (bytes : List ℕ) → kind_byte_and r bytes ≡ byte_of r ++ bytes
 kinds_and role.Text bytes = refl
 kinds_and role.Number bytes = refl
+kinds_and role.Count bytes = refl
 kinds_and role.Sum bytes = refl
 kinds_and role.Max bytes = refl
 kinds_and role.Min bytes = refl
@@ -42,6 +43,7 @@ kinds_step c m n bytes h = by c.role
     by : (r : Role) → length (kind_byte_and r bytes) ≡ cond (is_secret r) 1 0 + n
     by role.Text = omega (arith, h)
     by role.Number = omega (arith, h)
+    by role.Count = omega (arith, h)
     by role.Sum = omega (arith, h)
     by role.Max = omega (arith, h)
     by role.Min = omega (arith, h)
@@ -63,7 +65,9 @@ taken_count (c ∷ cs) (suc k) =
 
 -- at most eight columns are secret
 pub at_most_eight : (cs : List Column) → AreColumns cs → secret_count cs ≤ 8
-at_most_eight cs are = ltb-false 8 (secret_count cs) (or_parts (nat_lt 32 (length cs)) (nat_lt 8 (secret_count cs)) are.within).1
+at_most_eight cs are =
+    let few = (or_parts (nat_lt 32 (length cs) || nat_lt 8 (secret_count cs)) (nat_lt 1 (count_count cs)) are.within).0 in
+    ltb-false 8 (secret_count cs) (or_parts (nat_lt 32 (length cs)) (nat_lt 8 (secret_count cs)) few).1
 
 -- a secret column finds room
 pub kinds_room : (cs : List Column) (k : ℕ) (r : Role) → AreColumns cs → Some r ≡ role_at cs k → is_secret r ≡ true → length (kind_bytes (take k cs)) < 8
@@ -77,6 +81,7 @@ kinds_room cs k r are is secret =
     by : (r : Role) → is_secret r ≡ true → length (byte_of r) ≡ 1
     by role.Text h = absurd (false≢true h)
     by role.Number h = absurd (false≢true h)
+    by role.Count h = absurd (false≢true h)
     by role.Sum h = refl
     by role.Max h = refl
     by role.Min h = refl

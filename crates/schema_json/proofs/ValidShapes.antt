@@ -22,6 +22,7 @@ all_zeros (suc m) (suc n) = (refl, all_zeros m n)
 kinds_before : (r : Role) (bytes : List ℕ) (m : ℕ) → ((k : ℕ) → AreKinds (take k bytes)) → AreKinds (take m (kind_byte_and r bytes))
 kinds_before role.Text bytes m later = later m
 kinds_before role.Number bytes m later = later m
+kinds_before role.Count bytes m later = later m
 kinds_before role.Sum bytes zero later = tt
 kinds_before role.Sum bytes (suc m) later = inl ((omega arith, omega arith), later m)
 kinds_before role.Max bytes zero later = tt
@@ -33,6 +34,7 @@ kinds_before role.Min bytes (suc m) later = inl ((omega arith, omega arith), lat
 before-append : (r : Role) (bytes more : List ℕ) → kind_byte_and r bytes ++ more ≡ kind_byte_and r (bytes ++ more)
 before-append role.Text bytes more = refl
 before-append role.Number bytes more = refl
+before-append role.Count bytes more = refl
 before-append role.Sum bytes more = refl
 before-append role.Max bytes more = refl
 before-append role.Min bytes more = refl
@@ -59,6 +61,7 @@ counted_before : (r : Role) (bytes : List ℕ) (m n : ℕ)
     → length (kind_byte_and r bytes) ≤ m → count_by (λ b. nat_lt 0 b) (take m (kind_byte_and r bytes ++ replicate n 0)) ≡ length (kind_byte_and r bytes)
 counted_before role.Text bytes m n later fits = later m fits
 counted_before role.Number bytes m n later fits = later m fits
+counted_before role.Count bytes m n later fits = later m fits
 counted_before role.Sum bytes zero n later fits = absurd (omega (arith, fits))
 counted_before role.Sum bytes (suc m) n later fits =
     sum_by-cons (λ b. cond (nat_lt 0 b) 1 0) 1 (take m (bytes ++ replicate n 0)) ∙ ap (λ n. 1 + n) (later m (omega (arith, fits))) ∙ one-add (length bytes)
@@ -112,6 +115,7 @@ Named found bytes k = option_and_then kind_of_role found ≡ Some (kind_of_byte 
 named_first : (r : Role) (bytes : List ℕ) (k : ℕ) → cond (is_secret r) (Some 0) None ≡ Some k → Named (Some r) (kind_byte_and r bytes) k
 named_first role.Text bytes k is = absurd (cc)
 named_first role.Number bytes k is = absurd (cc)
+named_first role.Count bytes k is = absurd (cc)
 named_first role.Sum bytes k is = ap (λ j. Some (kind_of_byte (get_or (1 ∷ bytes) j 0))) (ap (λ o. unwrap_or o 0) is)
 named_first role.Max bytes k is = ap (λ j. Some (kind_of_byte (get_or (2 ∷ bytes) j 0))) (ap (λ o. unwrap_or o 0) is)
 named_first role.Min bytes k is = ap (λ j. Some (kind_of_byte (get_or (3 ∷ bytes) j 0))) (ap (λ o. unwrap_or o 0) is)
@@ -135,6 +139,7 @@ named_later : (r : Role) (o : Option Column) (c : Column) (front : List Column) 
     → place_after o (length (cond (is_secret r) (c ∷ front) front)) ≡ Some k → Named (option_map (λ d. d.role) o) (kind_byte_and r bytes) k
 named_later role.Text o c front k bytes earlier is = earlier k is
 named_later role.Number o c front k bytes earlier is = earlier k is
+named_later role.Count o c front k bytes earlier is = earlier k is
 named_later role.Sum o c front k bytes earlier is = named_behind o 1 (length front) k bytes earlier is
 named_later role.Max o c front k bytes earlier is = named_behind o 2 (length front) k bytes earlier is
 named_later role.Min o c front k bytes earlier is = named_behind o 3 (length front) k bytes earlier is

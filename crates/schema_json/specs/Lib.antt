@@ -5,3 +5,4 @@ pub mod Kept
 pub mod Reading
 pub mod ValueLaws
 pub mod Decimals
+pub mod CountFacts

@@ -6,12 +6,13 @@ use Rattle.audit_types.specs.declared.shapes.Shape.{Shape}
 use Rattle.audit_types.specs.Shapes.{columns, kind_at}
 use Rattle.schema_json.specs.Columns.{Column, AreColumns, role_at, secret_place}
 use Rattle.schema_json.specs.declared.roles.Role.{Role}
-use Rattle.schema_json.specs.declared.roles.Role.TheVariants.{Text, Number, Sum, Max, Min}
+use Rattle.schema_json.specs.declared.roles.Role.TheVariants.{Text, Number, Count, Sum, Max, Min}
 
 -- a kind byte for a secret column, and none for a public one, before the bytes of later columns
 abbrev pub kind_byte_and : Role → List ℕ → List ℕ
 kind_byte_and Text bytes = bytes
 kind_byte_and Number bytes = bytes
+kind_byte_and Count bytes = bytes
 kind_byte_and Sum bytes = 1 ∷ bytes
 kind_byte_and Max bytes = 2 ∷ bytes
 kind_byte_and Min bytes = 3 ∷ bytes
@@ -33,6 +34,7 @@ shape_of schema rows = record { rows = rows; kinds = shape_kinds schema }
 abbrev pub kind_of_role : Role → Option Kind
 kind_of_role Text = None
 kind_of_role Number = None
+kind_of_role Count = None
 kind_of_role Sum = Some kind.Sum
 kind_of_role Max = Some kind.Max
 kind_of_role Min = Some kind.Max

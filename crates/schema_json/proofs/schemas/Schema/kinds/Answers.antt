@@ -1,7 +1,7 @@
 use Rattle.std.proofs.Common.{ap, ◌∙◌, arith}
 use Rattle.schema_json.specs.Columns.{is_secret}
 use Rattle.schema_json.proofs.ShapeKinds.{kinds_room, byte_of, keeps, puts}
-use Rattle.schema_json.proofs.schemas.Schema.kinds.Goals.{in-Text, in-Number, in-Sum, in-Max, in-Min}
+use Rattle.schema_json.proofs.schemas.Schema.kinds.Goals.{in-Text, in-Number, in-Count, in-Sum, in-Max, in-Min}
 use Rattle.schema_json.proofs.schemas.Schema.kinds.Goals as goal
 
 pub bounds-kinds-at : goal.bounds-kinds-at
@@ -42,6 +42,8 @@ loop-k-preserved c =
       | in-Text w ↦ let p = keeps cs c.loop-k.k _ _ _ c.role.ensures (ap byte_of w.in-Text.is) inv in
           record { at_is = w.at-is ∙ p.at_is; kinds_are = w.kinds-is ∙ p.kinds_are }
       | in-Number w ↦ let p = keeps cs c.loop-k.k _ _ _ c.role.ensures (ap byte_of w.in-Number.is) inv in
+          record { at_is = w.at-is ∙ p.at_is; kinds_are = w.kinds-is ∙ p.kinds_are }
+      | in-Count w ↦ let p = keeps cs c.loop-k.k _ _ _ c.role.ensures (ap byte_of w.in-Count.is) inv in
           record { at_is = w.at-is ∙ p.at_is; kinds_are = w.kinds-is ∙ p.kinds_are }
       | in-Sum w ↦ let p = puts cs c.loop-k.k _ 1 _ _ c.count-k-end.ensures.columns c.role.ensures (ap is_secret w.in-Sum.is) (ap byte_of w.in-Sum.is) inv in
           record { at_is = w.at-is ∙ p.at_is; kinds_are = w.kinds-is ∙ p.kinds_are }
