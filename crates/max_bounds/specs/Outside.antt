@@ -1,7 +1,7 @@
 -- When a question on maxima is dangerous, told from the extreme rows of the answers before it.
 use Rattle.std.specs.Prelude.{◌≡◌, ◌≢◌, ◌⊎◌, ℕ, ℤ, ◌<ℤ◌, true, false, not, List, [], ◌∷◌, Option, Some, None}
 use Rattle.std.specs.List.{filter}
-use Rattle.audit_types.specs.Rows.{has_row}
+use Rattle.audit_types.specs.Rows.{has_row, IsLeast}
 use Rattle.audit_types.specs.Column.{Answer, IsOneOf}
 use Rattle.audit_types.specs.Extremes.{upper_bound, extremes, IsConsistent, IsLone}
 
@@ -57,6 +57,10 @@ pub record HasExtremesWithin (answers : List Answer) (rows : List ℕ) (value : 
 -- a lone row that isn't shared
 abbrev pub HasOwnLone : List ℕ → List Answer → Type 0
 HasOwnLone shared answers = (r : ℕ) × IsLone answers r × (has_row shared r ≡ false)
+
+-- the least of them, if there is one
+abbrev pub IsLeastOwnLone : List ℕ → List Answer → Option ℕ → Type 0
+IsLeastOwnLone shared answers least = IsLeast (λ r. IsLone answers r × (has_row shared r ≡ false)) least
 
 -- each answer has an extreme row; and some row that isn't shared is lone, or is the highest one of the set, or all extreme rows of some
 -- answer but this one lie in the set while each answer that loses all of them is lower

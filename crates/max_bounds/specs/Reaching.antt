@@ -1,5 +1,5 @@
 -- The rows of answers that reach their bound, whatever gives the bounds.
-use Rattle.std.specs.Prelude.{◌≡◌, ◌↔◌, ℕ, ℤ, ◌<◌, cond, List, [], ◌∷◌, length, Option, Some, None, IsTrue, min}
+use Rattle.std.specs.Prelude.{◌≡◌, ◌↔◌, ℕ, ℤ, ◌<◌, false, cond, List, [], ◌∷◌, length, Option, Some, None, IsTrue, min}
 use Rattle.std.specs.List.{filter, slice_index_or, AllByRecursion}
 use Rattle.audit_types.specs.Rows.{has_row, IsLeast}
 use Rattle.audit_types.specs.Column.{Answer, IsOneOf}
@@ -24,6 +24,11 @@ lone_of [] = None
 lone_of (r ∷ []) = Some r
 lone_of (r ∷ q ∷ rows) = None
 
+-- a row, if it isn't shared
+abbrev pub own_of : List ℕ → Option ℕ → Option ℕ
+own_of shared None = None
+own_of shared (Some r) = cond (has_row shared r) None (Some r)
+
 -- the lesser of two rows, if there are two
 abbrev pub lesser_of : Option ℕ → Option ℕ → Option ℕ
 lesser_of None b = b
@@ -34,7 +39,7 @@ lesser_of (Some a) (Some b) = Some (min a b)
 abbrev pub IsAlone : (ℕ → Option ℤ) → List Answer → ℕ → Type 0
 IsAlone bound answers r = (a : Answer) × IsOneOf a answers × (reaching bound a.rows a.value ≡ r ∷ [])
 
--- whether each answer is reached, and the least row that alone reaches one
-pub record TellsOf (bound : ℕ → Option ℤ) (answers : List Answer) (trial : Trial) : Type 0 where
+-- whether each answer is reached, and the least row that alone reaches one and isn't shared
+pub record TellsOf (bound : ℕ → Option ℤ) (shared : List ℕ) (answers : List Answer) (trial : Trial) : Type 0 where
   pub consistent : IsTrue trial.consistent ↔ AllByRecursion (λ a. 0 < length (reaching bound a.rows a.value)) answers
-  pub lone : IsLeast (IsAlone bound answers) trial.lone
+  pub lone : IsLeast (λ r. IsAlone bound answers r × (has_row shared r ≡ false)) trial.lone

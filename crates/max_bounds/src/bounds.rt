@@ -5,7 +5,7 @@ ghost use Rattle.audit_types.specs.Column.{Answer};
 ghost use Rattle.audit_types.specs.Extremes.{upper_bound, extremes, IsConsistent, IsLeastLone};
 ghost use Rattle.std.specs.List.{AllByRecursion};
 ghost use Rattle.max_bounds.specs.Maxima.{Maxima, answers_of, and_answer};
-ghost use Rattle.max_bounds.specs.Outside.{HasExtremesWithin, HasOwnLone, IsDangerousByExtremes};
+ghost use Rattle.max_bounds.specs.Outside.{HasExtremesWithin, HasOwnLone, IsLeastOwnLone, IsDangerousByExtremes};
 ghost use Rattle.max_bounds.specs.Few.{IsFewByExtremes};
 ghost use Rattle.max_bounds.specs.Kept.{extreme_counts};
 
@@ -174,19 +174,21 @@ impl Bounds {
             // Each answer has two extreme rows or more.
             return None;
         }
-        survey(&self.pairs).lone
+        // No row is shared.
+        survey(&self.pairs, &RowSet::new(1)).lone
     }
 
-    /// What `consistent` and `lone_extreme` would answer with this answer after the others. It takes no memory.
-    pub fn trial(&self, rows: &RowSet, answer: i128) -> Trial
+    /// Whether each answer would have an extreme row with this answer after the others, and the least row that isn't shared and would be the
+    /// only one of some answer. It takes no memory.
+    pub fn trial(&self, rows: &RowSet, answer: i128, shared: &RowSet) -> Trial
         requires same_n { rows.now.n ≡ self.now.n }
         requires some { rows.now.list ≢ [] }
         requires low { neg_ℤ (pos (2 ^ 63 + 1)) ≤ℤ answer }
         requires high { answer ≤ℤ pos (2 ^ 63) }
         ensures consistent { IsTrue result.consistent ↔ IsConsistent (and_answer self.now.answers rows.now.list answer) }
-        ensures lone { IsLeastLone (and_answer self.now.answers rows.now.list answer) result.lone }
+        ensures lone { IsLeastOwnLone shared.now.list (and_answer self.now.answers rows.now.list answer) result.lone }
     {
-        survey_with(&self.pairs, rows, answer)
+        survey_with(&self.pairs, rows, answer, shared)
     }
 
     /// Whether all extreme rows of some answer with this number are in the set. It takes no memory.

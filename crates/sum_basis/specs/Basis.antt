@@ -1,7 +1,7 @@
 -- A reduced form, as contracts see it.
-use Rattle.std.specs.Prelude.{◌≡◌, ◌≢◌, ℕ, ◌<◌, ◌≤◌, ℤ, pos, ◌<ℤ◌, List, [], ◌∷◌, Option, unsigned_abs}
+use Rattle.std.specs.Prelude.{◌≡◌, ◌≢◌, ℕ, ◌<◌, ◌≤◌, ℤ, pos, ◌<ℤ◌, false, List, [], ◌∷◌, Option, unsigned_abs}
 use Rattle.audit_types.specs.Limits.{most_width}
-use Rattle.audit_types.specs.Rows.{IsLeast}
+use Rattle.audit_types.specs.Rows.{has_row, IsLeast}
 use Rattle.audit_types.specs.Form.{set_row, InSpan, IsLeastCommonMultiple, pivot, pivot_entries}
 use Rattle.std.specs.List.{AllByRecursion}
 use Rattle.sum_basis.specs.declared.sparse.SparseRow.{SparseRow}
@@ -31,6 +31,10 @@ SpansUnit form i = (i < form.n) × InSpan form.rows (unit_row form.n i)
 -- the least row number whose unit row does, if there is one
 abbrev pub IsLeastUnit : Echelon → Option ℕ → Type 0
 IsLeastUnit form least = IsLeast (SpansUnit form) least
+
+-- the least row number that isn't shared whose unit row does
+abbrev pub IsLeastOwnUnit : Echelon → List ℕ → Option ℕ → Type 0
+IsLeastOwnUnit form shared least = IsLeast (λ i. SpansUnit form i × (has_row shared i ≡ false)) least
 
 -- some unit row lies in the span
 abbrev pub HasUnitRow : Echelon → Type 0

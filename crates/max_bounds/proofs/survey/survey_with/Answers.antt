@@ -17,10 +17,10 @@ returns c =
     c.lower.ensures.lowered r ∙ ap (λ a. bound_with last.rows a r (bound_at c.upper_bounds-bounds.result r)) same
     ∙ ap (bound_with last.rows last.value r) (c.upper_bounds-bounds.ensures.exact r) ∙ sym (upper_bound-push (answers_of c.args.pairs.now) last r)) in
     record {
-      tells = subst (λ bound. TellsOf bound (and_answer (answers_of c.args.pairs.now) last.rows last.value) c.and.result) bounds
-          (TellsOf-push (bound_at c.lower.new.bounds) (answers_of c.args.pairs.now) last c.survey_under.result c.and.result c.extreme_rows.result.count
-          c.extreme_rows.result.lone c.survey_under.ensures.tells
-          (c.extreme_rows.ensures.count ∙ ap (λ a. length (reaching (bound_at c.lower.new.bounds) last.rows a)) same)
-          (c.extreme_rows.ensures.lone ∙ ap (λ a. lone_of (reaching (bound_at c.lower.new.bounds) last.rows a)) same)
+      tells = subst (λ bound. TellsOf bound c.args.shared.now.list (and_answer (answers_of c.args.pairs.now) last.rows last.value) c.and.result) bounds
+          (TellsOf-push (bound_at c.lower.new.bounds) c.args.shared.now.list (answers_of c.args.pairs.now) last c.survey_under.result c.and.result c.extreme_rows-extremes.result.count
+          c.extreme_rows-extremes.result.lone c.survey_under.ensures.tells
+          (c.extreme_rows-extremes.ensures.count ∙ ap (λ a. length (reaching (bound_at c.lower.new.bounds) last.rows a)) same)
+          (c.extreme_rows-extremes.ensures.lone ∙ ap (λ a. lone_of (reaching (bound_at c.lower.new.bounds) last.rows a)) same)
           c.and.ensures.consistent c.and.ensures.lone);
     }
