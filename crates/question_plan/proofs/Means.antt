@@ -9,6 +9,7 @@ use Rattle.audit_types.specs.Products.{times_assoc}
 use Rattle.std.proofs.Math.Nat.{le-mul_of_pos_right}
 use Rattle.audit_types.specs.PrimitiveLines.{scaled_gcd}
 use Rattle.int_rows.specs.Exact.{exact}
+use Rattle.audit_types.specs.Limits.{most_answer}
 use Rattle.line_wire.specs.Reply.{IsAverage}
 use Rattle.question_plan.specs.Replies.{IsMean}
 
@@ -30,7 +31,7 @@ module _ (sum : ℤ) (size g : ℕ) (some : 0 < size) (common : IsGcd (unsigned_
   abs_is : unsigned_abs sum ≡ g * unsigned_abs (int_div sum (pos g))
   abs_is = ap unsigned_abs sum_is ∙ unsigned_abs-mul (pos g) (int_div sum (pos g))
 
-  -- a common divisor of some rows is not 0
+  -- a common divisor with some people is not 0
   pub divisor_some : 0 < g
   divisor_some = by g size_is
     where
@@ -63,8 +64,10 @@ module _ (sum : ℤ) (size g : ℕ) (some : 0 < size) (common : IsGcd (unsigned_
       subst (λ (k : ℕ). IsGcd (unsigned_abs (int_div sum (pos g))) (size / g) k)
       (one scaled.0 (same_from_IsGcd (unsigned_abs sum) size g (g * scaled.0) common here)) scaled.1
 
-  pub mean : IsMean sum size (int_div sum (pos g)) (size / g)
-  mean = record {
+  pub mean : unsigned_abs sum ≤ most_answer → IsMean sum size (int_div sum (pos g)) (size / g)
+  mean small = record {
+    within = small;
+    somebody = some;
     some = den_some;
     same = ap (λ (n : ℕ). int_div sum (pos g) *ℤ pos n) size_is ∙ across (int_div sum (pos g)) (size / g) ∙ ap (λ (z : ℤ). z *ℤ pos (size / g)) (sym sum_is);
     lowest = lowest;
@@ -77,16 +80,16 @@ module _ (sum : ℤ) (size g : ℕ) (some : 0 < size) (common : IsGcd (unsigned_
       across z d = ap (λ (y : ℤ). z *ℤ y) (factors d) ∙ sym (times_assoc z (pos g) (pos d)) ∙ ap (λ (y : ℤ). y *ℤ pos d) (*ℤ_comm z (pos g))
 
   -- and it is in range
-  pub in_range : size ≤ 1024 → unsigned_abs sum ≤ 1024 * 10 ^ 12 → IsAverage (int_div sum (pos g)) (size / g)
+  pub in_range : size ≤ 1024 * 10 ^ 12 → unsigned_abs sum ≤ 1024 * 10 ^ 12 → IsAverage (int_div sum (pos g)) (size / g)
   in_range at_most small = record {
     within = omega (arith, small, abs_is, le-mul_of_pos_right (unsigned_abs (int_div sum (pos g))) divisor_some);
     positive = omega (arith, den_some);
-    rows = omega (arith, at_most, size_is, le-mul_of_pos_right (size / g) divisor_some);
+    people = omega (arith, at_most, size_is, le-mul_of_pos_right (size / g) divisor_some);
     lowest = lowest;
   }
 
--- every sum over some rows has an average in lowest terms
-pub some_mean : (sum : ℤ) (size : ℕ) → 0 < size → (num : ℤ) × (den : ℕ) × IsMean sum size num den
-some_mean sum size some =
+-- every sum of a table has an average over some people in lowest terms
+pub some_mean : (sum : ℤ) (size : ℕ) → 0 < size → unsigned_abs sum ≤ most_answer → (num : ℤ) × (den : ℕ) × IsMean sum size num den
+some_mean sum size some small =
     let common = scaled_gcd 1 (omega arith) (suc size) (unsigned_abs sum) size (omega arith) in
-    (int_div sum (pos common.0), size / common.0, mean sum size common.0 some common.1)
+    (int_div sum (pos common.0), size / common.0, mean sum size common.0 some common.1 small)
