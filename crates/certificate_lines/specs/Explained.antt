@@ -51,7 +51,7 @@ pub record IsDecided (setting : Setting) (history : List Answered) (take : Take)
 -- the line for a plan: the verdict of its reply, or what its question comes to
 abbrev pub IsLineOf : Setting → List Answered → Plan → List ℕ → Type 0
 IsLineOf setting history (Ready answer) line = line ≡ verdict_bytes (due_of_reply answer)
-IsLineOf setting history (Ask take asked) line =
+IsLineOf setting history (Ask take people asked) line =
     ((most_records ≤ length history) × (line ≡ verdict_bytes (due_of_reply reply.Full))) ⊎ IsDecided setting history take asked line
 
 -- the line that is sent for a counted line
