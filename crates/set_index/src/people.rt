@@ -10,6 +10,9 @@ use audit_types::RowSet;
 use schema_json::Schema;
 use table_load::Public;
 
+// The count of a row that is guarded by itself.
+const ALONE: i64 = 1;
+
 /// How many people stand behind rows, by how many each row stands for.
 pub(crate) fn people_by(counts: &[i64], rows: &RowSet) -> u64
     requires numbers { AreNumbers rows.now.n counts.now }
@@ -38,7 +41,7 @@ fn several(counts: &[i64], rows: u16) -> RowSet
 {
     let mut shared = RowSet::new(rows);
     for row in 0..rows {
-        if counts[row as usize] > 1 {
+        if counts[row as usize] > ALONE {
             shared.add(row);
         }
     }

@@ -7,7 +7,7 @@ use Rattle.audit_types.specs.Rows.{Rows, with_row}
 use Rattle.audit_types.specs.Truth.{number_at}
 use Rattle.set_index.proofs.PeopleCounts.{count_is, count_there, with_last, without_last, no_rows}
 use Rattle.set_index.proofs.people.several.Goals as goal
-use Rattle.set_index.proofs.people.several.Goals.{then-counts-row-gt1, else-counts-row-gt1}
+use Rattle.set_index.proofs.people.several.Goals.{then-counts-row-gt-ALONE, else-counts-row-gt-ALONE}
 
 pub loop-row-init : goal.loop-row-init
 loop-row-init c = record { same_n = c.new-shared.ensures.n; so_far = c.new-shared.ensures.empty ∙ sym (no_rows _) }
@@ -23,8 +23,8 @@ loop-row-preserved c =
     let is : count_at counts row ≡ unsigned_abs (number_at list row) = count_is list row within in
     let test : ℕ → Bool = λ r. nat_lt 1 (count_at counts r) in
     let n = c.loop-row.invariant.same_n in
-    elim c.if-counts-row-gt1.branch [
-      | then-counts-row-gt1 w ↦
+    elim c.if-counts-row-gt-ALONE.branch [
+      | then-counts-row-gt-ALONE w ↦
           let more : 1 < count_at counts row = omega (arith, ints, is, count.above) in
           record {
             same_n = ap (λ (s : Rows). s.n) w.shared-is ∙ w.add.ensures.n ∙ n;
@@ -32,7 +32,7 @@ loop-row-preserved c =
                 ∙ ap (λ rows. with_row c.args.rows rows row) c.loop-row.invariant.so_far
                 ∙ with_last c.args.rows test row below (lt-ltb 1 (count_at counts row) more);
           }
-      | else-counts-row-gt1 w ↦
+      | else-counts-row-gt-ALONE w ↦
           let one : count_at counts row ≤ 1 = omega (arith, ints, is, count.above) in
           record {
             same_n = ap (λ (s : Rows). s.n) w.shared-is ∙ n;
