@@ -1,4 +1,4 @@
-use Rattle.std.proofs.Common.{rules, tests, ◌<◌, ◌≤◌, List, length, refl, sym, subst, inl, inr}
+use Rattle.std.proofs.Common.{rules, tests, ℕ, ◌<◌, ◌≤◌, List, length, refl, sym, subst, inl, inr}
 use Rattle.std.proofs.lemmas.Result.{IfOk-from_err}
 use Rattle.audit_types.specs.History.{Setting, FitsShape, IsJudgementAfter}
 use Rattle.audit_types.specs.declared.records.Asked.{Asked}

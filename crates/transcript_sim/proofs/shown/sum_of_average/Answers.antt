@@ -1,5 +1,5 @@
 use Rattle.std.proofs.Common.{rules, ℕ, ◌≡◌, ◌<◌, ◌*◌, ◌/◌, ℤ, pos, sym, ◌∙◌, ap, arith}
-use Rattle.std.specs.Prelude.{FitsSigned, int_rem, int_div, ◌*ℤ◌, unsigned_abs, MatchOption, Option, Some, None}
+use Rattle.std.specs.Prelude.{FitsSigned, int_rem, ◌*ℤ◌, unsigned_abs, MatchOption, Option, Some, None}
 use Rattle.std.specs.Int.{w64, w128}
 use Rattle.std.proofs.lemmas.Int.{to_z-of_z, unsigned_abs-mul}
 use Rattle.std.proofs.Math.Nat.{mul-div_cancel}
@@ -49,5 +49,5 @@ returns c =
     ∙ ap (λ (z : ℤ). z *ℤ pos c.args.den) (sym (to_z-of_z w128 c.quotient.result whole ∙ c.quotient.ensures)) in
     told c.as_answer.result _ _ _ _
     (λ large sum some is least. let same = same_size q sum c.args.den c.requires.some (sym multiple ∙ is) in omega (arith, large, same, least))
-    (λ answer h. (somebody, (multiple ∙ ap (λ (z : ℤ). z *ℤ pos c.args.den) (sym h.0), rw h.0 h.1)))
+    (λ answer h. (somebody, multiple ∙ ap (λ (z : ℤ). z *ℤ pos c.args.den) (sym h.0), rw h.0 h.1))
     c.as_answer.ensures

@@ -1,4 +1,4 @@
-use Rattle.std.proofs.Common.{rules, tests, ◌≡◌, true, None, refl, sym, ◌∙◌, subst, arith}
+use Rattle.std.proofs.Common.{rules, tests, ◌≡◌, true, None, refl, sym, ◌∙◌, subst}
 use Rattle.line_wire.specs.Lines.{text}
 use Rattle.line_wire.specs.Reply.{IsReply}
 use Rattle.line_wire.specs.declared.reply.Reply.{Reply}
