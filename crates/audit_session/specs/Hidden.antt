@@ -1,9 +1,12 @@
 -- The promise as one sentence: other secrets lead the same life, byte for byte, and differ in what is guarded.
-use Rattle.std.specs.Prelude.{◌≡◌, ◌≢◌, ℕ, ◌<◌, ℤ, List, [], ◌∷◌, ◌++◌, length, map, take, slice_set}
+use Rattle.std.specs.Prelude.{◌≡◌, ◌≢◌, ℕ, ◌<◌, ℤ, List, [], ◌∷◌, ◌++◌, length, map, take, slice_set, false}
+use Rattle.audit_types.specs.Rows.{has_row}
 use Rattle.audit_types.specs.Shapes.{columns}
 use Rattle.audit_types.specs.Column.{AreOwn, IsGuarded}
 use Rattle.audit_types.specs.Truth.{number_at}
 use Rattle.audit_types.specs.History.{Secrets, AreSecrets, AreSameFor, known_of, list_of}
+use Rattle.audit_types.specs.People.{HidesPeople}
+use Rattle.table_load.specs.Cells.{counts_of}
 use Rattle.table_load.specs.Database.{Database, table_in}
 use Rattle.audit_core.specs.Ranges.{StaysOpen}
 use Rattle.audit_session.specs.Lives.{Standing, Run, IsLife, history_over}
@@ -41,11 +44,16 @@ IsHidden base runs last =
     IsGuarded (known_of (table_in last.base).setting (history_over last.base last) column) own value →
     HasTwinLife base runs last own column value (list_of last.base.secret.lists column)
 
--- and each number that stood in the table at one of its runs, whether it still does or not
+-- and the number of each person behind the rows of the last table, if its schema counts them: the same life is led by what is told of others
+abbrev pub HidesEachPerson : Database → List Run → Standing → Type 0
+HidesEachPerson base runs last =
+    HidesPeople last.base.secret.shape last.base.secret.lists (λ lists. LeadsLife lists base runs last) (counts_of last.base.columns last.base.public)
+
+-- and each number that stood in the table at one of its runs, whether it still does or not, in a row that isn't shared
 abbrev pub HidesWhatStood : Database → List Run → Standing → Type 0
 HidesWhatStood base runs last =
     (before after : List Run) (run : Run) (column row : ℕ) → runs ≡ before ++ run ∷ after → column < columns last.base.secret.shape →
-    row < run.left.base.secret.shape.rows → HasTwinLife base runs last [] column (λ w. number_at w row) (list_of run.left.base.secret.lists column)
+    has_row last.base.protected.shared row ≡ false → row < run.left.base.secret.shape.rows → HasTwinLife base runs last [] column (λ w. number_at w row) (list_of run.left.base.secret.lists column)
 
 -- for all that a life sent a column of the last table may have numbers of which this is true: with them and the other columns, all along, the
 -- same life is led
