@@ -31,8 +31,8 @@ some_there counts line below none = let empty : length counts ≡ 0 = ap length 
 
 pub hides_each_person : PeopleMayDiffer → (base : Database) (runs : List Run) (last : Standing) → IsDatabase last.base → AreLines last.base →
     AreSecrets last.base.secret.shape last.base.secret.lists → LeadsLife last.base.secret.lists base runs last →
-    ((column row : ℕ) → column < columns last.base.secret.shape → row < last.base.secret.shape.rows → has_row last.base.protected.shared row ≡ false →
-    HasOtherLife base runs last column row) → HidesEachPerson base runs last
+    ((column row : ℕ) → column < columns last.base.secret.shape → row < last.base.secret.shape.rows →
+    has_row last.base.protected.shared row ≡ false → HasOtherLife base runs last column row) → HidesEachPerson base runs last
 hides_each_person may base runs last database lines own life hidden everyone column line person behind column_below line_below person_below =
     elim (cases_lt 1 (count_at counts line)) [
       | inl more ↦ of_others last.base.secret.lists own life (inl (more, refl))
@@ -53,12 +53,15 @@ hides_each_person may base runs last database lines own life hidden everyone col
 
     -- a row of one person isn't shared
     alone : count_at counts line ≤ 1 → has_row last.base.protected.shared line ≡ false
-    alone few = ap (λ shared. has_row shared line) lines.shared ∙ has-rows_that (λ row. nat_lt 1 (count_at counts row)) (length counts) line line_below ∙ le-ltb 1 (count_at counts line) few
+    alone few =
+        ap (λ shared. has_row shared line) lines.shared ∙ has-rows_that (λ row. nat_lt 1 (count_at counts row)) (length counts) line line_below
+        ∙ le-ltb 1 (count_at counts line) few
 
     of_others : (others : Secrets) → AreSecrets shape others → LeadsLife others base runs last →
         ((1 < count_at counts line) × (others ≡ last.base.secret.lists))
         ⊎ ((count_at counts line ≡ 1) × (number_at (list_of others column) line ≢ number_at (list_of last.base.secret.lists column) line)) →
         HasOtherPeople shape (λ lists. LeadsLife lists base runs last) counts everyone column line person
     of_others others are leads which =
-        let found = may shape counts last.base.secret.lists others everyone column line person behind are rows lines.somebody column_below line_below person_below which in
+        let found = may shape counts last.base.secret.lists others everyone column line person behind are rows lines.somebody column_below line_below
+        person_below which in
         record { others = found.others; told_of = others; are_secrets = are; behind = found.behind; still = leads; differs = found.differs }

@@ -48,5 +48,5 @@ returns-clause-people c = λ base runs last database lines numbers life.
     hides_each_person c.people_behind_lines.ensures.differ base runs last database lines are
     (lead last.base.secret.lists life (agree_own (table_in last.base) (history_over last.base last) are (c.lives.ensures.legal base runs last life)))
     (λ column row below within alone.
-      let found = kept.undisclosed column [] (λ w. number_at w row) below (tt, omega arith, tt) (number row within refl alone) in
-      record { others = found.twin; are_secrets = found.are_secrets; still = lead found.twin life found.agree; differs = found.differs })
+    let found = kept.undisclosed column [] (λ w. number_at w row) below (tt, omega arith, tt) (number row within refl alone) in
+    record { others = found.twin; are_secrets = found.are_secrets; still = lead found.twin life found.agree; differs = found.differs })
