@@ -17,6 +17,7 @@ use Rattle.sum_basis.specs.Reach.{IsReached, ReachesAll, IsNear, AreCounts, one_
 use Rattle.sum_basis.specs.Elimination.{IsRemainder}
 use Rattle.sum_basis.specs.Sparse.{entry_at, IsListed}
 use Rattle.sum_basis.specs.declared.sparse.FreeEntry.{FreeEntry}
+use Rattle.sum_basis.proofs.Along.{extent_is, column_below}
 use Rattle.sum_basis.proofs.FormsAreUnique.{own}
 use Rattle.sum_basis.proofs.Remainders.{span_from_left, span_to_left}
 use Rattle.sum_basis.proofs.SparseRows.{zero_past}
@@ -127,6 +128,20 @@ module _ (n : ℕ) (old : List (List ℤ)) (new : List FreeEntry) (grown : List 
 
   pub near : (value : List ℤ → ℤ) (row : ℕ → ℤ) → Tells n grown value row → IsReached n reach grown value → IsNear counts reach row
   near value row tells = near_if_reached n grown g.primitive g.echelon value row tells counts reach counted
+
+  -- if no free column has too many rows, whatever is asked is within reach
+  pub all_few : (shared : List ℕ) (sets : List (List ℕ)) → ((j : ℕ) → j < n → is_pivot grown j ≡ false → met grown j < reach) → ReachesAll n reach shared sets grown
+  all_few shared sets few = record { numbers = λ i l own. within (λ w. number_at w i); totals = λ set found. within (λ w. sum_over w set) }
+    where
+      within : (value : List ℤ → ℤ) → IsReached n reach grown value
+      within value change =
+          let long = extent_is n grown g.primitive g.echelon change.column change.direction change.along in
+          let below = column_below n grown g.primitive g.echelon change.column change.direction change.along in
+          let rows = few change.column below change.along.free in
+          record { column = change.column; direction = change.direction; along = change.along; near = omega arith; changed = change.changed }
+
+  pub all_below : (shared : List ℕ) (sets : List (List ℕ)) → ((j : ℕ) → j < length counts → get_or counts j 0 < reach) → ReachesAll n reach shared sets grown
+  all_below shared sets below = all_few shared sets (λ j l e. let all = are.one_each in let is = counted j l e in let small = below j (omega arith) in omega arith)
 
   -- a free column with a count below the reach
   spike_near : (i : ℕ) → get_or counts i 0 < reach → IsNear counts reach (λ j. cond (i == j) (pos 1) (pos 0))

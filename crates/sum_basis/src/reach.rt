@@ -181,7 +181,7 @@ fn are_columns_near(counts: &[u16], reach: u16, shared: &RowSet) -> bool
     ensures { IsTrue result ↔ ((j : ℕ) → j < length counts.now → has_row shared.now.list j ≡ false → slice_index_or counts.now j 0 < reach) }
 {
     for j in 0..shared.n() {
-        if !shared.has(j) && counts[j as usize] >= reach {
+        if counts[j as usize] >= reach && !shared.has(j) {
             return false;
         }
     }
@@ -322,20 +322,51 @@ fn are_sets_near(
     true
 }
 
-// Whether all that is guarded is within reach of the form with a new list, by counts that are all 0 at first.
+// Whether each count is below the reach.
+fn are_below(counts: &[u16], reach: u16) -> bool
+    ensures { IsTrue result → (j : ℕ) → j < length counts.now → slice_index_or counts.now j 0 < reach }
+{
+    for count in counts {
+        if *count >= reach {
+            return false;
+        }
+    }
+    true
+}
+
+// Whether the total of each of these sets is within reach, by a whole row for each.
+fn are_totals_near(
+    form: &Form,
+    counts: &[u16],
+    reach: u16,
+    new: &[FreeEntry],
+    sets: &[RowSet],
+) -> bool
+    requires at_most { form.now.n ≤ most_rows }
+    requires same_n { All (λ s. s.n ≡ form.now.n) sets.now }
+    requires new { IsLeftOverOrNone form.now new.now }
+    requires counts { length counts.now ≡ form.now.n }
+    requires counted { (grown : List (List ℤ)) → IsGrownBy form.now new.now grown → AreCounts form.now.n grown counts.now }
+    ensures { (grown : List (List ℤ)) → IsGrownBy form.now new.now grown → IsTrue result ↔ All (λ s. IsReached form.now.n reach grown (λ w. sum_over w s.list)) sets.now }
+{
+    let mut whole = [0; 1024];
+    let row = &mut whole[..form.columns() as usize];
+    are_sets_near(form, counts, reach, row, new, sets)
+}
+
+// Whether all that is guarded is within reach of the form with a new list, by its counts. If all of them are below the reach, no row is
+// looked at.
 fn is_within(
     form: &Form,
     new: &[FreeEntry],
-    counts: &mut [u16],
-    row: &mut [i128],
+    counts: &[u16],
     reach: u16,
     shared: &RowSet,
     sets: &[RowSet],
     room: &mut Vec<FreeEntry>,
 ) -> bool
-    requires counts { length counts.old ≡ form.now.n }
-    requires zeros { (j : ℕ) → slice_index_or counts.old j 0 ≡ 0 }
-    requires length { length row.old ≡ form.now.n }
+    requires counts { length counts.now ≡ form.now.n }
+    requires counted { (grown : List (List ℤ)) → IsGrownBy form.now new.now grown → AreCounts form.now.n grown counts.now }
     requires at_most { form.now.n ≤ most_rows }
     requires reach { 0 < reach }
     requires shared { shared.now.n ≡ form.now.n }
@@ -346,10 +377,9 @@ fn is_within(
 {
     // What every form is: its rows are a form.
     let _ = form.columns();
-    if !new.is_empty() {
-        tally(counts, &new[1..]);
+    if are_below(counts, reach) {
+        return true;
     }
-    tally_rows(form, counts, new, room);
     if !are_columns_near(counts, reach, shared) {
         return false;
     }
@@ -359,7 +389,28 @@ fn is_within(
     if !are_rows_near(form, counts, reach, shared, new, room) {
         return false;
     }
-    are_sets_near(form, counts, reach, row, new, sets)
+    if sets.is_empty() {
+        return true;
+    }
+    are_totals_near(form, counts, reach, new, sets)
+}
+
+// Counts, by counts that are all 0 at first, at how many rows each free column isn't 0.
+fn count_after(form: &Form, counts: &mut [u16], new: &[FreeEntry], room: &mut Vec<FreeEntry>)
+    requires counts { length counts.old ≡ form.now.n }
+    requires zeros { (j : ℕ) → slice_index_or counts.old j 0 ≡ 0 }
+    requires new { IsLeftOverOrNone form.now new.now }
+    requires room { form.now.n ≤ vec_capacity room.old }
+    ensures length { length counts.new ≡ form.now.n }
+    ensures counted { (grown : List (List ℤ)) → IsGrownBy form.now new.now grown → AreCounts form.now.n grown counts.new }
+    ensures room { form.now.n ≤ vec_capacity room.new }
+{
+    // What every form is: its rows are a form.
+    let _ = form.columns();
+    if !new.is_empty() {
+        tally(counts, &new[1..]);
+    }
+    tally_rows(form, counts, new, room);
 }
 
 /// Whether all that is guarded is within reach of the form with a new list, or as it is if the list is empty: the number of each row that
@@ -368,12 +419,10 @@ pub(crate) fn is_within_after(
     form: &Form,
     alloc: Global,
     new: &[FreeEntry],
-    row: &mut [i128],
     reach: u16,
     shared: &RowSet,
     sets: &[RowSet],
 ) -> Result<bool, NoMemory>
-    requires length { length row.old ≡ form.now.n }
     requires at_most { form.now.n ≤ most_rows }
     requires reach { 0 < reach }
     requires shared { shared.now.n ≡ form.now.n }
@@ -385,5 +434,6 @@ pub(crate) fn is_within_after(
     let mut zeros = [0; 1024];
     let counts = &mut zeros[..columns];
     let mut room = Vec::with_capacity(alloc, columns)?;
-    Ok(is_within(form, new, counts, row, reach, shared, sets, &mut room))
+    count_after(form, counts, new, &mut room);
+    Ok(is_within(form, new, counts, reach, shared, sets, &mut room))
 }
