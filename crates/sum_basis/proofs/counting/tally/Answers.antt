@@ -1,6 +1,6 @@
 use Rattle.std.proofs.Common.{get_or, pos, refl, arith}
 use Rattle.sum_basis.proofs.Tallies.{place_inside, not_yet_tallied, one_more_tallied}
-use Rattle.sum_basis.proofs.reach.tally.Goals as goal
+use Rattle.sum_basis.proofs.counting.tally.Goals as goal
 
 pub bounds-counts-e : goal.bounds-counts-e
 bounds-counts-e c =
