@@ -10,6 +10,7 @@ import tempfile
 
 from . import limits
 from .cells import FORMS
+from .coarsening import coarsening_faults
 from .faults import Fault, listed, shown
 from .names import LONGEST, is_name, plain
 from .ranges import range_fault
@@ -17,6 +18,7 @@ from .reading import SEPARATORS
 
 OPEN = "?"
 FACTOR = re.compile("_x10+$")
+START = "_from"  # of the name of a column of bands, which holds the number that each begins with
 MOST_DECIMALS = 12
 TOO_FINE = "A secret number is never rounded: round it in the file itself, and say so to those who ask, or leave the column out"
 SECRET, PUBLIC = ("sum", "max", "min"), ("text", "number")
@@ -44,6 +46,8 @@ COLUMN_KEYS = {
     "missing is": list,
     "missing": str,
     "range": str,
+    "bands": str,
+    "join": dict,
 }
 TEXT_KEYS = ("is", "missing is", "missing")
 NUMBER_KEYS = TEXT_KEYS + ("written as", "unit", "decimals", "rounded")
@@ -68,7 +72,7 @@ def read(path):
         limits.fill_in(choices)
     faults = key_faults(choices, table_keys(), "the file of choices")
     if not faults:
-        ask_for_ranges(choices["columns"])
+        fill_in_columns(choices["columns"])
         for place, column in enumerate(choices["columns"], 1):
             faults += key_faults(column, COLUMN_KEYS, f"column {place} of the choices")
     if faults:
@@ -76,11 +80,13 @@ def read(path):
     return choices
 
 
-def ask_for_ranges(columns):
-    """Leaves the range open in the columns of a file that was written when it wasn't asked for."""
+def fill_in_columns(columns):
+    """Leaves the range open in the columns of a file that was written when it wasn't asked for, and their values as they are."""
     for column in columns:
         if isinstance(column, dict):
             column.setdefault("range", OPEN)
+            column.setdefault("bands", None)
+            column.setdefault("join", None)
 
 
 def key_faults(found, keys, what):
@@ -157,14 +163,17 @@ def table_faults(choices):
 
 
 def name_in_steps(column):
-    """The column's name with the factor that its public numbers are multiplied by at its end, if there is one, and without one if there is none."""
-    if column["decimals"] == OPEN:
+    """The column's name as it says what its public numbers are: with the factor that they are multiplied by at its end, or with _from if they
+    are where bands begin, and without if they are neither."""
+    if column["decimals"] == OPEN and not column["bands"]:
         return column["name"]
-    bare = FACTOR.sub("", column["name"])
-    if not column["decimals"]:
-        return column["name"] if FACTOR.search(plain(column["from"], "c")) else bare
-    end = f"_x{10 ** column['decimals']}"
-    return bare[: LONGEST - len(end)] + end
+    title = plain(column["from"], "c")
+    name = column["name"] if FACTOR.search(title) else FACTOR.sub("", column["name"])
+    name = name if title.endswith(START) else name.removesuffix(START)
+    end = START if column["bands"] else f"_x{10 ** column['decimals']}" if column["decimals"] else ""
+    if not end or name.endswith(end):
+        return name
+    return FACTOR.sub("", name)[: LONGEST - len(end)] + end
 
 
 def column_faults(column):
@@ -174,7 +183,9 @@ def column_faults(column):
         return []
     if column["is"] not in KINDS:
         return [f"{title} can't be {shown(column['is'])}: it is one of {', '.join(KINDS)}"]
-    faults = []
+    faults = [f"{title}: {fault}" for fault in coarsening_faults(column)]
+    if faults:
+        return faults
     if not is_name(column["name"]):
         faults.append(
             f"{title}: {shown(column['name'])} can't be a name: a letter, then letters, digits and _, at most 32, and"
@@ -212,9 +223,14 @@ def number_faults(column, title):
         faults.append(f"{title} can't be {column['is']}: a date can be public, as number or text, or left out")
     if column["is"] in SECRET and (column["decimals"] or 0) > MOST_DECIMALS:
         faults.append(f"{title} has numbers of {column['decimals']} decimals, and at most {MOST_DECIMALS} are kept. {TOO_FINE}")
-    elif not 0 <= (column["decimals"] or 0) <= MOST_DECIMALS:
+    elif not column["bands"] and not 0 <= (column["decimals"] or 0) <= MOST_DECIMALS:
         faults.append(f"{title}: \"decimals\" can't be {column['decimals']}: it is 0 to {MOST_DECIMALS}")
-    elif column["is"] == "number" and column["decimals"] and column["name"] != name_in_steps(column):
+    elif column["bands"] and column["name"] != name_in_steps(column):
+        faults.append(
+            f"{title}: numbers in bands are to say so in their name, since a condition compares them with the number that a band begins with: name"
+            f" it {name_in_steps(column)}"
+        )
+    elif column["is"] == "number" and not column["bands"] and column["decimals"] and column["name"] != name_in_steps(column):
         faults.append(
             f"{title}: public numbers times {10 ** column['decimals']:,} are to say so in their name, since a condition"
             f' compares them as they are kept: name it {name_in_steps(column)}; or lower "decimals" and say how it is'

@@ -91,6 +91,8 @@ def describe(title, name, cells):
         "missing is": None,
         "missing": None,
         "range": choosing.OPEN,
+        "bands": None,
+        "join": None,
     }
     if not there:
         column["is"] = "leave out"
@@ -143,6 +145,9 @@ def set_decimals(column, cells, names, words):
     """Keeps as many decimals as the cells are written with; they are open as long as the form is."""
     decimals = [max(FORMS[name].decimals(cell) for cell in cells) for name in names]
     if max(decimals) == 0:
+        return
+    if len(names) == 1 and decimals[0] == 1 and all(FORMS[names[0]].read(cell).denominator == 1 for cell in cells):
+        words.append("each whole, though written with a decimal")
         return
     column["decimals"] = decimals[0] if len(names) == 1 else choosing.OPEN
     if len(names) == 1:

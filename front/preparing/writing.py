@@ -12,6 +12,7 @@ import subprocess
 import tempfile
 
 from .choices import PUBLIC
+from .coarsening import read_bands
 from .faults import Fault
 from .keys import KEY
 from .limits import LIMITS
@@ -131,10 +132,12 @@ def notes(columns):
     found = {}
     for column in columns:
         chosen = column.chosen or {"from": column.name}
-        title = f"{chosen['from']}: known" if column.marks else chosen["from"]
+        title, bands = f"{chosen['from']}: known" if column.marks else chosen["from"], chosen.get("bands")
         numbers = (
             {key: chosen.get(key) for key in ("decimals", "unit")} if column.kind != "text" and not column.marks else {}
         )
+        if bands and not column.marks:
+            title, numbers = f"{title}, {read_bands(bands).words()}", {"unit": chosen.get("unit")}
         found[column.name] = {key: value for key, value in {"title": title, **numbers}.items() if value}
     return found
 
