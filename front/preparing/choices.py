@@ -8,7 +8,7 @@ import os
 import re
 import tempfile
 
-from . import limits
+from . import limits, offered
 from .cells import FORMS
 from .coarsening import coarsening_faults
 from .faults import Fault, listed, shown
@@ -21,7 +21,8 @@ FACTOR = re.compile("_x10+$")
 START = "_from"  # of the name of a column of bands, which holds the number that each begins with
 MOST_DECIMALS = 12
 TOO_FINE = "A secret number is never rounded: round it in the file itself, and say so to those who ask, or leave the column out"
-SECRET, PUBLIC = ("sum", "max", "min"), ("text", "number")
+SECRET, PUBLIC, COUNT = ("sum", "max", "min"), ("text", "number"), "count"
+SEEN = PUBLIC + (COUNT,)  # what stands in the public file
 KINDS = PUBLIC + SECRET + ("leave out",)
 MISSING = {"drop the row": KINDS, "keep": ("text",), "mark": ("number",)}
 ROUNDINGS = ("no", "down", "nearest")
@@ -55,8 +56,8 @@ SECRET_KEYS = NUMBER_KEYS + ("range",)
 
 
 def table_keys():
-    """The keys of a file of choices, each with the type of its values: one for each limit among them."""
-    return TABLE_KEYS | dict.fromkeys(limits.LIMITS, int)
+    """The keys of a file of choices, each with the type of its values: one for each limit among them, and the name of the column of counts."""
+    return TABLE_KEYS | dict.fromkeys(limits.LIMITS, int) | ({COUNT: str} if offered.LINES_STAND_FOR_PEOPLE else {})
 
 
 def read(path):
@@ -70,6 +71,8 @@ def read(path):
         raise Fault(f"{path} isn't JSON: {error}") from None
     if isinstance(choices, dict):
         limits.fill_in(choices)
+        if offered.LINES_STAND_FOR_PEOPLE:
+            choices.setdefault(COUNT, None)
     faults = key_faults(choices, table_keys(), "the file of choices")
     if not faults:
         fill_in_columns(choices["columns"])
@@ -153,6 +156,8 @@ def table_faults(choices):
         faults.append(f"\"untitled\" can't be {shown(choices['untitled'])}: it is none, first or last")
     if choices["wave"] not in (None, 1):
         faults.append(f"\"wave\" can't be {choices['wave']}: it is 1, or null for no such column")
+    if choices.get(COUNT) is not None and not is_name(choices[COUNT]):
+        faults.append(f'"count" can\'t be {shown(choices[COUNT])}: it is the name of the column with how many people a line stands for, or null')
     public = [column["name"] for column in choices["columns"] if column["is"] in PUBLIC]
     faults += [
         f'"split by" can\'t be {shown(name)}: it has to be the name of a public column'

@@ -4,7 +4,7 @@ import collections
 import pathlib
 
 from . import choices as choosing
-from . import limits
+from . import limits, offered
 from .cells import FORMS, forms_of, is_missing, unit_of, without_unit
 from .faults import Fault, counted, shown
 from .names import names_of
@@ -51,6 +51,8 @@ def look(path, encoding=None, separator=None, untitled=None, sheet=None):
         "columns": columns,
     }
     limits.fill_in(choices)
+    if offered.LINES_STAND_FOR_PEOPLE:
+        choices[choosing.COUNT] = None
     choosing.write(out, choices, fresh=True)
     say_next(out, choices)
 

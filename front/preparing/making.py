@@ -6,7 +6,7 @@ import enum
 
 from . import choices as choosing
 from .cells import FORMS, without_unit
-from .choices import PUBLIC, SECRET
+from .choices import COUNT, PUBLIC, SECRET
 from .coarsening import coarsening_words, joined, read_bands, say_unused
 from .faults import Fault, counted, first_numbers, listed, shown
 from .guards import say_of_two, say_readers, say_what_is_known, secrets_apart
@@ -130,7 +130,8 @@ def read_as_chosen(path, choices):
 
 
 def columns_to_write(choices):
-    """The columns in the file's order, a column of 0 and 1 after each number whose gaps are marked, and wave last."""
+    """The columns in the file's order, a column of 0 and 1 after each number whose gaps are marked, how many people a line stands for after the
+    last public one, and wave last."""
     columns = []
     for place, chosen in enumerate(choices["columns"]):
         if chosen["is"] == "leave out":
@@ -139,6 +140,9 @@ def columns_to_write(choices):
         if chosen["missing"] == "mark":
             known = free(chosen["name"][:26] + "_known", [column["name"] for column in choices["columns"]])
             columns.append(Column(known, "number", place, chosen, marks=chosen["name"]))
+    if choices.get(COUNT) is not None:
+        after = max((place for place, column in enumerate(columns, 1) if column.kind in PUBLIC), default=0)
+        columns.insert(after, Column(choices[COUNT], COUNT))
     if choices["wave"] is not None:
         columns.append(Column("wave", "number"))
     return columns

@@ -213,7 +213,7 @@ PLANTS = [
      "test_renewing.Refused.test_the_key_stays_outside"),
     ("a row without a key may be current", "preparing/renewing.py", "        if row[CURRENT] and not row[KEY]:\n", "        if False:\n",
      "test_renewing.Refused.test_a_folder_that_was_changed_by_hand"),
-    ("anybody may read the keys", "preparing/writing.py", "for row in rows)], 0o600)", "for row in rows)], 0o644)",
+    ("anybody may read the keys", "preparing/writing.py", "for row in rows)]), 0o600)", "for row in rows)]), 0o644)",
      "test_renewing.Made.test_the_key_stays_outside_and_everybody_is_current"),
     ("questions are over those who left too", "preparing/making.py", '    return {"only": ONLY} if ONLY else {}\n', "    return {}\n",
      "test_renewing.Made.test_the_key_stays_outside_and_everybody_is_current"),
