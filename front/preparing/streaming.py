@@ -13,8 +13,21 @@ from .workbooks import WORKBOOK
 
 PIECE = 1 << 18             # bytes that are read at once
 PIECE_OF_ROWS = 1 << 10     # that are read at once, and after which the clock is looked at
+FIRST = 1 << 22             # bytes, by which it is found out how a file is read
 PATIENCE = 2                # seconds between two words on how far it is
 LONGEST_CELL = 1 << 20
+
+
+def first_piece(path):
+    """The first rows of a file, up to a line end that isn't within a quoted cell, by an even number of quotes before it."""
+    with open(path, "rb") as file:
+        data = file.read(FIRST)
+    end = len(data)
+    while (end := data.rfind(b"\n", 0, end)) > 0:
+        if data.count(b'"', 0, end) % 2 == 0:
+            # After a line feed of UTF-16 a byte 0 may belong to it.
+            return data[: end + 2] if data[:2] == b"\xff\xfe" else data[: end + 1]
+    raise Fault(f"{path} has no line end in its first {FIRST:,} bytes")
 
 
 class Counted(io.RawIOBase):

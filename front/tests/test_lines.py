@@ -301,6 +301,55 @@ class Streaming(LinesTest):
         self.assertLess(peaks[1], 50_000)
 
 
+class Looking(LinesTest):
+    """A file that is too large for memory is looked at as a stream, and what is seen is the same."""
+
+    def streamed(self, text, *options, encoding="utf-8", first=300):
+        with mock.patch("preparing.reading.MOST_BYTES", 500), mock.patch("preparing.streaming.FIRST", first):
+            return self.look(text, *options, encoding=encoding)
+
+    def test_what_is_seen_is_what_is_seen_in_memory(self):
+        rows = drawn(300)
+        for row in rows[1::7]:
+            row[2] = "NA"
+        rows[40][0] = "a, \"b\"\nc"
+        for encoding in ("utf-8", "utf-8-sig", "utf-16", "cp1252"):
+            with self.subTest(encoding):
+                text = text_of([["Größe", *rows[0][1:]], *rows[1:]])
+                seen = []
+                for look in (self.look, self.streamed):
+                    self.choices.unlink(missing_ok=True)
+                    status, said = look(text, encoding=encoding)
+                    self.assertEqual(status, 0, said)
+                    seen.append((self.chosen(), [line for line in said.splitlines() if line.startswith(("  '", "rows", "separator"))]))
+                self.assertEqual(*seen)
+
+    def test_a_gap_is_seen_wherever_it_stands_and_the_first_cells_say_how_numbers_are_written(self):
+        text = text_of([["dept", "pay"], *([f"d{k}", k] for k in range(200)), ["d7", "NA"], ["NA", 5]])
+        with mock.patch("preparing.looking.MOST_DIFFERENT", 50):
+            said = self.streamed(text)[1]
+        self.assertIn("'pay': more than 50 different, and what follows goes by the first of them; numbers", said)
+        self.assertEqual([column["missing is"] for column in self.chosen()["columns"]], [["NA"], ["NA"]])
+
+    def test_it_says_what_can_be_done_with_so_many(self):
+        said = self.streamed(text_of(drawn(2000)))[1]
+        self.assertIn("With count=people a line stands for all people with the same public cells", said)
+        self.assertNotIn("split by=", said)
+
+    def test_what_isnt_a_table_is_named_by_its_row(self):
+        text = text_of(drawn(300))
+        for changed, due in ((text + "a,b\n", "row 302 has 2 cells and the header has 5"), (text + 'a,"b\n', "the quotes don't fit"),
+                             ("x" * 600 + "\n" + text, "no line end in its first 300 bytes"), (text.replace("\n", "\r"), "no line end in its first")):
+            with self.subTest(due):
+                self.choices.unlink(missing_ok=True)
+                status, said = self.streamed(changed)
+                self.assertEqual((status, self.choices.exists()), (1, False), said)
+                self.assertIn(due, said)
+
+    def test_the_last_row_may_be_a_total(self):
+        self.assertIn("CAREFUL: row 302, the last, says 'Total'", self.streamed(text_of([*drawn(300), ["Total", "", "", 5, 5]]))[1])
+
+
 class Adding(LinesTest):
     MORE = "dept,age,pay,best,least\nQA,41,5,6,7\nQA,41,8,9,9\nOPS,30,1,2,3\n"
 
