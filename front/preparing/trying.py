@@ -8,6 +8,7 @@ import collections
 import itertools
 
 from . import choices as choosing
+from . import offered
 from .choices import OPEN, PUBLIC
 from .choosing import name_by_steps, set_choice
 from .coarsening import read_bands
@@ -18,7 +19,7 @@ from .splitting import MOST_ROWS
 from .streaming import People
 
 MOST_BANDS, FEWEST_BANDS, MOST_WIDTHS = 20, 2, 4
-HEADER = ("", "lines", "of 1", "of 2", "of 3 or more", "people alone")
+HEADER = ("", "combinations", "of 1", "of 2", "of 3 or more", "people alone")
 
 
 def say_tries(path, choices_path, words):
@@ -37,7 +38,7 @@ def say_tries(path, choices_path, words):
     sizes = {values: line.people for values, line in condenser.lines.items()}
     found = [("as chosen" + "".join(f", {word}" for word in words), sizes)] + list(coarser(condenser.public, sizes))
     print_table([(words_of_one, list(one.values())) for words_of_one, one in found])
-    say_next(len(sizes))
+    say_next()
 
 
 def columns_to_try(choices):
@@ -115,7 +116,7 @@ def merged(sizes, changes):
 
 
 def print_table(tries):
-    """The table: a line for each choice, the choices as they are first and the others with the fewest lines last."""
+    """The table: a line for each choice, the choices as they are first and the others with the fewest combinations last."""
     first, *others = [(words, *counts(sizes)) for words, sizes in tries]
     lines = [HEADER] + [tuple(map(str_of, line)) for line in [first] + sorted(others, key=lambda line: -line[1])]
     widest = [max(len(line[place]) for line in lines) for place in range(len(HEADER))]
@@ -124,7 +125,7 @@ def print_table(tries):
 
 
 def counts(sizes):
-    """How many lines, how many of them of one person, of two, of three or more, and what share of the people is alone."""
+    """How many combinations, how many of them of one person, of two, of three or more, and what share of the people is alone."""
     ones, twos, people = sum(size == 1 for size in sizes), sum(size == 2 for size in sizes), sum(sizes)
     return len(sizes), ones, twos, len(sizes) - ones - twos, f"{100 * ones / people:.2f} %"
 
@@ -133,7 +134,9 @@ def str_of(cell):
     return cell if isinstance(cell, str) else f"{cell:,}"
 
 
-def say_next(number):
+def say_next():
     """What the table is for."""
-    print(f"A table has at most {MOST_ROWS:,} lines. Whoever is alone in her public cells is found by them, and each question over her is decided by her number alone.")
+    print("Whoever is alone in her public cells can be found by them, though not her secret numbers.")
+    if offered.LINES_STAND_FOR_PEOPLE:
+        print(f"With count=people each combination is a line, and a table has at most {MOST_ROWS:,}.")
     print("Try choices together as further arguments, as prepare.py lines FILE CHOICES age.bands=10; prepare.py choose writes them down.")
