@@ -37,6 +37,7 @@ from preparing.looking import look
 from preparing.making import make
 from preparing.queries import say_sql
 from preparing.renewing import renew
+from preparing.taking import take
 from preparing.trying import say_tries
 
 OPTIONS = ("encoding", "separator", "untitled", "sheet")
@@ -46,6 +47,8 @@ LINES = """
         add condense then, in little memory however many people the file has
     prepare.py sql CHOICES postgresql|duckdb|sqlite|spark [table=NAME]
         prints the query by which an engine makes the lines of a table of people
+    prepare.py take LINES CHOICES FOLDER
+        writes FOLDER, as make does, of a CSV file of lines that an engine made so
     prepare.py check FILE CHOICES LINES
         compares a CSV file of lines, in any order, with the people, and says where they differ
 """
@@ -84,6 +87,8 @@ def run_lines(words):
             say_sql(choices, dialect)
         case ["sql", choices, dialect, table] if table.startswith("table="):
             say_sql(choices, dialect, table.removeprefix("table="))
+        case ["take", lines, choices, folder]:
+            take(lines, choices, folder, program())
         case ["check", path, choices, lines]:
             check(path, choices, lines)
         case _:

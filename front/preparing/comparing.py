@@ -7,7 +7,7 @@ from . import choices as choosing
 from .choices import COUNT, PUBLIC, SECRET
 from .condensing import sizes_words
 from .faults import Fault, counted, listed, shown
-from .lines import cells_words, condensed
+from .lines import cells_words, condensed, count_of
 from .making import columns_to_write, need_columns
 
 WHOLE = re.compile(r"[+-]?\d{1,19}", re.ASCII)
@@ -94,8 +94,3 @@ def differences(lines, due, columns):
         seen.setdefault(cells, place)
     missing = [cells for cells in due if cells not in seen]
     return faults + [f"no line has {cells_words(names, cells)}, and {counted(due[cells][others.index(count_of(columns))], 'person').replace('persons', 'people')} should be in it" for cells in missing]
-
-
-def count_of(columns):
-    """The name of the column of counts."""
-    return next(column.name for column in columns if column.kind == COUNT)

@@ -37,16 +37,23 @@ def make_lines(path, choices_path, folder, program, key=None):
     choosing.need_decided(choices)
     if key is not None:
         need_one_table(choices)
-    columns, totals, limits = columns_to_write(choices), choices["protect"] or [], stated(choices)
+    columns = columns_to_write(choices)
     need_columns(columns)
-    need_totals(totals, columns)
+    need_totals(choices["protect"] or [], columns)
     need_free(pathlib.Path(folder))
     condenser = condensed(path, choices, columns)
-    rows = rows_of(condenser, columns)
+    write_lines(rows_of(condenser, columns), choices, columns, folder, program, lambda: say_condensed(choices, columns, condenser))
+    say_readers(path)
+    say_next(folder, choices)
+
+
+def write_lines(rows, choices, columns, folder, program, say_first):
+    """Writes the folders of lines, and says what is in them, after what is said first."""
+    totals, limits = choices["protect"] or [], stated(choices)
     need_apart(rows, columns)
     tables = cut(rows, choices, columns)
     write_folders(folder, columns, schema_of(columns, totals, limits), tables, program)
-    say_condensed(choices, columns, condenser)
+    say_first()
     say_lines(rows, columns)
     say_names(choices)
     print("lines: in the order of their public cells")
@@ -54,8 +61,6 @@ def make_lines(path, choices_path, folder, program, key=None):
     say_parts(tables)
     say_totals(totals, columns, tables)
     say_of_own(rows, columns, limits)
-    say_readers(path)
-    say_next(folder, choices)
 
 
 def add_lines(path, choices_path, old, new, program):
@@ -113,7 +118,7 @@ def rows_of(condenser, columns):
     """The lines as rows of a table, in the order of their public cells. A total that is too large is a Fault."""
     names = [column.name for column in condenser.public]
     secret = [column.name for column in condenser.secret]
-    count = next(column.name for column in columns if column.kind == COUNT)
+    count = count_of(columns)
     rows = []
     for values in sorted(condenser.lines):
         line = condenser.lines[values]
@@ -143,9 +148,14 @@ def cut(rows, choices, columns):
     return parts(rows, choices["split by"], [column.name for column in columns if column.kind in PUBLIC])
 
 
+def count_of(columns):
+    """The name of the column of counts."""
+    return next(column.name for column in columns if column.kind == COUNT)
+
+
 def own_lines(rows, columns):
     """The lines of one person, with their places counted with the header as row 1."""
-    count = next(column.name for column in columns if column.kind == COUNT)
+    count = count_of(columns)
     return [(place, row) for place, row in enumerate(rows, 2) if row[count] == 1]
 
 
@@ -184,7 +194,7 @@ def told_words(chosen):
 
 def say_lines(rows, columns):
     """How many people the lines stand for, and how many are alone."""
-    count = next(column.name for column in columns if column.kind == COUNT)
+    count = count_of(columns)
     sizes = [row[count] for row in rows]
     print(f"{sum(sizes):,} people in {sizes_words(sizes)}")
     print("A line of one person is protected as a row is. What is told of a line of several people fixes nobody's number")

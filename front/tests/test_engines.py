@@ -79,6 +79,10 @@ class PostgreSQL(Engine):
         lacking = sum(row[1] == "NA" or "" in (row[2], row[8], row[9]) for row in rows)
         self.assertEqual((left_out, not_whole), (lacking, 0))
         self.assertEqual(self.check((self.server.folder / "table.csv").read_bytes())[0], 0)
+        status, said = self.prepare("take", self.server.folder / "table.csv", self.choices, self.folder / "taken")
+        self.assertEqual(status, 0, said)
+        for path in self.out.rglob("*.*"):
+            self.assertEqual((self.folder / "taken" / path.relative_to(self.out)).read_bytes(), path.read_bytes())
 
     def test_a_collation_for_which_cases_are_one_changes_nothing(self):
         self.server.psql("CREATE COLLATION alike (provider = icu, locale = 'und-u-ks-level1', deterministic = false);")

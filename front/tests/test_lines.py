@@ -481,6 +481,47 @@ class Checking(LinesTest):
             self.assertIn(f"line {place + 1}, ", said)
 
 
+class Taking(LinesTest):
+    def setUp(self):
+        super().setUp()
+        self.condensed(STAFF, *KINDS)
+        self.lines, self.taken = self.folder / "lines.csv", self.folder / "taken"
+
+    def take(self, text):
+        self.lines.write_text(text)
+        return self.prepare("take", self.lines, self.choices, self.taken)
+
+    def test_lines_in_any_order_give_the_folder_that_make_gives(self):
+        for text in (LINES, LINES.replace("\n", "\r\n"), "\n".join([LINES.split("\n")[0], *LINES.split("\n")[:0:-1]]) + "\n"):
+            with self.subTest(text):
+                shutil.rmtree(self.taken, ignore_errors=True)
+                status, said = self.take(text)
+                self.assertEqual(status, 0, said)
+                self.assertIn("6 people in 3 lines: 1 of one person", said)
+                for path in self.out.rglob("*.*"):
+                    self.assertEqual((self.taken / path.relative_to(self.out)).read_bytes(), path.read_bytes())
+
+    def test_what_cant_be_a_first_table_is_refused_and_leaves_nothing(self):
+        self.choose("pay.range=0 to none")
+        for old, new, due in (
+            ("QA,41,1,205,8,5\n", "QA,41,1,205,8,5\nQA,41,1,205,8,5\n", "lines 4 and 5 have the same public cells: dept 'QA', age 41"),
+            ("QA,41,1", "QA,41,0", "line 4: people is 0, and a line stands for 1 to 1,000,000,000,000 people"),
+            ("QA,41,1", "QA,41,-1", "people is -1"),
+            ("QA,41,1", "QA,41,1000000000001", "people is 1,000,000,000,001"),
+            ("QA,41,1,205", "QA,41,1,1000000000001", "line 4: pay is beyond 1,000,000,000,000"),
+            ("QA,41,1,205", "QA,41,1,-205", "pay: row 4 has a number that isn't in the range '0 to none'"),
+            ("QA,41,1,205", "QA,41,1,20.5", "pay is '20.5', and should be a whole number"),
+            (LINES[LINES.index("\n") + 1:], "", "has a header and no line"),
+        ):
+            with self.subTest(due):
+                status, said = self.take(LINES.replace(old, new))
+                self.assertEqual((status, self.taken.exists()), (1, False), said)
+                self.assertIn(due, said)
+        self.assertIn("is already there, and nothing is overwritten", self.prepare("take", self.lines, self.choices, self.out)[1])
+        self.choose("count=none")
+        self.assertIn("no column of counts is chosen", self.take(LINES)[1])
+
+
 class Trying(LinesTest):
     def lines(self, *words):
         return self.prepare("lines", self.file, self.choices, *words)
@@ -555,7 +596,7 @@ class NotYet(TableTest):
         self.look(STAFF)
         self.assertNotIn("count", self.chosen())
         self.assertIn("no column is called 'count'", self.choose("count=people")[1])
-        for words in (("sql", self.choices, "sqlite"), ("check", self.file, self.choices, self.file)):
+        for words in (("sql", self.choices, "sqlite"), ("take", self.file, self.choices, self.out), ("check", self.file, self.choices, self.file)):
             self.assertEqual(self.prepare(*words)[0], 2)
         self.assertNotIn("sql", self.prepare("--help")[1])
         choices = self.chosen()
