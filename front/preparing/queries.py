@@ -23,10 +23,11 @@ TABLE = re.compile(r'[A-Za-z_]\w*(?:\.[A-Za-z_]\w*){0,2}', re.ASCII)
 
 
 class Dialect:
-    """How an engine writes what the query needs. `exact` is the type in which numbers are read and added up, `whole` that in which they are told."""
+    """How an engine writes what the query needs. `exact` is the type in which numbers are read and added up, `whole` that in which they are told, and
+    `key` that of public numbers, which engines group fastest."""
 
     exact = whole = "numeric"
-    text = "text"
+    key, text = "bigint", "text"
     binary = ""
 
     def name(self, title):
@@ -48,6 +49,9 @@ class Dialect:
 
     def to_whole(self, number):
         return f"CAST({number} AS {self.whole})"
+
+    def to_key(self, number):
+        return f"CAST({number} AS {self.key})"
 
     def total(self, number):
         return self.to_whole(f"sum({number})")
@@ -93,6 +97,8 @@ class SQLite(Dialect):
 
     def to_whole(self, number):
         return f"CAST(round({number}) AS integer)"
+
+    to_key = to_whole
 
     def total(self, number):
         return f"sum({self.to_whole(number)})"
@@ -174,7 +180,7 @@ def value_of(column, dialect):
         return f"CASE WHEN {present(chosen, dialect)} THEN 1 ELSE 0 END"
     if column.kind == "text":
         return text_of(chosen, dialect)
-    number = banded(chosen, dialect) if chosen["bands"] else dialect.to_whole(rounded(chosen, dialect))
+    number = banded(chosen, dialect) if chosen["bands"] else dialect.to_key(rounded(chosen, dialect))
     return f"CASE WHEN {present(chosen, dialect)} THEN {number} ELSE 0 END" if chosen["missing"] == "mark" else number
 
 
@@ -215,7 +221,7 @@ def banded(chosen, dialect):
     if bands.width:
         if isinstance(dialect, SQLite):
             return f"{dialect.floor(f'({number} * 1.0 / {bands.width})')} * {bands.width}"
-        return dialect.to_whole(f"{dialect.floor(f'{number} / {bands.width}')} * {bands.width}")
+        return dialect.to_key(f"{dialect.floor(f'{number} / {bands.width}')} * {bands.width}")
     whens = "".join(f" WHEN {number} >= {start} THEN {start}" for start in reversed(bands.starts))
     return f"CASE{whens} END"
 
