@@ -21,15 +21,16 @@ NOT_OFFERED = 3
 PEOPLE = 100_000
 REGIONS = ["North", "East", "South", "West", "Lakes", "Coast", "Hills", "Islands"]
 SECTORS = ["Care", "Trade", "Building", "Schools", "Offices", "Transport", "Farming", "Hotels", "Software", "Mining", "Law", "Arts"]
-CHOICES = ["region=text", "sector=text", "age=number", "age.bands=10", "wage=sum", "wage.range=0 to none", "sick_days=sum", "sick_days.range=0 to 365",
-           "count=people", "protect=none"]
+CHOICES = ["region=text", "sector=text", "age=number", "age.bands=10", "wage=sum", "wage.range=0 to none", "sick_days=sum",
+           "sick_days.range=0 to 365", "count=people", "protect=none"]
 
 
 def people(number):
     """A row for each person, the same at every run: the later regions, sectors and ages have fewer people."""
     draw = random.Random(11)
-    regions, sectors, ages = ([1 / (place + 1) ** power for place in range(many)] for many, power in ((len(REGIONS), 1.7), (len(SECTORS), 1.9), (6, 1.2)))
-    for region, sector, decade in zip(draw.choices(REGIONS, regions, k=number), draw.choices(SECTORS, sectors, k=number), draw.choices(range(6), ages, k=number)):
+    drawn = [draw.choices(values, [1 / (place + 1) ** power for place in range(len(values))], k=number)
+             for values, power in ((REGIONS, 1.7), (SECTORS, 1.9), (range(6), 1.2))]
+    for region, sector, decade in zip(*drawn):
         age = 10 * decade + 20 + draw.randrange(10)
         yield region, sector, age, 10 * round(draw.lognormvariate(5.6, 0.4)), draw.choice((0, 0, 0, 1, 2, 3, 5, 8, 13, 60))
 

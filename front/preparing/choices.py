@@ -209,6 +209,22 @@ def column_faults(column):
     return faults
 
 
+def name_faults(column, title):
+    """A sentence for a name that hides what its public numbers are. One that says a factor which they haven't is pointed out by `make`."""
+    name = name_in_steps(column)
+    if column["bands"]:
+        return [
+            f"{title}: numbers in bands are to say so in their name, since a condition compares them with the number that a band begins with: name it {name}"
+        ]
+    if not column["decimals"]:
+        return []
+    return [
+        f"{title}: public numbers times {10 ** column['decimals']:,} are to say so in their name, since a condition"
+        f' compares them as they are kept: name it {name}; or lower "decimals" and say how it is'
+        ' "rounded"; or keep it as text'
+    ]
+
+
 def number_faults(column, title):
     """A sentence for each choice on how numbers are written that can't be followed."""
     form = FORMS.get(column["written as"])
@@ -230,17 +246,8 @@ def number_faults(column, title):
         faults.append(f"{title} has numbers of {column['decimals']} decimals, and at most {MOST_DECIMALS} are kept. {TOO_FINE}")
     elif not column["bands"] and not 0 <= (column["decimals"] or 0) <= MOST_DECIMALS:
         faults.append(f"{title}: \"decimals\" can't be {column['decimals']}: it is 0 to {MOST_DECIMALS}")
-    elif column["bands"] and column["name"] != name_in_steps(column):
-        faults.append(
-            f"{title}: numbers in bands are to say so in their name, since a condition compares them with the number that a band begins with: name"
-            f" it {name_in_steps(column)}"
-        )
-    elif column["is"] == "number" and not column["bands"] and column["decimals"] and column["name"] != name_in_steps(column):
-        faults.append(
-            f"{title}: public numbers times {10 ** column['decimals']:,} are to say so in their name, since a condition"
-            f' compares them as they are kept: name it {name_in_steps(column)}; or lower "decimals" and say how it is'
-            ' "rounded"; or keep it as text'
-        )
+    elif column["is"] == "number" and column["name"] != name_in_steps(column):
+        faults += name_faults(column, title)
     elif column["is"] in SECRET and range_fault(column):
         faults.append(f"{title}: {range_fault(column)}")
     if re.search(r"[\d+.,'-]", column["unit"] or ""):

@@ -18,6 +18,17 @@ LONGEST_NUMBER = 17  # digits of a choice: the greatest width has so many
 def choose(path, words):
     """Follows each argument in turn, writes the file once, and says what is still open."""
     choices = choosing.read(path)
+    follow(choices, words)
+    if not words:
+        ask_each(choices)
+    name_by_steps(choices)
+    choosing.write(path, choices, fresh=False)
+    still_open = choosing.open_choices(choices)
+    print("still open: " + ", ".join(still_open) if still_open else "nothing is open any more: make can be run")
+
+
+def follow(choices, words):
+    """Follows each argument in turn."""
     for word in words:
         key, mark, value = word.partition("=")
         if not mark:
@@ -25,12 +36,6 @@ def choose(path, words):
         if not word.isascii() and any("\ud800" <= letter <= "\udfff" for letter in word):
             raise Fault(f"{shown(word)} has bytes in it that aren't UTF-8")
         set_choice(choices, key.strip(), value.strip())
-    if not words:
-        ask_each(choices)
-    name_by_steps(choices)
-    choosing.write(path, choices, fresh=False)
-    still_open = choosing.open_choices(choices)
-    print("still open: " + ", ".join(still_open) if still_open else "nothing is open any more: make can be run")
 
 
 def name_by_steps(choices):

@@ -5,13 +5,13 @@ import re
 
 from . import choices as choosing
 from .choices import COUNT, PUBLIC, SECRET
-from .condensing import sizes_words
+from .condensing import people_words, sizes_words
 from .faults import Fault, counted, listed, shown
 from .lines import cells_words, condensed, count_of
 from .making import columns_to_write, need_columns
+from .writing import MOST_BYTES
 
 WHOLE = re.compile(r"[+-]?\d{1,19}", re.ASCII)
-MOST_BYTES = 16_777_216     # of a table
 
 
 def check(path, choices_path, lines_path):
@@ -33,7 +33,7 @@ def check(path, choices_path, lines_path):
         raise Fault(f"{lines_path} isn't what the people of {path} give:\n{listed(faults)}")
     print(f"{sizes_words([line.people for line in condenser.lines.values()])}: they are those of the {condenser.people():,} people of {path}")
     if condenser.dropped.number:
-        print(f"{counted(condenser.dropped.number, 'row')} of {path} {'is' if condenser.dropped.number == 1 else 'are'} in no line, for what they lack")
+        print(f"in no line, for what they lack: {counted(condenser.dropped.number, 'row')} of {path}")
 
 
 def due_of(line, columns):
@@ -90,7 +90,8 @@ def differences(lines, due, columns):
         elif cells not in due:
             faults.append(f"line {place:,}: nobody has {words}")
         else:
-            faults += [f"line {place:,}, {words}: {name} is {row[name]:,}, and should be {number:,}" for name, number in zip(others, due[cells]) if row[name] != number]
+            told = [(name, row[name], number) for name, number in zip(others, due[cells]) if row[name] != number]
+            faults += [f"line {place:,}, {words}: {name} is {is_now:,}, and should be {number:,}" for name, is_now, number in told]
         seen.setdefault(cells, place)
-    missing = [cells for cells in due if cells not in seen]
-    return faults + [f"no line has {cells_words(names, cells)}, and {counted(due[cells][others.index(count_of(columns))], 'person').replace('persons', 'people')} should be in it" for cells in missing]
+    missing = {cells: told[others.index(count_of(columns))] for cells, told in due.items() if cells not in seen}
+    return faults + [f"no line has {cells_words(names, cells)}, and {people_words(number)} should be in it" for cells, number in missing.items()]

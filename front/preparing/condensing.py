@@ -178,7 +178,8 @@ class Condenser:
             raise Fault(listed(fine + self.faults) + more + "\nRows are counted as in a spreadsheet: the header is row 1")
         self.lines = {values: line for values, line in self.lines.items() if line.people}
         if not self.lines:
-            raise Fault(f"no row is left: {counted(self.dropped.number, 'row')} dropped for what is missing" if self.dropped.number else "the file has a header and no row")
+            dropped = f"no row is left: {counted(self.dropped.number, 'row')} dropped for what is missing"
+            raise Fault(dropped if self.dropped.number else "the file has a header and no row")
 
     def people(self):
         """How many people the lines stand for."""
@@ -215,6 +216,11 @@ def too_many_words(public, lines):
         + ", ".join(f"{name} ({number:,})" for name, number in most)
         + ". Leave one out, choose bands for a number, or join values of a text"
     )
+
+
+def people_words(number):
+    """How many people, in words."""
+    return "1 person" if number == 1 else f"{number:,} people"
 
 
 def sizes_words(sizes):

@@ -11,7 +11,7 @@ from . import choices as choosing
 from .adding import need_schema, number_waves, rows_before, say_next as say_grown, write_longer
 from .choices import COUNT, PUBLIC, SECRET
 from .coarsening import say_unused
-from .condensing import Condenser, sizes_words
+from .condensing import Condenser, people_words, sizes_words
 from .faults import Fault, counted, first_numbers, shown
 from .guards import say_of_pair, say_of_secret, say_of_two, say_readers, secrets_apart
 from .keys import need_one_table
@@ -126,7 +126,7 @@ def rows_of(condenser, columns):
         too_large = next((name for name in secret if abs(row[name]) > MOST_SIZE), None)
         if too_large:
             raise Fault(
-                f"the total of {too_large} of the {counted(line.people, 'person').replace('persons', 'people')} with {cells_words(names, values)} is beyond"
+                f"the total of {too_large} of the {people_words(line.people)} with {cells_words(names, values)} is beyond"
                 f" {MOST_SIZE:,}, counted as it is kept: keep fewer decimals, or write larger units into the file"
             )
         rows.append({column.name: row[column.name] for column in columns})
@@ -142,8 +142,8 @@ def cut(rows, choices, columns):
     """The lines as one table, or in the parts that were chosen. Too many are a Fault that says how they become fewer."""
     if not choices["split by"] and len(rows) > MOST_ROWS:
         raise Fault(
-            f"there are {counted(len(rows), 'line')}, and a table has at most {MOST_ROWS:,}: prepare.py lines shows what bands, joined values and columns"
-            ' that are left out would give. If nothing coarser will do, choose "split by"'
+            f"there are {counted(len(rows), 'line')}, and a table has at most {MOST_ROWS:,}: prepare.py lines shows what bands, joined values and"
+            ' columns that are left out would give. If nothing coarser will do, choose "split by"'
         )
     return parts(rows, choices["split by"], [column.name for column in columns if column.kind in PUBLIC])
 
@@ -206,7 +206,7 @@ def say_joined_cells(before, added, columns):
     old = {tuple(row[name] for name in names) for row in before}
     again = sum(tuple(row[name] for name in names) in old for row in added)
     if again:
-        print(f"{counted(again, 'line')} of newcomers {'has' if again == 1 else 'have'} the public cells of an old line, and {'stays' if again == 1 else 'stay'} apart from it")
+        print(f"{counted(again, 'line')} of newcomers: the public cells are those of an old line, which goes on standing for whom it stood for")
 
 
 def say_of_own(rows, columns, limits):

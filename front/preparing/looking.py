@@ -108,8 +108,8 @@ def say_too_long(names, columns):
     """What can be done with more people than a table has rows."""
     if offered.LINES_STAND_FOR_PEOPLE:
         print(
-            f"a table has at most {MOST_ROWS:,} lines. With count=people a line stands for all people with the same public cells; prepare.py lines says"
-            " how many there would be, and what coarser choices give"
+            f"a table has at most {MOST_ROWS:,} lines. With count=people a line stands for all people with the same public cells; prepare.py"
+            " lines says how many there would be, and what coarser choices give"
         )
     if columns is not None:
         say_splits(names, columns)
@@ -258,6 +258,10 @@ def say_next(out, choices):
     print(
         '"missing" is one of: drop the row; keep (text, as it stands); mark (number: 0, and a column of 0 and 1 beside'
         " it)."
+    )
+    print(
+        'Public columns are coarser with NAME.bands=10, or NAME.join="A+B as AB": prepare.py lines says how many people are alone in their public'
+        " cells, and what coarser choices give."
     )
     print(
         '"range" is what people know of a secret number before they ask, as 0 to none if none is below 0: choose'

@@ -147,7 +147,7 @@ def say_sql(choices_path, name, table="people"):
 
 
 def queries(columns, dialect, table):
-    """The query that makes the lines, that which counts the people who are left out, and that which counts numbers that aren't whole as they are kept."""
+    """Three queries: that which makes the lines, and those that count the people who are left out, and the numbers that aren't whole as they are kept."""
     kept = " AND ".join(condition for column in columns if column.chosen and not column.marks for condition in kept_if(column, dialect)) or "1 = 1"
     public = [(column, value_of(column, dialect)) for column in columns if column.kind in PUBLIC and column.chosen]
     chosen = ", ".join(f"{expression} AS {dialect.name(column.name)}" for column, expression in selected(columns, dialect))
@@ -228,10 +228,11 @@ def banded(chosen, dialect):
 
 def present(chosen, dialect):
     """A condition for cells that aren't missing."""
-    name, cells = dialect.name(chosen["from"]), [cell for cell in chosen["missing is"] or [] if cell]
-    others = [f"{dialect.cell(chosen['from'])} NOT IN ({', '.join(map(dialect.literal, cells))})"] if cells else []
-    empty = [f"{dialect.cell(chosen['from'])} <> ''"] if "" in (chosen["missing is"] or []) or isinstance(dialect, SQLite) and chosen["is"] != "text" else []
-    return " AND ".join([f"{name} IS NOT NULL", *empty, *others])
+    cell, missing = dialect.cell(chosen["from"]), chosen["missing is"] or []
+    is_never_empty = "" in missing or isinstance(dialect, SQLite) and chosen["is"] != "text"
+    words = [dialect.literal(one) for one in missing if one]
+    others = [f"{cell} <> ''"] * is_never_empty + [f"{cell} NOT IN ({', '.join(words)})"] * bool(words)
+    return " AND ".join([f"{dialect.name(chosen['from'])} IS NOT NULL", *others])
 
 
 def kept_if(column, dialect):

@@ -9,11 +9,10 @@ import itertools
 
 from . import choices as choosing
 from . import offered
-from .choices import OPEN, PUBLIC
-from .choosing import name_by_steps, set_choice
+from .choices import OPEN
+from .choosing import follow, name_by_steps
 from .coarsening import read_bands
 from .condensing import Condenser
-from .faults import Fault, listed, shown
 from .making import columns_to_write
 from .splitting import MOST_ROWS
 from .streaming import People
@@ -25,11 +24,7 @@ HEADER = ("", "combinations", "of 1", "of 2", "of 3 or more", "people alone")
 def say_tries(path, choices_path, words):
     """Prints the table for the choices of the file, changed by further ones as `choose` takes them. Nothing is written."""
     choices = choosing.read(choices_path)
-    for word in words:
-        key, mark, value = word.partition("=")
-        if not mark:
-            raise Fault(f"{shown(word)} sets nothing: write KEY=VALUE, NAME=KIND or NAME.KEY=VALUE")
-        set_choice(choices, key.strip(), value.strip())
+    follow(choices, words)
     name_by_steps(choices)
     columns = columns_to_try(choices)
     condenser = Condenser(columns)
@@ -43,15 +38,8 @@ def say_tries(path, choices_path, words):
 
 def columns_to_try(choices):
     """The columns that are written, if all is chosen that says what a cell becomes."""
-    still_open = [key for key in choosing.open_choices(choices) if key in ("encoding", "separator", "untitled") or key.partition(".")[2] not in ("", "range")]
-    still_open += [column["name"] for column in choices["columns"] if column["is"] == OPEN]
-    if still_open:
-        raise Fault("still to be chosen:\n" + listed(still_open))
-    faults = choosing.table_faults(choices) + [
-        fault for column in choices["columns"] for fault in choosing.column_faults({**column, "range": None if column["range"] == OPEN else column["range"]})
-    ]
-    if faults:
-        raise Fault(listed(faults))
+    columns = [{**column, "range": None if column["range"] == OPEN else column["range"]} for column in choices["columns"]]
+    choosing.need_decided({**choices, "protect": [], "columns": columns})
     return columns_to_write(choices)
 
 

@@ -18,10 +18,13 @@ from preparing.making import columns_to_write
 from preparing.queries import DIALECTS, queries
 
 TITLES = ["Region", "grade", "age", "weight", "height", "born", "kids", "left", "pay", "best", "least"]
-KINDS = ("Region=text", "Region.missing=keep", "grade=text", "grade.missing is=NA", "grade.missing=drop the row", "grade.join=a+b as low", "grade.join=c+C as C",
-         "age=number", "age.missing is=", "age.missing=drop the row", "age.bands=10", "weight=number", "height=number", "height.decimals=0", "height.rounded=down",
-         "born=number", "born.written as=YYYY-MM-DD", "born.bands=0,19800101,20000101", "kids=number", "kids.missing is=", "kids.missing=mark", "left=leave out",
-         "pay=sum", "pay.missing is=", "pay.missing=drop the row", "best=max", "best.missing is=", "best.missing=drop the row", "least=min")
+KINDS = ("Region=text", "Region.missing=keep",
+         "grade=text", "grade.missing is=NA", "grade.missing=drop the row", "grade.join=a+b as low", "grade.join=c+C as C",
+         "age=number", "age.missing is=", "age.missing=drop the row", "age.bands=10", "weight=number",
+         "height=number", "height.decimals=0", "height.rounded=down",
+         "born=number", "born.written as=YYYY-MM-DD", "born.bands=0,19800101,20000101",
+         "kids=number", "kids.missing is=", "kids.missing=mark", "left=leave out", "pay=sum", "pay.missing is=", "pay.missing=drop the row",
+         "best=max", "best.missing is=", "best.missing=drop the row", "least=min")
 TYPES = ("text", "text", "integer", "numeric", "double precision", "date", "integer", "text", "double precision", "bigint", "numeric")
 REGIONS = ["Nord", "nord", "NORD", 'Süd, "Ost"', "Ö", "O\u0308", "two\nlines", "", " Nord ", "ß", "'s", "-"]
 
@@ -29,10 +32,11 @@ REGIONS = ["Nord", "nord", "NORD", 'Süd, "Ost"', "Ö", "O\u0308", "two\nlines",
 def drawn(number=4000, seed=3):
     """People with texts that engines like to take for one, gaps, decimals and dates, in 200 combinations of public cells."""
     draw = random.Random(seed)
-    public = [[draw.choice(REGIONS), draw.choice(["a", "b", "c", "C", "D", "na", "NA"]), draw.choice(["", -5, 0, 9, 10, 39, 40, 99]), draw.choice(["70.5", "-0.5", "71.0"]),
-               draw.choice(["1.99", "-0.01", "2.00", "180.25"]), draw.choice(["1979-12-31", "1980-01-01", "2001-02-03"]), draw.choice(["", 0, 3])] for _ in range(200)]
-    rows = [[*draw.choice(public), "x", draw.choice(["", f"{draw.randrange(-99, 10**6) / 100:.2f}", "0.29", "1.15"]), draw.choice(["", draw.randrange(10**9)]),
-             draw.randrange(-50, 50)] for _ in range(number)]
+    choices = (REGIONS, ["a", "b", "c", "C", "D", "na", "NA"], ["", -5, 0, 9, 10, 39, 40, 99], ["70.5", "-0.5", "71.0"],
+               ["1.99", "-0.01", "2.00", "180.25"], ["1979-12-31", "1980-01-01", "2001-02-03"], ["", 0, 3])
+    public = [[draw.choice(values) for values in choices] for _ in range(200)]
+    rows = [[*draw.choice(public), "x", draw.choice(["", f"{draw.randrange(-99, 10**6) / 100:.2f}", "0.29", "1.15"]),
+             draw.choice(["", draw.randrange(10**9)]), draw.randrange(-50, 50)] for _ in range(number)]
     return [TITLES, *rows]
 
 
@@ -93,7 +97,8 @@ class PostgreSQL(Engine):
 
     def test_numbers_that_arent_whole_as_they_are_kept_are_counted(self):
         self.load()
-        self.server.psql('UPDATE people SET pay = 0.125 WHERE ctid IN (SELECT ctid FROM people WHERE pay IS NOT NULL AND best IS NOT NULL AND age IS NOT NULL AND grade <> \'NA\' LIMIT 3);')
+        kept = "pay IS NOT NULL AND best IS NOT NULL AND age IS NOT NULL AND grade <> 'NA'"
+        self.server.psql(f"UPDATE people SET pay = 0.125 WHERE ctid IN (SELECT ctid FROM people WHERE {kept} LIMIT 3);")
         self.assertEqual(self.server.psql(self.script("postgresql")).split()[1], "3")
 
     def test_a_sum_beyond_64_bits_isnt_wrapped(self):
@@ -120,7 +125,8 @@ class SQLite(Engine):
         return text.getvalue().encode(), base.execute(left_out).fetchone()[0], base.execute(not_whole).fetchone()[0]
 
     def test_its_lines_are_those_of_make(self):
-        for kinds in (None, ("text COLLATE NOCASE", "text COLLATE NOCASE", "integer", "numeric", "real", "text", "integer", "text", "real", "integer", "integer")):
+        nocase = "text COLLATE NOCASE"
+        for kinds in (None, (nocase, nocase, "integer", "numeric", "real", "text", "integer", "text", "real", "integer", "integer")):
             with self.subTest(kinds):
                 lines, left_out, not_whole = self.lines(kinds)
                 self.assertEqual(list(csv.reader(io.StringIO(lines.decode(), newline=""))), list(csv.reader(io.StringIO(self.due.decode(), newline=""))))

@@ -3,12 +3,10 @@
 AUDITOR=.. /usr/bin/python3 -m unittest test_lines
 """
 
-import collections
 import itertools
 import json
 import os
 import random
-import resource
 import shutil
 import stat
 import subprocess
@@ -32,11 +30,24 @@ KINDS = ("dept=text", "age=number", "pay=sum", "best=max", "least=min")
 LINES = "dept,age,people,pay,best,least\nDEV,30,2,300,3,9\nQA,30,3,300,9,-8\nQA,41,1,205,8,5\n"
 
 
+# prepare.py with the switch on, and then how much memory it took at most, in kilobytes.
+MEASURED = f"""
+import resource, sys
+sys.path.insert(0, {str(FRONT)!r})
+from preparing import offered
+offered.LINES_STAND_FOR_PEOPLE = True
+import prepare
+status = prepare.main(sys.argv[1:])
+print(resource.getrusage(resource.RUSAGE_SELF).ru_maxrss)
+sys.exit(status)
+"""
+
+
 def drawn(number, seed=5, values=(4, 5, 30)):
     """People with a text, another one, a number, a sum and a maximum."""
-    draw = random.Random(seed)
-    rows = [[f"r{draw.randrange(values[0])}", f"s{draw.randrange(values[1])}", draw.randrange(20, 20 + values[2]), draw.randrange(-500, 100_000), draw.randrange(1000)]
-            for _ in range(number)]
+    draw, (regions, sectors, ages) = random.Random(seed), values
+    rows = [[f"r{draw.randrange(regions)}", f"s{draw.randrange(sectors)}", draw.randrange(20, 20 + ages), draw.randrange(-500, 100_000),
+             draw.randrange(1000)] for _ in range(number)]
     return [["region", "sector", "age", "pay", "best"], *rows]
 
 
@@ -141,7 +152,13 @@ class Making(LinesTest):
         lines = [line for part in parts for line in (part / "table.csv").read_text().splitlines()[1:]]
         self.assertEqual(sorted(lines), sorted(",".join(line) for line in plain_lines(rows)[1:]))
 
-    def test_workbooks_encodings_and_separators_as_ever(self):
+    def test_too_many_rows_are_told_of_lines(self):
+        self.chosen_for(text_of(drawn(1100)), *DRAWN_KINDS, "count=none")
+        status, said = self.make()
+        self.assertEqual((status, self.out.exists()), (1, False))
+        self.assertIn("1,100 rows are left, and a table has at most 1,024: choose count=people", said)
+
+    def test_encodings_and_separators_as_ever(self):
         for encoding, mark, end in (("utf-16", ";", "\r\n"), ("utf-8-sig", "\t", "\r"), ("cp1252", "|", "\n")):
             with self.subTest(encoding):
                 self.choices.unlink(missing_ok=True)
@@ -253,9 +270,11 @@ class Refused(LinesTest):
 
     def test_columns_that_follow_from_each_other_are_refused(self):
         rows = [[f"d{k % 7}", k, 3 * k] for k in range(1, 50)]
-        self.assertIn("bonus is 3 times pay in every row", self.not_condensed(text_of([["dept", "pay", "bonus"], *rows]), "dept=text", "pay=sum", "bonus=sum"))
+        said = self.not_condensed(text_of([["dept", "pay", "bonus"], *rows]), "dept=text", "pay=sum", "bonus=sum")
+        self.assertIn("bonus is 3 times pay in every row", said)
         self.choices.unlink()
-        self.assertIn("one is equal to people in every row", self.not_condensed(text_of([["dept", "one"], *([f"d{k % 5 * k % 7}", 1] for k in range(40))]), "dept=text", "one=sum"))
+        ones = text_of([["dept", "one"], *([f"d{k % 5 * k % 7}", 1] for k in range(40))])
+        self.assertIn("one is equal to people in every row", self.not_condensed(ones, "dept=text", "one=sum"))
 
     def test_nothing_is_overwritten_and_a_stop_leaves_nothing(self):
         self.chosen_for(STAFF, *KINDS)
@@ -292,9 +311,8 @@ class Streaming(LinesTest):
                 file.write(text_of(rows[:1]))
                 for _ in range(times):
                     file.write(text_of(rows[1:]))
-            script = (f"import sys, resource; sys.path.insert(0, {str(FRONT)!r}); from preparing import offered; offered.LINES_STAND_FOR_PEOPLE = True; import prepare;"
-                      f" status = prepare.main(sys.argv[1:]); print('peak', resource.getrusage(resource.RUSAGE_SELF).ru_maxrss); sys.exit(status)")
-            run = subprocess.run([sys.executable, "-c", script, "make", self.file, self.choices, self.folder / f"out{turn}"], capture_output=True, text=True)
+            words = ["make", self.file, self.choices, self.folder / f"out{turn}"]
+            run = subprocess.run([sys.executable, "-c", MEASURED, *words], capture_output=True, text=True)
             self.assertEqual(run.returncode, 0, run.stderr)
             peaks.append(int(run.stdout.split()[-1]))
         self.assertLess(peaks[1], peaks[0] * 1.1)
@@ -369,14 +387,15 @@ class Adding(LinesTest):
         self.assertEqual((self.longer / "table.csv").read_text(), before + "OPS,30,1,1,2,3,2\nQA,41,2,13,9,7,2\n")
         self.assertEqual((self.longer / "public/table.csv").read_text(), (self.out / "public/table.csv").read_text() + "OPS,30,1,2\nQA,41,2,2\n")
         self.assertEqual((self.longer / "schema.json").read_bytes(), (self.out / "schema.json").read_bytes())
-        self.assertIn("1 line of newcomers has the public cells of an old line, and stays apart from it", said)
+        self.assertIn("1 line of newcomers: the public cells are those of an old line, which goes on standing for whom it stood for", said)
         self.assertIn("added: 2 rows after 3 rows, of wave 2", said)
         self.assertIn("9 people in 5 lines: 2 of one person, 2 of two, 1 of three or more", said)
 
     def test_again_and_again(self):
         self.add(self.MORE)
         self.assertEqual(self.add(self.MORE, self.folder / "longest", self.longer)[0], 0)
-        self.assertEqual([line.rsplit(",", 1)[1] for line in (self.folder / "longest/table.csv").read_text().splitlines()], ["wave", "1", "1", "1", "2", "2", "3", "3"])
+        waves = [line.rsplit(",", 1)[1] for line in (self.folder / "longest/table.csv").read_text().splitlines()]
+        self.assertEqual(waves, ["wave", "1", "1", "1", "2", "2", "3", "3"])
 
     def test_lines_that_an_engine_wrote_are_added_to(self):
         path = self.out / "table.csv"
@@ -553,7 +572,7 @@ class Trying(LinesTest):
                 self.out = self.folder / words[0]
                 made = self.make()[1]
                 self.assertIn(f"900 people in {tried[0]} lines: {tried[1]} of one person, {tried[2]} of two, {tried[3]} of three or more", made)
-                self.choose("region=text", "sector=text", "age.bands=none" if "age_from" not in self.choices.read_text() else "age_from.bands=none", "region.join=none")
+                self.choose("region=text", "sector=text", "age.bands=none", "region.join=none")
 
     def test_values_are_joined_by_how_many_people_have_them(self):
         rows = [["region", "pay"]] + [[f"r{k}", n] for k in range(6) for n in range(k + 1)]
