@@ -18,6 +18,7 @@ from .splitting import MOST_ROWS
 from .streaming import People
 
 MOST_BANDS, FEWEST_BANDS, MOST_WIDTHS = 20, 2, 4
+MOST_PAIRED = 6             # public columns, of which each two are left out together
 HEADER = ("", "combinations", "of 1", "of 2", "of 3 or more", "people alone")
 
 
@@ -49,7 +50,7 @@ def coarser(public, sizes):
         values = {cells[place] for cells in sizes}
         if len(values) > 1 and column.marks is None:
             yield from of_column(place, column, values, sizes)
-    if len(public) > 2:
+    if 2 < len(public) <= MOST_PAIRED:
         for places in itertools.combinations(range(len(public)), 2):
             if all(public[place].marks is None for place in places):
                 names = " ".join(f'{public[place].name}="leave out"' for place in places)
