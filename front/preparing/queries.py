@@ -229,9 +229,9 @@ def banded(chosen, dialect):
 def present(chosen, dialect):
     """A condition for cells that aren't missing."""
     cell, missing = dialect.cell(chosen["from"]), chosen["missing is"] or []
-    is_never_empty = "" in missing or isinstance(dialect, SQLite) and chosen["is"] != "text"
+    needs_text = "" in missing or isinstance(dialect, SQLite) and chosen["is"] != "text"
     words = [dialect.literal(one) for one in missing if one]
-    others = [f"{cell} <> ''"] * is_never_empty + [f"{cell} NOT IN ({', '.join(words)})"] * bool(words)
+    others = [f"{cell} <> ''"] * needs_text + [f"{cell} NOT IN ({', '.join(words)})"] * bool(words)
     return " AND ".join([f"{dialect.name(chosen['from'])} IS NOT NULL", *others])
 
 
