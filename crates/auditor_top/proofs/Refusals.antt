@@ -17,7 +17,7 @@ use Rattle.answer_journal.specs.Moments.{IsMade}
 use Rattle.line_wire.specs.Lines.{CountedLine, counted_lines}
 use Rattle.audit_session.specs.Stops.{IsBatch, IsFront, StopsOver}
 use Rattle.audit_session.specs.Ends.{ServesSome}
-use Rattle.journal_audit.specs.Reports.{subjects, ReportsFront}
+use Rattle.journal_audit.specs.Reports.{ReportsFront}
 use Rattle.journal_audit.specs.SendLaws.{none_front}
 use Rattle.auditor_top.specs.declared.words.Command.{Command}
 use Rattle.auditor_top.specs.declared.words.Command.TheVariants.{Init, Serve, Audit, Simulate, Drill, Grow, Explain, Compact, Restore}
@@ -32,7 +32,7 @@ use Rattle.transcript_sim.specs.Beginning.{public_setting}
 use Rattle.auditor_top.specs.Causes.{BeginningCause, BothCause, FaultCause, NothingFailed, IsDoneOrWants}
 use Rattle.auditor_top.specs.Commands.{ArePublicFilesOf, AreSoundFilesOf, opens_store}
 use Rattle.auditor_top.specs.Compactions.{CompactEnds}
-use Rattle.auditor_top.specs.Ends.{AuditEnds, GrowEnds, LeavesFile, ServeEnds, SimulateEnds, SendsLines, StandsForWhat, ExplainEnds, audit_over, outside, public_part}
+use Rattle.auditor_top.specs.Ends.{AuditEnds, GrowEnds, LeavesFile, ServeEnds, SimulateEnds, SendsLines, StandsForWhat, ExplainEnds, audit_over, people_over, subjects_over, outside, public_part}
 use Rattle.auditor_top.specs.Promise.{RunsMakeLives}
 use Rattle.auditor_top.specs.Ready.{IsGiven, EndsEarly, GivesUp}
 use Rattle.auditor_top.specs.Runs.{Objects, objects, faults_of, Does, Making, Serving, Auditing, Simulating, Drilling, Growing, Explaining, Compacting, TwinServing, Restoring}
@@ -228,12 +228,12 @@ module _ {P I B : Type 0} (files : source.Ghosts P) (lines : source.Ghosts I) (b
   unaudited : asked ≡ Some Audit → Auditing files lines bench status old new
   unaudited is = record {
     audited = λ ptold told base history over.
-        let none = subst (λ (bytes : List ℕ). ReportsFront (audit_over base history) (bench.sent at) bytes) (sym reads.sent)
-        (none_front (audit_over base history) (subjects base.secret.shape) (bench.sent at)) in
+        let none = subst (λ (bytes : List ℕ). ReportsFront (audit_over base history) (people_over base) (bench.sent at) bytes) (sym reads.sent)
+        (none_front (audit_over base history) (subjects_over base) (bench.sent at)) in
         by_giving_up (λ (s : Status). AuditEnds s base history (bench.sent at) (bench.sent later)) status
         (gives_up Audit is ptold (λ opens. told) (base, history, over)) reads.sent reads.sent none none;
     auditing = λ ptold told quiet base history over.
-        still quiet (untouched_report (audit_over base history) (subjects base.secret.shape) (bench.file at) (bench.sent at));
+        still quiet (untouched_report (audit_over base history) (subjects_over base) (bench.file at) (bench.sent at));
     audit_calls = λ ptold told done base given. never_done status early done;
     audits = λ ptold told base history over none. wants (gives_up Audit is ptold (λ opens. told) (base, history, over)) none;
   }

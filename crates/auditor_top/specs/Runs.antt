@@ -18,7 +18,7 @@ use Rattle.question_plan.specs.Session.{Replied, bytes_of}
 use Rattle.audit_session.specs.Ends.{KeepsCalls, TakesCalls}
 use Rattle.audit_session.specs.Stops.{IsFront, StopsOver}
 use Rattle.audit_session.specs.Lives.{IsLife, Run, Standing, shape_in, serves}
-use Rattle.journal_audit.specs.Reports.{SendsMeanwhile, subjects}
+use Rattle.journal_audit.specs.Reports.{SendsMeanwhile}
 use Rattle.certificate_lines.specs.Ends.{ExplainsMeanwhile}
 use Rattle.certificate_lines.specs.Explained.{AreExplained}
 use Rattle.transcript_sim.specs.Beginning.{public_setting}
@@ -39,7 +39,7 @@ use Rattle.auditor_top.specs.Causes.{BeginningCause, BothCause, FaultCounts, cou
 use Rattle.auditor_top.specs.Commands.{AreFilesOf, ArePublicFilesOf, AreSoundFilesOf, GoesOnOver, GrowsOver, ServesOver, SimulatesOver, TwinsOver}
 use Rattle.auditor_top.specs.Promise.{GoesOn}
 use Rattle.auditor_top.specs.Drills.{DrillEnds}
-use Rattle.auditor_top.specs.Ends.{AuditEnds, GrowEnds, LeavesFile, ServeEnds, SimulateEnds, SendsLines, ExplainEnds, audit_over, outside, public_part}
+use Rattle.auditor_top.specs.Ends.{AuditEnds, GrowEnds, LeavesFile, ServeEnds, SimulateEnds, SendsLines, ExplainEnds, audit_over, subjects_over, outside, public_part}
 
 -- the objects that a run is handed
 pub record Objects (P I B : Type 0) : Type 0 where
@@ -93,10 +93,10 @@ pub record Auditing {P I B : Type 0} (files : source.Ghosts P) (lines : source.G
       AuditEnds status base history (bench.sent old.bench) (bench.sent new.bench)
   pub auditing : files.told → bench.told → IsQuiet bench old.bench → (base : Database) (history : List Answered) →
       ServesOver (files.left old.schema) (files.left old.table) (bench.file old.bench) base history →
-      LeavesOnly bench old.bench new.bench (SendsMeanwhile (audit_over base history) (subjects base.secret.shape) (bench.file old.bench) (bench.sent old.bench))
+      LeavesOnly bench old.bench new.bench (SendsMeanwhile (audit_over base history) (subjects_over base) (bench.file old.bench) (bench.sent old.bench))
   -- it took two calls of the bench to open the journal, and one for each line of the report
-  pub audit_calls : files.told → bench.told → status ≡ Done → (base : Database) → AreFilesOf (files.left old.schema) (files.left old.table) base →
-      bench.moment new.bench ≡ bench.moment old.bench + 2 + length (subjects base.secret.shape)
+  pub audit_calls : files.told → bench.told → status ≡ Done → (base : Database) → AreSoundFilesOf (files.left old.schema) (files.left old.table) base →
+      bench.moment new.bench ≡ bench.moment old.bench + 2 + length (subjects_over base)
   -- if nothing is wrong and nothing fails, it is done
   pub audits : files.told → bench.told → (base : Database) (history : List Answered) →
       ServesOver (files.left old.schema) (files.left old.table) (bench.file old.bench) base history →

@@ -50,7 +50,7 @@ fn send_report(
         Guard::new(Vec::new(alloc), shared, MOST_WIDTH, MOST_REACH),
         bench,
     ) {
-        Ok(store) => audit(alloc, schema, &store, bench).ok(),
+        Ok(store) => audit(alloc, schema, &store, None, bench).ok(),
         Err(_) => None,
     }
 }
