@@ -1,4 +1,4 @@
-use Rattle.std.proofs.Common.{List, [], inl, inr, refl, ap, subst, arith}
+use Rattle.std.proofs.Common.{List, [], inl, inr, refl, subst, arith}
 use Rattle.audit_types.specs.Column.{number}
 use Rattle.audit_types.specs.History.{list_of}
 use Rattle.audit_types.specs.Truth.{number_at}
