@@ -39,6 +39,9 @@ impl Guard {
 
     /// Whether somebody would know the number of a guarded row if these rows, and no others, can have an answer.
     pub fn is_few(&self, rows: &RowSet) -> bool {
+        if self.is_plain {
+            return rows.is_single();
+        }
         match rows.len() {
             1 => rows.is_within(&self.against_all),
             2 => self.inside && rows.is_within(&self.single),
@@ -47,6 +50,7 @@ impl Guard {
     }
 
     /// Whether a set loses all its rows to the other one, all but a few, or not so many.
+    #[inline]
     pub fn left_without(&self, rows: &RowSet, other: &RowSet) -> Left {
         if self.is_plain {
             return rows.left_without(other);

@@ -62,6 +62,12 @@ impl RowSet {
         self.words == [0; WORDS]
     }
 
+    pub fn is_single(&self) -> bool {
+        let mut words = self.words.iter().filter(|word| **word != 0);
+        let is_power = |word: &u64| word & (word - 1) == 0;
+        words.next().is_some_and(is_power) && words.next().is_none()
+    }
+
     pub fn and_with(&mut self, other: &RowSet) {
         for (word, with) in self.words.iter_mut().zip(&other.words) {
             *word &= with;
@@ -102,6 +108,7 @@ impl RowSet {
     }
 
     /// Whether no row is outside of the other set, one alone, or more.
+    #[inline]
     pub fn left_without(&self, other: &RowSet) -> Left {
         let mut left = Left::None;
         for (word, with) in self.words.iter().zip(&other.words) {
