@@ -80,7 +80,8 @@ fn answer_told(ask: Ask, people: i64, line: &[u8]) -> Option<i64> {
             let is_lowest = den > 0 && gcd64(num.unsigned_abs(), den as u64) == 1;
             let is_whole = is_lowest && people % den == 0;
             let is_read = is_whole && is_line(line, Reply::Avg { num, den });
-            is_read.then(|| num.checked_mul(people / den)).flatten()
+            let sum = is_read.then(|| num.checked_mul(people / den)).flatten();
+            sum.filter(|sum| sum.unsigned_abs() <= MOST_SUM)
         }
         Ask::Count => None,
     }
