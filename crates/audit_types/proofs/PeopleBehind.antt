@@ -23,8 +23,8 @@ use Rattle.audit_types.specs.Numbers.{zero_or_not}
 use Rattle.audit_types.specs.ListLaws.{all-get_or}
 use Rattle.audit_types.specs.Column.{number}
 use Rattle.audit_types.specs.History.{Secrets, AreSecrets, AgreeWithHistory, list_of}
-use Rattle.audit_types.specs.People.{People, of_line, of_lines, told, people_in, AreBehind, count_at, HasOtherPeople}
-use Rattle.audit_types.specs.PeopleLaws.{TruthIsOverPeople, PeopleAreCounted, HasOthersBehind, PeopleMayDiffer, UndisclosedHidesPeople}
+use Rattle.audit_types.specs.People.{People, of_line, of_lines, told, people_in, AreBehind, count_at}
+use Rattle.audit_types.specs.PeopleLaws.{TruthIsOverPeople, PeopleAreCounted, HasOtherPeople, HasOthersBehind, PeopleMayDiffer, UndisclosedHidesPeople}
 
 -- ---- answers over lines
 

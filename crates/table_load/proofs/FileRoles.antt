@@ -24,7 +24,7 @@ not_more which (c ∷ cs) = let most = one_of (is_in_file which c.role) c (file_
 -- a file has at most 32 columns
 pub few_roles : (which : FileColumns) (cs : List Column) → AreColumns cs → length (roles_of (file_columns which cs)) ≤ 32
 few_roles which cs are =
-    let few = (or_parts (nat_lt 32 (length cs) || nat_lt 8 (secret_count cs)) (nat_lt 1 (count_count cs)) are.within).0 in
+    let few = (or_parts (nat_lt 32 (length cs) || nat_lt 8 (secret_count cs)) (nat_lt 1 (length (filter (λ c. is_count c.role) cs))) are.within).0 in
     omega (arith, not_more which cs, ltb-false 32 (length cs) (or_parts (nat_lt 32 (length cs)) (nat_lt 8 (secret_count cs)) few).0)
 
 -- the columns of the file from a place of the schema on

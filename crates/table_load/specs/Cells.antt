@@ -61,7 +61,7 @@ text_of_cell p place row = slice_index_or (texts_of (cells_at p place)) row []
 
 -- how many people each row stands for; no numbers if no column says so
 abbrev pub counts_of : List Column → PublicView → List ℕ
-counts_of columns p = unwrap_or (option_map (λ place. map unsigned_abs (numbers_of (cells_at p place))) (people_place columns)) []
+counts_of columns p = unwrap_or (option_map (λ place. map unsigned_abs (numbers_of (cells_at p place))) (position (λ c. is_count c.role) columns)) []
 
 -- n numbers in range
 pub record AreNumbers (n : ℕ) (list : List ℤ) : Type 0 where
