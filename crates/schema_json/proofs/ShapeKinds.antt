@@ -3,7 +3,7 @@ use Rattle.std.proofs.Common.{◌||◌, ◌≡◌, ℕ, zero, suc, ◌+◌, ◌<
 use Rattle.std.specs.Prelude.{is_some, unwrap_or, nat_lt}
 use Rattle.std.proofs.lemmas.Bool.{false≢true, ltb-false, or_parts}
 use Rattle.std.proofs.lemmas.List.{append-nil}
-use Rattle.schema_json.specs.Columns.{Column, AreColumns, is_secret, secret_count, role_at}
+use Rattle.schema_json.specs.Columns.{Column, AreColumns, is_count, is_secret, secret_count, role_at}
 use Rattle.schema_json.specs.SecretShape.{kind_bytes, kind_byte_and}
 use Rattle.schema_json.proofs.SecretPlaces.{filtered}
 use Rattle.schema_json.specs.declared.roles.Role.{Role}

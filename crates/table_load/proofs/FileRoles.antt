@@ -1,10 +1,10 @@
 -- The columns of a file: their roles and names, from a place of the schema on.
-use Rattle.std.proofs.Common.{◌≡◌, ℕ, ◌+◌, ◌<◌, ◌≤◌, Bool, true, false, cond, List, [], ◌∷◌, length, drop, get_or, Some, refl, sym, ap, ◌∙◌, arith, inl, inr, zero, suc}
+use Rattle.std.proofs.Common.{◌≡◌, ℕ, ◌+◌, ◌<◌, ◌≤◌, Bool, true, false, cond, List, [], ◌∷◌, length, drop, get_or, Some, refl, sym, ap, ◌∙◌, arith, inl, inr, zero, suc, filter}
 use Rattle.std.specs.Prelude.{nat_lt, ◌&&◌, ◌||◌, ◌==◌}
 use Rattle.std.specs.Str.{bytes_eq}
 use Rattle.std.proofs.lemmas.Bool.{cases_eq, eq-eqb, ne_eqb, ltb-false, or_parts}
 use Rattle.std.proofs.Math.ListN.{drop_of_length-le}
-use Rattle.schema_json.specs.Columns.{Column, AreColumns, role_at, name_at, secret_count, count_count}
+use Rattle.schema_json.specs.Columns.{Column, AreColumns, role_at, name_at, secret_count, is_count}
 use Rattle.schema_json.specs.declared.roles.Role.{Role}
 use Rattle.table_load.specs.Reading.{Fields, is_in_file, file_columns, roles_of, names_are}
 use Rattle.table_load.specs.declared.layout.FileColumns.{FileColumns}

@@ -1,11 +1,11 @@
 -- What a table holds, column by column.
-use Rattle.std.specs.Prelude.{◌≡◌, ◌≢◌, ℕ, ◌<◌, ◌≤◌, ℤ, pos, ◌<ℤ◌, unsigned_abs, true, cond, List, [], ◌∷◌, length, drop, map, count_by, slice_index_or, Option, Some, None, option_map, unwrap_or}
+use Rattle.std.specs.Prelude.{◌≡◌, ◌≢◌, ℕ, ◌<◌, ◌≤◌, ℤ, pos, ◌<ℤ◌, unsigned_abs, true, cond, List, [], ◌∷◌, length, drop, map, count_by, slice_index_or, Option, Some, None, option_map, unwrap_or, position}
 use Rattle.std.specs.List.{AllByRecursion}
 use Rattle.audit_types.specs.Limits.{most_rows}
 use Rattle.audit_types.specs.History.{Secrets}
 use Rattle.audit_types.specs.Shapes.{IsShape, columns}
 use Rattle.audit_types.specs.declared.shapes.Shape.{Shape}
-use Rattle.schema_json.specs.Columns.{Column, is_public, is_secret, role_at, people_place}
+use Rattle.schema_json.specs.Columns.{Column, is_public, is_secret, is_count, role_at}
 use Rattle.schema_json.specs.declared.roles.Role.{Role}
 use Rattle.schema_json.specs.declared.roles.Role.TheVariants.{Text, Number, Count, Sum, Max, Min}
 use Rattle.table_load.specs.Numerals.{in_range}
