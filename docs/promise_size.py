@@ -29,11 +29,11 @@ CRATES = {
 MOST = {
     "disclosure": 103,
     "decision": 110,
-    "lines and conditions": 395,
+    "lines and conditions": 393,
     "formats of files": 234,
     "journal and crash": 95,
     "lives": 299,
-    "the promise": 1230,
+    "the promise": 1228,
 }
 
 IMPORT = re.compile(r"(?:ghost )?use (?:Rattle\.)?([\w.]+?)(?:\.\{(.*)\}| as (\w+));?$")

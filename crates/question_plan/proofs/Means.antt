@@ -9,7 +9,6 @@ use Rattle.audit_types.specs.Products.{times_assoc}
 use Rattle.std.proofs.Math.Nat.{le-mul_of_pos_right}
 use Rattle.audit_types.specs.PrimitiveLines.{scaled_gcd}
 use Rattle.int_rows.specs.Exact.{exact}
-use Rattle.audit_types.specs.Limits.{most_answer}
 use Rattle.line_wire.specs.Reply.{IsAverage}
 use Rattle.question_plan.specs.Replies.{IsMean}
 
@@ -64,11 +63,9 @@ module _ (sum : ℤ) (size g : ℕ) (some : 0 < size) (common : IsGcd (unsigned_
       subst (λ (k : ℕ). IsGcd (unsigned_abs (int_div sum (pos g))) (size / g) k)
       (one scaled.0 (same_from_IsGcd (unsigned_abs sum) size g (g * scaled.0) common here)) scaled.1
 
-  pub mean : unsigned_abs sum ≤ most_answer → IsMean sum size (int_div sum (pos g)) (size / g)
-  mean small = record {
-    within = small;
-    somebody = some;
-    some = den_some;
+  pub mean : IsMean sum size (int_div sum (pos g)) (size / g)
+  mean = record {
+    some = (some, den_some);
     same = ap (λ (n : ℕ). int_div sum (pos g) *ℤ pos n) size_is ∙ across (int_div sum (pos g)) (size / g) ∙ ap (λ (z : ℤ). z *ℤ pos (size / g)) (sym sum_is);
     lowest = lowest;
   }
@@ -88,8 +85,8 @@ module _ (sum : ℤ) (size g : ℕ) (some : 0 < size) (common : IsGcd (unsigned_
     lowest = lowest;
   }
 
--- every sum of a table has an average over some people in lowest terms
-pub some_mean : (sum : ℤ) (size : ℕ) → 0 < size → unsigned_abs sum ≤ most_answer → (num : ℤ) × (den : ℕ) × IsMean sum size num den
-some_mean sum size some small =
+-- every sum over some people has an average in lowest terms
+pub some_mean : (sum : ℤ) (size : ℕ) → 0 < size → (num : ℤ) × (den : ℕ) × IsMean sum size num den
+some_mean sum size some =
     let common = scaled_gcd 1 (omega arith) (suc size) (unsigned_abs sum) size (omega arith) in
-    (int_div sum (pos common.0), size / common.0, mean sum size common.0 some common.1 small)
+    (int_div sum (pos common.0), size / common.0, mean sum size common.0 some common.1)

@@ -52,7 +52,7 @@ told_once Avg size a b told first second =
     let both : reply.Avg first.0 first.1 ≡ reply.Avg second.0 second.1 = sym first.3 ∙ second.3 in
     let num : first.0 ≡ second.0 = cc in
     let den : first.1 ≡ second.1 = cc in
-    cancel_ℤ a b first.1 first.2.some (sym first.2.same ∙ ap (λ (z : ℤ). z *ℤ pos size) num ∙ second.2.same ∙ ap (λ (d : ℕ). b *ℤ pos d) (sym den))
+    cancel_ℤ a b first.1 first.2.some.1 (sym first.2.same ∙ ap (λ (z : ℤ). z *ℤ pos size) num ∙ second.2.same ∙ ap (λ (d : ℕ). b *ℤ pos d) (sym den))
 told_once Max size a b told first second = let both : reply.Max a ≡ reply.Max b = sym first ∙ second in cc
 told_once Min size a b told first second =
     let both : reply.Min (neg_ℤ a) ≡ reply.Min (neg_ℤ b) = sym first ∙ second in

@@ -62,15 +62,15 @@ outcomes_can_be_told sums maxima secret protected history take people asked outc
     can_be_told sums maxima secret is take asked askable.fits askable.own_kind protected history outcome due
 
 -- each outcome has a reply that tells it
-some_telling : (take : Take) (size : ℕ) (answer : ℤ) → 0 < size → unsigned_abs answer ≤ most_of take → (told : Reply) × Tells take size answer told
-some_telling Sum size answer some small = (reply.Sum answer, refl)
-some_telling Avg size answer some small = let mean = some_mean answer size some small in (reply.Avg mean.0 mean.1, (mean.0, mean.1, mean.2, refl))
-some_telling Max size answer some small = (reply.Max answer, refl)
-some_telling Min size answer some small = (reply.Min (neg_ℤ answer), refl)
+some_telling : (take : Take) (size : ℕ) (answer : ℤ) → 0 < size → (told : Reply) × Tells take size answer told
+some_telling Sum size answer some = (reply.Sum answer, refl)
+some_telling Avg size answer some = let mean = some_mean answer size some in (reply.Avg mean.0 mean.1, (mean.0, mean.1, mean.2, refl))
+some_telling Max size answer some = (reply.Max answer, refl)
+some_telling Min size answer some = (reply.Min (neg_ℤ answer), refl)
 
 pub some_told : SomeReplyTells
 some_told take size Full some can = (reply.Full, refl)
 some_told take size (Denied Released) some can = absurd (can refl)
 some_told take size (Denied DeniedUnsafe) some can = (reply.Unsafe, refl)
 some_told take size (Denied DeniedWide) some can = (reply.Wide, refl)
-some_told take size (Answer answer) some can = some_telling take size answer some can
+some_told take size (Answer answer) some can = some_telling take size answer some

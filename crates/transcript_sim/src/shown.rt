@@ -66,10 +66,10 @@ fn sum_of_average(num: i64, den: u64, people: u64) -> Option<i64>
     as_answer(quotient(shares, den))
 }
 
-// The answer over so many people that a reply tells.
+// The answer over so many people that a reply tells, if it is in range.
 fn answer_told(take: Take, people: u64, reply: Reply) -> Option<i64>
     requires in_range { IsInRange reply }
-    ensures { MatchOption result ((answer : ℤ) → ¬ (Tells take people answer reply)) (λ answer. Tells take people answer reply) }
+    ensures { MatchOption result ((answer : ℤ) → unsigned_abs answer ≤ most_answer → ¬ (Tells take people answer reply)) (λ answer. Tells take people answer reply × (unsigned_abs answer ≤ most_answer)) }
 {
     match (take, reply) {
         (Take::Sum, Reply::Sum(sum)) => Some(sum),

@@ -16,7 +16,7 @@ returns-clause-tells c =
       to_z w64 (of_z w64 c.quotient.result),
       c.args.people / c.divisor_of-divisor.result,
       subst (λ (z : ℤ). IsMean c.args.sum c.args.people z (c.args.people / c.divisor_of-divisor.result)) (sym is)
-          (mean c.args.sum c.args.people c.divisor_of-divisor.result c.requires.somebody divisor c.requires.small),
+          (mean c.args.sum c.args.people c.divisor_of-divisor.result c.requires.somebody divisor),
       refl,
     )
 
