@@ -60,8 +60,8 @@ twins_alike base other history twins =
       meanwhile = λ file before image sent.
           same_told (λ (a : Audit) (p : Option ℕ). SendsMeanwhile a (subjects a.shape a.shared p) file before image sent) base other history audit people;
       certificates = λ asked lines. same_public (λ cs i. AreExplained cs i history asked lines) base other twins.0;
-      compacted = λ status spare before after. same_said (λ (s : Shape). CompactEnds status s history spare before after) base.secret.shape other.secret.shape
-          twins.1;
+      compacted = λ status spare new_spare before after. same_said (λ (s : Shape). CompactEnds status s history spare new_spare before after)
+          base.secret.shape other.secret.shape twins.1;
       compacting = λ file before image sent. same_said (λ (s : Shape). SendsCounts s history file before image sent) base.secret.shape other.secret.shape
           twins.1;
       files = λ schema table file begun. same_public (λ cs i. SimulatesOver schema table file cs i begun) base other twins.0;

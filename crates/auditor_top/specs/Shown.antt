@@ -33,8 +33,8 @@ pub record AreShownAlike (base other : Database) (history : List Answered) : Typ
       ↔ SendsMeanwhile (audit_over other history) (subjects_over other) file before image sent
   pub certificates : (asked : List CountedLine) (lines : List (List ℕ)) →
       AreExplained base.columns (public_part base) history asked lines ↔ AreExplained other.columns (public_part other) history asked lines
-  pub compacted : (status : Status) (spare before after : List ℕ) →
-      CompactEnds status base.secret.shape history spare before after ↔ CompactEnds status other.secret.shape history spare before after
+  pub compacted : (status : Status) (spare new_spare before after : List ℕ) →
+      CompactEnds status base.secret.shape history spare new_spare before after ↔ CompactEnds status other.secret.shape history spare new_spare before after
   pub compacting : (file before image sent : List ℕ) →
       SendsCounts base.secret.shape history file before image sent ↔ SendsCounts other.secret.shape history file before image sent
   pub files : (schema table file : List ℕ) (begun : List Answered) →
