@@ -46,20 +46,21 @@ def is_total(journal, target, asked, line, draw):
         table = [draw.getrandbits(80) for _ in range(journal.rows)]
         sums = [number * sum(table[row] for row in journal.records[place].rows) for place, number in line["by"]]
         total = sum(sums) + line["asked"] * sum(table[row] for row in asked)
-        if total != line["times"] * sum(table[row] for row in target):
+        own = line["share"] * table[line["own"]] if "own" in line else 0
+        if total != line["times"] * sum(table[row] for row in target) + own:
             return False
     return True
 
 
 def is_lone(journal, column, asked, line):
-    """Whether some list gives all answers, and in each that does the row has the answer of the set that is named."""
+    """Whether some list gives all answers, and in each that does the row has the answer of the set that is named, or the asker's own row."""
     pairs = {place: (record.answer, record.rows) for place, record in enumerate(journal.records) if record.column == column}
     # A record of a minimum has it negated.
     pairs["asked"] = -line["answer"] if "low" in line else line["answer"], asked
     rows = range(journal.rows)
     bounds = {row: min((answer for answer, chosen in pairs.values() if row in chosen), default=None) for row in rows}
     reached = {place: {row for row in chosen if bounds[row] == answer} for place, (answer, chosen) in pairs.items()}
-    return all(reached.values()) and reached[line["pair"]] == {line["row"]}
+    return all(reached.values()) and reached[line["pair"]] == {line[key] for key in ("row", "own") if key in line}
 
 
 def is_true(facts, journal, question, line, draw):

@@ -8,8 +8,10 @@ Run it in the folder of schema.json, table.csv and answers.journal, with the que
 It reads the files by FORMATS.md, of table.csv the public columns alone, and finds the rows of each condition itself. For a
 sum it counts the named records' sets and the asked set, each as often as the line says: every row of what would be given away
 has to come to `times`, and every other row to 0. For a maximum the printed list has to give each record's answer and the new
-one, and all rows but one of the named set have to lie in sets with a lower answer, for a minimum in sets with a greater one. It says how many records and lines were
-checked, or which file or line is wrong and why, and ends with 0 or 1.
+one, and all rows but one of the named set have to lie in sets with a lower answer, for a minimum in sets with a greater one. The row has to
+be one that is guarded: one person alone is behind it, or at most two if the schema says that the askers are inside. Then a line may also name
+the row of an asker, of one person, who knows her own number: a sum's sets come to `share` there besides, and of maxima and minima that row may
+have the answer too. It says how many records and lines were checked, or which file or line is wrong and why, and ends with 0 or 1.
 
 A yes shows of each denial with a certificate that an answer could have given away this number, or this protected total. It
 doesn't show that a line without a certificate is right, that the journal is the one in use, or that no other certificate holds.
@@ -21,7 +23,7 @@ import operator
 import re
 import sys
 
-from check_report import BOUNDS, KINDS, Wrong, are_whole, need, number_of_rows, records, secret_columns, stated
+from check_report import BOUNDS, KINDS, People, Wrong, are_whole, need, records, records_of_table, schema, secret_columns, stated
 
 LARGEST = 2**112
 MOST_TERMS = 1024
@@ -132,23 +134,19 @@ class Condition:
 def protected_groups():
     """The protected groups of the schema: a column's name and a condition for each."""
     try:
-        with open("schema.json", encoding="utf-8") as file:
-            groups = json.load(file).get("protect", [])
-        return [(group["column"], group["where"]) for group in groups]
-    except (AttributeError, LookupError, TypeError, ValueError):
+        return [(group["column"], group["where"]) for group in schema().get("protect", [])]
+    except (AttributeError, LookupError, TypeError):
         raise Wrong("no schema") from None
 
 
 def public_columns():
-    """The public columns by name: a number or a text for each row."""
-    with open("schema.json", encoding="utf-8") as file:
-        columns = [(column["name"], column["is"]) for column in json.load(file)["columns"]]
-    with open("table.csv", encoding="utf-8-sig", newline="") as file:
-        header, *rows = [record for record in csv.reader(file) if record]
+    """The columns that conditions may name, by name: a number or a text for each row."""
+    columns = [(column["name"], column["is"]) for column in schema()["columns"]]
+    header, rows = records_of_table()
     need(header == [name for name, _ in columns], "the header isn't that of the schema")
     public = {}
     for place, (name, role) in enumerate(columns):
-        if role not in KINDS:
+        if role in ("number", "text"):
             cells = [row[place] for row in rows]
             public[name] = [int(cell.strip(" ")) for cell in cells] if role == "number" else cells
     return public
@@ -159,7 +157,8 @@ class Facts:
 
     def __init__(self):
         self.columns = secret_columns()
-        self.rows = number_of_rows()
+        self.people = People()
+        self.rows = len(self.people.counts)
         self.public = public_columns()
         self.records = list(records(self.columns, self.rows))
         groups = [(self.place(name, "sum"), self.chosen(where)) for name, where in protected_groups()]
@@ -198,24 +197,41 @@ def is_place(number, places):
     return are_whole([number]) and 0 <= number < len(places)
 
 
-def given_away(facts, column, line):
+def is_guarded(facts, row, own):
+    """Whether nobody may know a row's number who knows that of her own row, or none."""
+    return row in (facts.people.single() if own is not None else facts.people.guarded()) and row != own
+
+
+def own_row(facts, line):
+    """The row whose number an asker knows, if the line names one."""
+    if "own" not in line:
+        return None
+    need(facts.people.inside, "an asker's own row, and the schema doesn't say that the askers are inside")
+    need(is_place(line["own"], range(facts.rows)) and line["own"] in facts.people.single(), "an asker's own row is one of one person")
+    return line["own"]
+
+
+def given_away(facts, column, line, own):
     """The rows whose total would be known: a single row, or those of a protected group."""
     if "row" in line:
         need(is_place(line["row"], range(facts.rows)), "it names no row")
+        need(is_guarded(facts, line["row"], own), f"row {line['row']} isn't guarded")
         return {line["row"]}
     need(is_place(line["group"], facts.groups), "it names no protected group")
     of, chosen = facts.groups[line["group"]]
     need(of == column, f"group {line['group']} is one of another column")
+    need(set(chosen) - {own}, f"nobody but the asker is in group {line['group']}")
     return chosen
 
 
 def check_sum(facts, column, asked, line):
     need(facts.columns[column][1] == "sum", "a certificate for sums, and the column is another one")
-    target = given_away(facts, column, line)
-    times, terms = line["times"], line["by"]
+    own = own_row(facts, line)
+    target = given_away(facts, column, line, own)
+    times, share, terms = line["times"], line.get("share", 0), line["by"]
     need(isinstance(terms, list) and len(terms) <= MOST_TERMS, f"it has no list of at most {MOST_TERMS} terms")
     need(all(are_whole(term) and len(term) == 2 for term in terms), "a term isn't a record and its number")
-    numbers = [times, line["asked"], *(number for _, number in terms)]
+    numbers = [times, share, line["asked"], *(number for _, number in terms)]
     need(are_whole(numbers) and times >= 1, "its numbers aren't whole, or times is below 1")
     need(all(abs(number) <= LARGEST for number in numbers), "a number is beyond 2^112")
     totals = [0] * facts.rows
@@ -223,7 +239,7 @@ def check_sum(facts, column, asked, line):
         for row in chosen:
             totals[row] += number
     for row, total in enumerate(totals):
-        due = times if row in target else 0
+        due = (times if row in target else 0) + (share if row == own else 0)
         need(total == due, f"the sets come to {total} in row {row}, and not to {due}")
 
 
@@ -231,27 +247,35 @@ def check_bounds(facts, column, asked, line):
     kind = facts.columns[column][1]
     word, extreme = BOUNDS.get(kind, (None, None))
     need(word in line, "a certificate for maxima or minima, and the column is another one")
-    answer, row, numbers = line["answer"], line["row"], line[word]
+    answer, row, own, numbers = line["answer"], line["row"], own_row(facts, line), line[word]
     need(are_whole([answer]) and is_place(row, range(facts.rows)), "it has no whole answer, or names no row")
+    need(is_guarded(facts, row, own), f"row {row} isn't guarded")
     need(are_whole(numbers) and len(numbers) == facts.rows, "it has no list with a whole number for each row")
     answers = [(stated(kind, kept), chosen) for of, kept, chosen in facts.records if of == column] + [(answer, asked)]
     for value, chosen in answers:
+        # The asker's own number may be another one than the list's.
+        others = [numbers[place] for place in chosen if place != own]
+        need(others and extreme(others) == value, f"its list doesn't give the answer {value}")
         need(extreme(numbers[place] for place in chosen) == value, f"its list doesn't give the answer {value}")
     value, chosen = (answer, asked)
     if line["pair"] != "asked":
         kept, chosen = facts.record(line["pair"], column)
         value = stated(kind, kept)
-    need(row in chosen, "its row isn't in the set that it names")
+    need(row in chosen and own in (None, *chosen), "a row that it names isn't in the set that it names")
     # In a set with a lower maximum, or a greater minimum, no row has the number.
     without = set().union(*(rows for other, rows in answers if other != value and extreme(other, value) == value))
-    need(without.issuperset(set(chosen) - {row}), f"another row than {row} could have the {value}")
+    need(without.issuperset(set(chosen) - {row, own}), f"another row than {row} could have the {value}")
 
 
 FORMS = {
     frozenset(("verdict", "row", "times", "by", "asked")): check_sum,
     frozenset(("verdict", "group", "times", "by", "asked")): check_sum,
+    frozenset(("verdict", "row", "own", "share", "times", "by", "asked")): check_sum,
+    frozenset(("verdict", "group", "own", "share", "times", "by", "asked")): check_sum,
     frozenset(("verdict", "answer", "row", "pair", "high")): check_bounds,
     frozenset(("verdict", "answer", "row", "pair", "low")): check_bounds,
+    frozenset(("verdict", "answer", "row", "own", "pair", "high")): check_bounds,
+    frozenset(("verdict", "answer", "row", "own", "pair", "low")): check_bounds,
 }
 
 

@@ -5,13 +5,17 @@ Run it in the folder of schema.json, table.csv and answers.journal:  auditor aud
 It reads the journal by FORMATS.md. For each row of a column of sums it adds up the printed change over the set of each
 record: every total has to be 0, and the change has to move the row. For a column of maxima the printed list, and the
 list with any one row less by 1, have to give each record's answer; for one of minima the list, and the list with any one row
-more by 1. It says how many records and lines were checked, or which
-file or line is wrong and why, and ends with 0 or 1.
+more by 1. If a public column counts the people behind each row, that is asked of the rows of one person alone.
+
+If the schema says that the askers are inside, it is asked of the rows of two as well, and more: of a column of sums no two rows of one person
+may always change by one ratio, and of maxima and minima each answer has to stay if one row of one person has any number and another one is
+less, or more, by 1. It says how many records and lines were checked, or which file or line is wrong and why, and ends with 0 or 1.
 """
 
 import csv
 import json
 import sys
+from fractions import Fraction
 
 KINDS = {"sum": 1, "max": 2, "min": 3}
 # The word before a list of numbers, and what an answer is of the numbers of its rows.
@@ -27,25 +31,63 @@ def need(holds, why):
         raise Wrong(why)
 
 
-def secret_columns():
-    """The names and kinds of the secret columns, in order."""
+def schema():
+    """The schema, an object with the list of its columns."""
     try:
         with open("schema.json", encoding="utf-8") as file:
-            columns = json.load(file)["columns"]
-        return [(column["name"], column["is"]) for column in columns if column["is"] in KINDS]
+            found = json.load(file)
+        need(all(isinstance(column["name"], str) and isinstance(column["is"], str) for column in found["columns"]), "no schema")
+        return found
     except (LookupError, TypeError, ValueError):
         raise Wrong("no schema") from None
 
 
-def number_of_rows():
+def secret_columns():
+    """The names and kinds of the secret columns, in order."""
+    return [(column["name"], column["is"]) for column in schema()["columns"] if column["is"] in KINDS]
+
+
+def records_of_table():
+    """The header and the rows of the table, as lists of fields."""
     csv.field_size_limit(2**24)  # a field may be as long as a table
     try:
         with open("table.csv", encoding="utf-8-sig", newline="") as file:
-            rows = sum(1 for record in csv.reader(file) if record) - 1
+            header, *rows = [record for record in csv.reader(file) if record]
     except (csv.Error, ValueError):
         raise Wrong("no table") from None
-    need(1 <= rows <= 1024, "no table of 1 to 1,024 rows")
-    return rows
+    need(1 <= len(rows) <= 1024, "no table of 1 to 1,024 rows")
+    return header, rows
+
+
+def number_of_rows():
+    return len(records_of_table()[1])
+
+
+class People:
+    """Who is behind the rows, and which of these are guarded."""
+
+    def __init__(self):
+        found = schema()
+        header, rows = records_of_table()
+        columns = [column["name"] for column in found["columns"] if column["is"] == "count"]
+        try:
+            self.counts = [int(row[header.index(columns[0])].strip(" ")) if columns else 1 for row in rows]
+        except (LookupError, ValueError):
+            raise Wrong("no number of people for each row") from None
+        need(min(self.counts) >= 1, "a row of nobody")
+        self.inside = found.get("askers") == "inside"
+        self.all = sum(self.counts) if columns else None
+
+    def guarded(self):
+        """The rows whose number nobody may know: of one person, and of two if each of the two knows her own."""
+        return [row for row, count in enumerate(self.counts) if count <= 1 + self.inside]
+
+    def single(self):
+        return [row for row, count in enumerate(self.counts) if count == 1]
+
+    def are_few(self, rows):
+        """Whether so few people are behind these rows that an answer which only they can have tells of one of them."""
+        return sum(self.counts[row] for row in rows) <= 1 + self.inside
 
 
 def journal(columns):
@@ -106,6 +148,7 @@ def are_whole(numbers):
 
 
 def check_direction(line, row, rows, sets):
+    """The change that the line has, a number for each row."""
     need(are_whole([line.get("row")]) and line["row"] == row, f"not the line of row {row}")
     entries = line.get("direction")
     need(isinstance(entries, list), "no direction")
@@ -118,6 +161,47 @@ def check_direction(line, row, rows, sets):
     need(change[row] > 0, "the change doesn't move its row")
     for chosen in sets:
         need(sum(change[place] for place in chosen) == 0, "the change alters an answer")
+    return change
+
+
+def tied_rows(changes, single):
+    """Two of the rows that all these changes alter by one ratio, if there are two."""
+    seen = {}
+    for row in single:
+        column = [change[row] for change in changes]
+        first = next((number for number in column if number), 1)
+        ratios = tuple(Fraction(number, first) for number in column)
+        if ratios in seen:
+            return seen[ratios], row
+        seen[ratios] = row
+    return None
+
+
+def all_changes(sets, rows):
+    """Changes of which every change that alters no answer is made, by fractions."""
+    form = {}
+    for chosen in sets:
+        left = [Fraction(row in chosen) for row in range(rows)]
+        for place, line in form.items():
+            if left[place]:
+                left = [one - left[place] * other for one, other in zip(left, line)]
+        place = next((row for row in range(rows) if left[row]), None)
+        if place is not None:
+            left = [number / left[place] for number in left]
+            form = {at: [one - line[place] * other for one, other in zip(line, left)] for at, line in form.items()}
+            form[place] = left
+    for free in range(rows):
+        if free not in form:
+            yield [Fraction(row == free) - (form[row][free] if row in form else 0) for row in range(rows)]
+
+
+def check_pairs(changes, people, sets):
+    """Whoever knows one row of one person mustn't know another one. The printed changes show it, or, where many are behind other rows, which have no
+    line, all that there are."""
+    pair = tied_rows(changes, people.single())
+    if pair and len(changes) < len(people.counts):
+        pair = tied_rows(list(all_changes(map(set, sets), len(people.counts))), people.single())
+    need(not pair, "whoever knows the number of row {} knows that of row {}".format(*pair or (0, 0)))
 
 
 def stated(kind, answer):
@@ -125,54 +209,72 @@ def stated(kind, answer):
     return -answer if kind == "min" else answer
 
 
-def check_bounds(line, kind, rows, answers):
+def check_bounds(line, kind, people, answers):
     word, extreme = BOUNDS[kind]
     numbers = line.get(word)
-    need(are_whole(numbers) and len(numbers) == rows, "no list with a whole number for each row")
+    need(are_whole(numbers) and len(numbers) == len(people.counts), "no list with a whole number for each row")
     for chosen, kept in answers:
         answer = stated(kind, kept)
         need(extreme(numbers[place] for place in chosen) == answer, "the list gives another answer")
-        # One row less by 1, or more by 1, keeps the answer as long as another row of the set has it too.
-        need(sum(numbers[place] == answer for place in chosen) > 1, "an answer rests on one row")
+        # One row less by 1, or more by 1, keeps the answer as long as others of the set have it too.
+        having = [place for place in chosen if numbers[place] == answer]
+        need(not people.are_few(having), f"an answer rests on {'one row' if len(having) == 1 else f'rows {having[0]} and {having[1]}'}")
 
 
-def check_line(line, column, row, rows, answers):
-    need(line is not None, "the report ends too early")
+def check_column(lines, column, people, answers):
+    """How many lines were checked of a column, each of which comes from the report."""
     name, kind = column
-    need(line.get("column") == name, f"not a line of column {name}")
-    if kind == "sum":
-        check_direction(line, row, rows, [chosen for chosen, _ in answers])
-    else:
-        check_bounds(line, kind, rows, answers)
+    rows, changes = people.guarded() if kind == "sum" else [None], []
+    for row in rows:
+        line = next(lines)
+        need(line.get("column") == name, f"not a line of column {name}")
+        if kind == "sum":
+            changes.append(check_direction(line, row, len(people.counts), [chosen for chosen, _ in answers]))
+        else:
+            check_bounds(line, kind, people, answers)
+    if people.inside and kind == "sum":
+        check_pairs(changes, people, [chosen for chosen, _ in answers])
+
+
+class Report:
+    """The lines of the report, in turn, and the number of the last one that was taken."""
+
+    def __init__(self):
+        self.lines, self.number = report(), 0
+
+    def __next__(self):
+        self.number += 1
+        line = next(self.lines, None)
+        need(line is not None, "the report ends too early")
+        return line
+
+    def check_end(self, totals):
+        self.number += 1
+        last = next(self.lines, None)
+        need(last == totals and are_whole([*last.values()]), f"the last line has to be {json.dumps(totals)}")
+        self.number += 1
+        need(next(self.lines, None) is None, "there are more lines than the totals")
+        self.number -= 1
 
 
 def main():
-    where = "schema.json"
-    number = 0
+    where, lines = "schema.json", Report()
     try:
         columns = secret_columns()
         where = "table.csv"
-        rows = number_of_rows()
+        people = People()
+        rows = len(people.counts)
         where = "answers.journal"
         history = list(records(columns, rows))
-        lines = report()
+        where = None
         for place, column in enumerate(columns):
-            answers = [(chosen, answer) for of, answer, chosen in history if of == place]
-            for row in range(rows if column[1] == "sum" else 1):
-                number += 1
-                where = f"line {number}"
-                check_line(next(lines, None), column, row, rows, answers)
-        number += 1
-        where = f"line {number}"
+            check_column(lines, column, people, [(chosen, answer) for of, answer, chosen in history if of == place])
         totals = {"audited": len(history), "columns": len(columns), "rows": rows}
-        last = next(lines, None)
-        need(last == totals and are_whole([*last.values()]), f"the last line has to be {json.dumps(totals)}")
-        where = f"line {number + 1}"
-        need(next(lines, None) is None, "there are more lines than the totals")
+        lines.check_end(totals if people.all is None else totals | {"people": people.all})
     except (Wrong, OSError) as wrong:
-        print(f"{where}: {wrong.strerror if isinstance(wrong, OSError) else wrong}")
+        print(f"{where or f'line {lines.number}'}: {wrong.strerror if isinstance(wrong, OSError) else wrong}")
         return 1
-    print(f"checked {len(history)} records, {number} lines: each secret is free")
+    print(f"checked {len(history)} records, {lines.number} lines: each secret is free{' for whoever knows another one' if people.inside else ''}")
     return 0
 
 

@@ -30,10 +30,10 @@ MOST = {
     "disclosure": 103,
     "decision": 110,
     "lines and conditions": 393,
-    "formats of files": 230,
+    "formats of files": 234,
     "journal and crash": 95,
-    "lives": 288,
-    "the promise": 1213,
+    "lives": 299,
+    "the promise": 1228,
 }
 
 IMPORT = re.compile(r"(?:ghost )?use (?:Rattle\.)?([\w.]+?)(?:\.\{(.*)\}| as (\w+));?$")

@@ -1,7 +1,7 @@
 #!/bin/sh
 # All tests of the front door, over the program that is given or that demo/build.sh builds. As root it installs the Debian
-# packages that are missing; the page's tests are skipped without Chromium, those of R without R, and that of the units without a container for
-# systemd, and that is counted.
+# packages that are missing; the page's tests are skipped without Chromium, those of R without R, that of the units without a container for
+# systemd, and those of PostgreSQL's lines without its server, which isn't installed for them, and that is counted.
 #
 #   front/check.sh [PROGRAM]
 set -u

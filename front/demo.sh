@@ -1,10 +1,12 @@
 #!/bin/sh
-# Makes the table of an office that doesn't exist in a fresh folder, starts the door over it, and prints the address to open.
+# Makes the table of an office that doesn't exist in a fresh folder, and beside it one whose lines stand for 100,000 people, if such tables are
+# offered by now (preparing/offered.py); starts the door over them, and prints the address to open.
 # Ctrl-C ends it and removes the folder. If no program is given it is built first, which takes the source and the kit; in a package it
 # is the package's own.
 #
 #   front/demo.sh [PROGRAM [PORT]]
 set -u
+port=${2:-8087}
 front=$(cd "$(dirname "$0")" && pwd)
 python=/usr/bin/python3
 if [ $# -gt 0 ]; then
@@ -36,10 +38,20 @@ finish() {
 }
 trap finish EXIT
 trap 'exit 0' INT TERM
+begin() {
+    (cd "$folder/$1" && "$program" init) || { echo "demo: auditor init ended with status $?" >&2; exit 1; }
+}
 $python "$front/demo_table.py" "$folder/office" || exit 1
-(cd "$folder/office" && "$program" init) || { echo "demo: auditor init ended with status $?" >&2; exit 1; }
-address=127.0.0.1:${2:-8087}
-$python "$front/door.py" --auditor "$program" --folder "$folder/office" --listen "$address" --report-every 5 &
+begin office
+AUDITOR=$program $python "$front/demo_people.py" "$folder/people"
+case $? in
+0)  begin people
+    set -- --folder "$folder/{table}" --table office --table people ;;
+3)  set -- --folder "$folder/office" ;;
+*)  exit 1 ;;
+esac
+address=127.0.0.1:$port
+$python "$front/door.py" --auditor "$program" "$@" --listen "$address" --report-every 5 &
 door=$!
 echo "open http://$address/ and end with Ctrl-C" >&2
 wait "$door"

@@ -116,7 +116,7 @@ def of_public(folder, public, program):
         return
     try:
         schema = json.loads((folder / "schema.json").read_text(encoding="utf-8"))
-        names = [column["name"] for column in schema["columns"] if column["is"] in ("text", "number")]
+        names = [column["name"] for column in schema["columns"] if column["is"] in ("text", "number", "count")]
         whole, shown = rows_of(folder / "table.csv"), rows_of(public / "table.csv")
         places = [whole[0].index(name) for name in names]
         due = [[row[place] for place in places] for row in whole]

@@ -5,6 +5,8 @@
         says what the file has in it, and writes FILE.choices.json with a ? for each choice that is yours
     prepare.py choose CHOICES [NAME=KIND | NAME.KEY=VALUE | KEY=VALUE | others=KIND | missing=WHAT | range=RANGE ..]
         fills in choices, as salary=sum salary.range="0 to none"; without any it asks for each that is open
+    prepare.py lines FILE CHOICES [NAME.bands=10 | NAME.join="A+B as AB" | NAME="leave out" ..]
+        says how many combinations of public cells there are, how many people are alone in theirs, and what coarser choices give
     prepare.py make FILE CHOICES FOLDER
         writes FOLDER with schema.json and table.csv, and FOLDER/public with the public columns alone, says each change,
         and points out what people may conclude who know more than that secrets are whole numbers
@@ -25,14 +27,31 @@ import os
 import shutil
 import sys
 
+from preparing import offered
 from preparing.adding import add
 from preparing.choosing import choose
+from preparing.comparing import check
 from preparing.faults import Fault, os_words, shown
+from preparing.lines import add_lines, make_lines, stands_for_people
 from preparing.looking import look
 from preparing.making import make
+from preparing.queries import say_sql
 from preparing.renewing import renew
+from preparing.taking import take
+from preparing.trying import say_tries
 
 OPTIONS = ("encoding", "separator", "untitled", "sheet")
+LINES = """
+    prepare.py choose CHOICES count=NAME
+        a table of lines: each stands for all people with the same public cells, and the column NAME has how many these are. make and
+        add condense then, in little memory however many people the file has
+    prepare.py sql CHOICES postgresql|duckdb|sqlite|spark [table=NAME]
+        prints the query by which an engine makes the lines of a table of people
+    prepare.py take LINES CHOICES FOLDER
+        writes FOLDER, as make does, of a CSV file of lines that an engine made so
+    prepare.py check FILE CHOICES LINES
+        compares a CSV file of lines, in any order, with the people, and says where they differ
+"""
 
 
 def options_of(words):
@@ -55,25 +74,51 @@ def program():
     return os.path.abspath(found) if found else None
 
 
+def help_words():
+    """What the script does, without what isn't offered yet."""
+    first, last = __doc__.strip().split("\n\nNothing", 1)
+    return first + (LINES.rstrip() if offered.LINES_STAND_FOR_PEOPLE else "") + "\n\nNothing" + last
+
+
+def run_lines(words):
+    """Does what the arguments say of lines that stand for people; whether they say something of it."""
+    match words:
+        case ["sql", choices, dialect]:
+            say_sql(choices, dialect)
+        case ["sql", choices, dialect, table] if table.startswith("table="):
+            say_sql(choices, dialect, table.removeprefix("table="))
+        case ["take", lines, choices, folder]:
+            take(lines, choices, folder, program())
+        case ["check", path, choices, lines]:
+            check(path, choices, lines)
+        case _:
+            return False
+    return True
+
+
 def run(words):
     """Does what the arguments say."""
+    if offered.LINES_STAND_FOR_PEOPLE and run_lines(words):
+        return 0
     match words:
         case ["look", path, *options]:
             look(path, **options_of(options))
         case ["choose", path, *choices]:
             choose(path, choices)
+        case ["lines", path, choices, *tried]:
+            say_tries(path, choices, tried)
         case ["make", path, choices, folder]:
-            make(path, choices, folder, program())
+            (make_lines if stands_for_people(choices) else make)(path, choices, folder, program())
         case ["make", path, choices, folder, key] if key.startswith("key="):
-            make(path, choices, folder, program(), key.removeprefix("key="))
+            (make_lines if stands_for_people(choices) else make)(path, choices, folder, program(), key.removeprefix("key="))
         case ["renew", path, choices, old, new, key, *meant] if key.startswith("key="):
             renew(path, choices, old, new, key.removeprefix("key="), meant, program())
         case ["add", path, choices, old, new]:
-            add(path, choices, old, new, program())
+            (add_lines if stands_for_people(choices) else add)(path, choices, old, new, program())
         case ["-h" | "--help" | "help"]:
-            print(__doc__.strip())
+            print(help_words())
         case _:
-            print(__doc__.strip(), file=sys.stderr)
+            print(help_words(), file=sys.stderr)
             return 2
     return 0
 

@@ -22,6 +22,7 @@ ASKS = {
 }
 FIRST = ("would", "why", "near", "csv")
 SECRET = {"sum": ("sum", "avg"), "max": ("max",), "min": ("min",)}
+COUNT = "count"                     # the kind of the column with how many people a row stands for
 
 
 class Unclear(Exception):
@@ -116,12 +117,16 @@ def need_public(name, kinds):
         raise Unclear(no_column(name, kinds))
     if kinds[name] in SECRET:
         raise Unclear(f"{name} is secret: groups are made by a public column, one of {', '.join(public_names(kinds))}")
+    if kinds[name] == COUNT:
+        raise Unclear(f"{name} is how many people a row stands for: groups are made by one of {', '.join(public_names(kinds))}")
 
 
 def need_asked(ask, name, kinds):
     """A column that can be asked for this. The program would refuse another one too, in fewer words."""
     if name not in kinds:
         raise Unclear(no_column(name, kinds))
+    if kinds[name] == COUNT:
+        raise Unclear(f"{name} is how many people a row stands for: ask count, which adds it up")
     if kinds[name] not in SECRET:
         raise Unclear(
             f"{name} is public, and only secret columns are asked for numbers. Its values stand in the public table"
@@ -140,4 +145,4 @@ def no_column(name, kinds):
 
 
 def public_names(kinds):
-    return [name for name, kind in kinds.items() if kind not in SECRET]
+    return [name for name, kind in kinds.items() if kind not in SECRET and kind != COUNT]

@@ -4,6 +4,7 @@ import csv
 import io
 import json
 
+from preparing.choices import COUNT
 from preparing.conditions import asked_rows
 
 SECRET = ("sum", "max", "min")
@@ -58,12 +59,12 @@ def notes_of(text):
 
 
 def rows_of(text, columns, only=()):
-    """A dict for each row that questions are over with its public values, those of numbers as whole numbers."""
+    """A dict for each row that questions are over with its public values, those of numbers as whole numbers, and how many people it stands for."""
     csv.field_size_limit(2**24)
     public = {name: kind for name, kind in columns.items() if kind not in SECRET}
     rows = csv.DictReader(io.StringIO(text, newline=""))
-    found = [{name: int(row[name]) if kind == "number" else row[name] for name, kind in public.items()} for row in rows]
-    return asked_rows({"only": where for where in only}, public, found)
+    found = [{name: row[name] if kind == "text" else int(row[name]) for name, kind in public.items()} for row in rows]
+    return asked_rows({"only": where for where in only}, {name: kind for name, kind in public.items() if kind != COUNT}, found)
 
 
 def line_of(question):

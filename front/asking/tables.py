@@ -6,6 +6,7 @@ import fractions
 import io
 
 from planning.cells import cells_of
+from preparing.choices import COUNT
 from preparing.conditions import read_condition
 
 from .questions import Question
@@ -17,7 +18,7 @@ CSV_PLACES = 6
 
 @dataclasses.dataclass(frozen=True)
 class Asked:
-    """A cell, its question, the number of its rows, and the reply."""
+    """A cell, its question, the number of its rows, or of the people whom they stand for, and the reply."""
 
     values: tuple
     question: Question
@@ -27,12 +28,14 @@ class Asked:
 
 def cells_to_ask(question, rows, publics):
     """The cells that some row is in for which the condition holds, or Wrong."""
+    count = next((name for name, kind in publics.items() if kind == COUNT), None)
+    publics = {name: kind for name, kind in publics.items() if kind != COUNT}
     holds = read_condition(question.where, publics)
     inside = [row for row in rows if holds(row)]
     sizes = {}
     for row in inside:
         for values in totals_over(tuple(row[name] for name in question.by)):
-            sizes[values] = sizes.get(values, 0) + 1
+            sizes[values] = sizes.get(values, 0) + (row[count] if count else 1)
     cells = cells_of(question.by, inside, publics, margins=len(question.by) > 1)
     return [Asked(cell.values, question.over(cell.where), sizes[cell.values]) for cell in cells]
 

@@ -166,8 +166,8 @@ auditor_public <- function(url) {
   table <- auditor_send(url, "table.csv")
   if (schema$status != 200 || table$status != 200) stop("the door gives no table", call. = FALSE)
   columns <- jsonlite::parse_json(schema$text, simplifyVector = TRUE)$columns
-  kinds <- columns$is[columns$is %in% c("text", "number")]
-  utils::read.csv(text = sub("^\ufeff", "", table$text), colClasses = ifelse(kinds == "number", "numeric", "character"),
+  kinds <- columns$is[columns$is %in% c("text", "number", "count")]
+  utils::read.csv(text = sub("^\ufeff", "", table$text), colClasses = ifelse(kinds == "text", "character", "numeric"),
                   na.strings = character(), check.names = FALSE, encoding = "UTF-8")
 }
 

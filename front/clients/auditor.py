@@ -454,7 +454,7 @@ class Table(Asker):
     def public(self):
         """The public columns, a dict for each row of the table: also for those that don't satisfy `only`, which no question is over."""
         text = self.door.request("GET", self.base + "table.csv").removeprefix("\ufeff")
-        return [{name: int(value) if self.kinds[name] == "number" else value for name, value in row.items()}
+        return [{name: int(value) if self.kinds[name] in ("number", "count") else value for name, value in row.items()}
                 for row in csv.DictReader(io.StringIO(text, newline=""))]
 
     def transcript(self):

@@ -6,7 +6,7 @@ function reportLines(text) {
 }
 
 function describeRow(row, table = chosen[0]) {
-  return `Row ${row}: ` + publics().map((column, place) => `${titleOf(column.name)} ${table.rows[row][place]}`).join(", ");
+  return `Row ${row}: ` + publics().map(column => `${titleOf(column.name)} ${table.cellOf(table.rows[row], column.name)}`).join(", ");
 }
 
 async function showReport() {

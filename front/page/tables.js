@@ -15,8 +15,19 @@ class Table {
     this.protect = Array.isArray(protect) ? protect : [];
     this.rows = records(text.replace(/^\uFEFF/, "")).slice(1);
     this.notes = notes ? parsed("notes.json", notes) : {};
-    this.publics = this.columns.filter(column => column.is === "text" || column.is === "number");
+    this.seen = this.columns.filter(column => ["text", "number", "count"].includes(column.is));      // those of table.csv, in its order
+    this.publics = this.seen.filter(column => column.is !== "count");
     this.secrets = this.columns.filter(column => ["sum", "max", "min"].includes(column.is));
+  }
+
+  cellOf(row, name) {
+    return row[this.seen.findIndex(column => column.name === name)];
+  }
+
+  // How many people a row stands for: one, if no column has their number.
+  peopleOf(row) {
+    const count = this.seen.find(column => column.is === "count");
+    return count ? Number(this.cellOf(row, count.name)) : 1;
   }
 
   async file(name, mayBeMissing = false) {
@@ -58,7 +69,7 @@ function records(text) {
 const publics = () => chosen[0].publics;
 const secrets = () => chosen[0].secrets;
 const columnOf = name => chosen[0].columns.find(column => column.name === name);
-const rowsInAll = () => chosen.reduce((sum, table) => sum + table.rows.length, 0);
+const rowsInAll = () => chosen.reduce((sum, table) => table.rows.reduce((all, row) => all + table.peopleOf(row), sum), 0);
 const isWhole = () => chosen.every(table => !table.only);       // whether questions are over all rows of the chosen tables
 
 function noteOf(name) {
@@ -76,10 +87,9 @@ function placesOf(name) {
 function valuesOf(name) {
   const seen = new Map();
   for (const table of chosen) {
-    const place = table.publics.findIndex(column => column.name === name);
     for (const row of table.rows) {
-      const value = columnOf(name).is === "number" ? String(BigInt(row[place].trim().replace(/^\+/, ""))) : row[place];
-      seen.set(value, (seen.get(value) || 0) + 1);
+      const cell = table.cellOf(row, name), value = columnOf(name).is === "number" ? String(BigInt(cell.trim().replace(/^\+/, ""))) : cell;
+      seen.set(value, (seen.get(value) || 0) + table.peopleOf(row));
     }
   }
   return seen;

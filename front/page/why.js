@@ -110,8 +110,10 @@ async function addsUp(table, asked, line, records) {
 }
 
 // The public values of a row.
-const cellsOf = (row, table) => publics().map((column, place) =>
-  column.is === "number" ? showValue(table.rows[row][place].trim().replace(/^\+/, ""), column.name) : table.rows[row][place] || "(empty)").join(", ");
+const cellsOf = (row, table) => publics().map(column => {
+  const cell = table.cellOf(table.rows[row], column.name);
+  return column.is === "number" ? showValue(cell.trim().replace(/^\+/, ""), column.name) : cell || "(empty)";
+}).join(", ");
 
 // A question that was answered, as a link to its answer.
 function recordLink({asked}, table) {

@@ -9,7 +9,7 @@ import pathlib
 
 from preparing.conditions import asked_rows, read_condition
 
-PUBLIC = ("text", "number")
+PUBLIC, COUNT = ("text", "number"), "count"
 
 
 class Columns:
@@ -19,10 +19,11 @@ class Columns:
         schema = json.loads(schema)
         self.kinds = {column["name"]: column["is"] for column in schema["columns"]}
         self.publics = {name: kind for name, kind in self.kinds.items() if kind in PUBLIC}
+        self.count = next((name for name, kind in self.kinds.items() if kind == COUNT), None)
         csv.field_size_limit(2**24)
         records = csv.DictReader(io.StringIO(table.decode("utf-8-sig"), newline=""))
         self.rows = asked_rows(schema, self.publics, [
-            {name: int(row[name]) if kind == "number" else row[name] for name, kind in self.publics.items()} for row in records])
+            {name: row[name] if kind == "text" else int(row[name]) for name, kind in self.kinds.items() if kind in (*PUBLIC, COUNT)} for row in records])
         self.everyone = (1 << len(self.rows)) - 1
         self._values = {name: self._rows_by_value(name) for name in self.publics}
 
@@ -45,8 +46,14 @@ class Columns:
 
     def are_enough(self, rows, fewest):
         """Whether a question over these rows is over so many people, and leaves none out or as many."""
-        inside, whole = rows.bit_count(), len(self.rows)
+        inside, whole = self.people(rows), self.people(self.everyone)
         return inside >= fewest and (inside == whole or whole - inside >= fewest)
+
+    def people(self, rows):
+        """How many people some rows stand for: one each, if no column has their number."""
+        if self.count is None:
+            return rows.bit_count()
+        return sum(row[self.count] for place, row in enumerate(self.rows) if rows >> place & 1)
 
 
 def read_columns(folder):

@@ -7,7 +7,7 @@ import pathlib
 import shutil
 
 from . import choices as choosing
-from .choices import PUBLIC, SECRET
+from .choices import PUBLIC, SECRET, SEEN
 from .faults import Fault, counted, shown
 from .guards import say_what_is_known, secrets_apart
 from .making import Changes, columns_to_write, convert_all, need_columns, read_as_chosen, say_changes
@@ -15,7 +15,7 @@ from .ordering import by_public_cells, say_order
 from .protecting import need_totals, say_totals
 from .ranges import need_ranges, say_ranges
 from .splitting import MOST_ROWS, Part
-from .writing import lines_of, need_few_bytes, put_into_place, said_of_program, try_program
+from .writing import lines_for, need_few_bytes, put_into_place, said_of_program, try_program
 
 
 def add(path, choices_path, old, new, program):
@@ -95,14 +95,14 @@ def number_waves(before, added):
 def write_longer(old, folder, columns, added):
     """The files of the folder `old` with lines at the end of both tables. A table stays its owner's alone."""
     (folder / "public").mkdir(parents=True)
-    public = [column for column in columns if column.kind in PUBLIC]
+    public = [column for column in columns if column.kind in SEEN]
     for where, kept in ((".", columns), ("public", public)):
         shutil.copyfile(old / where / "schema.json", folder / where / "schema.json")
         text = (old / where / "table.csv").read_bytes()
         ended = text if text.endswith((b"\n", b"\r")) else text + b"\r\n"
         table = folder / where / "table.csv"
         table.touch(0o600 if where == "." else 0o666)
-        table.write_bytes(ended + lines_of([[row[column.name] for column in kept] for row in added]).encode())
+        table.write_bytes(ended + lines_for(columns)([[row[column.name] for column in kept] for row in added]).encode())
         need_few_bytes(table)
     if (old / "public" / "notes.json").is_file():
         shutil.copyfile(old / "public" / "notes.json", folder / "public" / "notes.json")

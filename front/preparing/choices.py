@@ -8,8 +8,9 @@ import os
 import re
 import tempfile
 
-from . import limits
+from . import limits, offered
 from .cells import FORMS
+from .coarsening import coarsening_faults
 from .faults import Fault, listed, shown
 from .names import LONGEST, is_name, plain
 from .ranges import range_fault
@@ -17,9 +18,11 @@ from .reading import SEPARATORS
 
 OPEN = "?"
 FACTOR = re.compile("_x10+$")
+START = "_from"  # of the name of a column of bands, which holds the number that each begins with
 MOST_DECIMALS = 12
 TOO_FINE = "A secret number is never rounded: round it in the file itself, and say so to those who ask, or leave the column out"
-SECRET, PUBLIC = ("sum", "max", "min"), ("text", "number")
+SECRET, PUBLIC, COUNT = ("sum", "max", "min"), ("text", "number"), "count"
+SEEN = PUBLIC + (COUNT,)  # what stands in the public file
 KINDS = PUBLIC + SECRET + ("leave out",)
 MISSING = {"drop the row": KINDS, "keep": ("text",), "mark": ("number",)}
 ROUNDINGS = ("no", "down", "nearest")
@@ -44,6 +47,8 @@ COLUMN_KEYS = {
     "missing is": list,
     "missing": str,
     "range": str,
+    "bands": str,
+    "join": dict,
 }
 TEXT_KEYS = ("is", "missing is", "missing")
 NUMBER_KEYS = TEXT_KEYS + ("written as", "unit", "decimals", "rounded")
@@ -51,8 +56,8 @@ SECRET_KEYS = NUMBER_KEYS + ("range",)
 
 
 def table_keys():
-    """The keys of a file of choices, each with the type of its values: one for each limit among them."""
-    return TABLE_KEYS | dict.fromkeys(limits.LIMITS, int)
+    """The keys of a file of choices, each with the type of its values: one for each limit among them, and the name of the column of counts."""
+    return TABLE_KEYS | dict.fromkeys(limits.LIMITS, int) | ({COUNT: str} if offered.LINES_STAND_FOR_PEOPLE else {})
 
 
 def read(path):
@@ -66,9 +71,11 @@ def read(path):
         raise Fault(f"{path} isn't JSON: {error}") from None
     if isinstance(choices, dict):
         limits.fill_in(choices)
+        if offered.LINES_STAND_FOR_PEOPLE:
+            choices.setdefault(COUNT, None)
     faults = key_faults(choices, table_keys(), "the file of choices")
     if not faults:
-        ask_for_ranges(choices["columns"])
+        fill_in_columns(choices["columns"])
         for place, column in enumerate(choices["columns"], 1):
             faults += key_faults(column, COLUMN_KEYS, f"column {place} of the choices")
     if faults:
@@ -76,11 +83,13 @@ def read(path):
     return choices
 
 
-def ask_for_ranges(columns):
-    """Leaves the range open in the columns of a file that was written when it wasn't asked for."""
+def fill_in_columns(columns):
+    """Leaves the range open in the columns of a file that was written when it wasn't asked for, and their values as they are."""
     for column in columns:
         if isinstance(column, dict):
             column.setdefault("range", OPEN)
+            column.setdefault("bands", None)
+            column.setdefault("join", None)
 
 
 def key_faults(found, keys, what):
@@ -147,6 +156,8 @@ def table_faults(choices):
         faults.append(f"\"untitled\" can't be {shown(choices['untitled'])}: it is none, first or last")
     if choices["wave"] not in (None, 1):
         faults.append(f"\"wave\" can't be {choices['wave']}: it is 1, or null for no such column")
+    if choices.get(COUNT) is not None and not is_name(choices[COUNT]):
+        faults.append(f'"count" can\'t be {shown(choices[COUNT])}: it is the name of the column with how many people a line stands for, or null')
     public = [column["name"] for column in choices["columns"] if column["is"] in PUBLIC]
     faults += [
         f'"split by" can\'t be {shown(name)}: it has to be the name of a public column'
@@ -157,14 +168,17 @@ def table_faults(choices):
 
 
 def name_in_steps(column):
-    """The column's name with the factor that its public numbers are multiplied by at its end, if there is one, and without one if there is none."""
-    if column["decimals"] == OPEN:
+    """The column's name as it says what its public numbers are: with the factor that they are multiplied by at its end, or with _from if they
+    are where bands begin, and without if they are neither."""
+    if column["decimals"] == OPEN and not column["bands"]:
         return column["name"]
-    bare = FACTOR.sub("", column["name"])
-    if not column["decimals"]:
-        return column["name"] if FACTOR.search(plain(column["from"], "c")) else bare
-    end = f"_x{10 ** column['decimals']}"
-    return bare[: LONGEST - len(end)] + end
+    title = plain(column["from"], "c")
+    name = column["name"] if FACTOR.search(title) else FACTOR.sub("", column["name"])
+    name = name if title.endswith(START) else name.removesuffix(START)
+    end = START if column["bands"] else f"_x{10 ** column['decimals']}" if column["decimals"] else ""
+    if not end or name.endswith(end):
+        return name
+    return FACTOR.sub("", name)[: LONGEST - len(end)] + end
 
 
 def column_faults(column):
@@ -174,7 +188,9 @@ def column_faults(column):
         return []
     if column["is"] not in KINDS:
         return [f"{title} can't be {shown(column['is'])}: it is one of {', '.join(KINDS)}"]
-    faults = []
+    faults = [f"{title}: {fault}" for fault in coarsening_faults(column)]
+    if faults:
+        return faults
     if not is_name(column["name"]):
         faults.append(
             f"{title}: {shown(column['name'])} can't be a name: a letter, then letters, digits and _, at most 32, and"
@@ -191,6 +207,22 @@ def column_faults(column):
     if not all(isinstance(cell, str) for cell in column["missing is"] or []):
         faults.append(f'{title}: "missing is" has to be a list of texts')
     return faults
+
+
+def name_faults(column, title):
+    """A sentence for a name that hides what its public numbers are. One that says a factor which they haven't is pointed out by `make`."""
+    name = name_in_steps(column)
+    if column["bands"]:
+        return [
+            f"{title}: numbers in bands are to say so in their name, since a condition compares them with the number that a band begins with: name it {name}"
+        ]
+    if not column["decimals"]:
+        return []
+    return [
+        f"{title}: public numbers times {10 ** column['decimals']:,} are to say so in their name, since a condition"
+        f' compares them as they are kept: name it {name}; or lower "decimals" and say how it is'
+        ' "rounded"; or keep it as text'
+    ]
 
 
 def number_faults(column, title):
@@ -212,14 +244,10 @@ def number_faults(column, title):
         faults.append(f"{title} can't be {column['is']}: a date can be public, as number or text, or left out")
     if column["is"] in SECRET and (column["decimals"] or 0) > MOST_DECIMALS:
         faults.append(f"{title} has numbers of {column['decimals']} decimals, and at most {MOST_DECIMALS} are kept. {TOO_FINE}")
-    elif not 0 <= (column["decimals"] or 0) <= MOST_DECIMALS:
+    elif not column["bands"] and not 0 <= (column["decimals"] or 0) <= MOST_DECIMALS:
         faults.append(f"{title}: \"decimals\" can't be {column['decimals']}: it is 0 to {MOST_DECIMALS}")
-    elif column["is"] == "number" and column["decimals"] and column["name"] != name_in_steps(column):
-        faults.append(
-            f"{title}: public numbers times {10 ** column['decimals']:,} are to say so in their name, since a condition"
-            f' compares them as they are kept: name it {name_in_steps(column)}; or lower "decimals" and say how it is'
-            ' "rounded"; or keep it as text'
-        )
+    elif column["is"] == "number" and column["name"] != name_in_steps(column):
+        faults += name_faults(column, title)
     elif column["is"] in SECRET and range_fault(column):
         faults.append(f"{title}: {range_fault(column)}")
     if re.search(r"[\d+.,'-]", column["unit"] or ""):

@@ -5,6 +5,7 @@ import re
 from . import choices as choosing
 from .choices import COLUMN_KEYS, KINDS, MISSING, OPEN, ROUNDINGS, table_keys
 from .cells import FORMS
+from .coarsening import JOIN_WORDS, read_bands, read_join
 from .faults import Fault, shown
 from .making import columns_to_write
 from .protecting import need_totals
@@ -17,13 +18,7 @@ LONGEST_NUMBER = 17  # digits of a choice: the greatest width has so many
 def choose(path, words):
     """Follows each argument in turn, writes the file once, and says what is still open."""
     choices = choosing.read(path)
-    for word in words:
-        key, mark, value = word.partition("=")
-        if not mark:
-            raise Fault(f"{shown(word)} sets nothing: write KEY=VALUE, NAME=KIND or NAME.KEY=VALUE")
-        if not word.isascii() and any("\ud800" <= letter <= "\udfff" for letter in word):
-            raise Fault(f"{shown(word)} has bytes in it that aren't UTF-8")
-        set_choice(choices, key.strip(), value.strip())
+    follow(choices, words)
     if not words:
         ask_each(choices)
     name_by_steps(choices)
@@ -32,12 +27,25 @@ def choose(path, words):
     print("still open: " + ", ".join(still_open) if still_open else "nothing is open any more: make can be run")
 
 
+def follow(choices, words):
+    """Follows each argument in turn."""
+    for word in words:
+        key, mark, value = word.partition("=")
+        if not mark:
+            raise Fault(f"{shown(word)} sets nothing: write KEY=VALUE, NAME=KIND or NAME.KEY=VALUE")
+        if not word.isascii() and any("\ud800" <= letter <= "\udfff" for letter in word):
+            raise Fault(f"{shown(word)} has bytes in it that aren't UTF-8")
+        set_choice(choices, key.strip(), value.strip())
+
+
 def name_by_steps(choices):
-    """Names a public number for the factor that it is multiplied by, so that whoever writes a condition sees it, and for none if it isn't any more."""
+    """Names a public number for the factor that it is multiplied by, or as where bands begin, so that whoever writes a condition sees it, and for
+    neither if it isn't any more."""
     for column in choices["columns"]:
         name, before = choosing.name_in_steps(column), column["name"]
         if column["is"] == "number" and before != name:
             how = f"kept times {10 ** column['decimals']:,}" if column["decimals"] else "kept as they are"
+            how = f"kept {read_bands(column['bands']).words()}, each as the number that its band begins with" if column["bands"] else how
             print(f"{before} is named {name}: its numbers are {how}, and conditions compare them so")
             column["name"] = name
             choices["split by"] = [name if one == before else one for one in choices["split by"] or []] or None
@@ -88,19 +96,33 @@ def set_column(column, key, value):
     if key not in COLUMN_KEYS or key in ("from", "seen"):
         raise Fault(
             f"{shown(key)} isn't a choice of a column: there are is, name, written as, unit, decimals, rounded, missing"
-            " is, missing, range"
+            " is, missing, range, bands, join"
         )
     if key in allowed and value not in allowed[key]:
         raise Fault(
             f"{column['name']}{'' if key == 'is' else '.' + key} can't be {shown(value)}: it is one of"
             f" {', '.join(allowed[key])}"
         )
+    if key == "join" and value not in ("none", "null"):
+        return add_join(column, value)
     chosen = from_words(key, value, COLUMN_KEYS[key])
     if key == "range" and chosen is not None:
         read_range(chosen)
+    if key == "bands" and chosen is not None:
+        read_bands(chosen)
     column[key] = chosen
     if key == "written as" and column["decimals"] == OPEN:
         column["decimals"] = decimals_of(column)
+
+
+def add_join(column, value):
+    """Some more values of a column that are to be one."""
+    name, values = read_join(value)
+    join = column["join"] or {}
+    again = next((one for one in values if any(one in others for others in join.values())), None)
+    if again is not None:
+        raise Fault(f"{column['name']}.join: {shown(again)} is joined already. {column['name']}.join=none begins anew; write {JOIN_WORDS}")
+    column["join"] = {**join, name: join.get(name, []) + values}
 
 
 def decimals_of(column):

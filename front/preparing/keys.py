@@ -8,7 +8,7 @@ import csv
 import io
 import unicodedata
 
-from .choices import PUBLIC, SECRET
+from .choices import COUNT, PUBLIC, SECRET
 from .faults import Fault, listed, shown
 
 KEY = "key of the row"              # of a row in memory: no column can have this name
@@ -30,6 +30,8 @@ def need_one_table(choices):
     """A Fault if the choices have what a table with a key can't have."""
     if choices["split by"]:
         raise Fault('a table with a key isn\'t split: export each part into a file of its own, with "split by" none')
+    if choices.get(COUNT) is not None:
+        raise Fault("a table whose lines stand for several people has no key: choose count=none")
     if choices["wave"] is not None:
         raise Fault('a table with a key has no wave, since current says who is there: choose wave=none')
 

@@ -1,46 +1,54 @@
 """`look`: says what a CSV file or a sheet of a workbook has in it, and writes down what a person has to decide."""
 
 import collections
+import dataclasses
 import pathlib
 
 from . import choices as choosing
-from . import limits
-from .cells import FORMS, forms_of, is_missing, unit_of, without_unit
+from . import limits, offered, reading
+from .cells import FORMS, forms_of, unit_of, without_unit
 from .faults import Fault, counted, shown
 from .names import names_of
-from .reading import choose_layout, decode, encoding_of, load, read_rows, without_separator_line
+from .reading import Layout, choose_layout, decode, encoding_of, is_empty, load, read_rows, records, titles_of, without_separator_line
 from .splitting import MOST_ROWS, say_splits
+from .streaming import People, first_piece
+from .tallying import MOST_DIFFERENT, Tally, tallies_of
 from .workbooks import is_workbook
 
 TOTALS = {"total", "totals", "grand total", "sum", "all", "summe", "gesamt", "insgesamt", "somme", "totale"}
 
 
+@dataclasses.dataclass
+class Seen:
+    """What a file has in it: how it is read, its titles, a tally of each column, how many rows there are, the last of them, and the cells of all
+    columns if the file is in memory."""
+
+    encoding: str
+    said: str
+    layout: Layout
+    titles: list
+    tallies: list
+    rows: int
+    last: tuple
+    empty: int = 0
+    columns: list = None
+
+
 def look(path, encoding=None, separator=None, untitled=None, sheet=None):
     """Prints what the file is and each of its columns, and writes FILE.choices.json beside it."""
-    data = load(path)
+    streamed = offered.LINES_STAND_FOR_PEOPLE and sheet is None and pathlib.Path(path).stat().st_size > reading.MOST_BYTES
+    data = first_piece(path) if streamed else load(path)
     out = pathlib.Path(path).with_suffix(".choices.json")
     if out.exists():
         raise Fault(f"{out} is already there: go on with it, or remove it to look anew")
     found, said = encoding_of(data, sheet) if encoding is None else (encoding, f"{encoding}, as you say")
     text, named = without_separator_line(decode(data, found))
     layout = choose_layout(text, separator or named or ("comma" if is_workbook(data) else None), untitled)
-    table = read_rows(text, layout)
-    print(f"encoding: {said}")
+    seen = seen_streaming(path, found, said, layout, text) if streamed else seen_in_memory(found, said, layout, text)
+    print(f"encoding: {seen.said}")
     if not is_workbook(data):
         print(f"separator: {layout.separator}" + (", by the file's first line" if named else ""))
-    if layout.untitled != "none":
-        print(
-            "the header has a title fewer than a row has cells, as R's write.table does it: the"
-            f" {layout.untitled} column has none"
-        )
-    print(
-        f"rows: {len(table.rows):,}"
-        + (f"; {counted(table.empty, 'line')} with nothing in it passed over" if table.empty else "")
-    )
-    say_last_row(table)
-    columns = describe_all(table)
-    if len(table.rows) > MOST_ROWS:
-        say_splits([column["name"] for column in columns], list(zip(*(cells for _, cells in table.rows))))
+    columns = say_seen(seen)
     choices = {
         "encoding": found,
         "separator": layout.separator,
@@ -51,13 +59,64 @@ def look(path, encoding=None, separator=None, untitled=None, sheet=None):
         "columns": columns,
     }
     limits.fill_in(choices)
+    if offered.LINES_STAND_FOR_PEOPLE:
+        choices[choosing.COUNT] = None
     choosing.write(out, choices, fresh=True)
     say_next(out, choices)
 
 
-def say_last_row(table):
+def seen_in_memory(found, said, layout, text):
+    """What a text has in it."""
+    table = read_rows(text, layout)
+    rows = [cells for _, cells in table.rows]
+    return Seen(found, said, layout, table.titles, tallies_of(rows, len(table.titles)), len(rows), table.rows[-1], table.empty, list(zip(*rows)))
+
+
+def seen_streaming(path, found, said, layout, text):
+    """What a file has in it that isn't in memory; `text` is its first piece."""
+    titles = titles_of(next(cells for _, cells in records(text, layout.separator) if not is_empty(cells)), layout)
+    tallies, seen = [Tally(MOST_DIFFERENT) for _ in titles], Seen(found, said, layout, titles, None, 0, None)
+    choices = {"encoding": found, "separator": layout.separator, "untitled": layout.untitled, "columns": [{"from": title} for title in titles]}
+    with People(path, choices) as people:
+        for number, cells in people:
+            if is_empty(cells):
+                seen.empty += 1
+                continue
+            seen.rows, seen.last = seen.rows + 1, (number, cells)
+            for tally, cell in zip(tallies, cells):
+                tally.add(cell.strip())
+    seen.tallies = tallies
+    return seen
+
+
+def say_seen(seen):
+    """Prints what a file has in it, and gives the choices on its columns."""
+    if seen.layout.untitled != "none":
+        print(
+            "the header has a title fewer than a row has cells, as R's write.table does it: the"
+            f" {seen.layout.untitled} column has none"
+        )
+    print(f"rows: {seen.rows:,}" + (f"; {counted(seen.empty, 'line')} with nothing in it passed over" if seen.empty else ""))
+    say_last_row(*seen.last)
+    columns = describe_all(seen)
+    if seen.rows > MOST_ROWS:
+        say_too_long([column["name"] for column in columns], seen.columns)
+    return columns
+
+
+def say_too_long(names, columns):
+    """What can be done with more people than a table has rows."""
+    if offered.LINES_STAND_FOR_PEOPLE:
+        print(
+            f"a table has at most {MOST_ROWS:,} lines. With count=people a line stands for all people with the same public cells; prepare.py"
+            " lines says how many there would be, and what coarser choices give"
+        )
+    if columns is not None:
+        say_splits(names, columns)
+
+
+def say_last_row(number, cells):
     """Points out a last row that may be a total, as spreadsheets have one."""
-    number, cells = table.rows[-1]
     found = next((cell for cell in cells if cell.strip().rstrip(":").lower() in TOTALS), None)
     if found is not None:
         print(
@@ -66,19 +125,18 @@ def say_last_row(table):
         )
 
 
-def describe_all(table):
+def describe_all(seen):
     """The choices on each column, printed as they are made."""
     columns = []
-    for place, (title, name) in enumerate(zip(table.titles, names_of(table.titles))):
-        column = describe(title, name, [cells[place].strip() for _, cells in table.rows])
+    for title, name, tally in zip(seen.titles, names_of(seen.titles), seen.tallies):
+        column = describe(title, name, tally)
         columns.append(column)
         print(f"  {shown(title)}" + (f", to be named {name}" if name != title else "") + f": {column['seen']}")
     return columns
 
 
-def describe(title, name, cells):
+def describe(title, name, tally):
     """What one column could be. `is` is open, since whether a column is secret can't be seen in its cells."""
-    there = [cell for cell in cells if not is_missing(cell)]
     column = {
         "from": title,
         "seen": "",
@@ -91,20 +149,21 @@ def describe(title, name, cells):
         "missing is": None,
         "missing": None,
         "range": choosing.OPEN,
+        "bands": None,
+        "join": None,
     }
-    if not there:
+    if not tally.cells:
         column["is"] = "leave out"
         column["seen"] = "nothing stands in it, so it is left out"
         return column
-    seen = [f"{len(set(there)):,} different"] + number_words(column, collections.Counter(there)) + text_words(there)
-    gaps = collections.Counter(cell for cell in cells if is_missing(cell))
-    if gaps:
-        column["missing is"], column["missing"] = sorted(gaps), choosing.OPEN
+    seen = [tally.words()] + number_words(column, tally.cells) + text_words(tally.cells)
+    if tally.gaps:
+        column["missing is"], column["missing"] = sorted(tally.gaps), choosing.OPEN
         seen.append(
             "missing, or so it seems, where it says "
-            + ", ".join(f"{shown(cell)} ({number:,})" for cell, number in sorted(gaps.items()))
+            + ", ".join(f"{shown(cell)} ({number:,})" for cell, number in sorted(tally.gaps.items()))
         )
-    if len(set(cells)) == len(cells) > 1:
+    if tally.is_each_its_own():
         seen.append("every row has its own value")
     column["seen"] = "; ".join(seen)
     return column
@@ -144,6 +203,9 @@ def set_decimals(column, cells, names, words):
     decimals = [max(FORMS[name].decimals(cell) for cell in cells) for name in names]
     if max(decimals) == 0:
         return
+    if len(names) == 1 and decimals[0] == 1 and all(FORMS[names[0]].read(cell).denominator == 1 for cell in cells):
+        words.append("each whole, though written with a decimal")
+        return
     column["decimals"] = decimals[0] if len(names) == 1 else choosing.OPEN
     if len(names) == 1:
         words.append(f"with {counted(decimals[0], 'decimal')}, kept in steps of {step(decimals[0])}")
@@ -163,11 +225,11 @@ def forms_of_most(numbers):
 
 
 def text_words(cells):
-    """What a number would lose, and some examples."""
+    """What a number would lose, and some examples, of different cells."""
     words = []
     if any(len(cell) > 1 and cell[0] == "0" and cell.isdigit() for cell in cells):
         words.append("zeros at the front, which text keeps and a number loses")
-    return words + ["such as " + ", ".join(shown(cell, 24) for cell in list(dict.fromkeys(cells))[:3])]
+    return words + ["such as " + ", ".join(shown(cell, 24) for cell in list(cells)[:3])]
 
 
 def plain_number(number):
@@ -196,6 +258,10 @@ def say_next(out, choices):
     print(
         '"missing" is one of: drop the row; keep (text, as it stands); mark (number: 0, and a column of 0 and 1 beside'
         " it)."
+    )
+    print(
+        'Public columns are coarser with NAME.bands=10, or NAME.join="A+B as AB": prepare.py lines says how many people are alone in their public'
+        " cells, and what coarser choices give."
     )
     print(
         '"range" is what people know of a secret number before they ask, as 0 to none if none is below 0: choose'

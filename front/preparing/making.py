@@ -6,7 +6,8 @@ import enum
 
 from . import choices as choosing
 from .cells import FORMS, without_unit
-from .choices import PUBLIC, SECRET
+from .choices import COUNT, PUBLIC, SECRET
+from .coarsening import coarsening_words, joined, read_bands, say_unused
 from .faults import Fault, counted, first_numbers, listed, shown
 from .guards import say_of_two, say_readers, say_what_is_known, secrets_apart
 from .keys import CURRENT, KEY, ONLY, keys_of_export, need_one_table, need_told_apart
@@ -70,7 +71,7 @@ def make(path, choices_path, folder, program, key=None):
     public = [column.name for column in columns if column.kind in PUBLIC]
     secret = [column for column in columns if column.kind in SECRET]
     secrets_apart(
-        rows, from_file(columns), {column.name: texts_of(table, column, changes) for column in columns if column.kind == "text"}
+        rows, from_file(columns), {column.name: [row[column.name] for row in rows] for column in columns if column.kind == "text"}
     )
     places = [number for number, _ in table.rows if number not in changes.dropped]
     need_ranges(rows, secret, places)
@@ -129,7 +130,8 @@ def read_as_chosen(path, choices):
 
 
 def columns_to_write(choices):
-    """The columns in the file's order, a column of 0 and 1 after each number whose gaps are marked, and wave last."""
+    """The columns in the file's order, a column of 0 and 1 after each number whose gaps are marked, how many people a line stands for after the
+    last public one, and wave last."""
     columns = []
     for place, chosen in enumerate(choices["columns"]):
         if chosen["is"] == "leave out":
@@ -138,6 +140,9 @@ def columns_to_write(choices):
         if chosen["missing"] == "mark":
             known = free(chosen["name"][:26] + "_known", [column["name"] for column in choices["columns"]])
             columns.append(Column(known, "number", place, chosen, marks=chosen["name"]))
+    if choices.get(COUNT) is not None:
+        after = max((place for place, column in enumerate(columns, 1) if column.kind in PUBLIC), default=0)
+        columns.insert(after, Column(choices[COUNT], COUNT))
     if choices["wave"] is not None:
         columns.append(Column("wave", "number"))
     return columns
@@ -247,7 +252,7 @@ def convert(cell, column, made):
         return 0
     if column.kind == "text":
         made += [(column.name, Change.TRIMMED)] * (bare != cell)
-        return bare
+        return joined(bare, column, made)
     return whole_number(bare, column, made)
 
 
@@ -260,16 +265,31 @@ def whole_number(cell, column, made):
     number = form.read(without_unit(cell, chosen["unit"]))
     if number is None:
         raise Fault(f"{shown(cell)} isn't a {form.kind} written as {form.name}")
+    if chosen["bands"] is not None:
+        return in_size(cell, band_of(cell, number, chosen), 0)
     decimals = chosen["decimals"] or 0
     steps = number * 10**decimals
     if steps.denominator != 1:
         steps = rounded(cell, steps, chosen)
         made.append((column.name, Change.ROUNDED))
-    if abs(steps) > MOST_SIZE:
+    return in_size(cell, int(steps), decimals)
+
+
+def in_size(cell, number, decimals):
+    """The number, if it is one that a table may have."""
+    if abs(number) > MOST_SIZE:
         raise Fault(
             f"{shown(cell)} is beyond {MOST_SIZE:,}" + (f", counted in steps of {step(decimals)}" if decimals else "")
         )
-    return int(steps)
+    return number
+
+
+def band_of(cell, number, chosen):
+    """The number that the band of a cell begins with."""
+    try:
+        return read_bands(chosen["bands"]).start(number)
+    except Fault as fault:
+        raise Fault(f"{shown(cell)}: {fault}") from None
 
 
 def rounded(cell, steps, chosen):
@@ -279,11 +299,6 @@ def rounded(cell, steps, chosen):
     if chosen["rounded"] == "nearest":
         return (2 * steps.numerator + steps.denominator) // (2 * steps.denominator)
     raise TooFine(f"{shown(cell)} has more than {counted(chosen['decimals'] or 0, 'decimal')}, and nothing is rounded")
-
-
-def texts_of(table, column, changes):
-    """The texts of a column in the rows that are kept."""
-    return [cells[column.place].strip() for number, cells in table.rows if number not in changes.dropped]
 
 
 def say_changes(choices, columns, table, changes):
@@ -301,13 +316,14 @@ def say_changes(choices, columns, table, changes):
             + ", ".join(f"{shown(title)} {number:,}" for title, number in lacks.items())
             + f". In the file, with the header as row 1: {first_numbers(list(changes.dropped))}"
         )
+    say_unused(choices["columns"], changes.made)
 
 
 def say_names(choices):
     """Points out a name that says a factor which its numbers haven't, as a file of choices may have it after a rounding."""
     for chosen in choices["columns"]:
         better = choosing.name_in_steps(chosen)
-        if chosen["is"] == "number" and not chosen["decimals"] and better != chosen["name"]:
+        if chosen["is"] == "number" and not chosen["decimals"] and not chosen["bands"] and better != chosen["name"]:
             print(
                 f"CAREFUL: {chosen['name']} says in its name that its numbers are kept times {chosen['name'].rpartition('_x')[2]}, and they are kept"
                 f" as they are: whoever goes by it writes conditions that hold for no row. Name it {better}"
@@ -322,7 +338,7 @@ def column_words(chosen, columns, changes):
     words += [f"named {chosen['name']}"] * (chosen["name"] != chosen["from"])
     if chosen["is"] != "text":
         words += form_words(chosen)
-    words += cell_words(chosen, changes)
+    words += coarsening_words(chosen, changes.made) + cell_words(chosen, changes)
     gaps = changes.made[chosen["name"], Change.GAP_KEPT]
     beside = next((column.name for column in columns if column.marks == chosen["name"]), None)
     if beside:
@@ -336,7 +352,7 @@ def form_words(chosen):
     if FORMS[chosen["written as"]].kind == "date":
         time = ", without the time of day" if "hh" in chosen["written as"] else ""
         words.append(f"as a number, 20170131 for 31 January 2017{time}")
-    if chosen["decimals"]:
+    if chosen["decimals"] and not chosen["bands"]:
         words.append(f"times {10 ** chosen['decimals']:,}, so in steps of {step(chosen['decimals'])}")
     if chosen["unit"]:
         words.append(f"without its unit {chosen['unit']}")

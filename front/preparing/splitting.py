@@ -7,6 +7,7 @@ import collections
 import dataclasses
 import itertools
 
+from . import offered
 from .faults import Fault, counted, listed, shown
 from .names import free, plain
 
@@ -88,6 +89,11 @@ def parts(rows, by, public):
 
 def need_split(rows, public):
     """A Fault for too many rows: by what they can be cut, or that they can't be."""
+    if offered.LINES_STAND_FOR_PEOPLE:
+        raise Fault(
+            f"{len(rows):,} rows are left, and a table has at most {MOST_ROWS:,}: choose count=people, so that a line stands for all people with"
+            ' the same public cells, or "split by"'
+        )
     columns = [[row[name] for row in rows] for name in public]
     if not splits(public, columns):
         raise Fault(

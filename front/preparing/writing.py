@@ -11,7 +11,8 @@ import shutil
 import subprocess
 import tempfile
 
-from .choices import PUBLIC
+from .choices import COUNT, SEEN
+from .coarsening import read_bands
 from .faults import Fault
 from .keys import KEY
 from .limits import LIMITS
@@ -89,28 +90,34 @@ def write_folder(folder, columns, schema, rows):
     write_table(folder / "table.csv", columns, rows, 0o600)
     if KEY in rows[0]:
         write_keys(folder / "keys.csv", rows)
-    write_table(public / "table.csv", [column for column in columns if column.kind in PUBLIC], rows, 0o666)
+    write_table(public / "table.csv", [column for column in columns if column.kind in SEEN], rows, 0o666)
     (public / "notes.json").write_text(
         json.dumps({"columns": notes(columns)}, indent=1, ensure_ascii=False) + "\n", encoding="utf-8"
     )
 
 
 def write_table(path, columns, rows, mode):
-    """The table as CSV, with the line ends of its standard, so that a line end within a cell is quoted too."""
+    """The table as CSV, with the line ends of its standard, so that a line end within a cell is quoted too; one of counts as engines write it."""
     header = [column.name for column in columns]
-    write_lines(path, [header, *([row[name] for name in header] for row in rows)], mode)
+    records = [header, *([row[name] for name in header] for row in rows)]
+    write_text(path, lines_for(columns)(records), mode)
     need_few_bytes(path)
 
 
 def write_keys(path, rows):
     """The key of each row, in their order, for the owner alone."""
-    write_lines(path, [["row", "key"], *enumerate(row[KEY] for row in rows)], 0o600)
+    write_text(path, lines_of([["row", "key"], *enumerate(row[KEY] for row in rows)]), 0o600)
 
 
-def write_lines(path, records, mode):
-    """Records as CSV in a new file."""
+def write_text(path, text, mode):
+    """A new file with this text."""
     with open(os.open(path, os.O_WRONLY | os.O_CREAT | os.O_EXCL, mode), "w", encoding="utf-8", newline="") as file:
-        file.write(lines_of(records))
+        file.write(text)
+
+
+def lines_for(columns):
+    """The function that writes the records of a table with these columns as CSV."""
+    return lines_of_counts if any(column.kind == COUNT for column in columns) else lines_of
 
 
 def lines_of(records):
@@ -118,6 +125,17 @@ def lines_of(records):
     text = io.StringIO(newline="")
     csv.writer(text).writerows(records)
     return text.getvalue()
+
+
+def lines_of_counts(records):
+    """Records as PostgreSQL writes them, so that both ways give one file: line feeds, and quotes around an empty text and where they are needed."""
+    return "".join(",".join(map(cell_text, record)) + "\n" for record in records)
+
+
+def cell_text(value):
+    """A value as PostgreSQL writes it into CSV."""
+    text = str(value)
+    return '"' + text.replace('"', '""') + '"' if not text or any(mark in text for mark in ',"\r\n') else text
 
 
 def need_few_bytes(path):
@@ -131,10 +149,12 @@ def notes(columns):
     found = {}
     for column in columns:
         chosen = column.chosen or {"from": column.name}
-        title = f"{chosen['from']}: known" if column.marks else chosen["from"]
+        title, bands = f"{chosen['from']}: known" if column.marks else chosen["from"], chosen.get("bands")
         numbers = (
             {key: chosen.get(key) for key in ("decimals", "unit")} if column.kind != "text" and not column.marks else {}
         )
+        if bands and not column.marks:
+            title, numbers = f"{title}, {read_bands(bands).words()}", {"unit": chosen.get("unit")}
         found[column.name] = {key: value for key, value in {"title": title, **numbers}.items() if value}
     return found
 
@@ -164,6 +184,8 @@ def complaint_words(folder, status, said):
     groups, bad = schema.get("protect"), re.fullmatch(r"schema: group (\d+) is bad", said)
     if "only" in schema and status == 3:
         return '. This auditor may be older than the key "only", which keeps questions to those who are there: take a newer one'
+    if any(column["is"] == COUNT for column in schema["columns"]) and status == 3:
+        return ". This auditor may be older than lines that stand for several people: choose count=none, or take a newer one"
     newer = [("protected totals", "protect=none")] * bool(groups) + [(f"a {key}", f"{key}=none") for key in LIMITS if key in schema]
     if newer and status == 3:
         what, instead = (" or ".join(words) for words in zip(*newer))

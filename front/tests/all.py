@@ -2,7 +2,7 @@
 
     AUDITOR=.. /usr/bin/python3 all.py [CLASS ..]         test_door.Doors, say; all without one
 
-Exit status 1 if a test fails, if one is skipped for another reason than that there is no browser, R, systemd or lintian, or if nothing was run.
+Exit status 1 if a test fails, if one is skipped for another reason than that there is no browser, R, systemd, lintian or PostgreSQL, or if nothing was run.
 """
 import concurrent.futures
 import json
@@ -17,7 +17,7 @@ HERE = pathlib.Path(__file__).resolve().parent
 AT_ONCE = max(2, min(4, os.cpu_count() or 2))
 PATIENCE = 1800                     # seconds for a class, in case that it hangs; on a quiet machine none takes a minute
 # What may be missing; everything else must run.
-MAY_BE_MISSING = ("no Chromium", "no R ", "no systemd", "no lintian")
+MAY_BE_MISSING = ("no Chromium", "no R ", "no systemd", "no lintian", "no PostgreSQL")
 
 
 def classes():

@@ -1,7 +1,9 @@
-//! The report: for each number of a column of sums a change that alters no answer, and for a column of maxima or minima
+//! The report: for each guarded number of a column of sums a change that alters no answer, and for a column of maxima or minima
 //! a number for each row.
 
 use crate::divide::{gcd128, gcd64};
+use crate::faults::RunFault;
+use crate::guard::Guard;
 use crate::journal::Record;
 use crate::lone::Lone;
 use crate::row_set::RowSet;
@@ -43,7 +45,7 @@ fn upright(mut change: Vec<i128>, row: usize) -> Vec<i128> {
     change
 }
 
-fn sum_lines(name: &str, form: &[Row], rows: u16) -> String {
+fn sum_lines(name: &str, form: &[Row], guard: &Guard, rows: u16) -> String {
     let line = |row: u16| {
         let change = change(form, usize::from(rows), row);
         let pairs = change
@@ -56,11 +58,11 @@ fn sum_lines(name: &str, form: &[Row], rows: u16) -> String {
         let pairs = pairs.join(",");
         format!("{{\"column\":\"{name}\",\"row\":{row},\"direction\":[{pairs}]}}\n")
     };
-    (0..rows).map(line).collect()
+    guard.against_all.rows().map(line).collect()
 }
 
 /// The line of a column of maxima, or of minima, which are maxima of the negated numbers.
-fn bounds_line(column: &Column, records: &[Record], place: u8, rows: u16) -> String {
+fn bounds_line(column: &Column, records: &[Record], place: u8, guard: Guard, rows: u16) -> String {
     let (word, sign) = match column.role {
         Role::Min => ("low", -1),
         _ => ("high", 1),
@@ -71,7 +73,7 @@ fn bounds_line(column: &Column, records: &[Record], place: u8, rows: u16) -> Str
     let answers: Vec<(u32, i64, &RowSet)> = own
         .map(|(place, record)| (place, record.answer, &record.rows))
         .collect();
-    let bounds: Vec<String> = Lone::new(rows, &answers)
+    let bounds: Vec<String> = Lone::new(rows, guard, &answers)
         .highest()
         .map(|high| (sign * high).to_string())
         .collect();
@@ -80,9 +82,10 @@ fn bounds_line(column: &Column, records: &[Record], place: u8, rows: u16) -> Str
 }
 
 /// Prints the report of the journal's history, which stays.
-pub fn audit() {
-    let (auditor, records) = Auditor::open();
-    let (schema, rows) = (&auditor.settings.schema, auditor.settings.table.rows);
+pub fn audit() -> Result<(), RunFault> {
+    let (auditor, records) = Auditor::open()?;
+    let settings = &auditor.settings;
+    let (schema, rows, guard) = (&settings.schema, settings.table.rows, settings.guard);
     let names = schema
         .columns
         .iter()
@@ -90,12 +93,15 @@ pub fn audit() {
     let mut output = stream(1);
     for ((place, part), column) in (0..).zip(&auditor.parts).zip(names) {
         let lines = match part {
-            Part::Sums(sums) => sum_lines(&column.name, sums.form().rows(), rows),
-            Part::Maxima(_) => bounds_line(column, &records, place, rows),
+            Part::Sums(sums) => sum_lines(&column.name, sums.form().rows(), &guard, rows),
+            Part::Maxima(_) => bounds_line(column, &records, place, guard, rows),
         };
         output.write_all(lines.as_bytes()).unwrap();
     }
     let (count, columns) = (records.len(), auditor.parts.len());
-    let totals = format!("{{\"audited\":{count},\"columns\":{columns},\"rows\":{rows}}}\n");
+    let people = settings.everybody();
+    let people = people.map_or(String::new(), |people| format!(",\"people\":{people}"));
+    let totals = format!("{{\"audited\":{count},\"columns\":{columns},\"rows\":{rows}{people}}}\n");
     output.write_all(totals.as_bytes()).unwrap();
+    Ok(())
 }

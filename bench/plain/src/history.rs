@@ -56,8 +56,8 @@ pub struct History {
     pub gate: usize,
 }
 
-/// Reads a file, whose answers have to be those of the table.
-pub fn read(bytes: &[u8], rows: u16, roles: &[Role], secrets: &[Secret]) -> Result<History, Fault> {
+/// Reads the journal of a table of so many rows, with these secret columns.
+pub fn read(bytes: &[u8], rows: u16, roles: &[Role]) -> Result<History, Fault> {
     if !is_made(bytes) {
         return Err(Fault::NotMade);
     }
@@ -68,11 +68,17 @@ pub fn read(bytes: &[u8], rows: u16, roles: &[Role], secrets: &[Secret]) -> Resu
     if n != rows || bytes[11..HEADER] != header(rows, roles)[11..] {
         return Err(Fault::OtherTable { kept: n, now: rows });
     }
-    for (place, record) in records.iter_mut().enumerate() {
-        record.rows.n = rows;
-        let now = secrets[usize::from(record.column)].truth(&record.rows);
+    records.iter_mut().for_each(|record| record.rows.n = rows);
+    Ok(History { records, gate: at })
+}
+
+/// Whether the answers are those of the table.
+pub fn test(records: &[Record], roles: &[Role], secrets: &[Secret]) -> Result<(), Fault> {
+    for (place, record) in records.iter().enumerate() {
+        let column = usize::from(record.column);
+        let now = secrets[column].truth(&record.rows);
         if now != record.answer {
-            let sign = match roles[usize::from(record.column)] {
+            let sign = match roles[column] {
                 Role::Min => -1,
                 _ => 1,
             };
@@ -80,18 +86,14 @@ pub fn read(bytes: &[u8], rows: u16, roles: &[Role], secrets: &[Secret]) -> Resu
             return Err(Fault::Untrue { place, kept, now });
         }
     }
-    Ok(History { records, gate: at })
+    Ok(())
 }
 
 /// Decides each record after those before it.
-pub fn decide_again(
-    parts: &mut [Part],
-    secrets: &[Secret],
-    records: &[Record],
-) -> Result<(), Fault> {
+pub fn decide_again(parts: &mut [Part], records: &[Record]) -> Result<(), Fault> {
     for (place, record) in records.iter().enumerate() {
-        let column = usize::from(record.column);
-        let released = parts[column].ask(&record.rows, &secrets[column]);
+        let part = &mut parts[usize::from(record.column)];
+        let released = part.ask(&record.rows, || record.answer);
         released.map_err(|_| Fault::Illegal(place))?;
     }
     Ok(())

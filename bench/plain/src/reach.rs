@@ -7,11 +7,12 @@ use crate::divide::{lcm, WIDEST};
 use crate::row_set::RowSet;
 use crate::rows::{wide, Row};
 
-/// Whether each row and each group that some such change alters is altered by one over at most so many rows.
+/// Whether each of these rows and each group that some such change alters is altered by one over at most so many rows.
 pub fn is_within<'a>(
     most: u32,
     form: &[Row],
     columns: usize,
+    guarded: &RowSet,
     groups: impl Iterator<Item = &'a RowSet>,
 ) -> bool {
     let sizes = sizes(form, columns);
@@ -19,11 +20,13 @@ pub fn is_within<'a>(
         let least = places.map(|place| sizes[place]).min();
         least.is_none_or(|size| size <= most)
     };
-    let of_free = sizes.iter().all(|size| *size <= most);
+    // Of a pivot the size is 0.
+    let mut free = guarded.rows().map(|row| sizes[usize::from(row)]);
+    let mut pivots = form.iter().filter(|row| guarded.has(row.pivot));
     let mut of_groups = groups.map(|group| left_of(group, form, columns));
-    of_free
-        && form.iter().all(|row| is_near(&mut places_of(row)))
-        && of_groups.all(|left| is_near(&mut left.into_iter()))
+    free.all(|size| size <= most)
+        && pivots.all(|row| is_near(&mut places_of(row)))
+        && of_groups.all(|left| is_near(&mut left.iter().map(|(place, _)| usize::from(*place))))
 }
 
 /// For each column over how many rows its change goes; 0 for a pivot, which has none.
@@ -42,8 +45,8 @@ fn places_of(row: &Row) -> impl Iterator<Item = usize> + '_ {
     row.entries.iter().map(|entry| usize::from(entry.place))
 }
 
-/// The columns at which the form leaves a set of rows an entry.
-fn left_of(set: &RowSet, form: &[Row], columns: usize) -> Vec<usize> {
+/// What the form leaves of a set of rows, times the common multiple of its heads: the columns where that isn't 0, with the numbers there.
+pub fn left_of(set: &RowSet, form: &[Row], columns: usize) -> Vec<(u16, i128)> {
     let multiple = |common, row: &Row| lcm(common, row.head, WIDEST).expect("a narrow form");
     let common = form.iter().fold(1, multiple);
     let mut left = vec![0; columns];
@@ -56,5 +59,6 @@ fn left_of(set: &RowSet, form: &[Row], columns: usize) -> Vec<usize> {
             left[usize::from(entry.place)] -= wide(common / row.head) * entry.value;
         }
     }
-    (0..columns).filter(|column| left[*column] != 0).collect()
+    let left = (0..).zip(left);
+    left.filter(|(_, number)| *number != 0).collect()
 }

@@ -24,11 +24,11 @@ impl Ones for RowSet {
     }
 }
 
-/// How many rows are left of a set, as far as it matters.
+/// How many rows are left of a set, as far as it matters: none, so few that an answer would tell of one, or more.
 #[derive(Clone, Copy, PartialEq, Eq)]
 pub enum Left {
     None,
-    One,
+    Few,
     More,
 }
 
@@ -60,6 +60,12 @@ impl RowSet {
 
     pub fn is_empty(&self) -> bool {
         self.words == [0; WORDS]
+    }
+
+    pub fn is_single(&self) -> bool {
+        let mut words = self.words.iter().filter(|word| **word != 0);
+        let is_power = |word: &u64| word & (word - 1) == 0;
+        words.next().is_some_and(is_power) && words.next().is_none()
     }
 
     pub fn and_with(&mut self, other: &RowSet) {
@@ -101,16 +107,17 @@ impl RowSet {
         pairs.all(|(word, with)| word & !with == 0)
     }
 
-    /// How many rows are not in the other set.
+    /// Whether no row is outside of the other set, one alone, or more.
+    #[inline]
     pub fn left_without(&self, other: &RowSet) -> Left {
         let mut left = Left::None;
         for (word, with) in self.words.iter().zip(&other.words) {
             let rest = word & !with;
             if rest != 0 {
-                if left == Left::One || rest & (rest - 1) != 0 {
+                if left == Left::Few || rest & (rest - 1) != 0 {
                     return Left::More;
                 }
-                left = Left::One;
+                left = Left::Few;
             }
         }
         left

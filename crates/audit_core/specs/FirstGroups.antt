@@ -87,4 +87,5 @@ protection_among-fit shape m protected fit = (
   fit.5,
   fit.6,
   fit.7,
+  AreRows-rows_that (has_row protected.shared) m,
 )

@@ -8,7 +8,8 @@ use Rattle.audit_types.specs.Limits.{most_records}
 use Rattle.audit_types.specs.Rows.{Rows}
 use Rattle.audit_types.specs.Shapes.{kind_at}
 use Rattle.audit_types.specs.Truth.{truth}
-use Rattle.audit_types.specs.History.{Table, IsDecisionAfter, list_of}
+use Rattle.audit_types.specs.Judgement.{IsDecision}
+use Rattle.audit_types.specs.History.{Table, known_of, list_of}
 use Rattle.audit_core.specs.declared.outcome.Outcome.{Outcome}
 use Rattle.audit_core.specs.declared.outcome.Outcome.TheVariants.{Answer, Denied, Full}
 
@@ -20,8 +21,8 @@ true_answer table column rows = truth (kind_at table.setting.shape column) (list
 -- is a denial, else answered truly
 abbrev pub IsOutcome : Table → List Answered → Asked → Outcome → Type 0
 IsOutcome table history asked Full = most_records ≤ length history
-IsOutcome table history asked (Denied verdict) = (length history < most_records) × (verdict ≢ Released) × IsDecisionAfter table.setting history asked.column asked.rows.list verdict
-IsOutcome table history asked (Answer answer) = (length history < most_records) × IsDecisionAfter table.setting history asked.column asked.rows.list Released × (answer ≡ true_answer table asked.column asked.rows)
+IsOutcome table history asked (Denied verdict) = (length history < most_records) × (verdict ≢ Released) × IsDecision (known_of table.setting history asked.column) asked.rows.list verdict
+IsOutcome table history asked (Answer answer) = (length history < most_records) × IsDecision (known_of table.setting history asked.column) asked.rows.list Released × (answer ≡ true_answer table asked.column asked.rows)
 
 -- the record that an outcome makes: an answer makes one
 abbrev pub record_of : Asked → Outcome → Option Answered

@@ -60,10 +60,10 @@ length-told [] [] [] tells = refl
 length-told [] [] (reply ∷ told) tells = absurd tells
 length-told [] (outcome ∷ outcomes) told tells = absurd tells
 length-told (Ready answer ∷ plans) outcomes [] tells = absurd tells
-length-told (Ask take asked ∷ plans) outcomes [] tells = absurd tells
+length-told (Ask take people asked ∷ plans) outcomes [] tells = absurd tells
 length-told (Ready answer ∷ plans) outcomes (reply ∷ told) tells = omega (arith, length-told plans outcomes told tells.1)
-length-told (Ask take asked ∷ plans) [] (reply ∷ told) tells = absurd tells
-length-told (Ask take asked ∷ plans) (outcome ∷ outcomes) (reply ∷ told) tells = omega (arith, length-told plans outcomes told tells.1)
+length-told (Ask take people asked ∷ plans) [] (reply ∷ told) tells = absurd tells
+length-told (Ask take people asked ∷ plans) (outcome ∷ outcomes) (reply ∷ told) tells = omega (arith, length-told plans outcomes told tells.1)
 
 module _ {B : Type 0} (bench : Ghosts B) (old mid : B) (secret : SecretView) (protected : Protection) (history : List Answered) (plans : List Plan) where
   -- the outcomes were told

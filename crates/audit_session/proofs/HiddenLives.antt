@@ -151,7 +151,7 @@ module _ (last : Standing) (legal : IsLegal (table_in last.base) (history_over l
     reply_there : (h : List Answered) (plan : Plan) (replied : Replied Answered) → IsReplyOf (table_in base) h plan replied →
         AllByRecursion Holds (option_to_list replied.added) → IsReplyOf (table_in (with_secrets twin base)) h plan replied
     reply_there h (Ready answer) replied reply all = reply
-    reply_there h (Ask take asked) replied reply all =
+    reply_there h (Ask take people asked) replied reply all =
         let added : replied.added ≡ record_of asked reply.outcome = ap (λ (r : Replied Answered). r.added) reply.replied_is in
         record {
           outcome = reply.outcome;

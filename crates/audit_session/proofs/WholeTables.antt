@@ -37,8 +37,11 @@ whole_groups shape (p ∷ protected) fit =
 
 whole_protection : (shape : Shape) (protected : Protection) → IsGuardFor shape protected → protection_among shape.rows protected ≡ protected
 whole_protection shape protected fit =
-    outsiders_among shape.rows protected fit.1 ∙ ap (λ groups. against_outsiders groups [] protected.width protected.reach)
-    (whole_groups shape protected.groups fit.0.0) ∙ sym fit.1
+    outsiders_among shape.rows protected fit.1
+    ∙ ap (λ groups. against_outsiders groups (rows_that (has_row protected.shared) shape.rows) protected.width protected.reach)
+    (whole_groups shape protected.groups fit.0.0)
+    ∙ ap (λ shared. against_outsiders protected.groups shared protected.width protected.reach) (rows-again shape.rows protected.shared fit.0.8)
+    ∙ sym fit.1
 
 pub whole_table : (table : Table) → AreSecrets table.setting.shape table.secrets → IsGuardFor table.setting.shape table.setting.protected →
     first_rows table.setting.shape.rows table ≡ table

@@ -1,7 +1,7 @@
 -- A group of lines: what was read, what the lines come to, and what is left of the store and the bench.
 use Rattle.std.specs.Prelude.{◌≡◌, ◌⊎◌, ℕ, ◌+◌, ◌<◌, ◌≤◌, Bool, true, List, [], ◌∷◌, ◌++◌, length}
 use Rattle.std.specs.List.{flat_map}
-use Rattle.audit_types.specs.Limits.{most_rows}
+use Rattle.audit_types.specs.Limits.{most_answer}
 use Rattle.audit_types.specs.declared.records.Asked.{Asked}
 use Rattle.audit_types.specs.declared.records.Answered.{Answered}
 use Rattle.audit_types.specs.History.{Table}
@@ -80,7 +80,7 @@ IsUngathered source batch old new before after end.Spare = ⊥
 -- the question of a plan, if it asks one
 abbrev pub question_in : Plan → List Asked
 question_in (Ready answer) = []
-question_in (Ask take asked) = asked ∷ []
+question_in (Ask take people asked) = asked ∷ []
 
 -- the questions of plans, in order
 abbrev pub questions_of : List Plan → List Asked
@@ -91,8 +91,8 @@ abbrev pub CanAllBeTold : List Plan → List Outcome → Type 0
 CanAllBeTold [] [] = Unit {0}
 CanAllBeTold [] (outcome ∷ outcomes) = ⊥
 CanAllBeTold (Ready answer ∷ plans) outcomes = IsInRange answer × CanAllBeTold plans outcomes
-CanAllBeTold (Ask take asked ∷ plans) [] = ⊥
-CanAllBeTold (Ask take asked ∷ plans) (outcome ∷ outcomes) = (0 < length asked.rows.list) × (length asked.rows.list ≤ most_rows) × CanBeTold take outcome × CanAllBeTold plans outcomes
+CanAllBeTold (Ask take people asked ∷ plans) [] = ⊥
+CanAllBeTold (Ask take people asked ∷ plans) (outcome ∷ outcomes) = (0 < people) × (people ≤ most_answer) × CanBeTold take outcome × CanAllBeTold plans outcomes
 
 -- one reply for each plan: that of a question tells its outcome
 abbrev pub AreTold : List Plan → List Outcome → List Reply → Type 0
@@ -101,8 +101,8 @@ AreTold [] [] (reply ∷ replies) = ⊥
 AreTold [] (outcome ∷ outcomes) replies = ⊥
 AreTold (plan ∷ plans) outcomes [] = ⊥
 AreTold (Ready answer ∷ plans) outcomes (reply ∷ replies) = (reply ≡ answer) × AreTold plans outcomes replies
-AreTold (Ask take asked ∷ plans) [] (reply ∷ replies) = ⊥
-AreTold (Ask take asked ∷ plans) (outcome ∷ outcomes) (reply ∷ replies) = TellsOutcome take (length asked.rows.list) outcome reply × AreTold plans outcomes replies
+AreTold (Ask take people asked ∷ plans) [] (reply ∷ replies) = ⊥
+AreTold (Ask take people asked ∷ plans) (outcome ∷ outcomes) (reply ∷ replies) = TellsOutcome take people outcome reply × AreTold plans outcomes replies
 
 -- the replies of a group, as they are told, and the history with their records
 pub record DecidesGroup {B : Type 0} (bench : Ghosts B) (old new : B) (table : Table) (history now : List Answered) (plans : List Plan) (told : List Reply) : Type 0 where

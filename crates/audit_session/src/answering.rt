@@ -33,8 +33,8 @@ fn tell_all(plans: &[Plan], outcomes: &[Outcome], replies: &mut Vec<Reply>)
     for plan in plans {
         match plan {
             Plan::Ready(reply) => replies.push_reserved(*reply),
-            Plan::Ask { take, asked } => {
-                replies.push_reserved(tell(*take, asked.rows.len(), outcomes[decided]));
+            Plan::Ask { take, people, .. } => {
+                replies.push_reserved(tell(*take, *people, outcomes[decided]));
                 decided += 1;
             }
         }

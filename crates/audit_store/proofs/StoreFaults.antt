@@ -1,5 +1,5 @@
 -- What a refusal of the store says, by its fault.
-use Rattle.std.proofs.Common.{◌≡◌, refl, Result, Ok, Err, sym, ap, subst}
+use Rattle.std.proofs.Common.{◌≡◌, refl, Result, Ok, Err, sym, subst}
 use Rattle.std.specs.Prelude.{IsErrOf, OnOk, OnErr}
 use Rattle.std.specs.Result.{IsErr, IsErrAnd}
 use Rattle.std.proofs.lemmas.Bool.{false≢true}

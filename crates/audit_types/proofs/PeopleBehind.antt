@@ -23,8 +23,8 @@ use Rattle.audit_types.specs.Numbers.{zero_or_not}
 use Rattle.audit_types.specs.ListLaws.{all-get_or}
 use Rattle.audit_types.specs.Column.{number}
 use Rattle.audit_types.specs.History.{Secrets, AreSecrets, AgreeWithHistory, list_of}
-use Rattle.audit_types.specs.People.{People, of_line, of_lines, told, people_in, AreBehind, count_at, HasOtherPeople}
-use Rattle.audit_types.specs.PeopleLaws.{TruthIsOverPeople, PeopleAreCounted, HasOthersBehind, PeopleMayDiffer, UndisclosedHidesPeople}
+use Rattle.audit_types.specs.People.{People, of_line, of_lines, told, people_in, AreBehind, count_at}
+use Rattle.audit_types.specs.PeopleLaws.{TruthIsOverPeople, PeopleAreCounted, HasOtherPeople, HasOthersBehind, PeopleMayDiffer, UndisclosedHidesPeople}
 
 -- ---- answers over lines
 
@@ -316,9 +316,9 @@ module _ (shape : Shape) (counts : List ℕ) (secrets : Secrets) (all : AreSecre
       first Sum = refl
       first Max = refl
 
-module _ (shape : Shape) (counts : List ℕ) (secrets : Secrets) (everyone : List People) (column line person : ℕ) (behind : AreBehind shape counts secrets everyone)
-    (rows : length counts ≡ shape.rows) (some : AllByRecursion (λ count. 0 < count) counts) (column_below : column < columns shape) (line_below : line < length counts)
-    (person_below : person < count_at counts line) where
+module _ (shape : Shape) (counts : List ℕ) (secrets : Secrets) (everyone : List People) (column line person : ℕ)
+    (behind : AreBehind shape counts secrets everyone) (rows : length counts ≡ shape.rows) (some : AllByRecursion (λ count. 0 < count) counts)
+    (column_below : column < columns shape) (line_below : line < length counts) (person_below : person < count_at counts line) where
   numbered : length (of_line (people_in everyone column) line) ≡ count_at counts line
   numbered = as_many shape counts secrets everyone behind column line column_below line_below
 
@@ -334,7 +334,8 @@ module _ (shape : Shape) (counts : List ℕ) (secrets : Secrets) (everyone : Lis
             (new_there shape counts secrets everyone behind column line column_below line_below other.numbers same_length other.tells)) ∙ e);
       }
 
-  of_one : (other : Secrets) → AreSecrets shape other → count_at counts line ≡ 1 → number_at (list_of other column) line ≢ number_at (list_of secrets column) line →
+  of_one : (other : Secrets) → AreSecrets shape other → count_at counts line ≡ 1 →
+      number_at (list_of other column) line ≢ number_at (list_of secrets column) line →
       HasOthersBehind shape counts other everyone column line person
   of_one other all one differs =
       let first : person ≡ 0 = omega arith in
@@ -356,21 +357,27 @@ people_may_differ shape counts secrets other everyone column line person behind 
     of_one shape counts secrets everyone column line person behind rows some column_below line_below person_below other all one.0 one.1
 
 pub undisclosed_hides_people : UndisclosedHidesPeople
-undisclosed_hides_people table history counts secrets agree rows some several undisclosed everyone column line person behind column_below line_below person_below =
-    elim (cases_lt 1 (count_at counts line))
-    [ inl more ↦ of_others table.secrets secrets agree (inl (more, refl)) | inr one ↦ alone (let least = all-get_or (λ count. 0 < count) counts line 1 some line_below in omega arith) ]
+undisclosed_hides_people table history counts secrets agree rows some several undisclosed everyone column line person behind column_below line_below
+    person_below =
+    elim (cases_lt 1 (count_at counts line)) [
+      | inl more ↦ of_others table.secrets secrets agree (inl (more, refl))
+      | inr one ↦ alone (let least = all-get_or (λ count. 0 < count) counts line 1 some line_below in omega arith)
+    ]
   where
     shape : Shape
     shape = table.setting.shape
 
     of_others : (other : Secrets) → AreSecrets shape other → AgreeWithHistory table.setting history other →
-        ((1 < count_at counts line) × (other ≡ table.secrets)) ⊎ ((count_at counts line ≡ 1) × (number_at (list_of other column) line ≢ number_at (list_of table.secrets column) line)) →
+        ((1 < count_at counts line) × (other ≡ table.secrets))
+        ⊎ ((count_at counts line ≡ 1) × (number_at (list_of other column) line ≢ number_at (list_of table.secrets column) line)) →
         HasOtherPeople shape (AgreeWithHistory table.setting history) counts everyone column line person
     of_others other all agrees which =
-        let found = people_may_differ shape counts table.secrets other everyone column line person behind all rows some column_below line_below person_below which in
+        let found = people_may_differ shape counts table.secrets other everyone column line person behind all rows some column_below line_below
+        person_below which in
         record { others = found.others; told_of = other; are_secrets = all; behind = found.behind; still = agrees; differs = found.differs }
 
-    not_shared : count_at counts line ≡ 1 → (b : Bool) → has_row table.setting.protected.shared line ≡ b → has_row table.setting.protected.shared line ≡ false
+    not_shared : count_at counts line ≡ 1 → (b : Bool) → has_row table.setting.protected.shared line ≡ b →
+        has_row table.setting.protected.shared line ≡ false
     not_shared one true there = let more = several line there in absurd (omega arith)
     not_shared one false there = there
 

@@ -73,13 +73,13 @@ AreProtected shape protected =
     × ((row : ℕ) → has_row protected.several row ≡ false → has_row protected.shared row ≡ false) × (0 < protected.width) × (protected.width ≤ most_width)
     × (1 < protected.reach) × (protected.reach ≤ most_rows) × AreRows shape.rows protected.shared
 
+-- protection that fits a table of this shape, if no asker is in the table
+abbrev pub IsGuardFor : Shape → Protection → Type 0
+IsGuardFor shape protected = AreProtected shape protected × (protected ≡ against_outsiders protected.groups protected.shared protected.width protected.reach)
+
 -- what is guarded if no asker is in the table
 abbrev pub IsAgainstOutsiders : Protection → Type 0
 IsAgainstOutsiders protected = protected ≡ against_outsiders protected.groups protected.shared protected.width protected.reach
-
--- the same, if it fits a table of this shape
-abbrev pub IsGuardFor : Shape → Protection → Type 0
-IsGuardFor shape protected = AreProtected shape protected × IsAgainstOutsiders protected
 
 -- what a history tells of a column
 abbrev pub known_of : Setting → List Answered → ℕ → Known
@@ -115,8 +115,7 @@ pub record AreSecrets (shape : Shape) (secrets : Secrets) : Type 0 where
 
 -- the secrets give every answer of the history
 abbrev pub AgreeWithHistory : Setting → List Answered → Secrets → Type 0
-AgreeWithHistory setting history secrets =
-    (column : ℕ) → column < columns setting.shape → Agrees (known_of setting history column) (list_of secrets column)
+AgreeWithHistory setting history secrets = (column : ℕ) → column < columns setting.shape → Agrees (known_of setting history column) (list_of secrets column)
 
 -- some secrets give every answer of the history
 abbrev pub IsPossibleHistory : Setting → List Answered → Type 0

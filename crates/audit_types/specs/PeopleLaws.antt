@@ -10,7 +10,7 @@ use Rattle.audit_types.specs.Rows.{AreRows, has_row}
 use Rattle.audit_types.specs.Truth.{number_at, truth}
 use Rattle.audit_types.specs.Column.{Known, Answer, IsDangerous}
 use Rattle.audit_types.specs.History.{Secrets, Table, AreSecrets, AgreeWithHistory, IsUndisclosed, list_of}
-use Rattle.audit_types.specs.People.{People, AreBehind, people_in, told, of_line, of_lines, count_at, shared_of, HidesPeople}
+use Rattle.audit_types.specs.People.{People, AreBehind, people_in, told, of_line, of_lines, count_at, shared_of}
 
 -- the true answer over some lines is what is told of all their people together
 abbrev pub TruthIsOverPeople : Type 0
@@ -27,6 +27,21 @@ people_behind counts (line ∷ lines) = count_at counts line + people_behind cou
 abbrev pub PeopleAreCounted : Type 0
 PeopleAreCounted =
     (people : People) (lines : List ℕ) → AllByRecursion (λ line. line < length people) lines → people_behind (map length people) lines ≡ length (of_lines people lines)
+
+-- other people may be behind the lines, of whom this one has another number, while this is still so of what is told of them
+pub record HasOtherPeople (shape : Shape) (IsStill : Secrets → Type 0) (counts : List ℕ) (everyone : List People) (column line person : ℕ) : Type 0 where
+  pub others : List People
+  pub told_of : Secrets
+  pub are_secrets : AreSecrets shape told_of
+  pub behind : AreBehind shape counts told_of others
+  pub still : IsStill told_of
+  pub differs : number_at (of_line (people_in others column) line) person ≢ number_at (of_line (people_in everyone column) line) person
+
+-- nobody's number can be worked out from what is so of the secrets
+abbrev pub HidesPeople : Shape → Secrets → (Secrets → Type 0) → List ℕ → Type 0
+HidesPeople shape secrets IsStill counts =
+    (everyone : List People) (column line person : ℕ) → AreBehind shape counts secrets everyone → column < columns shape → line < length counts →
+    person < count_at counts line → HasOtherPeople shape IsStill counts everyone column line person
 
 -- behind the lines there may be others, of whom this one has another number
 pub record HasOthersBehind (shape : Shape) (counts : List ℕ) (secrets : Secrets) (everyone : List People) (column line person : ℕ) : Type 0 where

@@ -11,7 +11,7 @@ use Rattle.journal_audit.specs.declared.faults.AuditFault.TheVariants as report
 use Rattle.journal_audit.specs.SendLaws.{none_front}
 use Rattle.auditor_top.specs.declared.words.Command.TheVariants as command
 use Rattle.auditor_top.specs.Faults.{audit_status}
-use Rattle.auditor_top.specs.Ends.{AuditEnds, audit_over}
+use Rattle.auditor_top.specs.Ends.{AuditEnds, audit_over, people_over}
 use Rattle.auditor_top.specs.Causes.{FaultCounts, FaultCause, FileCause, HoldsLegal, NothingFailed, IsDoneOrWants, WordCause}
 use Rattle.auditor_top.specs.declared.status.Which.TheVariants.{Input}
 use Rattle.auditor_top.specs.declared.status.Status.TheVariants.{Done, SourceFault, BenchFault}
@@ -40,7 +40,8 @@ report_says ended = search rules
 
 -- the ends of a report are those of the run
 pub report_ends : {X : Type 0} (ended : Result X AuditFault) (base : Database) (history : List Answered) (before after : List ℕ)
-    → OnOk ended (Reports (audit_over base history) before after) → OnErr ended (ReportsFront (audit_over base history) before after)
+    → OnOk ended (Reports (audit_over base history) (people_over base) before after) → OnErr ended
+    (ReportsFront (audit_over base history) (people_over base) before after)
     → AuditEnds (audit_status ended) base history before after
 report_ends (Ok done) base history before after all part = all
 report_ends (Err report.Failed) base history before after all part = part

@@ -60,14 +60,14 @@ compact_faults (Err compact.Bench) before bench spare rose same spare_rose spare
 compact_faults ended before bench spare rose same spare_rose spare_same =
     both_same before bench spare (same (search rules)) (spare_same (search rules))
 
--- over a legal history: what the spare stands for, and what was sent
-pub compact_ends : (ended : Result (Unit {0}) CompactFault) (shape : Shape) (history : List Answered) (spare before after : List ℕ) →
-    OnOk ended (Compacts shape history spare before after) →
-    (IsErrOf ended compact.Bench → CompactsFront shape history spare before after) →
-    OnErr ended (ended ≢ Err compact.Bench → after ≡ before) → CompactEnds (compacting_status ended) shape history spare before after
-compact_ends (Ok done) shape history spare before after all part unsent = all
-compact_ends (Err compact.Bench) shape history spare before after all part unsent = inr (part refl)
-compact_ends ended shape history spare before after all part unsent = unsent (λ is. cc)
+-- over a legal history: what the spare holds, and what was sent
+pub compact_ends : (ended : Result (Unit {0}) CompactFault) (shape : Shape) (history : List Answered) (spare new_spare before after : List ℕ) →
+    OnOk ended (Compacts shape history spare new_spare before after) →
+    (IsErrOf ended compact.Bench → CompactsFront shape history spare new_spare before after) →
+    OnErr ended (ended ≢ Err compact.Bench → after ≡ before) → CompactEnds (compacting_status ended) shape history spare new_spare before after
+compact_ends (Ok done) shape history spare new_spare before after all part unsent = all
+compact_ends (Err compact.Bench) shape history spare new_spare before after all part unsent = inr (part refl)
+compact_ends ended shape history spare new_spare before after all part unsent = unsent (λ is. cc)
 
 -- if no journal is made there and nothing failed, it is done, or there was no memory
 pub compact_wants : {X : Type 0} (ended : Result X CompactFault) (before after : FaultCounts) → (IsErrOf ended compact.AlreadyThere → ⊥) →

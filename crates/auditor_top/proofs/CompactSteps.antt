@@ -9,8 +9,8 @@ use Rattle.bench_core.specs.Moments.{started, goes_on, weakens}
 use Rattle.answer_journal.specs.FileCalls.{OnlyNow, LeavesNoMore}
 use Rattle.journal_form.specs.Journal.{StandsFor}
 use Rattle.journal_compact.specs.Kept.{IsKeptOf}
-use Rattle.journal_compact.specs.Whole.{IsUnmadeOrWhole}
-use Rattle.auditor_top.specs.Compactions.{HoldsKept, Compacts, CompactsFront, IsUnmadeOrKept, SendsCounts, compact_line}
+use Rattle.journal_compact.specs.Whole.{HoldsWhole, IsUnmadeOrWhole}
+use Rattle.auditor_top.specs.Compactions.{HoldsKept, WritesKept, Compacts, CompactsFront, IsUnmadeOrKept, SendsCounts, compact_line}
 
 -- what is kept of a history, and the same list as it was written
 module _ (shape written_shape : Shape) (history read kept list : List Answered) (same_shape : written_shape ≡ shape) (same_history : read ≡ history)
@@ -25,13 +25,19 @@ module _ (shape written_shape : Shape) (history read kept list : List Answered) 
     stands = subst (λ (s : Shape). StandsFor file s kept) same_shape (subst (λ (l : List Answered). StandsFor file written_shape l) same_list stands);
   }
 
-  module _ (line : List ℕ) (line_is : line ≡ compact_line (length history) (length kept)) (file before after : List ℕ)
-      (stands : StandsFor file written_shape list) where
-    pub sent_whole : after ≡ before ++ line → Compacts shape history file before after
-    sent_whole is = (holds file stands, is ∙ ap (λ (l : List ℕ). before ++ l) line_is)
+  module _ (line : List ℕ) (line_is : line ≡ compact_line (length history) (length kept)) (old file before after : List ℕ)
+      (stands : StandsFor file written_shape list) (whole : HoldsWhole written_shape list old file) where
+    abbrev writes : WritesKept shape history old file
+    writes = record {
+      holds = holds file stands;
+      whole = subst (λ (s : Shape). HoldsWhole s kept old file) same_shape (subst (λ (l : List Answered). HoldsWhole written_shape l old file) same_list whole);
+    }
 
-    pub sent_front : AppendsFront before line after → CompactsFront shape history file before after
-    sent_front front = (holds file stands, subst (λ (l : List ℕ). AppendsFront before l after) line_is front)
+    pub sent_whole : after ≡ before ++ line → Compacts shape history old file before after
+    sent_whole is = (writes, is ∙ ap (λ (l : List ℕ). before ++ l) line_is)
+
+    pub sent_front : AppendsFront before line after → CompactsFront shape history old file before after
+    sent_front front = (writes, subst (λ (l : List ℕ). AppendsFront before l after) line_is front)
 
   module _ {B : Type 0} (bench : Ghosts B) where
     -- the journal was written whole

@@ -49,7 +49,7 @@ no_more_lines (b ∷ input) =
 
 told : (table : Table) (history : List Answered) (plan : Plan) (replied : Replied Answered) → IsReplyOf table history plan replied → IsReplyText replied.bytes
 told table history (Ready answer) replied is = (answer, ap (λ (r : Replied Answered). r.bytes) is)
-told table history (Ask take asked) replied is = (is.answer, ap (λ (r : Replied Answered). r.bytes) is.replied_is)
+told table history (Ask take people asked) replied is = (is.answer, ap (λ (r : Replied Answered). r.bytes) is.replied_is)
 
 -- the bytes of each reply
 abbrev texts : List (Replied Answered) → List (List ℕ)

@@ -1,5 +1,5 @@
 -- A legal history has one report.
-use Rattle.std.proofs.Common.{◌≡◌, ℕ, ℤ, List, [], ◌∷◌, ◌++◌, map, ◌==◌, refl, sym, ◌∙◌, ap, subst}
+use Rattle.std.proofs.Common.{◌≡◌, ℕ, ℤ, Option, List, [], ◌∷◌, ◌++◌, map, ◌==◌, refl, sym, ◌∙◌, ap, subst}
 use Rattle.std.specs.List.{AllByRecursion, concat, filter}
 use Rattle.audit_types.specs.declared.records.Answered.{Answered}
 use Rattle.audit_types.specs.Direction.{IsCanonicalDirection}
@@ -39,7 +39,7 @@ module _ (forms : FormsAreUnique) (directions : OneCanonicalDirection) (audit : 
   one_line : (about : Subject) (a b : List ℕ) → IsLineOn audit about a → IsLineOn audit about b → b ≡ a
   one_line (row_of column row) a b x y = one_row_line column row a b x y
   one_line (column_of column) a b x y = y ∙ sym x
-  one_line totals a b x y = y ∙ sym x
+  one_line (totals people) a b x y = y ∙ sym x
 
   same_lines : (about : List Subject) (a b : List (List ℕ)) → AreLinesOn audit about a → AreLinesOn audit about b → b ≡ a
   same_lines [] [] [] x y = refl
@@ -50,6 +50,7 @@ module _ (forms : FormsAreUnique) (directions : OneCanonicalDirection) (audit : 
   same_lines (s ∷ about) (l ∷ a) (m ∷ b) x y =
       ap (λ line. line ∷ b) (one_line s l m x.0 y.0) ∙ ap (λ lines. l ∷ lines) (same_lines about a b x.1 y.1)
 
-  pub one_report : (before after other : List ℕ) → Reports audit before after → Reports audit before other → other ≡ after
-  one_report before after other x y =
-      y.sent_is ∙ ap (λ (lines : List (List ℕ)). before ++ concat lines) (same_lines (subjects audit.shape) x.lines y.lines x.are y.are) ∙ sym x.sent_is
+  pub one_report : (people : Option ℕ) (before after other : List ℕ) → Reports audit people before after → Reports audit people before other → other ≡ after
+  one_report people before after other x y =
+      y.sent_is ∙ ap (λ (lines : List (List ℕ)). before ++ concat lines)
+      (same_lines (subjects audit.shape audit.shared people) x.lines y.lines x.are y.are) ∙ sym x.sent_is

@@ -13,7 +13,7 @@ use Rattle.table_load.specs.Database.{Database, table_in}
 use Rattle.journal_form.specs.Journal.{StandsFor}
 use Rattle.audit_types.specs.Widening.{over, widened}
 use Rattle.answer_journal.specs.Moments.{IsBeforeOrGrown}
-use Rattle.line_wire.specs.Lines.{CountedLine, counted_lines}
+use Rattle.line_wire.specs.Lines.{counted_lines}
 use Rattle.question_plan.specs.Replies.{IsDue}
 use Rattle.audit_session.specs.Stops.{IsBatch, IsFront, Stop, StopsOver, stands_over}
 use Rattle.audit_session.specs.Lives.{Standing, Follows, serves, grows, Run, GoesFrom, Lead, IsLife, shape_in}
@@ -23,6 +23,7 @@ use Rattle.auditor_top.specs.declared.words.Command.{Command}
 use Rattle.auditor_top.specs.declared.words.Command.TheVariants.{Serve, Grow}
 use Rattle.auditor_top.specs.Commands.{AreSoundFilesOf, GoesOnOver, TwinsOver, deed_of}
 use Rattle.auditor_top.specs.Promise.{GoesOn, RunsMakeLives}
+use Rattle.auditor_top.specs.Ends.{Outside}
 use Rattle.auditor_top.specs.Twins.{LeavesTwins}
 use Rattle.auditor_top.specs.Runs.{Objects, Does}
 use Rattle.auditor_top.proofs.OneCommand.{one_command}
@@ -135,11 +136,11 @@ module _ {P I B : Type 0} (files : source.Ghosts P) (lines : source.Ghosts I) (b
   command_on status new one quiet was ptold told command batches does itold reaches goes = absurd goes
 
 -- of what a crash leaves of both files the spare alone
-pub left_of_spare : (base : Database) (batch : ℕ) (main other whole : List Answered) (lines : List CountedLine) (earlier sent all image spare : List ℕ) →
-    all ≡ earlier ++ sent → LeavesTwins base batch main other whole lines earlier all image spare →
-    CatchesUpOrStops base batch other whole lines earlier spare (earlier ++ sent)
-left_of_spare base batch main other whole lines earlier sent all image spare is (inl catches) = inl (sym is ∙ catches.0, catches.2)
-left_of_spare base batch main other whole lines earlier sent all image spare is (inr stops) = inr (stops.new, sym is ∙ stops.sent_is, stops.other)
+pub left_of_spare : (base : Database) (batch : ℕ) (main other whole : List Answered) (before after : Outside) (sent image spare : List ℕ) →
+    after.sent ≡ before.sent ++ sent → LeavesTwins base batch main other whole before after image spare →
+    CatchesUpOrStops base batch other whole (counted_lines before.input) before.sent spare (before.sent ++ sent)
+left_of_spare base batch main other whole before after sent image spare is (inl catches) = inl (sym is ∙ catches.1, catches.3)
+left_of_spare base batch main other whole before after sent image spare is (inr stops) = inr (stops.new, sym is ∙ stops.sent_is, stops.other)
 
 -- so a life goes on from the spare alone, too
 pub spare_goes_on : {P I B : Type 0} (files : source.Ghosts P) (lines : source.Ghosts I) (bench : Ghosts B) (batch : ℕ) (old new : Objects P I B) →

@@ -17,7 +17,7 @@ use Rattle.answer_journal.specs.Moments.{IsMade}
 use Rattle.line_wire.specs.Lines.{CountedLine, counted_lines}
 use Rattle.audit_session.specs.Stops.{IsBatch, IsFront, StopsOver}
 use Rattle.audit_session.specs.Ends.{ServesSome}
-use Rattle.journal_audit.specs.Reports.{subjects, ReportsFront}
+use Rattle.journal_audit.specs.Reports.{ReportsFront}
 use Rattle.journal_audit.specs.SendLaws.{none_front}
 use Rattle.auditor_top.specs.declared.words.Command.{Command}
 use Rattle.auditor_top.specs.declared.words.Command.TheVariants.{Init, Serve, Audit, Simulate, Drill, Grow, Explain, Compact, Restore}
@@ -26,13 +26,13 @@ use Rattle.auditor_top.specs.declared.status.Status.TheVariants.{Done}
 use Rattle.audit_types.specs.declared.shapes.Shape.{Shape}
 use Rattle.twin_journal.specs.Fronts.{main_is_legal, spare_is_legal}
 use Rattle.twin_journal.specs.Twins.{StandsBetween}
-use Rattle.auditor_top.specs.Stages.{opening_journal}
+use Rattle.auditor_top.specs.Stages.{opening_journal, reading_lines}
 use Rattle.auditor_top.specs.Twins.{TwinEnds}
 use Rattle.transcript_sim.specs.Beginning.{public_setting}
 use Rattle.auditor_top.specs.Causes.{BeginningCause, BothCause, FaultCause, NothingFailed, IsDoneOrWants}
 use Rattle.auditor_top.specs.Commands.{ArePublicFilesOf, AreSoundFilesOf, opens_store}
 use Rattle.auditor_top.specs.Compactions.{CompactEnds}
-use Rattle.auditor_top.specs.Ends.{AuditEnds, GrowEnds, LeavesFile, ServeEnds, SimulateEnds, SendsLines, StandsForWhat, ExplainEnds, audit_over, outside, public_part}
+use Rattle.auditor_top.specs.Ends.{AuditEnds, GrowEnds, LeavesFile, ServeEnds, SimulateEnds, SendsLines, StandsForWhat, ExplainEnds, audit_over, people_over, subjects_over, outside, public_part}
 use Rattle.auditor_top.specs.Promise.{RunsMakeLives}
 use Rattle.auditor_top.specs.Ready.{IsGiven, EndsEarly, GivesUp}
 use Rattle.auditor_top.specs.Runs.{Objects, objects, faults_of, Does, Making, Serving, Auditing, Simulating, Drilling, Growing, Explaining, Compacting, TwinServing, Restoring}
@@ -153,6 +153,7 @@ module _ {P I B : Type 0} (files : source.Ghosts P) (lines : source.Ghosts I) (b
             by_giving_up (λ (s : Status). TwinEnds batch s base main other whole (outside lines bench input at) (outside lines bench input later)
             (bench.file spare))
             status (gave ptold told (base, over.files)) (reads.sent, reads.file) (reads.sent, reads.file) tt (inl (
+              refl,
               reads.sent,
               at_first base.secret.shape main whole over.together.main_stands over.together.main_front (bench.file later) reads.file,
               at_first base.secret.shape other whole over.together.spare_stands over.together.spare_front (bench.file spare) refl,
@@ -168,6 +169,7 @@ module _ {P I B : Type 0} (files : source.Ghosts P) (lines : source.Ghosts I) (b
             (λ image sent same. inl (same.0, at_first base.secret.shape other whole over.together.spare_stands over.together.spare_front image same.1))
             (spared.untouched quiet);
         twins_left = λ ptold itold told quiet spare_quiet base main other whole over image found left left_there. inl (
+          refl,
           reads.sent,
           at_first base.secret.shape main whole over.together.main_stands over.together.main_front image (quiet image (reads.crash image left)),
           at_first base.secret.shape other whole over.together.spare_stands over.together.spare_front found (spare_quiet found left_there),
@@ -192,6 +194,7 @@ module _ {P I B : Type 0} (files : source.Ghosts P) (lines : source.Ghosts I) (b
             (base, sound)) tt tt tt tt;
         spare_quiet = λ told quiet fine. quiet;
         spare_unsent = refl;
+        spare_unwritten = always_before reading_lines status refl;
         twin_calls = λ ptold itold told done base main other whole over. never_done status early done;
         spare_calls = λ ptold itold told done base main other whole over. never_done status early done;
         twins_complete = λ ptold itold told base main other whole over within none fine. wants (gave ptold told (base, over.files)) none;
@@ -228,12 +231,12 @@ module _ {P I B : Type 0} (files : source.Ghosts P) (lines : source.Ghosts I) (b
   unaudited : asked ≡ Some Audit → Auditing files lines bench status old new
   unaudited is = record {
     audited = λ ptold told base history over.
-        let none = subst (λ (bytes : List ℕ). ReportsFront (audit_over base history) (bench.sent at) bytes) (sym reads.sent)
-        (none_front (audit_over base history) (subjects base.secret.shape) (bench.sent at)) in
+        let none = subst (λ (bytes : List ℕ). ReportsFront (audit_over base history) (people_over base) (bench.sent at) bytes) (sym reads.sent)
+        (none_front (audit_over base history) (subjects_over base) (bench.sent at)) in
         by_giving_up (λ (s : Status). AuditEnds s base history (bench.sent at) (bench.sent later)) status
         (gives_up Audit is ptold (λ opens. told) (base, history, over)) reads.sent reads.sent none none;
     auditing = λ ptold told quiet base history over.
-        still quiet (untouched_report (audit_over base history) (subjects base.secret.shape) (bench.file at) (bench.sent at));
+        still quiet (untouched_report (audit_over base history) (subjects_over base) (bench.file at) (bench.sent at));
     audit_calls = λ ptold told done base given. never_done status early done;
     audits = λ ptold told base history over none. wants (gives_up Audit is ptold (λ opens. told) (base, history, over)) none;
   }
@@ -302,7 +305,8 @@ module _ {P I B : Type 0} (files : source.Ghosts P) (lines : source.Ghosts I) (b
   uncompacted spared is =
       record {
         compacted = λ ptold told base history over.
-            by_giving_up (λ (s : Status). CompactEnds s base.secret.shape history (bench.file spare) (bench.sent at) (bench.sent later)) status
+            by_giving_up (λ (s : Status). CompactEnds s base.secret.shape history (bench.file spare) (bench.file spare) (bench.sent at)
+            (bench.sent later)) status
             (gives_up Compact is ptold (λ opens. told) (base, history, over)) reads.sent reads.sent (inl reads.sent) reads.sent;
         compacting = λ ptold told unmade quiet base history over.
             weakens bench spare spare (IsUntouched (bench.file spare) (bench.sent spare)) _

@@ -1,5 +1,5 @@
 -- Tables that differ in their secrets alone show the same.
-use Rattle.std.proofs.Common.{◌≡◌, ℕ, List, sym, ◌∙◌, ap, subst}
+use Rattle.std.proofs.Common.{◌≡◌, ℕ, Option, List, sym, ◌∙◌, ap, subst}
 use Rattle.std.specs.Prelude.{◌↔◌}
 use Rattle.audit_types.specs.declared.records.Answered.{Answered}
 use Rattle.audit_types.specs.declared.shapes.Shape.{Shape}
@@ -14,7 +14,7 @@ use Rattle.auditor_top.specs.declared.status.Status.{Status}
 use Rattle.auditor_top.specs.declared.status.Status.TheVariants.{Done, SourceFault, BenchFault, NoMemory}
 use Rattle.auditor_top.specs.Commands.{SimulatesOver}
 use Rattle.auditor_top.specs.Compactions.{CompactEnds, SendsCounts}
-use Rattle.auditor_top.specs.Ends.{AuditEnds, audit_over, public_part}
+use Rattle.auditor_top.specs.Ends.{AuditEnds, audit_over, people_over, public_part}
 use Rattle.auditor_top.specs.Shown.{AreShownAlike}
 
 -- what is said of one thing is said of the same one
@@ -26,34 +26,42 @@ same_public : (P : List Column → IndexView → Type 0) (base other : Database)
     P base.columns (public_part base) ↔ P other.columns (public_part other)
 same_public P base other same = same_said (λ (d : Database). P d.columns (public_part d)) (record base { secret = other.secret }) other same
 
+-- and of what is told of both, with as many people
+same_told : (P : Audit → Option ℕ → Type 0) (base other : Database) (history : List Answered) → audit_over other history ≡ audit_over base history →
+    people_over other ≡ people_over base → P (audit_over base history) (people_over base) ↔ P (audit_over other history) (people_over other)
+same_told P base other history same people = (
+  λ p. subst (λ a. P a (people_over other)) (sym same) (subst (λ n. P (audit_over base history) n) (sym people) p),
+  λ p. subst (λ n. P (audit_over base history) n) people (subst (λ a. P a (people_over other)) same p),
+)
+
 -- a report says the same of both, by each status
 same_report : (status : Status) (base other : Database) (history : List Answered) → audit_over other history ≡ audit_over base history →
-    (before after : List ℕ) →
+    people_over other ≡ people_over base → (before after : List ℕ) →
     AuditEnds status base history before after ↔ AuditEnds status other history before after
-same_report Done base other history same before after = same_said (λ (a : Audit). Reports a before after) (audit_over base history)
-    (audit_over other history) same
-same_report BenchFault base other history same before after = same_said (λ (a : Audit). ReportsFront a before after) (audit_over base history)
-    (audit_over other history) same
-same_report NoMemory base other history same before after = same_said (λ (a : Audit). ReportsFront a before after) (audit_over base history)
-    (audit_over other history) same
-same_report (SourceFault Input) base other history same before after = (λ x. x, λ x. x)
-same_report status base other history same before after = (λ x. x, λ x. x)
+same_report Done base other history same people before after = same_told (λ (a : Audit) (p : Option ℕ). Reports a p before after) base other history same people
+same_report BenchFault base other history same people before after =
+    same_told (λ (a : Audit) (p : Option ℕ). ReportsFront a p before after) base other history same people
+same_report NoMemory base other history same people before after =
+    same_told (λ (a : Audit) (p : Option ℕ). ReportsFront a p before after) base other history same people
+same_report (SourceFault Input) base other history same people before after = (λ x. x, λ x. x)
+same_report status base other history same people before after = (λ x. x, λ x. x)
 
 -- an audit of these columns, over this shape
-abbrev an_audit : List Column → Shape → List Answered → Audit
-an_audit columns shape history = record { schema = columns; shape = shape; history = history }
+abbrev an_audit : Database → Shape → List Answered → Audit
+an_audit base shape history = record { schema = base.columns; shape = shape; shared = base.protected.shared; history = history }
 
 pub twins_alike : (base other : Database) (history : List Answered) → AreTwins base other → AreShownAlike base other history
 twins_alike base other history twins =
     let audit : audit_over other history ≡ audit_over base history =
-    ap (λ (d : Database). audit_over d history) twins.0 ∙ ap (λ (s : Shape). an_audit base.columns s history) twins.1 in
+    ap (λ (d : Database). audit_over d history) twins.0 ∙ ap (λ (s : Shape). an_audit base s history) twins.1 in
+    let people : people_over other ≡ people_over base = ap people_over twins.0 in
     record {
-      report = λ status before after. same_report status base other history audit before after;
-      meanwhile = λ file before image sent. same_said (λ (a : Audit). SendsMeanwhile a (subjects a.shape) file before image sent)
-          (audit_over base history) (audit_over other history) audit;
+      report = λ status before after. same_report status base other history audit people before after;
+      meanwhile = λ file before image sent.
+          same_told (λ (a : Audit) (p : Option ℕ). SendsMeanwhile a (subjects a.shape a.shared p) file before image sent) base other history audit people;
       certificates = λ asked lines. same_public (λ cs i. AreExplained cs i history asked lines) base other twins.0;
-      compacted = λ status spare before after. same_said (λ (s : Shape). CompactEnds status s history spare before after) base.secret.shape other.secret.shape
-          twins.1;
+      compacted = λ status spare new_spare before after. same_said (λ (s : Shape). CompactEnds status s history spare new_spare before after)
+          base.secret.shape other.secret.shape twins.1;
       compacting = λ file before image sent. same_said (λ (s : Shape). SendsCounts s history file before image sent) base.secret.shape other.secret.shape
           twins.1;
       files = λ schema table file begun. same_public (λ cs i. SimulatesOver schema table file cs i begun) base other twins.0;

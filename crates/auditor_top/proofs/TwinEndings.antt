@@ -118,17 +118,17 @@ twin_faults (twin.Main fault) before bench spare own rose same spare_rose spare_
     (start_steady fault before own)
 twin_faults fault before bench spare own rose same spare_rose spare_same = both_same before bench spare (same (λ is. cc)) (spare_same (λ is. cc))
 
--- if the files keep together, a call failed or memory ran out, and nothing was sent
+-- if the files keep together, a call failed or memory ran out, no line was read and nothing was sent
 pub twin_gave_up : (fault : TwinFault) (batch : ℕ) (base : Database) (main other whole : List Answered) (before after : Outside) (spare : List ℕ) →
     TwinGivesUp fault →
-    (fault ≡ twin.NoMemory → BothCatchUp base main other whole before.sent after.sent after.file spare) →
-    TwinEnds batch (twin_status fault) base main other whole before after spare
-twin_gave_up (twin.Main fault) batch base main other whole before after spare gave catch = absurd gave
-twin_gave_up (twin.Spare fault) batch base main other whole before after spare gave catch = absurd gave
-twin_gave_up (twin.Differ place) batch base main other whole before after spare gave catch = absurd gave
-twin_gave_up twin.MainFailed batch base main other whole before after spare gave catch = tt
-twin_gave_up twin.SpareFailed batch base main other whole before after spare gave catch = tt
-twin_gave_up twin.NoMemory batch base main other whole before after spare gave catch = inl (catch refl)
+    (fault ≡ twin.NoMemory → BothCatchUp base main other whole before after after.file spare) →
+    (fault ≡ twin.SpareFailed → after ≡ before) → TwinEnds batch (twin_status fault) base main other whole before after spare
+twin_gave_up (twin.Main fault) batch base main other whole before after spare gave catch same = absurd gave
+twin_gave_up (twin.Spare fault) batch base main other whole before after spare gave catch same = absurd gave
+twin_gave_up (twin.Differ place) batch base main other whole before after spare gave catch same = absurd gave
+twin_gave_up twin.MainFailed batch base main other whole before after spare gave catch same = tt
+twin_gave_up twin.SpareFailed batch base main other whole before after spare gave catch same = inl (same refl)
+twin_gave_up twin.NoMemory batch base main other whole before after spare gave catch same = inl (catch refl)
 
 pub twin_wants : (fault : TwinFault) (before after : FaultCounts) → TwinGivesUp fault → FaultCause (twin_status fault) before after →
     NothingFailed before after →
@@ -201,24 +201,27 @@ twins_faults (Err end.Spare) before input bench spare input_rose input_same benc
 twins_faults ended before input bench spare input_rose input_same bench_rose bench_same spare_rose spare_same =
     all_same before input bench spare (input_same (λ is. cc)) (bench_same (λ is. cc)) (spare_same (λ is. cc))
 
--- which lines were answered, and that both files stand for their records
+-- which lines were answered, and that both files stand for their records, or that of the bench if the spare failed
 pub twins_end : {X : Type 0} (ended : Result X TwinEnd) (base : Database) (batch : ℕ) (main other whole now : List Answered) (before after : Outside)
     (spare : List ℕ) →
     OnOk ended (Serves base whole (counted_lines before.input) now before.sent after.sent) →
     (ended ≡ Err end.Input → ServesWhole base whole batch before.input after.input now before.sent after.sent) →
     (ended ≡ Err end.Limit → ServesWhole base whole batch (limited before.input) [] now before.sent after.sent) →
     (ended ≡ Err end.NoMemory → ServesSome base whole batch (counted_lines before.input) now before.sent after.sent) →
-    (ended ≢ Err end.Bench → ended ≢ Err end.Spare → stands_over base after.file now × stands_over base spare now) →
+    (ended ≡ Err end.Spare → ServesSome base whole batch (counted_lines before.input) now before.sent after.sent) →
+    (ended ≢ Err end.Bench → stands_over base after.file now) → (ended ≢ Err end.Bench → ended ≢ Err end.Spare → stands_over base spare now) →
     TwinEnds batch (twin_session_status ended) base main other whole before after spare
-twins_end (Ok done) base batch main other whole now before after spare all read below some stands =
-    let both = stands (not_both done end.Bench) (not_both done end.Spare) in (now, all, both.0, both.1)
-twins_end (Err end.Input) base batch main other whole now before after spare all read below some stands =
-    let both = stands (λ is. cc) (λ is. cc) in (now, read refl, both.0, both.1)
-twins_end (Err end.Limit) base batch main other whole now before after spare all read below some stands =
-    let both = stands (λ is. cc) (λ is. cc) in (now, below refl, both.0, both.1)
-twins_end (Err end.NoMemory) base batch main other whole now before after spare all read below some stands =
-    let both = stands (λ is. cc) (λ is. cc) in inr (now, some refl, both.0, both.1)
-twins_end ended base batch main other whole now before after spare all read below some stands = tt
+twins_end (Ok done) base batch main other whole now before after spare all read below some part stands also =
+    (now, all, stands (not_both done end.Bench), also (not_both done end.Bench) (not_both done end.Spare))
+twins_end (Err end.Input) base batch main other whole now before after spare all read below some part stands also =
+    (now, read refl, stands (λ is. cc), also (λ is. cc) (λ is. cc))
+twins_end (Err end.Limit) base batch main other whole now before after spare all read below some part stands also =
+    (now, below refl, stands (λ is. cc), also (λ is. cc) (λ is. cc))
+twins_end (Err end.NoMemory) base batch main other whole now before after spare all read below some part stands also =
+    inr (now, some refl, stands (λ is. cc), also (λ is. cc) (λ is. cc))
+twins_end (Err end.Spare) base batch main other whole now before after spare all read below some part stands also =
+    inr (now, part refl, stands (λ is. cc))
+twins_end ended base batch main other whole now before after spare all read below some part stands also = tt
 
 pub twins_reads : {X : Type 0} (ended : Result X TwinEnd) (before after : List ℕ) → OnOk ended (after ≡ []) → OnOk ended (length before ≤ most_input) →
     (ended ≡ Err end.Input → length before ≤ most_input + length after) → (ended ≡ Err end.Limit → most_input + length after < length before) →

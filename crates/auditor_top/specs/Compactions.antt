@@ -8,6 +8,7 @@ use Rattle.audit_types.specs.History.{Table, IsLegal, IsDecisionAfter}
 use Rattle.bench_core.specs.Bench.{AppendsFront}
 use Rattle.journal_form.specs.Journal.{StandsFor}
 use Rattle.journal_compact.specs.Kept.{IsKeptOf}
+use Rattle.journal_compact.specs.Whole.{HoldsWhole}
 use Rattle.journal_compact.specs.declared.whole.WholeFault.{WholeFault}
 use Rattle.journal_compact.specs.declared.whole.WholeFault.TheVariants as whole
 use Rattle.answer_journal.specs.Moments.{IsMade}
@@ -27,15 +28,20 @@ pub record HoldsKept (shape : Shape) (history : List Answered) (file : List ℕ)
   pub are : IsKeptOf shape history kept
   pub stands : StandsFor file shape kept
 
+-- the new file stands so, and holds what is kept whole, with nothing behind its last gate but what stood there in the old one
+pub record WritesKept (shape : Shape) (history : List Answered) (old new : List ℕ) : Type 0 where
+  pub holds : HoldsKept shape history new
+  pub whole : HoldsWhole shape holds.kept old new
+
 -- and the line on it was sent
-abbrev pub Compacts : Shape → List Answered → List ℕ → List ℕ → List ℕ → Type 0
-Compacts shape history spare before after =
-    (holds : HoldsKept shape history spare) × (after ≡ before ++ compact_line (length history) (length holds.kept))
+abbrev pub Compacts : Shape → List Answered → List ℕ → List ℕ → List ℕ → List ℕ → Type 0
+Compacts shape history spare new_spare before after =
+    (writes : WritesKept shape history spare new_spare) × (after ≡ before ++ compact_line (length history) (length writes.holds.kept))
 
 -- or a front of the line
-abbrev pub CompactsFront : Shape → List Answered → List ℕ → List ℕ → List ℕ → Type 0
-CompactsFront shape history spare before after =
-    (holds : HoldsKept shape history spare) × AppendsFront before (compact_line (length history) (length holds.kept)) after
+abbrev pub CompactsFront : Shape → List Answered → List ℕ → List ℕ → List ℕ → List ℕ → Type 0
+CompactsFront shape history spare new_spare before after =
+    (writes : WritesKept shape history spare new_spare) × AppendsFront before (compact_line (length history) (length writes.holds.kept)) after
 
 -- what a crash finds on the spare: nothing was sent there, and the image isn't a made journal, or stands for what is kept
 abbrev pub IsUnmadeOrKept : Shape → List Answered → List ℕ → List ℕ → List ℕ → Type 0
@@ -46,16 +52,16 @@ abbrev pub SendsCounts : Shape → List Answered → List ℕ → List ℕ → L
 SendsCounts shape history file before image sent = (image ≡ file) × ((sent ≡ before) ⊎ ((kept : List Answered) × IsKeptOf shape history kept ×
     AppendsFront before (compact_line (length history) (length kept)) sent))
 
--- what the spare stands for then, and what was sent. Files without fault and a legal journal are never refused
-abbrev pub CompactEnds : Status → Shape → List Answered → List ℕ → List ℕ → List ℕ → Type 0
-CompactEnds Done shape history spare before after = Compacts shape history spare before after
-CompactEnds (SourceFault Schema) shape history spare before after = after ≡ before
-CompactEnds (SourceFault TableFile) shape history spare before after = after ≡ before
-CompactEnds BenchFault shape history spare before after = (after ≡ before) ⊎ CompactsFront shape history spare before after
-CompactEnds SpareThere shape history spare before after = after ≡ before
-CompactEnds SpareFault shape history spare before after = after ≡ before
-CompactEnds NoMemory shape history spare before after = after ≡ before
-CompactEnds status shape history spare before after = ⊥
+-- what the spare holds then, and what was sent. Files without fault and a legal journal are never refused
+abbrev pub CompactEnds : Status → Shape → List Answered → List ℕ → List ℕ → List ℕ → List ℕ → Type 0
+CompactEnds Done shape history spare new_spare before after = Compacts shape history spare new_spare before after
+CompactEnds (SourceFault Schema) shape history spare new_spare before after = after ≡ before
+CompactEnds (SourceFault TableFile) shape history spare new_spare before after = after ≡ before
+CompactEnds BenchFault shape history spare new_spare before after = (after ≡ before) ⊎ CompactsFront shape history spare new_spare before after
+CompactEnds SpareThere shape history spare new_spare before after = after ≡ before
+CompactEnds SpareFault shape history spare new_spare before after = after ≡ before
+CompactEnds NoMemory shape history spare new_spare before after = after ≡ before
+CompactEnds status shape history spare new_spare before after = ⊥
 
 -- other records are legal for the table, and every question is decided after them as after the history
 pub record DecideAlike (table : Table) (history others : List Answered) : Type 0 where

@@ -5,9 +5,9 @@
 -- audit_session). Each run's table has the secret columns of the table before it and no fewer rows; what is public, and which groups are
 -- protected, may be anything for which the history is legal. What a life keeps is KeepsPromise there: the last history is legal for the
 -- last table and discloses nothing of it that is guarded (audit_types), and of each run the bytes that it sent are a front of the replies
--- due to its lines over its own table (IsDue of question_plan), whose records are all in the last history. What it hides is IsHidden, and
--- HidesWhatStood of each number that stood in the table at a run: other secrets, with another number or protected total, lead to the very
--- same bytes. By how much within the ranges that people know is IsOpenWithin. The clause `lives` of `run` is GoesOn: whatever moment a run over a life is stopped at, the life with that run keeps the
+-- due to its lines over its own table (IsDue of question_plan), whose records are all in the last history. What it hides is IsHidden,
+-- HidesEachPerson of the people behind rows that stand for several, and HidesWhatStood of each number that stood in the table at a run: other
+-- secrets, with another number or protected total, lead to the very same bytes. By how much within the ranges that people know is IsOpenWithin. The clause `lives` of `run` is GoesOn: whatever moment a run over a life is stopped at, the life with that run keeps the
 -- promise.
 use Rattle.std.specs.Prelude.{◌≡◌, ◌⊎◌, ◌<◌, List, ℕ, [], ◌∷◌, ◌++◌}
 use Rattle.audit_types.specs.Widening.{over, widened}
@@ -21,7 +21,7 @@ use Rattle.question_plan.specs.Replies.{IsDue}
 use Rattle.question_plan.specs.Session.{Replied}
 use Rattle.audit_session.specs.Stops.{StopsOver, stands_over}
 use Rattle.audit_session.specs.Lives.{Standing, Run, Follows, GoesFrom, IsLife, KeepsPromise, AreAlike, shape_in}
-use Rattle.audit_session.specs.Hidden.{IsHidden, HidesWhatStood, IsOpenWithin}
+use Rattle.audit_session.specs.Hidden.{IsHidden, HidesEachPerson, HidesWhatStood, IsOpenWithin}
 use Rattle.audit_session.specs.Laws.{KeepsNumbers, KeepsGroups}
 use Rattle.twin_journal.specs.Twins.{CatchesUpOrStops, SpareCatchesUpOrStops}
 use Rattle.auditor_top.specs.Commands.{ArePublicFilesOf, AreSoundFilesOf, GrowsOver, ServesOver, SimulatesOver, TwinsOver}
@@ -39,6 +39,7 @@ pub record GoesOn (base : Database) (runs : List Run) (run : Run) : Type 0 where
   pub life : IsLife base (runs ++ run ∷ []) run.left
   pub keeps : KeepsPromise base (runs ++ run ∷ []) run.left
   pub hides : IsHidden base (runs ++ run ∷ []) run.left
+  pub people : HidesEachPerson base (runs ++ run ∷ []) run.left
   pub stood : HidesWhatStood base (runs ++ run ∷ []) run.left
   pub ranges : IsOpenWithin base (runs ++ run ∷ []) run.left
   pub alike : DecidesAlike (runs ++ run ∷ []) run.left

@@ -25,6 +25,7 @@ use Rattle.auditor_top.specs.declared.words.Command.TheVariants as command
 use Rattle.auditor_top.specs.declared.status.Which.TheVariants.{Schema, Table, Input}
 use Rattle.auditor_top.specs.declared.status.Status.{Status}
 use Rattle.auditor_top.specs.declared.status.Status.TheVariants.{Done, BadWords, BadSchema, BadTable, SourceFault, BenchFault, AlreadyThere, NothingNew, InputLimit, Disagrees, SpareThere, SpareFault, BadSpare, TwinsDiffer, NothingLost, NoMemory}
+use Rattle.auditor_top.specs.Ends.{people_told}
 use Rattle.auditor_top.specs.Causes.{WordCause, SchemaCause, TableCause, GroupCause, FileCause, FaultCause, counts}
 use Rattle.auditor_top.specs.Commands.{AreFilesOf, AreSoundFilesOf, ArePublicFilesOf, ServesOver, opens_store, reads_files, reads_groups, reads_secrets}
 use Rattle.auditor_top.specs.Stages.{Before, reading_table, opening_journal}
@@ -49,7 +50,7 @@ abbrev pub command_for : Ready → Command
 command_for (Init shape) = command.Init
 command_for (Serve schema index store batch) = command.Serve batch false
 command_for (Twin schema index secret protected batch) = command.Serve batch true
-command_for (Audit schema store) = command.Audit
+command_for (Audit schema people store) = command.Audit
 command_for (Simulate schema index) = command.Simulate
 command_for (Drill number) = command.Drill number
 command_for (Grow secret protected) = command.Grow
@@ -72,7 +73,7 @@ IsReady bench now (Serve schema index store batch) =
 IsReady bench now (Twin schema index secret protected batch) =
     IsGuardFor secret.shape protected × FitsSchema schema.columns index.public × (secret.shape ≡ shape_of schema.columns index.public.rows) ×
     (index.protected ≡ protected)
-IsReady bench now (Audit schema store) = IsOpened bench now store × (store.secret.shape ≡ shape_of schema.columns store.secret.shape.rows)
+IsReady bench now (Audit schema people store) = IsOpened bench now store × (store.secret.shape ≡ shape_of schema.columns store.secret.shape.rows)
 IsReady bench now (Simulate schema index) =
     FitsSchema schema.columns index.public × IsGuardFor (shape_of schema.columns index.public.rows) index.protected
 IsReady bench now (Drill number) = Unit {0}
@@ -90,7 +91,9 @@ IsReadyOver schema_file table_file (Serve schema index store batch) =
     AreSoundFilesOf schema_file table_file (base_of schema.columns index.public index.protected store.secret)
 IsReadyOver schema_file table_file (Twin schema index secret protected batch) =
     AreSoundFilesOf schema_file table_file (base_of schema.columns index.public index.protected secret)
-IsReadyOver schema_file table_file (Audit schema store) = (public : PublicView) × AreSoundFilesOf schema_file table_file (base_of schema.columns public store.protected store.secret)
+IsReadyOver schema_file table_file (Audit schema people store) =
+    (public : PublicView) × AreSoundFilesOf schema_file table_file (base_of schema.columns public store.protected store.secret) ×
+    (people ≡ people_told schema.columns public)
 IsReadyOver schema_file table_file (Simulate schema index) = ArePublicFilesOf schema_file table_file schema.columns index
 IsReadyOver schema_file table_file (Drill number) = Unit {0}
 IsReadyOver schema_file table_file (Grow secret protected) =

@@ -18,7 +18,7 @@ use Rattle.question_plan.specs.Session.{Replied, bytes_of}
 use Rattle.audit_session.specs.Ends.{KeepsCalls, TakesCalls}
 use Rattle.audit_session.specs.Stops.{IsFront, StopsOver}
 use Rattle.audit_session.specs.Lives.{IsLife, Run, Standing, shape_in, serves}
-use Rattle.journal_audit.specs.Reports.{SendsMeanwhile, subjects}
+use Rattle.journal_audit.specs.Reports.{SendsMeanwhile}
 use Rattle.certificate_lines.specs.Ends.{ExplainsMeanwhile}
 use Rattle.certificate_lines.specs.Explained.{AreExplained}
 use Rattle.transcript_sim.specs.Beginning.{public_setting}
@@ -33,13 +33,13 @@ use Rattle.auditor_top.specs.Compactions.{CompactEnds, DecideAlike, IsUnmadeOrKe
 use Rattle.journal_compact.specs.Whole.{IsUnmadeOrWhole}
 use Rattle.twin_journal.specs.Restoring.{CanRestore, IsLost, IsLostOf, Restored, StandForTheSame, TakeCalls}
 use Rattle.twin_journal.specs.Twins.{CatchesUpOrStops, SpareCatchesUpOrStops, calls_to_open}
-use Rattle.auditor_top.specs.Stages.{Before, opening_journal}
+use Rattle.auditor_top.specs.Stages.{Before, opening_journal, reading_lines}
 use Rattle.auditor_top.specs.Twins.{LeavesTwins, TwinEnds}
 use Rattle.auditor_top.specs.Causes.{BeginningCause, BothCause, FaultCounts, counts, NothingFailed, IsDoneOrWants}
 use Rattle.auditor_top.specs.Commands.{AreFilesOf, ArePublicFilesOf, AreSoundFilesOf, GoesOnOver, GrowsOver, ServesOver, SimulatesOver, TwinsOver}
 use Rattle.auditor_top.specs.Promise.{GoesOn}
 use Rattle.auditor_top.specs.Drills.{DrillEnds}
-use Rattle.auditor_top.specs.Ends.{AuditEnds, GrowEnds, LeavesFile, ServeEnds, SimulateEnds, SendsLines, ExplainEnds, audit_over, outside, public_part}
+use Rattle.auditor_top.specs.Ends.{AuditEnds, GrowEnds, LeavesFile, ServeEnds, SimulateEnds, SendsLines, ExplainEnds, audit_over, subjects_over, outside, public_part}
 
 -- the objects that a run is handed
 pub record Objects (P I B : Type 0) : Type 0 where
@@ -93,10 +93,10 @@ pub record Auditing {P I B : Type 0} (files : source.Ghosts P) (lines : source.G
       AuditEnds status base history (bench.sent old.bench) (bench.sent new.bench)
   pub auditing : files.told → bench.told → IsQuiet bench old.bench → (base : Database) (history : List Answered) →
       ServesOver (files.left old.schema) (files.left old.table) (bench.file old.bench) base history →
-      LeavesOnly bench old.bench new.bench (SendsMeanwhile (audit_over base history) (subjects base.secret.shape) (bench.file old.bench) (bench.sent old.bench))
+      LeavesOnly bench old.bench new.bench (SendsMeanwhile (audit_over base history) (subjects_over base) (bench.file old.bench) (bench.sent old.bench))
   -- it took two calls of the bench to open the journal, and one for each line of the report
-  pub audit_calls : files.told → bench.told → status ≡ Done → (base : Database) → AreFilesOf (files.left old.schema) (files.left old.table) base →
-      bench.moment new.bench ≡ bench.moment old.bench + 2 + length (subjects base.secret.shape)
+  pub audit_calls : files.told → bench.told → status ≡ Done → (base : Database) → AreSoundFilesOf (files.left old.schema) (files.left old.table) base →
+      bench.moment new.bench ≡ bench.moment old.bench + 2 + length (subjects_over base)
   -- if nothing is wrong and nothing fails, it is done
   pub audits : files.told → bench.told → (base : Database) (history : List Answered) →
       ServesOver (files.left old.schema) (files.left old.table) (bench.file old.bench) base history →
@@ -214,10 +214,10 @@ pub record Explaining {P I B : Type 0} (files : source.Ghosts P) (lines : source
 -- a run of `compact`
 pub record Compacting {P I B : Type 0} (files : source.Ghosts P) (lines : source.Ghosts I) (bench : Ghosts B) (status : Status) (old new : Objects P I B) : Type 0 where
   -- over the files of a table and a journal that stands for a legal history of it: the line on what is kept was sent, or a front of
-  -- it, and the spare stood for what is kept before the first byte
+  -- it, and the spare stood for what is kept before the first byte, and held it whole
   pub compacted : files.told → bench.told → (base : Database) (history : List Answered) →
       ServesOver (files.left old.schema) (files.left old.table) (bench.file old.bench) base history →
-      CompactEnds status base.secret.shape history (bench.file new.spare) (bench.sent old.bench) (bench.sent new.bench)
+      CompactEnds status base.secret.shape history (bench.file old.spare) (bench.file new.spare) (bench.sent old.bench) (bench.sent new.bench)
   -- at every moment the spare isn't made, or stands for what is kept; a crash once it is done leaves what it reads
   pub compacting : files.told → bench.told → (IsMade (bench.file old.spare) → ⊥) → IsQuiet bench old.spare → (base : Database) (history : List Answered) →
       ServesOver (files.left old.schema) (files.left old.table) (bench.file old.bench) base history →
@@ -273,7 +273,7 @@ pub record TwinServing {P I B : Type 0} (files : source.Ghosts P) (lines : sourc
   pub twins_left : files.told → lines.told → bench.told → IsQuiet bench old.bench → IsQuiet bench old.spare → (base : Database) (main other whole : List Answered) →
       TwinsOver (files.left old.schema) (files.left old.table) (bench.file old.bench) (bench.file old.spare) base main other whole →
       (image spare : List ℕ) → bench.leaves new.bench image → bench.leaves new.spare spare →
-      LeavesTwins base batch main other whole (counted_lines (lines.left old.input)) (bench.sent old.bench) (bench.sent new.bench) image spare
+      LeavesTwins base batch main other whole (outside lines bench old.input old.bench) (outside lines bench new.input new.bench) image spare
   -- so a life goes on with the run from what a crash leaves of the spare alone, once that isn't behind the longer history
   pub spare_lives : files.told → lines.told → bench.told → IsQuiet bench old.bench → IsQuiet bench old.spare → (base : Database) (at : Standing) →
       GoesOnOver (Serve batch true) (files.left old.schema) (files.left old.table) (bench.file old.bench) (bench.file old.spare) at base →
@@ -302,6 +302,8 @@ pub record TwinServing {P I B : Type 0} (files : source.Ghosts P) (lines : sourc
       BothCause status (Serve batch true) (bench.file old.bench) (bench.file old.spare) (table_in base)
   pub spare_quiet : bench.told → IsQuiet bench old.spare → status ≢ SpareFault → IsQuiet bench new.spare
   pub spare_unsent : bench.sent new.spare ≡ bench.sent old.spare
+  -- a run that is refused leaves the spare as it was
+  pub spare_unwritten : Before reading_lines status (bench.file new.spare ≡ bench.file old.spare)
   -- it took the calls that read each of them back and bring it up; then one of the bench for each line, and four of both for each group in
   -- which some reply makes a record
   pub twin_calls : files.told → lines.told → bench.told → status ≡ Done → (base : Database) (main other whole : List Answered) →

@@ -14,14 +14,14 @@ use Rattle.line_wire.specs.Lines.{CountedLine}
 use Rattle.question_plan.specs.Session.{Replied}
 use Rattle.audit_session.specs.Lives.{Standing, Run, IsLife, KeepsPromise, history_over}
 use Rattle.audit_session.specs.Hidden.{HasTwinLife, with_secrets, run_with, standing_with}
-use Rattle.journal_audit.specs.Reports.{SendsMeanwhile, subjects}
+use Rattle.journal_audit.specs.Reports.{SendsMeanwhile}
 use Rattle.certificate_lines.specs.Explained.{AreExplained}
 use Rattle.transcript_sim.specs.Verdicts.{AreVerdicts}
 use Rattle.auditor_top.specs.declared.status.Status.{Status}
 use Rattle.auditor_top.specs.declared.status.Status.TheVariants.{Done}
 use Rattle.auditor_top.specs.Commands.{AreSoundFilesOf, SimulatesOver}
 use Rattle.auditor_top.specs.Compactions.{CompactEnds, SendsCounts}
-use Rattle.auditor_top.specs.Ends.{AuditEnds, audit_over, public_part}
+use Rattle.auditor_top.specs.Ends.{AuditEnds, audit_over, subjects_over, public_part}
 
 -- after one history the same is shown of both tables: `audit` and `compact` may send of the one what they may send of the other, and nothing
 -- else, by each status and at every moment; `explain` has the same line for every line that is asked; and `simulate` takes the same files, with
@@ -29,12 +29,12 @@ use Rattle.auditor_top.specs.Ends.{AuditEnds, audit_over, public_part}
 pub record AreShownAlike (base other : Database) (history : List Answered) : Type 0 where
   pub report : (status : Status) (before after : List ℕ) → AuditEnds status base history before after ↔ AuditEnds status other history before after
   pub meanwhile : (file before image sent : List ℕ) →
-      SendsMeanwhile (audit_over base history) (subjects base.secret.shape) file before image sent
-      ↔ SendsMeanwhile (audit_over other history) (subjects other.secret.shape) file before image sent
+      SendsMeanwhile (audit_over base history) (subjects_over base) file before image sent
+      ↔ SendsMeanwhile (audit_over other history) (subjects_over other) file before image sent
   pub certificates : (asked : List CountedLine) (lines : List (List ℕ)) →
       AreExplained base.columns (public_part base) history asked lines ↔ AreExplained other.columns (public_part other) history asked lines
-  pub compacted : (status : Status) (spare before after : List ℕ) →
-      CompactEnds status base.secret.shape history spare before after ↔ CompactEnds status other.secret.shape history spare before after
+  pub compacted : (status : Status) (spare new_spare before after : List ℕ) →
+      CompactEnds status base.secret.shape history spare new_spare before after ↔ CompactEnds status other.secret.shape history spare new_spare before after
   pub compacting : (file before image sent : List ℕ) →
       SendsCounts base.secret.shape history file before image sent ↔ SendsCounts other.secret.shape history file before image sent
   pub files : (schema table file : List ℕ) (begun : List Answered) →

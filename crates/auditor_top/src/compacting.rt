@@ -77,10 +77,10 @@ pub fn compact<B: Bench>(
     bench: &mut B,
     spare: &mut B,
 ) -> Result<(), CompactFault>
-    // The spare stands for what is kept before a byte of the line is sent.
-    ensures done { B.told → OnOk result (Compacts store.now.secret.shape store.now.history (B.file spare.new) (B.sent bench.old) (B.sent bench.new)) }
+    // The spare stands for what is kept before a byte of the line is sent, and holds it whole.
+    ensures done { B.told → OnOk result (Compacts store.now.secret.shape store.now.history (B.file spare.old) (B.file spare.new) (B.sent bench.old) (B.sent bench.new)) }
     ensures part { B.told → IsErrOf result CompactFault.Bench
-        → CompactsFront store.now.secret.shape store.now.history (B.file spare.new) (B.sent bench.old) (B.sent bench.new) }
+        → CompactsFront store.now.secret.shape store.now.history (B.file spare.old) (B.file spare.new) (B.sent bench.old) (B.sent bench.new) }
     ensures unsent { OnErr result (result ≢ Err CompactFault.Bench → bench.new ≡ bench.old) }
 
     // It is refused exactly if a journal is made on the spare, which stays as it was.

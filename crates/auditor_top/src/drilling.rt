@@ -26,7 +26,7 @@ use crate::status::Status;
 use answer_journal::{Journal, MakeFault};
 use audit_session::EndFault;
 use audit_store::{StartFault, Store};
-use audit_types::{Guard, MOST_REACH, MOST_WIDTH, NoMemory, Shape};
+use audit_types::{Guard, MOST_REACH, MOST_WIDTH, NoMemory, RowSet, Shape};
 use bench_core::{Bench, Failed, MemoryBench, Room, SteadySource};
 use drill_case::laws::lines_of_replies;
 use drill_case::{drill_lines, drill_schema, drill_table, summary, tally};
@@ -103,10 +103,11 @@ fn answer(
     ensures { OnOk result ((last : List Answered) × Serves (base_of schema.now.columns index.now.public index.now.protected secret) [] (counted_lines lines.items) last (sent_of bench.old) (sent_of bench.new)) }
 {
     journal_form::laws::one_reading();
+    let shared = RowSet::new(secret.shape().rows);
     match Store::start(
         alloc,
         secret,
-        Guard::new(Vec::new(alloc), MOST_WIDTH, MOST_REACH),
+        Guard::new(Vec::new(alloc), shared, MOST_WIDTH, MOST_REACH),
         bench,
     ) {
         Ok(mut store) => answer_over(alloc, schema, index, &mut store, lines, bench),

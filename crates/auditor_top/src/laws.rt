@@ -6,7 +6,7 @@ ghost use Rattle.journal_form.specs.Journal.{StandsFor};
 ghost use Rattle.line_wire.specs.Lines.{CountedLine};
 ghost use Rattle.answer_journal.specs.Moments.{IsMade};
 ghost use Rattle.table_load.specs.Cells.{IsSecret};
-ghost use Rattle.table_load.specs.Database.{Database, IsDatabase, table_in};
+ghost use Rattle.table_load.specs.Database.{Database, IsDatabase, AreLines, table_in};
 ghost use Rattle.audit_session.specs.Stops.{StopsOver, IsBatch};
 ghost use Rattle.auditor_top.specs.Commands.{AreSoundFilesOf};
 ghost use Rattle.auditor_top.specs.Compactions.{DecideAlike, IsUnmadeOrKept};
@@ -15,14 +15,16 @@ ghost use Rattle.auditor_top.specs.Words.{command_of, number_of};
 ghost use Rattle.auditor_top.specs.Promise.{LivesKeepPromise, LivesGoOn, LivesGrow, GrowthsAreTaken, MadeIsTaken, StopsAreTaken, TwinStopsAreTaken, RunsMakeLives, ServedIsSimulated};
 ghost use Rattle.auditor_top.specs.Shown.{TwinsAreShownAlike, TwinsHaveOneReport, LivesTellNothingMore};
 
-// What files without fault mean is a database, and its secrets are those of a table.
+// What files without fault mean is a database, its secrets are those of a table, and behind each row is somebody.
 fn sound_files()
     ensures database { (schema table : List ℕ) (base : Database) → AreSoundFilesOf schema table base → IsDatabase base }
     ensures secret { (schema table : List ℕ) (base : Database) → AreSoundFilesOf schema table base → IsSecret base.secret }
+    ensures lines { (schema table : List ℕ) (base : Database) → AreSoundFilesOf schema table base → AreLines base }
 {
     schema_json::laws::columns_of_a_schema();
     table_load::laws::secrets_of_a_table();
     set_index::groups_of_a_schema();
+    set_index::lines_of_a_table();
 }
 
 /// Every history for which a stop over a legal history of a table leaves an image is a legal history of it, and discloses nothing of

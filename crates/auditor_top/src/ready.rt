@@ -6,6 +6,7 @@ ghost use Rattle.schema_json.specs.SecretShape.{shape_of};
 ghost use Rattle.table_load.specs.Cells.{FitsSchema};
 ghost use Rattle.table_load.specs.Database.{base_of};
 ghost use Rattle.auditor_top.specs.Commands.{AreSoundFilesOf, opens_journal, opens_store, reads_files};
+ghost use Rattle.auditor_top.specs.Ends.{people_told};
 ghost use Rattle.auditor_top.specs.Ready.{IsOpened, IsReady, IsReadyOver, Refuses, command_for};
 
 use crate::opening::{OpenedPublic, open_public, open_table};
@@ -13,7 +14,7 @@ use crate::starting::{ReadyTable, Started, make_ready, start};
 use crate::status::Status;
 use crate::words::Command;
 use audit_store::Store;
-use audit_types::{Guard, Shape};
+use audit_types::{Guard, RowSet, Shape};
 use bench_core::{Bench, Source};
 use schema_json::Schema;
 use set_index::{Index, groups_of_a_schema};
@@ -26,7 +27,8 @@ pub enum Ready {
     Init(Shape),
     Serve(Schema, Index, Store, u8),
     Twin(Schema, Index, Secret, Guard, u8),
-    Audit(Schema, Store),
+    // With how many people the rows stand for, if the schema counts them.
+    Audit(Schema, Option<u64>, Store),
     Simulate(Schema, Index),
     Drill(u32),
     Grow(Secret, Guard),
@@ -94,6 +96,17 @@ fn open_groups<P: Source, B: Bench>(
     Ok(make_ready(alloc, opened)?)
 }
 
+// How many people all rows stand for, if the schema counts them.
+fn people_of(schema: &Schema, index: &Index) -> Option<u64>
+    requires fits { FitsSchema schema.now.columns index.now.public }
+    ensures { result ≡ people_told schema.now.columns index.now.public }
+{
+    let _place = schema.people()?;
+    let mut everyone = RowSet::new(index.public().rows());
+    everyone.flip();
+    Some(index.people(schema, &everyone))
+}
+
 /// Reads the files that the command stands on, and opens the journal of its store.
 pub fn open<P: Source, B: Bench>(
     alloc: Global,
@@ -135,7 +148,8 @@ pub fn open<P: Source, B: Bench>(
         }
         Command::Audit => {
             let started = open_store(alloc, command, schema, table, bench)?;
-            Ok(Ready::Audit(started.schema, started.store))
+            let people = people_of(&started.schema, &started.index);
+            Ok(Ready::Audit(started.schema, people, started.store))
         }
         Command::Simulate => {
             let OpenedPublic { schema, public } = open_public(alloc, schema, table)?;

@@ -147,7 +147,9 @@ pub fn run<P: Source, I: Source, B: Bench>(
             )),
             Err(fault) => Status::from(fault),
         },
-        Ok(Ready::Audit(schema, store)) => reported(audit(alloc, &schema, &store, bench)),
+        Ok(Ready::Audit(schema, people, store)) => {
+            reported(audit(alloc, &schema, &store, people, bench))
+        }
         Ok(Ready::Simulate(schema, index)) => judged(transcript_sim::simulate(
             alloc, &schema, &index, input, bench,
         )),

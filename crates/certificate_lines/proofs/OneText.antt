@@ -45,16 +45,16 @@ module _ (proofs : CanonicalProofsAreOne) (plans : OnePlanIsMade) (fits : AskedQ
     one_for take asked DeniedWide question decided a b first second = first ∙ sym second
 
     -- a plan has one line
-    one_of : (plan : Plan) → ((take : Take) (asked : Asked) → plan ≡ Ask take asked → FitsShape setting.shape asked.column asked.rows)
+    one_of : (plan : Plan) → ((take : Take) (people : ℕ) (asked : Asked) → plan ≡ Ask take people asked → FitsShape setting.shape asked.column asked.rows)
         → (a b : List ℕ) → IsLineOf setting history plan a → IsLineOf setting history plan b → a ≡ b
     one_of (Ready answer) question a b first second = first ∙ sym second
-    one_of (Ask take asked) question a b (inl first) (inl second) = first.1 ∙ sym second.1
-    one_of (Ask take asked) question a b (inl first) (inr second) = absurd (omega (arith, first.0, second.room))
-    one_of (Ask take asked) question a b (inr first) (inl second) = absurd (omega (arith, second.0, first.room))
-    one_of (Ask take asked) question a b (inr first) (inr second) =
+    one_of (Ask take people asked) question a b (inl first) (inl second) = first.1 ∙ sym second.1
+    one_of (Ask take people asked) question a b (inl first) (inr second) = absurd (omega (arith, first.0, second.room))
+    one_of (Ask take people asked) question a b (inr first) (inl second) = absurd (omega (arith, second.0, first.room))
+    one_of (Ask take people asked) question a b (inr first) (inr second) =
         let same : second.verdict ≡ first.verdict = decisions setting history asked.column asked.rows.list second.verdict first.verdict second.decided
         first.decided in
-        one_for take asked first.verdict (question take asked refl) first.decided a b first.line_for
+        one_for take asked first.verdict (question take people asked refl) first.decided a b first.line_for
         (subst (λ (v : Verdict). IsLineFor setting history take asked v b) same second.line_for)
 
   module _ (columns : List Column) (index : IndexView) (history : List Answered) (can : CanBeExplained columns index history) where
@@ -65,7 +65,7 @@ module _ (proofs : CanonicalProofsAreOne) (plans : OnePlanIsMade) (fits : AskedQ
     pub one_line : (asked : CountedLine) (a b : List ℕ) → IsExplained columns index history asked a → IsExplained columns index history asked b → a ≡ b
     one_line asked a b first second =
         one_of setting_is history can.fit can.legal first.plan
-        (λ take question is. fits columns index.public asked take question can.schema
+        (λ take people question is. fits columns index.public asked take people question can.schema
         (subst (λ (p : Plan). IsPlan columns index.public asked p) is first.planned))
         a b first.line_of
         (subst (λ (p : Plan). IsLineOf setting_is history p b) (plans columns index.public asked second.plan first.plan second.planned first.planned)

@@ -31,7 +31,8 @@ pub record ShowsProof (setting : Setting) (history : List Answered) (take : Take
   pub narrow : ¬ (IsTooWide setting history asked)
   pub line_is : line ≡ proof_line take proof
 
--- the certificate of a denial as unsafe: such a line, or the one that says that its proof is too wide
+-- the certificate of a denial as unsafe: such a line, which names no shared row, as a canonical proof doesn't; or the one that says that its proof is
+-- too wide
 abbrev pub IsCertificate : Setting → List Answered → Take → Asked → List ℕ → Type 0
 IsCertificate setting history take asked line = ShowsProof setting history take asked line ⊎ (IsTooWide setting history asked × (line ≡ wide_line))
 
@@ -51,7 +52,7 @@ pub record IsDecided (setting : Setting) (history : List Answered) (take : Take)
 -- the line for a plan: the verdict of its reply, or what its question comes to
 abbrev pub IsLineOf : Setting → List Answered → Plan → List ℕ → Type 0
 IsLineOf setting history (Ready answer) line = line ≡ verdict_bytes (due_of_reply answer)
-IsLineOf setting history (Ask take asked) line =
+IsLineOf setting history (Ask take people asked) line =
     ((most_records ≤ length history) × (line ≡ verdict_bytes (due_of_reply reply.Full))) ⊎ IsDecided setting history take asked line
 
 -- the line that is sent for a counted line

@@ -87,7 +87,7 @@ pub(crate) fn write_line(
         Plan::Ask { .. } if is_full(core) => {
             Ok(write_words(line, verdict_line(due_of_reply(&Reply::Full)))?)
         }
-        Plan::Ask { take, asked } => {
+        Plan::Ask { take, asked, .. } => {
             let verdict = core.decide(asked)?;
             write_verdict(alloc, core, *take, asked, verdict, provers, line)
         }

@@ -1,5 +1,5 @@
--- The set of a sum that is dangerous after a legal history lies outside the span of the column's sets: a legal history pins no row
--- and fixes no protected total, and a set of the span would change neither.
+-- The set of a sum that is dangerous after a legal history lies outside the span of the column's sets: a legal history pins no row that isn't
+-- shared, and fixes no protected total, and a set of the span would change neither.
 use Rattle.std.proofs.Common.{◌≡◌, ◌≢◌, ℕ, zero, suc, ◌+◌, ◌<◌, ◌≤◌, ℤ, pos, List, [], ◌∷◌, ◌++◌, map, length, take, refl, sym, ap, ◌∙◌, subst, arith, inl, inr, add-one}
 use Rattle.std.specs.Prelude.{All, Contains}
 use Rattle.std.specs.List.{AllByRecursion}
@@ -8,12 +8,12 @@ use Rattle.std.proofs.lemmas.List.Elements.{All-weaker}
 use Rattle.std.proofs.lemmas.Option.{slice_get_cases}
 use Rattle.audit_types.specs.declared.records.Answered.{Answered}
 use Rattle.audit_types.specs.declared.shapes.Kind.TheVariants.{Sum}
-use Rattle.audit_types.specs.Rows.{AreRows, has_row}
+use Rattle.audit_types.specs.Rows.{AreRows}
 use Rattle.audit_types.specs.Shapes.{columns, kind_at}
 use Rattle.audit_types.specs.Truth.{sum_over}
 use Rattle.audit_types.specs.Form.{set_row, InSpan}
-use Rattle.audit_types.specs.Column.{Agrees, IsDangerous, known_sum, total, with_groups, with_bounds}
-use Rattle.audit_types.specs.History.{Table, Protection, AreSecrets, IsGuardFor, AgreeWithHistory, IsLegal, answers_of, groups_of, known_of, list_of}
+use Rattle.audit_types.specs.Column.{Agrees, IsDangerous, known_sum, total, guarding, with_bounds}
+use Rattle.audit_types.specs.History.{Table, AreSecrets, IsGuardFor, AgreeWithHistory, IsLegal, answers_of, groups_of, known_of, list_of}
 use Rattle.audit_types.specs.Laws.{TrueAnswersKeepAgreement}
 use Rattle.audit_types.specs.ListLaws.{all-get_or, all-push, all-weaker}
 use Rattle.audit_types.specs.OutsiderLaws.{some_row}
@@ -96,15 +96,16 @@ module _ (laws : LegalLaws) (table : Table) (history : List Answered) (secrets :
           let answers = answers_of column history in
           let sets : List (List ℕ) = map (λ a. a.rows) answers in
           let groups_are = groups_of column table.setting.protected.groups in
-          let known = with_groups (with_bounds (known_sum n answers) table.setting.protected.width table.setting.protected.reach) groups_are in
+          let shared = table.setting.protected.shared in
+          let known = guarding (with_bounds (known_sum n answers) table.setting.protected.width table.setting.protected.reach) shared groups_are in
           let of_sums : IsDangerous known rows = subst (λ k. IsDangerous k rows) (outsiders_sums table.setting history column protected.1 sums) danger in
           let with_asked = all-push (AreRows n) sets rows are own in
           let group_rows = All-weaker (λ group. AreRows n group × (group ≢ [])) (AreRows n) (λ group is. is.0) groups_are groups in
-          elim (outsiders_danger known (sets ++ rows ∷ []) refl refl
-          ((laws.dangerous n answers [] [] groups_are 0 table.setting.protected.width table.setting.protected.reach rows with_asked group_rows
+          elim (outsiders_danger known (sets ++ rows ∷ []) refl
+          ((laws.dangerous n answers shared shared groups_are 0 table.setting.protected.width table.setting.protected.reach rows with_asked group_rows
           (list_of table.secrets column, own_agrees)).0 of_sums)) [
-            | inl (i, pinned) ↦
-                laws.pins_nothing table history column i secrets protected.0 legal below sums (ap (λ (p : Protection). has_row p.shared i) protected.1)
+            | inl (i, mine, pinned) ↦
+                laws.pins_nothing table history column i secrets protected.0 legal below sums mine
                 (record {
                   below = pinned.below;
                   still = λ d direction. pinned.still d (record {

@@ -3,10 +3,9 @@ use Rattle.std.proofs.Common.{◌≡◌, ℕ, List, sym, ◌∙◌, subst}
 use Rattle.std.specs.Prelude.{Result, Ok, Err, IfOk}
 use Rattle.audit_types.specs.declared.records.Answered.{Answered}
 use Rattle.audit_types.specs.declared.records.Asked.{Asked}
-use Rattle.audit_types.specs.declared.records.Protected.{Protected}
 use Rattle.audit_types.specs.declared.shapes.Kind.TheVariants as kind
 use Rattle.audit_types.specs.Shapes.{kind_at}
-use Rattle.audit_types.specs.History.{Setting}
+use Rattle.audit_types.specs.History.{Setting, Protection}
 use Rattle.denial_proof.specs.declared.proof_parts.Proof.{Proof}
 use Rattle.denial_proof.specs.declared.proof_parts.Proof.TheVariants.{Sum, Max}
 use Rattle.denial_proof.specs.declared.proof_parts.ProveFault.{ProveFault}
@@ -15,18 +14,18 @@ use Rattle.denial_proof.specs.Canonical.{IsSumProof, IsMaxProof, IsCanonical, Is
 
 module _ (setting : Setting) (history : List Answered) (asked : Asked) (n : ℕ) (records : List Answered) (same_n : n ≡ setting.shape.rows)
     (same : records ≡ history) where
-  module _ (entries : List Protected) (same_entries : entries ≡ setting.protected.groups) where
+  module _ (entries : Protection) (same_entries : entries ≡ setting.protected) where
     -- what holds of the column's rows, the lent records and the lent entries, holds of those of the table
-    pub of_table : (P : ℕ → List Answered → List Protected → Type 0) → P n records entries → P setting.shape.rows history setting.protected.groups
-    of_table P holds = subst (λ k. P k history setting.protected.groups) same_n
-        (subst (λ list. P n list setting.protected.groups) same (subst (P n records) same_entries holds))
+    pub of_table : (P : ℕ → List Answered → Protection → Type 0) → P n records entries → P setting.shape.rows history setting.protected
+    of_table P holds = subst (λ k. P k history setting.protected) same_n
+        (subst (λ list. P n list setting.protected) same (subst (P n records) same_entries holds))
 
-    pub of_column : (P : ℕ → List Answered → List Protected → Type 0) → P setting.shape.rows history setting.protected.groups → P n records entries
+    pub of_column : (P : ℕ → List Answered → Protection → Type 0) → P setting.shape.rows history setting.protected → P n records entries
     of_column P holds = subst (λ k. P k records entries) (sym same_n)
         (subst (λ list. P setting.shape.rows list entries) (sym same) (subst (P setting.shape.rows history) (sym same_entries) holds))
 
     module _ (sums : kind_at setting.shape asked.column ≡ kind.Sum) where
-      by_sum : (result : Result Proof ProveFault) → IfOk result (IsSumProof setting.shape.rows history setting.protected.groups asked) →
+      by_sum : (result : Result Proof ProveFault) → IfOk result (IsSumProof setting.shape.rows history setting.protected asked) →
           IfOk result (IsCanonical setting history asked) × IfOk result (IsProof setting history asked)
       by_sum (Ok (Sum target times terms own)) is = ((sums, is.0), (sums, is.1))
       by_sum (Ok (Max answer row place high)) is = absurd is
@@ -45,12 +44,17 @@ module _ (setting : Setting) (history : List Answered) (asked : Asked) (n : ℕ)
       sum_is_wide wide = (sums, of_table (λ k list groups. IsSumTooWide k list groups asked) wide)
 
   module _ (maxima : kind_at setting.shape asked.column ≡ kind.Max) where
-    by_max : (proof : Proof) → IsMaxProof setting.shape.rows history asked proof → IsCanonical setting history asked proof × IsProof setting history asked proof
+    by_max : (proof : Proof) → IsMaxProof setting.shape.rows setting.protected.shared history asked proof → IsCanonical setting history asked proof ×
+        IsProof setting history asked proof
     by_max (Sum target times terms own) is = absurd is
     by_max (Max answer row place high) is = ((maxima, is.0), (maxima, is.1))
 
-    pub max_is : (proof : Proof) → IsMaxProof n records asked proof → IsCanonical setting history asked proof × IsProof setting history asked proof
-    max_is proof is = by_max proof (subst (λ k. IsMaxProof k history asked proof) same_n (subst (λ list. IsMaxProof n list asked proof) same is))
+    pub max_is : (shared : List ℕ) → shared ≡ setting.protected.shared → (proof : Proof) → IsMaxProof n shared records asked proof →
+        IsCanonical setting history asked proof × IsProof setting history asked proof
+    max_is shared same_shared proof is =
+        by_max proof
+        (subst (λ l. IsMaxProof setting.shape.rows l history asked proof) same_shared
+        (subst (λ k. IsMaxProof k shared history asked proof) same_n (subst (λ list. IsMaxProof n shared list asked proof) same is)))
 
     -- only sums are too wide
     pub max_is_narrow : ¬ (IsTooWide setting history asked)

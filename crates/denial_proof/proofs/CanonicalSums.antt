@@ -9,7 +9,7 @@ use Rattle.std.proofs.lemmas.Nat.Gcd.{dvd-zero}
 use Rattle.std.proofs.Math.IntN.{zero-*ℤ, *ℤ_comm}
 use Rattle.audit_types.specs.declared.records.Answered.{Answered}
 use Rattle.audit_types.specs.declared.records.Asked.{Asked}
-use Rattle.audit_types.specs.declared.records.Protected.{Protected}
+use Rattle.audit_types.specs.History.{Protection}
 use Rattle.audit_types.specs.Rows.{has_row, AscendsFrom}
 use Rattle.audit_types.specs.FilteredRows.{from_lower}
 use Rattle.audit_types.specs.Truth.{number_at, is_zero}
@@ -153,7 +153,7 @@ terms_add_up n history (p ∷ places) (x ∷ numbers) j l = go (is_zero x) refl 
 
 -- ---- the canonical proof
 
-pub canonical_sum : (n : ℕ) (history : List Answered) (protected : List Protected) (asked : Asked) (places : List ℕ) (target : Target) (times : ℤ)
+pub canonical_sum : (n : ℕ) (history : List Answered) (protected : Protection) (asked : Asked) (places : List ℕ) (target : Target) (times : ℤ)
     (numbers : List ℤ) → AreKept n asked.column history places →
     IsFirstTarget n protected asked.column (sets_with_asked history asked) target →
     ComeTo n (kept_sets history places asked.rows.list) (set_row n (rows_of protected target)) times numbers →

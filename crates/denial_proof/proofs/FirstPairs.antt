@@ -9,10 +9,11 @@ use Rattle.audit_types.specs.declared.records.Answered.{Answered}
 use Rattle.audit_types.specs.Rows.{has_row}
 use Rattle.audit_types.specs.Truth.{number_at}
 use Rattle.audit_types.specs.PrimitiveLines.{same_rows}
-use Rattle.audit_types.specs.Column.{Answer, known_max}
-use Rattle.audit_types.specs.Extremes.{IsConsistent, IsLeastLone, least_of, upper_bound}
+use Rattle.audit_types.specs.Column.{Answer, Known, known_max, guarding}
+use Rattle.audit_types.specs.Extremes.{IsConsistent, least_of, upper_bound}
 use Rattle.max_bounds.specs.BoundLaws.{upper_bound-push}
 use Rattle.max_bounds.specs.Maxima.{and_answer}
+use Rattle.max_bounds.specs.Outside.{IsLeastOwnLone}
 use Rattle.max_audit.specs.Candidates.{AreCandidates}
 use Rattle.max_audit.specs.HighestLaws.{number_at-highest, length-highest}
 use Rattle.max_audit.specs.Laws.{LeavesLoneRow, HasBadCandidate}
@@ -77,15 +78,16 @@ heights_push answers row list x far is = record {
 -- ---- the answer
 
 -- what a trial tells
-pub lone_some : (answers : List Answer) (lone : Option ℕ) → IsConsistent answers → IsLeastLone answers lone →
-    IfSome lone (λ row. IsConsistent answers × IsLeastLone answers (Some row))
-lone_some answers None consistent least = tt
-lone_some answers (Some row) consistent least = (consistent, least)
+pub lone_some : (shared : List ℕ) (answers : List Answer) (lone : Option ℕ) → IsConsistent answers → IsLeastOwnLone shared answers lone →
+    IfSome lone (λ row. IsConsistent answers × IsLeastOwnLone shared answers (Some row))
+lone_some shared answers None consistent least = tt
+lone_some shared answers (Some row) consistent least = (consistent, least)
 
-pub lone_none : (n : ℕ) (answers : List Answer) (rows : List ℕ) (answer : ℤ) (lone : Option ℕ) → IsLeastLone (and_answer answers rows answer) lone →
-    IfNone lone (¬ (LeavesLoneRow (known_max n answers) rows answer))
-lone_none n answers rows answer None least = λ leaves. least leaves.row leaves.lone
-lone_none n answers rows answer (Some row) least = tt
+pub lone_none : (n : ℕ) (shared : List ℕ) (answers : List Answer) (rows : List ℕ) (answer : ℤ) (lone : Option ℕ) → IsLeastOwnLone shared
+    (and_answer answers rows answer) lone →
+    IfNone lone (¬ (LeavesLoneRow (guarding (known_max n answers) shared []) rows answer))
+lone_none n shared answers rows answer None least = λ leaves. least leaves.row (leaves.lone, leaves.own)
+lone_none n shared answers rows answer (Some row) least = tt
 
 -- a later candidate is greater
 greater_later : (list : List ℤ) → ((k : ℕ) → k + 1 < length list → slice_index_or list k (pos 0) <ℤ slice_index_or list (k + 1) (pos 0)) → (i d : ℕ) →
@@ -106,10 +108,14 @@ same_default [] i d e l = absurd (omega arith)
 same_default (y ∷ xs) zero d e l = refl
 same_default (y ∷ xs) (suc i) d e l = same_default xs i d e (omega arith)
 
-module _ (n : ℕ) (answers : List Answer) (rows : List ℕ) (list : List ℤ) (are : AreCandidates answers list) where
+module _ (n : ℕ) (shared : List ℕ) (answers : List Answer) (rows : List ℕ) (list : List ℤ) (are : AreCandidates answers list) where
+  -- what is known of the column
+  abbrev known : Known
+  known = guarding (known_max n answers) shared []
+
   -- no earlier candidate leaves a lone row
   abbrev pub NoneBefore : ℕ → Type 0
-  NoneBefore i = (k : ℕ) → k < i → ¬ (LeavesLoneRow (known_max n answers) rows (slice_index_or list k (pos 0)))
+  NoneBefore i = (k : ℕ) → k < i → ¬ (LeavesLoneRow (guarding (known_max n answers) shared []) rows (slice_index_or list k (pos 0)))
 
   -- what the list has at a place, whatever stands past it
   at_place : (k : ℕ) (x : ℤ) → k < length list → slice_index_or list k x ≡ x → slice_index_or list k (pos 0) ≡ x
@@ -118,16 +124,16 @@ module _ (n : ℕ) (answers : List Answer) (rows : List ℕ) (list : List ℤ) (
   -- so a candidate that does is the least
   pub first_found : (i : ℕ) (answer : ℤ) (row : ℕ) → i < length list → slice_index_or list i answer ≡ answer → NoneBefore i →
       IsConsistent (and_answer answers rows answer) →
-      IsLeastLone (and_answer answers rows answer) (Some row) → IsFirstAnswer (known_max n answers) rows answer
+      IsLeastOwnLone shared (and_answer answers rows answer) (Some row) → IsFirstAnswer (guarding (known_max n answers) shared []) rows answer
   first_found i answer row below is none possible least = record {
     candidate = (are.each answer).0 (i, below, is);
-    leaves = record { possible = possible; row = row; lone = least.0; own = refl };
+    leaves = record { possible = possible; row = row; lone = least.0.0; own = least.0.1 };
     least = λ other candidate less leaves.
         let found = (are.each other).1 candidate in
         let here = at_place i answer below is in
         let there = at_place found.0 other found.1 found.2 in
         elim (cases_lt found.0 i) [
-          | inl earlier ↦ none found.0 earlier (subst (LeavesLoneRow (known_max n answers) rows) (sym there) leaves)
+          | inl earlier ↦ none found.0 earlier (subst (LeavesLoneRow known rows) (sym there) leaves)
           | inr later ↦
               let order = greater_later list are.ascending i (found.0 - i) (omega arith) in
               let same : slice_index_or list (i + (found.0 - i)) (pos 0) ≡ slice_index_or list found.0 (pos 0) =
@@ -137,7 +143,7 @@ module _ (n : ℕ) (answers : List Answer) (rows : List ℕ) (list : List ℤ) (
   }
 
   -- and if none does, none is bad
-  pub none_found : NoneBefore (length list) → ¬ (HasBadCandidate (known_max n answers) rows)
+  pub none_found : NoneBefore (length list) → ¬ (HasBadCandidate (guarding (known_max n answers) shared []) rows)
   none_found none bad =
       let found = (are.each bad.answer).1 bad.candidate in
-      none found.0 found.1 (subst (LeavesLoneRow (known_max n answers) rows) (sym (at_place found.0 bad.answer found.1 found.2)) bad.leaves)
+      none found.0 found.1 (subst (LeavesLoneRow known rows) (sym (at_place found.0 bad.answer found.1 found.2)) bad.leaves)

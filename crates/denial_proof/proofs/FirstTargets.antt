@@ -1,23 +1,25 @@
 -- Which targets the form of sets gives away: those of the sets.
-use Rattle.std.proofs.Common.{◌≡◌, ℕ, ◌<◌, true, false, ◌||◌, ◌==◌, List, [], ◌∷◌, Some, refl, sym, ap, ◌∙◌, subst, arith, inl, inr}
+use Rattle.std.proofs.Common.{◌≡◌, ℕ, ◌<◌, true, false, ◌||◌, ◌==◌, [], ◌∷◌, Some, refl, sym, ap, ◌∙◌, subst, arith, inl, inr}
 use Rattle.std.specs.Prelude.{slice_get}
 use Rattle.std.proofs.lemmas.Bool.{cases_eq, cases_lt, eq-eqb, ne_eqb}
 use Rattle.audit_types.specs.Rows.{has_row, with_row}
 use Rattle.audit_types.specs.RowLaws.{ascending_same, AreRows-rows_that, has-rows_that, has-rows_that_above}
 use Rattle.audit_types.specs.declared.records.Protected.{Protected}
+use Rattle.audit_types.specs.History.{Protection}
 use Rattle.audit_types.specs.Form.{set_row, InSpan}
 use Rattle.sum_basis.specs.Basis.{Echelon}
 use Rattle.denial_proof.specs.Targets.{SpansGroup}
 
 -- an entry of another column, or one whose row lies outside of the span, isn't given away
-pub not_own : (form : Echelon) (protected : List Protected) (column place : ℕ) (p : Protected) → slice_get protected place ≡ Some p → (p.column ≡ column → ⊥) →
+pub not_own : (form : Echelon) (protected : Protection) (column place : ℕ) (p : Protected) → slice_get protected.groups place ≡ Some p
+    → (p.column ≡ column → ⊥) →
     ¬ (SpansGroup form protected column place)
 not_own form protected column place p there other spans =
     let one : Some p ≡ Some spans.entry = sym there ∙ spans.there in
     let same : p ≡ spans.entry = cc in
     other (ap (λ (q : Protected). q.column) same ∙ spans.own)
 
-pub not_spanned : (form : Echelon) (protected : List Protected) (column place : ℕ) (p : Protected) → slice_get protected place ≡ Some p →
+pub not_spanned : (form : Echelon) (protected : Protection) (column place : ℕ) (p : Protected) → slice_get protected.groups place ≡ Some p →
     ¬ (InSpan form.rows (set_row form.n p.rows.list)) →
     ¬ (SpansGroup form protected column place)
 not_spanned form protected column place p there outside spans =

@@ -1,4 +1,4 @@
--- There are fewer kept records than rows if the records leave some row's number open.
+-- There are fewer kept records than rows if some set lies outside their span.
 use Rattle.std.proofs.Common.{◌≡◌, ℕ, ◌+◌, ◌≤◌, ℤ, List, [], ◌∷◌, ◌++◌, map, length, ◌∙◌, arith, length-append}
 use Rattle.std.proofs.lemmas.List.{length-map}
 use Rattle.audit_types.specs.declared.records.Answered.{Answered}

@@ -1,11 +1,11 @@
--- What an outlook rules out leaves no lone row: an answer that is possible and leaves one passes.
-use Rattle.std.proofs.Common.{◌≡◌, ℕ, ◌<◌, true, ℤ, List, [], ◌∷◌, length, Option, Some, None, sym, ◌∙◌, subst, arith, inl, inr, ◌⊎◌}
-use Rattle.std.specs.Prelude.{◌<ℤ◌, ◌≤ℤ◌, IsTrue}
+-- What an outlook rules out leaves no lone row that isn't shared: an answer that is possible and leaves one passes.
+use Rattle.std.proofs.Common.{◌≡◌, ℕ, ◌<◌, true, false, ℤ, List, [], ◌∷◌, length, Option, Some, None, sym, ap, ◌∙◌, subst, arith, inl, inr, ◌⊎◌}
+use Rattle.std.specs.Prelude.{◌<ℤ◌, ◌≤ℤ◌}
 use Rattle.std.proofs.lemmas.Bool.{true≢false}
 use Rattle.std.proofs.lemmas.Int.{ints, by_lt_z}
 use Rattle.audit_types.specs.Rows.{has_row}
-use Rattle.audit_types.specs.Column.{Answer, IsOneOf, known_max}
-use Rattle.audit_types.specs.Extremes.{upper_bound, extremes}
+use Rattle.audit_types.specs.Column.{Answer, IsOneOf, known_max, guarding}
+use Rattle.audit_types.specs.Extremes.{upper_bound, extremes, IsLone}
 use Rattle.max_audit.specs.Candidates.{IsNearRange}
 use Rattle.max_audit.specs.Laws.{LeavesLoneRow}
 use Rattle.max_bounds.specs.AnswerLaws.{all_at, one_of_front, one_of_last, front_or_last}
@@ -13,7 +13,7 @@ use Rattle.max_bounds.specs.OneMoreLaws.{IsAtLeast, asked, with_asked, lower_kee
 use Rattle.max_bounds.specs.Outside.{outside}
 use Rattle.max_bounds.specs.RowListLaws.{first_or_later, some_row}
 use Rattle.denial_proof.specs.declared.outlook.Outlook.{Outlook}
-use Rattle.denial_proof.specs.Outlook.{reach_of, HasTwoOutside, IsOutlook, MayLeaveOne}
+use Rattle.denial_proof.specs.Outlook.{reach_of, HasMoreOutside, IsOutlook, MayLeaveOne}
 
 -- the row of a list of one row
 only_row : (row r : ℕ) → has_row (row ∷ []) r ≡ true → row ≡ r
@@ -28,8 +28,9 @@ reach_down : (x : ℤ) (bound : Option ℤ) → x ≤ℤ reach_of bound → IsAt
 reach_down x None reaches = tt
 reach_down x (Some b) reaches = reaches
 
-module _ (n : ℕ) (answers : List Answer) (rows : List ℕ) (outlook : Outlook) (x : ℤ) (near : IsNearRange x) (is : IsOutlook answers rows outlook)
-    (leaves : LeavesLoneRow (known_max n answers) rows x) where
+module _ (n : ℕ) (answers : List Answer) (shared rows : List ℕ) (outlook : Outlook) (x : ℤ) (near : IsNearRange x)
+    (none_lone : (row : ℕ) → has_row shared row ≡ false → ¬ (IsLone answers row)) (is : IsOutlook answers shared rows outlook)
+    (leaves : LeavesLoneRow (guarding (known_max n answers) shared []) rows x) where
   -- each answer has an extreme row
   some_extreme : (a : Answer) → IsOneOf a (with_asked answers rows x) → 0 < length (extremes (with_asked answers rows x) a)
   some_extreme a one = all_at (λ (b : Answer). 0 < length (extremes (with_asked answers rows x) b)) (with_asked answers rows x) a leaves.possible one
@@ -57,34 +58,43 @@ module _ (n : ℕ) (answers : List Answer) (rows : List ℕ) (outlook : Outlook)
       let least = reach_up x (upper_bound answers found.0) near there.1 in
       omega (arith, ints)
 
-  -- an earlier answer has a lone row because it had it before, or because it is above the new one and has one row left
-  of_earlier : (a : Answer) → IsOneOf a answers → extremes (with_asked answers rows x) a ≡ leaves.row ∷ [] → IsTrue outlook.is_lone ⊎
-      ((x <ℤ outlook.holding.stranded) ⊎ (outlook.reach.next <ℤ x))
+  -- the lone row isn't shared
+  not_shared : (r : ℕ) → leaves.row ≡ r → has_row shared r ≡ true → ⊥
+  not_shared r same there = true≢false (sym there ∙ ap (has_row shared) (sym same) ∙ leaves.own)
+
+  -- an earlier answer had no lone row before, so it is above the new one and has one row left
+  of_earlier : (a : Answer) → IsOneOf a answers → extremes (with_asked answers rows x) a ≡ leaves.row ∷ [] →
+      (x <ℤ outlook.holding.stranded) ⊎ (outlook.reach.next <ℤ x)
   of_earlier a one only = by_lt_z x a.value
       (λ less.
       let left : outside rows (extremes answers a) ≡ leaves.row ∷ [] = sym (higher_loses answers rows x a one less) ∙ only in
-      elim (all_at (λ (b : Answer). HasTwoOutside answers rows b ⊎ (b.value ≤ℤ outlook.holding.stranded)) answers a is.holding.others one) [
-        | inl two ↦
+      elim (all_at (λ (b : Answer). HasMoreOutside answers shared rows b ⊎ (b.value ≤ℤ outlook.holding.stranded)) answers a is.holding.others one) [
+        | inl (inr (r, there, common)) ↦
+            absurd (not_shared r (only_row leaves.row r (subst (λ (l : List ℕ). has_row l r ≡ true) left there)) common)
+        | inl (inl two) ↦
             let first = only_row leaves.row two.one (subst (λ (l : List ℕ). has_row l two.one ≡ true) left two.has_one) in
             let second = only_row leaves.row two.other (subst (λ (l : List ℕ). has_row l two.other ≡ true) left two.has_other) in
             absurd (two.apart (sym first ∙ second))
-        | inr most ↦ inr (inl (omega (arith, ints)))
+        | inr most ↦ inl (omega (arith, ints))
       ])
-      (λ more. inl (is.lone leaves.row (a, one, sym (lower_keeps answers rows x a one (omega (arith, ints))) ∙ only)))
+      (λ more. absurd (none_lone leaves.row leaves.own (a, one, sym (lower_keeps answers rows x a one (omega (arith, ints))) ∙ only)))
 
-  -- the new one because no two rows of the set reach it
-  of_asked : extremes (with_asked answers rows x) (asked answers rows x) ≡ leaves.row ∷ [] → IsTrue outlook.is_lone ⊎
-      ((x <ℤ outlook.holding.stranded) ⊎ (outlook.reach.next <ℤ x))
+  -- the new one has it because no two rows of the set reach it, and no shared one
+  of_asked : extremes (with_asked answers rows x) (asked answers rows x) ≡ leaves.row ∷ [] →
+      (x <ℤ outlook.holding.stranded) ⊎ (outlook.reach.next <ℤ x)
   of_asked only = by_lt_z outlook.reach.next x
-      (λ less. inr (inr less))
+      (λ less. inr less)
       (λ more. elim is.reach.next [
         | inl none ↦ let least = near.low in absurd (omega (arith, ints))
-        | inr two ↦
+        | inr reached_by ↦
             let at : (r : ℕ) → has_row rows r ≡ true → outlook.reach.next ≤ℤ reach_of (upper_bound answers r) → leaves.row ≡ r
             = λ r there high.
             only_row leaves.row r (subst (λ (l : List ℕ). has_row l r ≡ true) only
             (asked_has answers rows x r there (reach_down x (upper_bound answers r) (omega (arith, ints))))) in
-            absurd (two.apart (sym (at two.one two.has_one two.one_reaches) ∙ at two.other two.has_other two.other_reaches))
+            elim reached_by [
+              | inl two ↦ absurd (two.apart (sym (at two.one two.has_one two.one_reaches) ∙ at two.other two.has_other two.other_reaches))
+              | inr one ↦ absurd (not_shared one.row (at one.row one.holds one.reaches) one.shared_row)
+            ]
       ])
 
   pub may_leave_one : MayLeaveOne outlook x

@@ -7,8 +7,8 @@ use Rattle.audit_types.specs.declared.records.Asked.{Asked}
 use Rattle.audit_types.specs.Rows.{has_row, AreRows, IsLeast}
 use Rattle.audit_types.specs.RowLaws.{ascending_same, has_first}
 use Rattle.audit_types.specs.Truth.{number_at}
-use Rattle.audit_types.specs.Column.{Answer, IsOneOf, IsWellFormed, known_max}
-use Rattle.audit_types.specs.Extremes.{upper_bound, is_bound, extremes, IsLone, IsLeastLone}
+use Rattle.audit_types.specs.Column.{Answer, IsOneOf, IsWellFormed, known_max, guarding}
+use Rattle.audit_types.specs.Extremes.{upper_bound, is_bound, extremes, IsLone}
 use Rattle.audit_types.specs.History.{answers_of, answer_in}
 use Rattle.max_bounds.specs.AnswerLaws.{all_at, one_of_front}
 use Rattle.max_bounds.specs.BoundLaws.{bound_below, bound_is, exact_bound}
@@ -21,6 +21,7 @@ use Rattle.denial_proof.specs.Canonical.{IsOnlyAt, IsLoneAt, IsFirstAnswer, IsCa
 use Rattle.denial_proof.proofs.OnePair.{record_is_one}
 use Rattle.denial_proof.proofs.HighestShows.{highest_shows}
 use Rattle.max_bounds.specs.Maxima.{and_answer}
+use Rattle.max_bounds.specs.Outside.{IsLeastOwnLone}
 use Rattle.max_audit.specs.Laws.{HighestAgrees}
 use Rattle.audit_types.specs.ListLaws.{all-push}
 
@@ -105,22 +106,24 @@ formed_after n before rows answer formed are some = record {
 }
 
 -- what was found is the canonical proof
-pub canonical_from : HighestAgrees → (n : ℕ) (history : List Answered) (asked : Asked) (before : List Answer) (answer : ℤ) (row : ℕ) (place : Option ℕ)
+pub canonical_from : HighestAgrees → (n : ℕ) (shared : List ℕ) (history : List Answered) (asked : Asked) (before : List Answer) (answer : ℤ) (row : ℕ)
+    (place : Option ℕ)
     (high : List ℤ) → before ≡ answers_of asked.column history →
-    IsWellFormed (known_max n before) → AreRows n asked.rows.list → asked.rows.list ≢ [] → IsFirstAnswer (known_max n before) asked.rows.list answer →
-    IsLeastLone (and_answer before asked.rows.list answer) (Some row) → high ≡ highest n (and_answer before asked.rows.list answer) →
+    IsWellFormed (known_max n before) → AreRows n asked.rows.list → asked.rows.list ≢ [] → IsFirstAnswer (guarding (known_max n before) shared [])
+    asked.rows.list answer →
+    IsLeastOwnLone shared (and_answer before asked.rows.list answer) (Some row) → high ≡ highest n (and_answer before asked.rows.list answer) →
     IsLeast (IsOnlyAt history asked.column high row) place →
-    IsCanonicalMax n history asked answer row place high × ShowsRow n history asked answer row place high
-canonical_from agrees n history asked before answer row place high same formed are some first least highest_is pairs =
+    IsCanonicalMax n shared history asked answer row place high × ShowsRow n shared history asked answer row place high
+canonical_from agrees n shared history asked before answer row place high same formed are some first least highest_is pairs =
     let own = subst (λ (b : List Answer). IsWellFormed (known_max n b)) same formed in
     let all = formed_after n (answers_of asked.column history) asked.rows.list answer own are some in
     let high_is : high ≡ highest n (answers_after history asked answer) = highest_is
     ∙ ap (λ (b : List Answer). highest n (and_answer b asked.rows.list answer)) same in
-    let canonical : IsCanonicalMax n history asked answer row place high = record {
-      first_answer = subst (λ (b : List Answer). IsFirstAnswer (known_max n b) asked.rows.list answer) same first;
-      least_row = subst (λ (b : List Answer). IsLeastLone (and_answer b asked.rows.list answer) (Some row)) same least;
+    let canonical : IsCanonicalMax n shared history asked answer row place high = record {
+      first_answer = subst (λ (b : List Answer). IsFirstAnswer (guarding (known_max n b) shared []) asked.rows.list answer) same first;
+      least_row = subst (λ (b : List Answer). IsLeastOwnLone shared (and_answer b asked.rows.list answer) (Some row)) same least;
       first_pair = first_is_lone n history asked answer row place all
           (subst (λ (h : List ℤ). IsLeast (IsOnlyAt history asked.column h row) place) high_is pairs);
       highest_is = high_is;
     } in
-    (canonical, highest_shows agrees n history asked answer row place high all canonical)
+    (canonical, highest_shows agrees n shared history asked answer row place high all canonical)

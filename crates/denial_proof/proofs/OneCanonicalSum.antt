@@ -10,7 +10,7 @@ use Rattle.std.proofs.lemmas.List.{length-map, map-append, get_or_past}
 use Rattle.std.proofs.Math.IntN.{*ℤ_comm, *ℤ-zero}
 use Rattle.audit_types.specs.declared.records.Answered.{Answered}
 use Rattle.audit_types.specs.declared.records.Asked.{Asked}
-use Rattle.audit_types.specs.declared.records.Protected.{Protected}
+use Rattle.audit_types.specs.History.{Protection}
 use Rattle.audit_types.specs.Rows.{has_row, AscendsFrom, IsLeast}
 use Rattle.audit_types.specs.RowLaws.{ascends_more, ascending_same}
 use Rattle.audit_types.specs.ListLaws.{all-get_or}
@@ -19,7 +19,6 @@ use Rattle.audit_types.specs.PrimitiveLines.{times, one_primitive}
 use Rattle.audit_types.specs.Products.{neg-times, times_assoc}
 use Rattle.audit_types.specs.RowNumbers.{number_at-set_row}
 use Rattle.audit_types.specs.Truth.{number_at}
-use Rattle.audit_types.specs.Direction.{IsPinned}
 use Rattle.audit_types.specs.Form.{set_row, combined}
 use Rattle.int_rows.specs.ContentLaws.{all-ones}
 use Rattle.sum_basis.specs.Basis.{Echelon}
@@ -36,7 +35,7 @@ use Rattle.denial_proof.specs.Weights.{rows_at, sum_at, weight_of}
 use Rattle.denial_proof.specs.Certificates.{IsSmall, IsTerm, rows_of}
 use Rattle.denial_proof.specs.Kept.{AreKept, AreIndependent, AreMarks, HasWideFront, kept_sets, marked_rows}
 use Rattle.denial_proof.specs.Numbers.{terms_of, ComeTo}
-use Rattle.denial_proof.specs.Canonical.{IsCanonicalSum, IsFirstTarget, IsSpannedGroup, IsSumProof, IsSumTooWide, sets_with_asked}
+use Rattle.denial_proof.specs.Canonical.{IsCanonicalSum, IsFirstTarget, IsPinnedOwn, IsSpannedGroup, IsSumProof, IsSumTooWide, sets_with_asked}
 use Rattle.denial_proof.proofs.TotalsFollow.{chosen}
 use Rattle.denial_proof.proofs.Independence.{combined-push}
 use Rattle.denial_proof.proofs.CanonicalSums.{terms_add_up, terms_numbers}
@@ -128,7 +127,7 @@ numbers_of low end (p ∷ places) (t ∷ terms) own order ascends named counted 
 
 -- ---- canonical proofs
 
-module _ (n : ℕ) (history : List Answered) (protected : List Protected) (asked : Asked) (target : Target) (times : ℤ) (terms : List Term) (own : ℤ)
+module _ (n : ℕ) (history : List Answered) (protected : Protection) (asked : Asked) (target : Target) (times : ℤ) (terms : List Term) (own : ℤ)
     (canonical : IsCanonicalSum n history protected asked target times terms own) where
   has_numbers : HasNumbers canonical.places terms own
   has_numbers = numbers_of 0 (length history) canonical.places terms own canonical.kept.ascending canonical.ascending canonical.named canonical.counted
@@ -185,7 +184,7 @@ same_kept n column history places others first second =
     same_test false false there back = refl
 
 -- two canonical proofs for one target are the same
-pub same_parts : (n : ℕ) (history : List Answered) (protected : List Protected) (asked : Asked) (target : Target) (times other : ℤ) (terms others : List Term)
+pub same_parts : (n : ℕ) (history : List Answered) (protected : Protection) (asked : Asked) (target : Target) (times other : ℤ) (terms others : List Term)
     (own else : ℤ)
     (first : IsCanonicalSum n history protected asked target times terms own) → IsCanonicalSum n history protected asked target other others else →
     AreIndependent n (kept_sets history first.places asked.rows.list) → (times ≡ other) × (own ≡ else) × (terms ≡ others)
@@ -209,7 +208,7 @@ same_parts n history protected asked target times other terms others own else fi
     (same_times, same_own, same_terms)
 
 -- so what holds of the numbers of one holds of those of the other
-same_numbers : (P : ℤ → Type 0) (n : ℕ) (history : List Answered) (protected : List Protected) (asked : Asked) (target : Target) (times other : ℤ)
+same_numbers : (P : ℤ → Type 0) (n : ℕ) (history : List Answered) (protected : Protection) (asked : Asked) (target : Target) (times other : ℤ)
     (terms others : List Term) (own else : ℤ)
     (first : IsCanonicalSum n history protected asked target times terms own) → IsCanonicalSum n history protected asked target other others else →
     AreIndependent n (kept_sets history first.places asked.rows.list) → AllByRecursion P (times ∷ own ∷ map (λ (t : Term). t.times) terms) →
@@ -231,9 +230,10 @@ one_least P p q (here, before) (there, earlier) = elim (cases_lt p q) [
 ]
 
 -- so there is one first target
-pub same_target : (n : ℕ) (protected : List Protected) (column : ℕ) (sets : List (List ℕ)) (a b : Target) → IsFirstTarget n protected column sets a →
+pub same_target : (n : ℕ) (protected : Protection) (column : ℕ) (sets : List (List ℕ)) (a b : Target) → IsFirstTarget n protected column sets a →
     IsFirstTarget n protected column sets b → a ≡ b
-same_target n protected column sets (Row row) (Row other) first second = ap Row (one_least (IsPinned n sets) row other first second)
+same_target n protected column sets (Row row) (Row other) first second =
+    ap Row (one_least (IsPinnedOwn n protected.shared sets) row other first second)
 same_target n protected column sets (Row row) (Group place) (pinned, before) (none, least) = absurd (none (row, pinned))
 same_target n protected column sets (Group place) (Row row) (none, least) (pinned, before) = absurd (none (row, pinned))
 same_target n protected column sets (Group place) (Group other) (none, first) (no_row, least) =
@@ -245,7 +245,7 @@ small_terms : (history : List Answered) (column : ℕ) (terms : List Term) → A
 small_terms history column [] all = tt
 small_terms history column (t ∷ terms) all = (all.0.small, small_terms history column terms all.1)
 
-pub not_too_wide : (n : ℕ) (history : List Answered) (protected : List Protected) (asked : Asked) (places : List ℕ) (form : Echelon) →
+pub not_too_wide : (n : ℕ) (history : List Answered) (protected : Protection) (asked : Asked) (places : List ℕ) (form : Echelon) →
     AreMarks n history asked places form →
     AreIndependent n (kept_sets history places asked.rows.list) → (proof : Proof) → IsSumProof n history protected asked proof →
     ¬ (IsSumTooWide n history protected asked)
@@ -268,7 +268,7 @@ not_too_wide n history protected asked places form marks independent (Sum target
     (shows.small_times, (shows.small_own, small_terms history asked.column terms shows.are_terms)))
 
 -- so what was given a proof is not too wide
-pub none_too_wide : (n : ℕ) (history : List Answered) (protected : List Protected) (asked : Asked) (places : List ℕ) (form : Echelon) →
+pub none_too_wide : (n : ℕ) (history : List Answered) (protected : Protection) (asked : Asked) (places : List ℕ) (form : Echelon) →
     AreMarks n history asked places form →
     AreIndependent n (kept_sets history places asked.rows.list) → (result : Result Proof ProveFault) → IfOk result (IsSumProof n history protected asked) →
     IfOk result (λ proof. ¬ (IsSumTooWide n history protected asked))

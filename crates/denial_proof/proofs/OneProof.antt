@@ -1,17 +1,17 @@
 -- A denial as unsafe has at most one canonical proof.
-use Rattle.std.proofs.Common.{◌≡◌, ℕ, ℤ, List, get_or, Option, Some, None, refl, sym, ap, ◌∙◌, subst, arith}
+use Rattle.std.proofs.Common.{◌≡◌, ℕ, ℤ, false, List, [], get_or, Option, Some, None, refl, sym, ap, ◌∙◌, subst, arith}
 use Rattle.std.specs.Prelude.{All}
 use Rattle.std.proofs.lemmas.Int.{ints, by_lt_z}
 use Rattle.std.proofs.lemmas.Option.{slice_get-get_or}
 use Rattle.audit_types.specs.declared.records.Answered.{Answered}
 use Rattle.audit_types.specs.declared.records.Asked.{Asked}
-use Rattle.audit_types.specs.declared.records.Protected.{Protected}
 use Rattle.audit_types.specs.declared.records.Verdict.TheVariants.{DeniedUnsafe}
 use Rattle.audit_types.specs.declared.shapes.Kind.TheVariants as kind
-use Rattle.audit_types.specs.Rows.{IsLeast}
-use Rattle.audit_types.specs.Column.{Known, known_max}
-use Rattle.audit_types.specs.Extremes.{IsLone, IsLeastLone}
-use Rattle.audit_types.specs.History.{Setting, FitsShape, IsGuardFor, IsDecisionAfter, answers_of}
+use Rattle.audit_types.specs.Rows.{has_row, IsLeast}
+use Rattle.audit_types.specs.Column.{Known, known_max, guarding}
+use Rattle.audit_types.specs.Extremes.{IsLone}
+use Rattle.audit_types.specs.History.{Setting, Protection, FitsShape, IsGuardFor, IsDecisionAfter, answers_of}
+use Rattle.max_bounds.specs.Outside.{IsLeastOwnLone}
 use Rattle.max_audit.specs.Witnesses.{highest}
 use Rattle.denial_proof.specs.declared.proof_parts.Proof.{Proof}
 use Rattle.denial_proof.specs.declared.proof_parts.Proof.TheVariants.{Sum, Max}
@@ -25,7 +25,7 @@ use Rattle.denial_proof.proofs.OneCanonicalSum.{one_least, same_parts, same_targ
 
 -- ---- sums
 
-same_sums : (n width : ℕ) (history : List Answered) (protected : List Protected) (asked : Asked) → IsUnsafeSum n width history protected asked →
+same_sums : (n width : ℕ) (history : List Answered) (protected : Protection) (asked : Asked) → IsUnsafeSum n width history protected asked →
     (target goal : Target) (times other : ℤ) (terms others : List Term) (own else : ℤ) →
     IsCanonicalSum n history protected asked target times terms own → IsCanonicalSum n history protected asked goal other others else →
     (let a : Proof = Sum target times terms own in a) ≡ Sum goal other others else
@@ -53,14 +53,15 @@ one_place P None (Some q) first second = absurd (first q second.0)
 one_place P (Some p) None first second = absurd (second p first.0)
 one_place P (Some p) (Some q) first second = ap Some (one_least P p q first second)
 
-same_maxima : (n : ℕ) (history : List Answered) (asked : Asked) (answer other : ℤ) (row else : ℕ) (place pair : Option ℕ) (high numbers : List ℤ) →
-    IsCanonicalMax n history asked answer row place high → IsCanonicalMax n history asked other else pair numbers →
+same_maxima : (n : ℕ) (shared : List ℕ) (history : List Answered) (asked : Asked) (answer other : ℤ) (row else : ℕ) (place pair : Option ℕ)
+    (high numbers : List ℤ) →
+    IsCanonicalMax n shared history asked answer row place high → IsCanonicalMax n shared history asked other else pair numbers →
     (let a : Proof = Max answer row place high in a) ≡ Max other else pair numbers
-same_maxima n history asked answer other row else place pair high numbers first second =
-    let known = known_max n (answers_of asked.column history) in
+same_maxima n shared history asked answer other row else place pair high numbers first second =
+    let known = guarding (known_max n (answers_of asked.column history)) shared [] in
     let answers : other ≡ answer = one_answer known asked.rows.list other answer second.first_answer first.first_answer in
-    let lone = subst (λ (z : ℤ). IsLeastLone (answers_after history asked z) (Some else)) answers second.least_row in
-    let rows : else ≡ row = one_least (IsLone (answers_after history asked answer)) else row lone first.least_row in
+    let lone = subst (λ (z : ℤ). IsLeastOwnLone shared (answers_after history asked z) (Some else)) answers second.least_row in
+    let rows : else ≡ row = one_least (λ r. IsLone (answers_after history asked answer) r × (has_row shared r ≡ false)) else row lone first.least_row in
     let moved = subst (λ (r : ℕ). IsFirstPair history asked answer r pair) rows
     (subst (λ (z : ℤ). IsFirstPair history asked z else pair) answers second.first_pair) in
     let pairs : place ≡ pair = one_place (IsLoneAt history asked answer row) place pair first.first_pair moved in
@@ -79,7 +80,7 @@ module _ (unsafe : DeniedSumsAreUnsafe) (setting : Setting) (history : List Answ
 
   pub same_proofs : (a b : Proof) → IsCanonical setting history asked a → IsCanonical setting history asked b → a ≡ b
   same_proofs (Sum target times terms own) (Sum goal other others else) (sums, first) (also, second) =
-      same_sums setting.shape.rows setting.protected.width history setting.protected.groups asked
+      same_sums setting.shape.rows setting.protected.width history setting.protected asked
       (unsafe setting history asked records_fit fit legal question sums denied) target goal times other terms
       others own else first second
   same_proofs (Sum target times terms own) (Max answer row place high) (sums, first) (maxima, second) =
@@ -87,4 +88,4 @@ module _ (unsafe : DeniedSumsAreUnsafe) (setting : Setting) (history : List Answ
   same_proofs (Max answer row place high) (Sum target times terms own) (maxima, first) (sums, second) =
       absurd (let both : kind.Sum ≡ kind.Max = sym sums ∙ maxima in cc)
   same_proofs (Max answer row place high) (Max other else pair numbers) (maxima, first) (also, second) =
-      same_maxima setting.shape.rows history asked answer other row else place pair high numbers first second
+      same_maxima setting.shape.rows setting.protected.shared history asked answer other row else place pair high numbers first second

@@ -1,15 +1,14 @@
 -- Walks over the rows of a set, as far as an outlook asks: which extreme rows of an answer are outside it, and how high its rows can be.
-use Rattle.std.proofs.Common.{◌≡◌, ◌≢◌, ℕ, ◌+◌, ◌≤◌, Bool, true, false, not, ◌&&◌, ◌||◌, ◌==◌, ℤ, List, [], ◌∷◌, ◌++◌, refl, sym, ap, ◌∙◌, subst, arith, inl, inr, ◌⊎◌, Option, Some, None}
+use Rattle.std.proofs.Common.{◌≡◌, ◌≢◌, ℕ, ◌+◌, ◌≤◌, Bool, true, false, not, ◌&&◌, ◌||◌, ◌==◌, ℤ, List, [], ◌∷◌, ◌++◌, refl, sym, ap, ◌∙◌, subst, arith, inl, inr, ◌⊎◌}
 use Rattle.std.specs.Prelude.{◌≤ℤ◌}
 use Rattle.std.specs.Int.{int_max}
-use Rattle.std.specs.Option.{is_some}
 use Rattle.std.specs.List.{AllByRecursion}
 use Rattle.std.proofs.lemmas.Int.{ints, clamps, by_lt_z}
 use Rattle.std.proofs.lemmas.List.Folds.{list_any-append}
 use Rattle.std.proofs.lemmas.Bool.{or_cases, or_left, or_right, eqb-true, eq-eqb, ne_eqb, true≢false, and_parts}
 use Rattle.audit_types.specs.Rows.{has_row, AscendsFrom, AreRows}
 use Rattle.audit_types.specs.Column.{Answer, IsOneOf}
-use Rattle.audit_types.specs.Extremes.{upper_bound, is_bound, extremes, IsLone, IsLeastLone}
+use Rattle.audit_types.specs.Extremes.{upper_bound, is_bound, extremes}
 use Rattle.audit_types.specs.ListLaws.{all-push, all-weaker}
 use Rattle.max_bounds.specs.RowListLaws.{filter-has, has-filter}
 use Rattle.max_bounds.specs.Outside.{outside}
@@ -17,7 +16,7 @@ use Rattle.denial_proof.specs.declared.outlook.Left.{Left}
 use Rattle.denial_proof.specs.declared.outlook.Left.TheVariants.{Nothing, One, More}
 use Rattle.denial_proof.specs.declared.outlook.Holding.{Holding}
 use Rattle.denial_proof.specs.declared.outlook.Reach.{Reach}
-use Rattle.denial_proof.specs.Outlook.{below_all, reach_of, HasTwoOutside, IsHeldWhole, IsLeftOutside, HoldsAfter, IsHolding, HaveTwoReached, IsReach, ReachesAfter}
+use Rattle.denial_proof.specs.Outlook.{below_all, reach_of, HasTwoOutside, HasMoreOutside, IsHeldWhole, IsLeftOutside, HoldsAfter, IsHolding, HaveTwoReached, HaveMoreReached, IsReach, ReachesAfter, ReachesAfterShared}
 
 -- whether a list with one row more has a row
 has_more : (rows : List ℕ) (r q : ℕ) → has_row (rows ++ r ∷ []) q ≡ (has_row rows q || ((r == q) || false))
@@ -112,6 +111,12 @@ module _ (answers : List Answer) (rows : List ℕ) (a : Answer) where
       let found = outside_is r there in
       true≢false (sym found.1 ∙ none r (subst (λ (l : List ℕ). has_row l r ≡ true) (sym all) found.0))
 
+  -- a shared row that is left counts as two
+  pub shared_outside : (shared yielded left later : List ℕ) (r : ℕ) → yielded ++ left ≡ a.rows → left ≡ r ∷ later → is_left r ≡ true →
+      has_row shared r ≡ true → HasMoreOutside answers shared rows a
+  shared_outside shared yielded left later r together first is common =
+      inr (r, is_outside r (next_of_walk yielded left later a.rows r together first) is, common)
+
   pub two_outside : (n : ℕ) (yielded left later : List ℕ) (r : ℕ) → AreRows n a.rows → yielded ++ left ≡ a.rows → left ≡ r ∷ later → IsLeftSoFar true yielded →
       is_left r ≡ true → HasTwoOutside answers rows a
   two_outside n yielded left later r are together first before is = record {
@@ -123,24 +128,24 @@ module _ (answers : List Answer) (rows : List ℕ) (a : Answer) where
   }
 
 -- the walk over the answers, with one more
-pub holding_step : (answers : List Answer) (rows : List ℕ) (seen : List Answer) (x : Answer) (left : Left) (old new : Holding) → IsOneOf x answers →
-    IsLeftOutside answers rows x left →
-    HoldsAfter old left x.value new → IsHolding answers rows seen old → IsHolding answers rows (seen ++ x ∷ []) new
-holding_step answers rows seen x left old new one is after before = by_left left is after
+pub holding_step : (answers : List Answer) (shared rows : List ℕ) (seen : List Answer) (x : Answer) (left : Left) (old new : Holding) → IsOneOf x answers →
+    IsLeftOutside answers shared rows x left →
+    HoldsAfter old left x.value new → IsHolding answers shared rows seen old → IsHolding answers shared rows (seen ++ x ∷ []) new
+holding_step answers shared rows seen x left old new one is after before = by_left left is after
   where
-    -- the others still have two outside, or are not above a number that is no less
-    others : old.stranded ≤ℤ new.stranded → HasTwoOutside answers rows x ⊎ (x.value ≤ℤ new.stranded) →
-        AllByRecursion (λ a. HasTwoOutside answers rows a ⊎ (a.value ≤ℤ new.stranded)) (seen ++ x ∷ [])
+    -- the others still have two outside, or a shared one, or are not above a number that is no less
+    others : old.stranded ≤ℤ new.stranded → HasMoreOutside answers shared rows x ⊎ (x.value ≤ℤ new.stranded) →
+        AllByRecursion (λ a. HasMoreOutside answers shared rows a ⊎ (a.value ≤ℤ new.stranded)) (seen ++ x ∷ [])
     others more own =
-        all-push (λ a. HasTwoOutside answers rows a ⊎ (a.value ≤ℤ new.stranded)) seen x
-        (all-weaker (λ (a : Answer). HasTwoOutside answers rows a ⊎ (a.value ≤ℤ old.stranded))
-        (λ (a : Answer). HasTwoOutside answers rows a ⊎ (a.value ≤ℤ new.stranded))
-        (λ a told. elim told [ inl two ↦ inl two | inr most ↦ inr (omega (arith, ints)) ]) seen before.others) own
+        all-push (λ a. HasMoreOutside answers shared rows a ⊎ (a.value ≤ℤ new.stranded)) seen x
+        (all-weaker (λ (a : Answer). HasMoreOutside answers shared rows a ⊎ (a.value ≤ℤ old.stranded))
+        (λ (a : Answer). HasMoreOutside answers shared rows a ⊎ (a.value ≤ℤ new.stranded))
+        (λ a told. elim told [ inl more_left ↦ inl more_left | inr most ↦ inr (omega (arith, ints)) ]) seen before.others) own
 
     Whole : ℤ → Type 0
     Whole whole = (whole ≡ below_all) ⊎ ((a : Answer) × IsOneOf a answers × IsHeldWhole answers rows a × (a.value ≡ whole))
 
-    by_left : (l : Left) → IsLeftOutside answers rows x l → HoldsAfter old l x.value new → IsHolding answers rows (seen ++ x ∷ []) new
+    by_left : (l : Left) → IsLeftOutside answers shared rows x l → HoldsAfter old l x.value new → IsHolding answers shared rows (seen ++ x ∷ []) new
     by_left Nothing held (whole, stranded) = record {
       whole = by_lt_z old.whole x.value
           (λ less. inr (x, one, held, omega (arith, ints, clamps)))
@@ -156,24 +161,20 @@ holding_step answers rows seen x left old new one is after before = by_left left
       others = others (let equal = ap (λ (h : Holding). h.stranded) same in omega (arith, ints)) (inl two);
     }
 
--- whether a row is lone shows in the least one
-pub lone_told : (answers : List Answer) (least : Option ℕ) → IsLeastLone answers least → (r : ℕ) → IsLone answers r → is_some least ≡ true
-lone_told answers None none r lone = absurd (none r lone)
-lone_told answers (Some q) is r lone = refl
-
 -- ---- heights
 
 -- the reach of the rows so far, which tops one of them
-pub record IsReachSoFar (answers : List Answer) (yielded : List ℕ) (reach : Reach) : Type 0 where
+pub record IsReachSoFar (answers : List Answer) (shared yielded : List ℕ) (reach : Reach) : Type 0 where
   pub topped : (reach.top ≤ℤ below_all) ⊎ ((r : ℕ) × (has_row yielded r ≡ true) × (reach_of (upper_bound answers r) ≡ reach.top))
-  pub is : IsReach answers yielded reach
+  pub is : IsReach answers shared yielded reach
 
-pub reach_begins : (answers : List Answer) (reach : Reach) → reach.top ≤ℤ below_all → reach.next ≤ℤ below_all → IsReachSoFar answers [] reach
-reach_begins answers reach top next = record { topped = inl top; is = record { top = λ r there. absurd (true≢false (sym there)); next = inl next } }
+pub reach_begins : (answers : List Answer) (shared : List ℕ) (reach : Reach) → reach.top ≤ℤ below_all → reach.next ≤ℤ below_all → IsReachSoFar answers
+    shared [] reach
+reach_begins answers shared reach top next = record { topped = inl top; is = record { top = λ r there. absurd (true≢false (sym there)); next = inl next } }
 
-module _ (answers : List Answer) (n : ℕ) (yielded left later rows : List ℕ) (r : ℕ) (are : AreRows n rows) (together : yielded ++ left ≡ rows)
+module _ (answers : List Answer) (shared : List ℕ) (n : ℕ) (yielded left later rows : List ℕ) (r : ℕ) (are : AreRows n rows) (together : yielded ++ left ≡ rows)
     (first : left ≡ r ∷ later)
-    (old new : Reach) (before : IsReachSoFar answers yielded old) where
+    (old new : Reach) (before : IsReachSoFar answers shared yielded old) where
   abbrev reach : ℤ
   reach = reach_of (upper_bound answers r)
 
@@ -188,6 +189,13 @@ module _ (answers : List Answer) (n : ℕ) (yielded left later rows : List ℕ) 
     one_reaches = two.one_reaches;
     other_reaches = two.other_reaches;
   }
+
+  -- and so does a shared one
+  still_more : (x : ℤ) → HaveMoreReached answers shared yielded x → HaveMoreReached answers shared (yielded ++ r ∷ []) x
+  still_more x reached = elim reached [
+    | inl two ↦ inl (still_two x two)
+    | inr one ↦ inr (record { row = one.row; holds = has-front yielded r one.row one.holds; shared_row = one.shared_row; reaches = one.reaches })
+  ]
 
   -- one row of before and this one reach what both do
   two_with : (x : ℤ) (q : ℕ) → has_row yielded q ≡ true → x ≤ℤ reach_of (upper_bound answers q) → x ≤ℤ reach → HaveTwoReached answers (yielded ++ r ∷ []) x
@@ -208,29 +216,49 @@ module _ (answers : List Answer) (n : ℕ) (yielded left later rows : List ℕ) 
   ]
 
   -- what two rows reach is what two reached before, or this row and the top
-  next_of : reach ≤ℤ old.top → new.next ≡ int_max old.next reach → (new.next ≤ℤ below_all) ⊎ HaveTwoReached answers (yielded ++ r ∷ []) new.next
+  next_of : reach ≤ℤ old.top → new.next ≡ int_max old.next reach → (new.next ≤ℤ below_all) ⊎ HaveMoreReached answers shared (yielded ++ r ∷ []) new.next
   next_of less next = by_lt_z old.next reach
       (λ more. elim before.topped [
         | inl none ↦ inl (omega (arith, ints, clamps))
-        | inr (q, there, high) ↦ inr (two_with new.next q there (omega (arith, ints, clamps)) (omega (arith, ints, clamps)))
+        | inr (q, there, high) ↦ inr (inl (two_with new.next q there (omega (arith, ints, clamps)) (omega (arith, ints, clamps))))
       ])
       (λ kept. let same : old.next ≡ new.next = omega (arith, ints, clamps) in elim before.is.next [
         | inl none ↦ inl (omega (arith, ints))
-        | inr two ↦ inr (subst (HaveTwoReached answers (yielded ++ r ∷ [])) same (still_two old.next two))
+        | inr some ↦ inr (subst (HaveMoreReached answers shared (yielded ++ r ∷ [])) same (still_more old.next some))
       ])
 
-  pub reach_step : ReachesAfter old reach new → IsReachSoFar answers (yielded ++ r ∷ []) new
+  pub reach_step : ReachesAfter old reach new → IsReachSoFar answers shared (yielded ++ r ∷ []) new
   reach_step (inl (less, top, next)) = record {
     topped = inr (r, has-last yielded r, sym top);
     is = record {
       top = top_of new.top (omega (arith, ints)) (omega (arith, ints));
       next = elim before.topped [
         | inl none ↦ inl (omega (arith, ints))
-        | inr (q, there, high) ↦ inr (two_with new.next q there (omega (arith, ints)) (omega (arith, ints)))
+        | inr (q, there, high) ↦ inr (inl (two_with new.next q there (omega (arith, ints)) (omega (arith, ints))))
       ];
     };
   }
   reach_step (inr (less, top, next)) = record {
     topped = elim before.topped [ inl none ↦ inl (omega (arith, ints)) | inr (q, there, high) ↦ inr (q, has-front yielded r q there, high ∙ sym top) ];
     is = record { top = top_of new.top (omega (arith, ints)) (omega (arith, ints)); next = next_of less next };
+  }
+
+  -- a shared row counts as two
+  pub shared_step : has_row shared r ≡ true → ReachesAfterShared old reach new → IsReachSoFar answers shared (yielded ++ r ∷ []) new
+  shared_step common (top, next) = record {
+    topped = by_lt_z old.top reach
+        (λ less. inr (r, has-last yielded r, omega (arith, ints, clamps)))
+        (λ kept. elim before.topped [
+          | inl none ↦ inl (omega (arith, ints, clamps))
+          | inr (q, there, high) ↦ inr (q, has-front yielded r q there, omega (arith, ints, clamps))
+        ]);
+    is = record {
+      top = top_of new.top (omega (arith, ints, clamps)) (omega (arith, ints, clamps));
+      next = by_lt_z old.next reach
+          (λ less. inr (inr (record { row = r; holds = has-last yielded r; shared_row = common; reaches = omega (arith, ints, clamps) })))
+          (λ kept. let same : old.next ≡ new.next = omega (arith, ints, clamps) in elim before.is.next [
+            | inl none ↦ inl (omega (arith, ints))
+            | inr some ↦ inr (subst (HaveMoreReached answers shared (yielded ++ r ∷ [])) same (still_more old.next some))
+          ]);
+    };
   }

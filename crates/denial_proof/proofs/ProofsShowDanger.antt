@@ -3,7 +3,7 @@
 -- Sums: each list that gives the earlier answers and the same answer as another has the same sum as it over each counted set,
 -- so the same total over the target. Maxima: `high` gives all answers, and every list that does has the pair's answer at the row.
 use Rattle.std.proofs.Common.{◌≡◌, ◌≢◌, ℕ, zero, suc, ℤ, Bool, true, false, cond, List, [], ◌∷◌, map, refl, sym, ap, ◌∙◌, subst, arith}
-use Rattle.std.specs.Prelude.{All, Contains, slice_get, Option, Some, ◌==◌}
+use Rattle.std.specs.Prelude.{All, Contains, slice_get, slice_index_or, Option, Some, ◌==◌}
 use Rattle.std.specs.List.{AllByRecursion, filter}
 use Rattle.std.proofs.lemmas.Int.{ints}
 use Rattle.std.proofs.lemmas.Bool.{eq-eqb}
@@ -20,7 +20,7 @@ use Rattle.audit_types.specs.Laws.{GreatestIsBoundAndReached}
 use Rattle.audit_types.specs.ListLaws.{all-push, all-front, all-map, all-filter, all-weaker}
 use Rattle.audit_types.specs.HistoryLaws.{own_answer}
 use Rattle.audit_types.specs.Column.{Answer, Known, Agrees, GivesSameAnswers, IsGuarded, number, total, IsPossible, IsDangerous, known_max}
-use Rattle.audit_types.specs.History.{FitsShape, known_of, answers_of, answer_in, groups_of}
+use Rattle.audit_types.specs.History.{FitsShape, Protection, known_of, answers_of, answer_in, groups_of}
 use Rattle.max_bounds.specs.AnswerLaws.{all_at}
 use Rattle.audit_types.specs.declared.records.Protected.{Protected}
 use Rattle.denial_proof.specs.declared.proof_parts.Target.{Target}
@@ -45,7 +45,8 @@ rows_there (x ∷ history) zero r there = let same : x ≡ r = cc in ap (λ (y :
 rows_there (x ∷ history) (suc place) r there = rows_there history place r there
 
 -- the same of a protected entry
-pub group_there : (protected : List Protected) (place : ℕ) (p : Protected) → slice_get protected place ≡ Some p → rows_of protected (Group place) ≡ p.rows.list
+pub group_there : (protected : List Protected) (place : ℕ) (p : Protected) → slice_get protected place ≡ Some p →
+    slice_index_or (map (λ q. q.rows.list) protected) place [] ≡ p.rows.list
 group_there [] place p there = absurd cc
 group_there (x ∷ protected) zero p there = let same : x ≡ p = cc in ap (λ (y : Protected). y.rows.list) same
 group_there (x ∷ protected) (suc place) p there = group_there protected place p there
@@ -89,12 +90,13 @@ rows_fit shape column rows fits = subst (λ n. AreRows n rows.list) fits.same_n 
 
 -- ---- sums
 
-module _ (shape : Shape) (history : List Answered) (protected : List Protected) (width reach : ℕ) (asked : Asked)
-    (records : All (λ r. FitsShape shape r.column r.rows) history) (entries : All (λ p. FitsShape shape p.column p.rows) protected)
+module _ (shape : Shape) (history : List Answered) (protected : Protection) (asked : Asked)
+    (records : All (λ r. FitsShape shape r.column r.rows) history) (entries : All (λ p. FitsShape shape p.column p.rows) protected.groups)
     (question : FitsShape shape asked.column asked.rows) where
   -- what is known of the column before, were it of this kind
   abbrev known_as : Kind → Known
-  known_as kind = outsiders_as kind shape.rows (answers_of asked.column history) (groups_of asked.column protected) width reach
+  known_as kind = outsiders_as kind shape.rows (answers_of asked.column history) (groups_of asked.column protected.groups) protected.shared protected.width
+      protected.reach
 
   -- were it one of sums
   abbrev known : Known
@@ -133,9 +135,10 @@ module _ (shape : Shape) (history : List Answered) (protected : List Protected) 
 
   -- a target is a set of rows of the table
   target_is_rows : (target : Target) → IsTarget shape.rows protected asked.column target → AreRows shape.rows (rows_of protected target)
-  target_is_rows (Row row) is = (omega arith, is, tt)
+  target_is_rows (Row row) is = (omega arith, is.0, tt)
   target_is_rows (Group place) (p, there, own) =
-      subst (AreRows shape.rows) (sym (group_there protected place p there)) (rows_fit shape p.column p.rows (entry_fits shape protected place p entries there))
+      subst (AreRows shape.rows) (sym (group_there protected.groups place p there))
+      (rows_fit shape p.column p.rows (entry_fits shape protected.groups place p entries there))
 
   -- so they have the same total over the target
   same_over_target : (target : Target) (times : ℤ) (terms : List Term) (own : ℤ) → ShowsTotal shape.rows history protected asked target times terms own →
@@ -150,12 +153,12 @@ module _ (shape : Shape) (history : List Answered) (protected : List Protected) 
   -- what a target discloses is guarded
   target_is_guarded : (target : Target) → IsTarget shape.rows protected asked.column target → (value : List ℤ → ℤ) × IsGuarded known [] value ×
       ((v : List ℤ) → value v ≡ sum_over v (rows_of protected target))
-  target_is_guarded (Row row) is = ((λ v. number_at v row), number row is refl refl, λ v. omega (arith, ints))
+  target_is_guarded (Row row) is = ((λ v. number_at v row), number row is.0 refl is.1, λ v. omega (arith, ints))
   target_is_guarded (Group place) (p, there, own) =
-      let hit = some_row p.rows.list (entry_fits shape protected place p entries there).some in (
+      let hit = some_row p.rows.list (entry_fits shape protected.groups place p entries there).some in (
         (λ v. sum_over v p.rows.list),
-        total p.rows.list hit.0 (group_of_column protected place asked.column p there own) hit.1 refl,
-        λ v. ap (sum_over v) (sym (group_there protected place p there)),
+        total p.rows.list hit.0 (group_of_column protected.groups place asked.column p there own) hit.1 refl,
+        λ v. ap (sum_over v) (sym (group_there protected.groups place p there)),
       )
 
   -- a number or a protected total could be given away
@@ -196,7 +199,7 @@ module _ (shape : Shape) (history : List Answered) (protected : List Protected) 
       (rows_fit shape asked.column asked.rows question, question.some)
 
   maxima_show_danger : GreatestIsBoundAndReached → (answer : ℤ) (row : ℕ) (place : Option ℕ) (high : List ℤ) →
-      ShowsRow shape.rows history asked answer row place high →
+      ShowsRow shape.rows protected.shared history asked answer row place high →
       IsDangerous (known_as kind.Max) asked.rows.list
   maxima_show_danger greatest answer row place high shown =
       let last : Answer = record { rows = asked.rows.list; value = answer } in
@@ -210,7 +213,7 @@ module _ (shape : Shape) (history : List Answered) (protected : List Protected) 
         value = λ v. number_at v row;
         own = [];
         are_own = (tt, omega arith, tt);
-        guarded = number row (row_below shape.rows shown.pair.rows row pair_rows shown.lone.holds) refl refl;
+        guarded = number row (row_below shape.rows shown.pair.rows row pair_rows shown.lone.holds) refl shown.own;
         disclosed = λ v same also.
             let after : Agrees (known_max shape.rows (answers_with answer)) v = record {
               one_each = same.agrees.one_each;
@@ -224,14 +227,14 @@ module _ (shape : Shape) (history : List Answered) (protected : List Protected) 
 
 pub proofs_show_danger : GreatestIsBoundAndReached → ProofsShowDanger
 proofs_show_danger greatest setting history asked (Sum target times terms own) records entries plain question possible (sums, shown) =
-    let known = known_as setting.shape history setting.protected.groups setting.protected.width setting.protected.reach asked records entries question in
+    let known = known_as setting.shape history setting.protected asked records entries question in
     let same : known kind.Sum ≡ known_of setting history asked.column = ap known (sym sums) ∙ sym (outsiders_known setting history asked.column plain) in
     subst (λ (k : Known). IsDangerous k asked.rows.list) same
-    (sums_show_danger setting.shape history setting.protected.groups setting.protected.width setting.protected.reach asked records entries question target times
+    (sums_show_danger setting.shape history setting.protected asked records entries question target times
     terms own shown (subst IsPossible (sym same) possible))
 proofs_show_danger greatest setting history asked (Max answer row place high) records entries plain question possible (maxima, shown) =
-    let known = known_as setting.shape history setting.protected.groups setting.protected.width setting.protected.reach asked records entries question in
+    let known = known_as setting.shape history setting.protected asked records entries question in
     let same : known kind.Max ≡ known_of setting history asked.column = ap known (sym maxima) ∙ sym (outsiders_known setting history asked.column plain) in
     subst (λ (k : Known). IsDangerous k asked.rows.list) same
-    (maxima_show_danger setting.shape history setting.protected.groups setting.protected.width setting.protected.reach asked records entries question greatest
+    (maxima_show_danger setting.shape history setting.protected asked records entries question greatest
     answer row place high shown)

@@ -6,12 +6,10 @@ use Rattle.std.proofs.lemmas.List.{map-append, take_all}
 use Rattle.std.proofs.lemmas.Option.{get_or_from_slice_get, slice_get_within}
 use Rattle.audit_types.specs.declared.records.Answered.{Answered}
 use Rattle.audit_types.specs.declared.records.Asked.{Asked}
-use Rattle.audit_types.specs.declared.records.Protected.{Protected}
 use Rattle.audit_types.specs.Rows.{AreRows}
 use Rattle.audit_types.specs.Column.{Answer}
-use Rattle.audit_types.specs.Direction.{PinSomeRow}
 use Rattle.audit_types.specs.Form.{set_row, InSpan, Reduced}
-use Rattle.audit_types.specs.History.{answers_of}
+use Rattle.audit_types.specs.History.{Protection, answers_of}
 use Rattle.audit_types.specs.ListLaws.{all-front, all-get_or, all-push, all-weaker}
 use Rattle.sum_audit.specs.Laws.{SpannedOrMoved, PinnedByForm}
 use Rattle.sum_basis.specs.Basis.{Echelon}
@@ -22,7 +20,7 @@ use Rattle.denial_proof.specs.Certificates.{IsTarget, rows_of}
 use Rattle.audit_core.specs.Laws.{sets_before}
 use Rattle.denial_proof.specs.Kept.{AreKept, AreIndependent, kept_sets}
 use Rattle.denial_proof.specs.Targets.{IsSpannedTarget, SpansNothing}
-use Rattle.denial_proof.specs.Canonical.{sets_with_asked, IsFirstTarget, IsSpannedGroup}
+use Rattle.denial_proof.specs.Canonical.{sets_with_asked, PinSomeOwn, IsFirstTarget, IsSpannedGroup}
 use Rattle.denial_proof.proofs.SpannedTargets.{first_of_sets, target_is, target_spanned, some_target}
 use Rattle.denial_proof.proofs.KeptFew.{independent_with}
 use Rattle.denial_proof.proofs.AskedIsNew.{span_self}
@@ -66,13 +64,13 @@ module _ (decided : SpannedOrMoved) (n : ℕ) (history : List Answered) (asked :
       (subst (λ (rows : List (List ℤ)). InSpan rows row) before span))
 
 -- what the proof of a target needs, once the target is found in the form of the sets
-pub record TargetParts (n : ℕ) (history : List Answered) (protected : List Protected) (asked : Asked) (places : List ℕ) (target : Target) : Type 0 where
+pub record TargetParts (n : ℕ) (history : List Answered) (protected : Protection) (asked : Asked) (places : List ℕ) (target : Target) : Type 0 where
   pub independent : AreIndependent n (kept_sets history places asked.rows.list)
   pub is_target : IsTarget n protected asked.column target
   pub first : IsFirstTarget n protected asked.column (sets_with_asked history asked) target
   pub spanned : InSpan (map (set_row n) (kept_sets history places asked.rows.list)) (set_row n (rows_of protected target))
 
-module _ (by_form : PinnedByForm) (n : ℕ) (history : List Answered) (protected : List Protected) (asked : Asked) (own : AreRows n asked.rows.list)
+module _ (by_form : PinnedByForm) (n : ℕ) (history : List Answered) (protected : Protection) (asked : Asked) (own : AreRows n asked.rows.list)
     (answers : List Answer)
     (same : answers ≡ answers_of asked.column history) (are : AllByRecursion (AreRows n) (map (λ a. a.rows) answers)) (basis : Echelon) (same_n : basis.n ≡ n)
     (reduced : Reduced n (map (λ a. a.rows) answers ++ asked.rows.list ∷ []) basis.rows) where
@@ -100,7 +98,7 @@ module _ (by_form : PinnedByForm) (n : ℕ) (history : List Answered) (protected
       }
 
   -- and there is one if the sets are dangerous
-  pub target_there : PinSomeRow n (sets_with_asked history asked) ⊎
+  pub target_there : PinSomeOwn n protected.shared (sets_with_asked history asked) ⊎
       ((place : ℕ) × IsSpannedGroup n protected asked.column (sets_with_asked history asked) place) →
       ¬ (SpansNothing basis protected asked.column)
   target_there dangerous nothing =

@@ -6,7 +6,7 @@ use Rattle.std.proofs.lemmas.Bool.{cases_lt}
 use Rattle.std.proofs.lemmas.List.{length-map, get_or_past, take_all}
 use Rattle.audit_types.specs.declared.records.Answered.{Answered}
 use Rattle.audit_types.specs.declared.records.Asked.{Asked}
-use Rattle.audit_types.specs.declared.records.Protected.{Protected}
+use Rattle.audit_types.specs.History.{Protection}
 use Rattle.audit_types.specs.ListLaws.{all-weaker, all-unmap}
 use Rattle.audit_types.specs.Numbers.{positive_not_zero}
 use Rattle.audit_types.specs.Products.{size_of_factor}
@@ -55,7 +55,7 @@ divided_small factor list positive all =
     all-weaker (λ x. IsSmall (factor *ℤ x)) IsSmall (λ x small. let more = size_of_factor factor x (positive_not_zero factor positive) in omega arith) list
     (all-unmap (λ x. factor *ℤ x) IsSmall list all)
 
-module _ (n : ℕ) (history : List Answered) (protected : List Protected) (asked : Asked) (places : List ℕ) (form : Echelon) (target : Target)
+module _ (n : ℕ) (history : List Answered) (protected : Protection) (asked : Asked) (places : List ℕ) (form : Echelon) (target : Target)
     (marks : AreMarks n history asked places form)
     (independent : AreIndependent n (kept_sets history places asked.rows.list)) where
   count : length (kept_sets history places asked.rows.list) ≡ length places + 1
@@ -138,7 +138,7 @@ module _ (n : ℕ) (history : List Answered) (protected : List Protected) (asked
     )
 
 -- if some number isn't small, the target is a group whose canonical numbers are too wide
-pub too_wide : (n : ℕ) (history : List Answered) (protected : List Protected) (asked : Asked) (places : List ℕ) (form : Echelon) (target : Target)
+pub too_wide : (n : ℕ) (history : List Answered) (protected : Protection) (asked : Asked) (places : List ℕ) (form : Echelon) (target : Target)
     (marks : AreMarks n history asked places form)
     (independent : AreIndependent n (kept_sets history places asked.rows.list)) →
     IsFirstTarget n protected asked.column (sets_with_asked history asked) target →

@@ -1,6 +1,6 @@
--- What a legal history leaves open, and what a denial as unsafe says after it: of a column of sums what its canonical proof is made from, of a column of
+-- What holds of a legal history's sums, and what a denial as unsafe says after it: of a column of sums what its canonical proof is made from, of a column of
 -- maxima that some candidate is bad.
-use Rattle.std.proofs.Common.{◌≡◌, ◌≢◌, ℕ, ◌<◌, ◌==◌, ℤ, List, [], ◌∷◌, map, length, get_or, Some, refl, sym, ap, ◌∙◌, subst, arith, inl, inr, ◌⊎◌}
+use Rattle.std.proofs.Common.{◌≡◌, ◌≢◌, ℕ, ◌==◌, ℤ, List, [], ◌∷◌, map, length, get_or, Some, refl, sym, ap, ◌∙◌, subst, arith, inl, inr, ◌⊎◌}
 use Rattle.std.specs.Prelude.{All, Contains, slice_get}
 use Rattle.std.specs.List.{AllByRecursion}
 use Rattle.std.proofs.lemmas.List.{get_or_default}
@@ -12,24 +12,23 @@ use Rattle.audit_types.specs.declared.records.Protected.{Protected}
 use Rattle.audit_types.specs.declared.records.Verdict.TheVariants.{DeniedUnsafe}
 use Rattle.audit_types.specs.declared.shapes.Shape.{Shape}
 use Rattle.audit_types.specs.declared.shapes.Kind.TheVariants.{Sum, Max}
-use Rattle.audit_types.specs.Rows.{AreRows, has_row}
-use Rattle.audit_types.specs.Shapes.{columns, kind_at}
-use Rattle.audit_types.specs.Column.{Answer, IsDangerous, IsWellFormed, known_sum, known_max, with_groups, with_bounds}
-use Rattle.audit_types.specs.Direction.{PinSomeRow}
+use Rattle.audit_types.specs.Rows.{AreRows}
+use Rattle.audit_types.specs.Shapes.{kind_at}
+use Rattle.audit_types.specs.Column.{Answer, IsDangerous, IsWellFormed, known_sum, known_max, guarding, with_bounds}
 use Rattle.audit_types.specs.Form.{set_row, InSpan}
 use Rattle.audit_types.specs.Judgement.{IsWithinWidth}
 use Rattle.audit_types.specs.Limits.{most_width}
 use Rattle.audit_types.specs.WidthLaws.{dangerous_from, has_narrow_by_more, narrow_within}
-use Rattle.audit_types.specs.History.{Setting, Protection, Table, FitsShape, IsProtected, IsGuardFor, IsDecisionAfter, list_of, answers_of, answer_in, groups_of}
+use Rattle.audit_types.specs.History.{Setting, Table, FitsShape, IsProtected, IsGuardFor, IsDecisionAfter, list_of, answers_of, answer_in, groups_of}
 use Rattle.audit_types.specs.ListLaws.{all-map, all-filter, all-push, all-weaker}
-use Rattle.audit_core.specs.Laws.{LegalIsNarrow, LegalPinsNothing, sets_before}
+use Rattle.audit_core.specs.Laws.{LegalIsNarrow, LegalLeavesNoLoneRow, sets_before}
 use Rattle.audit_core.specs.GroupEntries.{entry_of_group}
 use Rattle.audit_core.specs.OutsiderColumns.{outsiders_sums, outsiders_maxima, outsiders_danger}
-use Rattle.max_audit.specs.Laws.{DangerousByCandidates, HasBadCandidate}
-use Rattle.sum_audit.specs.Laws.{PinnedByUnitRow}
-use Rattle.denial_proof.specs.Canonical.{sets_with_asked, IsSpannedGroup}
-use Rattle.denial_proof.specs.Denied.{IsLegalIn, AreOpenSums, IsUnsafeSum}
+use Rattle.max_audit.specs.Laws.{DangerousByCandidates}
+use Rattle.denial_proof.specs.Canonical.{sets_with_asked, PinSomeOwn, IsSpannedGroup}
+use Rattle.denial_proof.specs.Denied.{IsLegalIn, AreNarrowSums, IsUnsafeSum, IsUnsafeMax}
 use Rattle.denial_proof.proofs.AskedIsNew.{LegalLaws, asked_new, own_agrees}
+use Rattle.denial_proof.proofs.LonePairs.{lone_below}
 use Rattle.denial_proof.proofs.SumParts.{sets_at_end}
 
 -- ---- groups
@@ -102,21 +101,11 @@ module _ (setting : Setting) (history : List Answered) (fit : All (λ (r : Answe
       InSpan (map (set_row setting.shape.rows) (map (λ a. a.rows) (answers_of column history))) row
   at_end column row span = subst (λ (sets : List (List ℕ)). InSpan (map (set_row setting.shape.rows) sets) row) (sets_at_end column history) span
 
-  pub open_sums : LegalIsNarrow → PinnedByUnitRow → LegalPinsNothing → IsGuardFor setting.shape setting.protected → IsLegalIn setting history →
-      0 < setting.shape.rows → (column : ℕ) →
-      column < columns setting.shape → kind_at setting.shape column ≡ Sum → AreOpenSums setting.shape.rows column history
-  open_sums narrow by_unit_row pins_nothing protected legal some column below sums =
-      let n = setting.shape.rows in
-      let sets = map (λ (a : Answer). a.rows) (answers_of column history) in
-      let table : Table = record { setting = setting; secrets = legal.secrets } in record {
-        narrow = λ place within.
-            has_narrow_by_more setting.protected.width most_width n (sets_before column history place) protected.0.5
-            (narrow table history column place protected.0 legal.legal sums within);
-        leaves_open = λ span.
-            let pinned = (by_unit_row n sets 0 (all_sets column) some).1 (at_end column (set_row n (0 ∷ [])) span) in
-            pins_nothing table history column 0 legal.are_secrets protected.0 legal.legal below sums
-            (ap (λ (p : Protection). has_row p.shared 0) protected.1) pinned;
-      }
+  pub narrow_sums : LegalIsNarrow → IsGuardFor setting.shape setting.protected → IsLegalIn setting history → (column : ℕ) →
+      kind_at setting.shape column ≡ Sum → AreNarrowSums setting.shape.rows column history
+  narrow_sums narrow protected legal column sums place within =
+      has_narrow_by_more setting.protected.width most_width setting.shape.rows (sets_before column history place) protected.0.5
+      (narrow (record { setting = setting; secrets = legal.secrets }) history column place protected.0 legal.legal sums within)
 
   -- ---- the question
 
@@ -126,25 +115,31 @@ module _ (setting : Setting) (history : List Answered) (fit : All (λ (r : Answe
     own_rows : AreRows setting.shape.rows asked.rows.list
     own_rows = subst (λ n. AreRows n asked.rows.list) question.same_n question.are_rows
 
-    pub bad_candidate : DangerousByCandidates → kind_at setting.shape asked.column ≡ Max →
-        HasBadCandidate (known_max setting.shape.rows (answers_of asked.column history)) asked.rows.list
-    bad_candidate by_candidates maxima =
+    pub unsafe_max : DangerousByCandidates → LegalLeavesNoLoneRow → IsLegalIn setting history → kind_at setting.shape asked.column ≡ Max →
+        IsUnsafeMax setting.shape.rows setting.protected.shared history asked
+    unsafe_max by_candidates leaves_none legal maxima =
         let formed : IsWellFormed (known_max setting.shape.rows (answers_of asked.column history)) =
         record { are_rows = sets_are_rows asked.column; some = sets_have_rows asked.column } in
-        let known = known_max setting.shape.rows (answers_of asked.column history) in
+        let shared = setting.protected.shared in
+        let known = guarding (known_max setting.shape.rows (answers_of asked.column history)) shared [] in
+        let table : Table = record { setting = setting; secrets = legal.secrets } in
+        let left = leaves_none table history asked.column legal.are_secrets protected.0 legal.legal question.column_below maxima in
         let danger =
         dangerous_from known setting.protected.width setting.protected.reach asked.rows.list
         (subst (λ k. IsDangerous k asked.rows.list)
         (outsiders_maxima setting history asked.column protected.1 maxima (no_groups setting protected asked.column maxima)) denied.1) in
-        (by_candidates setting.shape.rows (answers_of asked.column history) [] asked.rows.list formed own_rows question.some).0 danger
+        record {
+          none_lone = λ row own lone. left.1 row (lone_below setting.shape.rows (answers_of asked.column history) formed row lone) own lone;
+          bad = (by_candidates setting.shape.rows (answers_of asked.column history) shared asked.rows.list formed own_rows question.some).0 danger;
+        }
 
     module _ (laws : LegalLaws) (legal : IsLegalIn setting history) (sums : kind_at setting.shape asked.column ≡ Sum) where
       abbrev table : Table
       table = record { setting = setting; secrets = legal.secrets }
 
       -- the sets give something away
-      gives_away : PinSomeRow setting.shape.rows (sets_with_asked history asked)
-          ⊎ ((place : ℕ) × IsSpannedGroup setting.shape.rows setting.protected.groups asked.column (sets_with_asked history asked) place)
+      gives_away : PinSomeOwn setting.shape.rows setting.protected.shared (sets_with_asked history asked)
+          ⊎ ((place : ℕ) × IsSpannedGroup setting.shape.rows setting.protected asked.column (sets_with_asked history asked) place)
       gives_away =
           let n = setting.shape.rows in
           let groups = groups_of asked.column setting.protected.groups in
@@ -154,12 +149,13 @@ module _ (setting : Setting) (history : List Answered) (fit : All (λ (r : Answe
           let group_rows = All-weaker (λ group. AreRows n group × (group ≢ [])) (AreRows n) (λ group is. is.0) groups
           (groups_are_rows setting protected asked.column) in
           let danger = subst (λ k. IsDangerous k asked.rows.list) (outsiders_sums setting history asked.column protected.1 sums) denied.1 in
-          let told = outsiders_danger (with_groups (with_bounds (known_sum n answers) setting.protected.width setting.protected.reach) groups)
-          (sets_with_asked history asked) refl refl
-          ((laws.dangerous n answers [] [] groups 0 setting.protected.width setting.protected.reach asked.rows.list with_asked group_rows
+          let shared = setting.protected.shared in
+          let told = outsiders_danger (guarding (with_bounds (known_sum n answers) setting.protected.width setting.protected.reach) shared groups)
+          (sets_with_asked history asked) refl
+          ((laws.dangerous n answers shared shared groups 0 setting.protected.width setting.protected.reach asked.rows.list with_asked group_rows
           (list_of legal.secrets asked.column, agrees)).0 danger) in
           elim told [
-            | inl pinned ↦ inl pinned
+            | inl (row, own, pinned) ↦ inl (row, (pinned, own))
             | inr (group, guarded, spanned) ↦
                 let found = entry_of_group setting.protected.groups asked.column group guarded in
                 inr (
@@ -173,14 +169,14 @@ module _ (setting : Setting) (history : List Answered) (fit : All (λ (r : Answe
                 )
           ]
 
-      pub unsafe_sum : IsUnsafeSum setting.shape.rows setting.protected.width history setting.protected.groups asked
+      pub unsafe_sum : IsUnsafeSum setting.shape.rows setting.protected.width history setting.protected asked
       unsafe_sum = record {
         new = λ span.
             asked_new laws table history legal.are_secrets protected legal.legal asked.column question.column_below sums
             (all_sets asked.column) asked.rows.list own_rows
             (groups_are_rows setting protected asked.column) denied.1 (at_end asked.column (set_row setting.shape.rows asked.rows.list) span);
-        narrow = narrow_within (with_groups (with_bounds (known_sum setting.shape.rows (answers_of asked.column history)) setting.protected.width
-            setting.protected.reach)
+        narrow = narrow_within (guarding (with_bounds (known_sum setting.shape.rows (answers_of asked.column history)) setting.protected.width
+            setting.protected.reach) setting.protected.shared
             (groups_of asked.column setting.protected.groups)) asked.rows.list
             (subst (λ k. IsWithinWidth k asked.rows.list) (outsiders_sums setting history asked.column protected.1 sums) denied.0);
         gives_away = gives_away;

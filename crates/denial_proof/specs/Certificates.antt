@@ -1,12 +1,13 @@
 -- What is a proof that a question is dangerous. No table and no secret is an argument.
-use Rattle.std.specs.Prelude.{◌≡◌, ℕ, ◌<◌, ◌≤◌, ◌^◌, ℤ, pos, ◌<ℤ◌, List, [], ◌∷◌, ◌++◌, length, map, Option, Some, None, slice_get, slice_index_or, unsigned_abs}
+use Rattle.std.specs.Prelude.{◌≡◌, ℕ, ◌<◌, ◌≤◌, ◌^◌, ℤ, pos, ◌<ℤ◌, false, List, [], ◌∷◌, ◌++◌, length, map, Option, Some, None, slice_get, slice_index_or, unsigned_abs}
 use Rattle.std.specs.List.{AllByRecursion}
 use Rattle.audit_types.specs.declared.shapes.Kind.TheVariants as kind
 use Rattle.audit_types.specs.declared.records.Answered.{Answered}
 use Rattle.audit_types.specs.declared.records.Asked.{Asked}
 use Rattle.audit_types.specs.Shapes.{kind_at}
 use Rattle.audit_types.specs.Column.{Answer, known_max}
-use Rattle.audit_types.specs.History.{Setting, answers_of, answer_in}
+use Rattle.audit_types.specs.Rows.{has_row}
+use Rattle.audit_types.specs.History.{Setting, Protection, answers_of, answer_in}
 use Rattle.audit_types.specs.declared.records.Protected.{Protected}
 use Rattle.denial_proof.specs.declared.proof_parts.Target.{Target}
 use Rattle.denial_proof.specs.declared.proof_parts.Target.TheVariants.{Row, Group}
@@ -36,18 +37,18 @@ pub record IsTerm (history : List Answered) (column : ℕ) (term : Term) : Type 
   pub named : NamesRecord history column term.place
   pub small : IsSmall term.times
 
--- a row of the table, or a protected entry of the column
-abbrev pub IsTarget : ℕ → List Protected → ℕ → Target → Type 0
-IsTarget n protected column (Row row) = row < n
-IsTarget n protected column (Group place) = (p : Protected) × (slice_get protected place ≡ Some p) × (p.column ≡ column)
+-- a row of the table that isn't shared, or a protected entry of the column
+abbrev pub IsTarget : ℕ → Protection → ℕ → Target → Type 0
+IsTarget n protected column (Row row) = (row < n) × (has_row protected.shared row ≡ false)
+IsTarget n protected column (Group place) = (p : Protected) × (slice_get protected.groups place ≡ Some p) × (p.column ≡ column)
 
 -- the rows of a target
-abbrev pub rows_of : List Protected → Target → List ℕ
+abbrev pub rows_of : Protection → Target → List ℕ
 rows_of protected (Row row) = row ∷ []
-rows_of protected (Group place) = slice_index_or (map (λ p. p.rows.list) protected) place []
+rows_of protected (Group place) = slice_index_or (map (λ p. p.rows.list) protected.groups) place []
 
 -- the records' sets and the asked one, each as often as it is counted, add up to the target, `times` times
-pub record ShowsTotal (n : ℕ) (history : List Answered) (protected : List Protected) (asked : Asked)
+pub record ShowsTotal (n : ℕ) (history : List Answered) (protected : Protection) (asked : Asked)
     (target : Target) (times : ℤ) (terms : List Term) (own : ℤ) : Type 0 where
   pub target_is : IsTarget n protected asked.column target
   pub few : length terms ≤ 1024
@@ -68,10 +69,12 @@ IsPair history asked answer (Some place) pair = (r : Answered) × IsOwnRecord hi
 abbrev pub answers_after : List Answered → Asked → ℤ → List Answer
 answers_after history asked answer = answers_of asked.column history ++ record { rows = asked.rows.list; value = answer } ∷ []
 
--- after this answer, which `high` shows to be possible, the row is the only one of the pair's set that can reach the pair's answer
-pub record ShowsRow (n : ℕ) (history : List Answered) (asked : Asked) (answer : ℤ) (row : ℕ) (place : Option ℕ) (high : List ℤ) : Type 0 where
+-- after this answer, which `high` shows to be possible, the row, which isn't shared, is the only one of the pair's set that can reach the
+-- pair's answer
+pub record ShowsRow (n : ℕ) (shared : List ℕ) (history : List Answered) (asked : Asked) (answer : ℤ) (row : ℕ) (place : Option ℕ) (high : List ℤ) : Type 0 where
   pub pair : Answer
   pub is : IsPair history asked answer place pair
+  pub own : has_row shared row ≡ false
   pub lone : ShowsLone (known_max n (answers_after history asked answer)) pair row high
 
 -- ---- both
@@ -79,6 +82,6 @@ pub record ShowsRow (n : ℕ) (history : List Answered) (asked : Asked) (answer 
 -- a proof that the question is dangerous after this history
 abbrev pub IsProof : Setting → List Answered → Asked → Proof → Type 0
 IsProof setting history asked (Sum target times terms own) =
-    (kind_at setting.shape asked.column ≡ kind.Sum) × ShowsTotal setting.shape.rows history setting.protected.groups asked target times terms own
+    (kind_at setting.shape asked.column ≡ kind.Sum) × ShowsTotal setting.shape.rows history setting.protected asked target times terms own
 IsProof setting history asked (Max answer row pair high) =
-    (kind_at setting.shape asked.column ≡ kind.Max) × ShowsRow setting.shape.rows history asked answer row pair high
+    (kind_at setting.shape asked.column ≡ kind.Max) × ShowsRow setting.shape.rows setting.protected.shared history asked answer row pair high

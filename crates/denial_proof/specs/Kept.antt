@@ -58,12 +58,12 @@ pub record IsMarked (n m : ℕ) (sets : List (List ℕ)) (form : Echelon) : Type
   pub reduced : IsReducedForm (n + m) (marked_rows n m 0 sets) form.rows
   pub narrow : ¬ (HasWideFront (n + m) (marked_rows n m 0 sets))
 
--- the places of the kept records of a column, and the form of their marked rows, with a mark more for the set of a question; none
--- if some front of them is wide
+-- the places of the kept records of a column, and the form of their marked rows, with a mark more for the set of a question; none if some
+-- front of them is wide, or there are as many as rows, so that their span holds each set
 pub record AreMarksOf (n column : ℕ) (history : List Answered) (places : List ℕ) (form : Option Echelon) : Type 0 where
   pub kept : AreKept n column history places
   pub marked : IfSome form (IsMarked n (length places + 1) (map (rows_at history) places))
-  pub wide : IfNone form (HasWideFront (n + (length places + 1)) (marked_rows n (length places + 1) 0 (map (rows_at history) places)))
+  pub wide : IfNone form (length places < n → HasWideFront (n + (length places + 1)) (marked_rows n (length places + 1) 0 (map (rows_at history) places)))
 
 -- the places of the kept records before a question, and the form of their marked rows and its own
 pub record AreMarks (n : ℕ) (history : List Answered) (asked : Asked) (places : List ℕ) (form : Echelon) : Type 0 where

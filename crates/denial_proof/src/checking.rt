@@ -34,7 +34,7 @@ pub fn check_proof(
             let facts = PublicFacts {
                 n: shape.rows,
                 history,
-                protected: protected.groups(),
+                protected,
                 asked,
             };
             let total = Total {
@@ -51,8 +51,12 @@ pub fn check_proof(
             pair,
             high,
         } => {
+            let shared = protected.shared();
+            let high = &high.list;
             shape.kind(asked.column) == Kind::Max
-                && shows_row(shape.rows, history, asked, *answer, *row, *pair, &high.list)
+                && shows_row(
+                    shape.rows, shared, history, asked, *answer, *row, *pair, high,
+                )
         }
     }
 }

@@ -1,13 +1,11 @@
 //! What a legal history and a denial as unsafe say. Each function computes nothing: its contract is the law.
-ghost use Rattle.denial_proof.specs.Denied.{LegalSumsAreOpen, DeniedSumsAreUnsafe, DeniedMaximaHaveCandidates};
+ghost use Rattle.denial_proof.specs.Denied.{LegalSumsAreNarrow, DeniedSumsAreUnsafe, DeniedMaximaAreUnsafe};
 
-/// The sets of a column of sums stay narrow in a legal history, and leave row 0 open.
+/// The sets of a column of sums stay narrow in a legal history.
 pub(crate) fn legal_sums()
-    ensures { LegalSumsAreOpen }
+    ensures { LegalSumsAreNarrow }
 {
-    audit_core::laws::free_numbers();
     audit_core::laws::narrow_fronts();
-    sum_audit::laws::pinned_rows();
 }
 
 /// The sets of a denied sum give something away, and what its canonical proof is made from holds of them.
@@ -20,9 +18,10 @@ pub(crate) fn denied_sums()
     sum_audit::laws::dangerous_sums();
 }
 
-/// Some candidate for a denied maximum is possible and leaves a lone row.
+/// Some candidate for a denied maximum is possible and leaves a lone row that isn't shared, where none was lone before.
 pub(crate) fn denied_maxima()
-    ensures { DeniedMaximaHaveCandidates }
+    ensures { DeniedMaximaAreUnsafe }
 {
+    audit_core::laws::free_numbers();
     max_audit::laws::dangerous_by_candidates();
 }

@@ -2,10 +2,10 @@
 ghost use Rattle.std.specs.Prelude.{◌≡◌, ◌≢◌, ◌↔◌, ◌+◌, ◌≤◌, ◌<◌, ℕ, false, List, [], ◌∷◌, ◌++◌, map, take, length, IfOk, IfSome, IfNone, true};
 ghost use Rattle.std.specs.List.{AllByRecursion};
 ghost use Rattle.audit_types.specs.Limits.{most_rows, most_width};
-ghost use Rattle.audit_types.specs.Form.{set_row, InSpan, Reduced, IsReducedForm, HasNarrowForm, IsNarrow};
+ghost use Rattle.audit_types.specs.Form.{set_row, InSpan, Reduced, IsReducedForm, IsNarrow};
 ghost use Rattle.sum_basis.specs.Growth.{GrowsWide};
-ghost use Rattle.audit_core.specs.Laws.{sets_before};
 ghost use Rattle.denial_proof.specs.Kept.{AreKept, marked_rows, MarksNext, IsMarked, HasWideFormOf, HasWideFront};
+ghost use Rattle.denial_proof.specs.Denied.{AreNarrowSums};
 ghost use Rattle.denial_proof.specs.Weights.{rows_at};
 
 use crate::marking::write_marked;
@@ -46,7 +46,7 @@ pub(crate) fn kept_places(
     requires at_most { n ≤ most_rows }
     requires few { length history.now ≤ 65536 }
     requires same_n { AllByRecursion (λ r. r.rows.n ≡ n) history.now }
-    requires narrow { (place : ℕ) → place ≤ length history.now → HasNarrowForm most_width n (sets_before column history.now place) }
+    requires narrow { AreNarrowSums n column history.now }
     ensures kept { IfOk result (λ places. AreKept n column history.now places.items) }
 {
     one_more_set();
@@ -84,7 +84,7 @@ fn mark_next(form: &mut Form, rows: &RowSet, mark: u16) -> Result<bool, NoMemory
 }
 
 /// The form of the marked rows of the sets at these places, with a mark more for the asked set, unless the form of some front of
-/// them isn't narrow.
+/// them isn't narrow, or there are as many of them as rows.
 pub(crate) fn mark_all(
     alloc: Global,
     n: u16,
@@ -92,13 +92,17 @@ pub(crate) fn mark_all(
     places: &[u32],
 ) -> Result<Option<Form>, NoMemory>
     requires some { 0 < n }
-    requires room { n + length places.now + 1 ≤ 2048 }
+    requires at_most { n ≤ most_rows }
     requires there { AllByRecursion (λ place. place < length history.now) places.now }
     requires same_n { AllByRecursion (λ r. r.rows.n ≡ n) history.now }
     ensures some { IfOk result (λ marked. IfSome marked (λ form. IsMarked n (length places.now + 1) (map (rows_at history.now) places.now) form)) }
-    ensures none { IfOk result (λ marked. IfNone marked (HasWideFront (n + (length places.now + 1)) (marked_rows n (length places.now + 1) 0 (map (rows_at history.now) places.now)))) }
+    ensures none { IfOk result (λ marked. IfNone marked (length places.now < n → HasWideFront (n + (length places.now + 1)) (marked_rows n (length places.now + 1) 0 (map (rows_at history.now) places.now)))) }
 {
     forms_are_unique();
+    // The span of so many kept sets holds the asked one.
+    if places.len() >= n as usize {
+        return Ok(None);
+    }
     let columns = n + places.len() as u16 + 1;
     let mut form = Form::new(alloc, columns, MOST_WIDTH)?;
     for mark in 0..places.len() {

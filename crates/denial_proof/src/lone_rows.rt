@@ -46,8 +46,8 @@ fn pair_at(
     })
 }
 
-// Whether the set holds a row, which may be one beyond the table.
-fn holds(rows: &RowSet, row: u16) -> bool
+/// Whether the set holds a row, which may be one beyond the table.
+pub(crate) fn holds(rows: &RowSet, row: u16) -> bool
     ensures { IsTrue result ↔ (has_row rows.now.list row ≡ true) }
 {
     if rows.n() <= row {
@@ -146,10 +146,11 @@ fn shows_lone(
         && others_are_held_below(n, history, asked, answer, pair, row)
 }
 
-/// Whether `high` gives all answers and this one, and every row of the pair's set but this row is held below the pair's
-/// answer.
+/// Whether the row isn't shared, `high` gives all answers and this one, and every row of the pair's set but this row is held below the
+/// pair's answer.
 pub(crate) fn shows_row(
     n: u16,
+    shared: &RowSet,
     history: &[Answered],
     asked: &Asked,
     answer: i128,
@@ -161,8 +162,11 @@ pub(crate) fn shows_row(
     requires some { AllByRecursion (λ r. r.rows.list ≢ []) history.now }
     requires asked { asked.now.rows.n ≡ n }
     requires some_asked { asked.now.rows.list ≢ [] }
-    ensures { IsTrue result ↔ ShowsRow n history.now asked.now answer row place high.now }
+    ensures { IsTrue result ↔ ShowsRow n shared.now.list history.now asked.now answer row place high.now }
 {
+    if holds(shared, row) {
+        return false;
+    }
     match pair_at(n, history, asked, answer, place) {
         Some(pair) => shows_lone(n, history, asked, answer, &pair, row, high),
         None => false,

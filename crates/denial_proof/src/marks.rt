@@ -3,10 +3,9 @@ ghost use Rattle.std.specs.Prelude.{◌≡◌, ◌≤◌, ◌<◌, [], ◌∷◌
 ghost use Rattle.std.specs.List.{AllByRecursion};
 ghost use Rattle.audit_types.specs.declared.records.Answered.{Answered};
 ghost use Rattle.audit_types.specs.Limits.{most_rows, most_width};
-ghost use Rattle.audit_types.specs.Form.{set_row, InSpan, HasNarrowForm};
-ghost use Rattle.audit_core.specs.Laws.{sets_before};
 ghost use Rattle.denial_proof.specs.Kept.{AreMarks, AreMarksOf};
 ghost use Rattle.denial_proof.specs.Canonical.{AreMarksWide};
+ghost use Rattle.denial_proof.specs.Denied.{AreNarrowSums};
 
 use crate::kept::{kept_places, mark_all, mark_asked};
 use crate::proof_parts::ProveFault;
@@ -16,15 +15,15 @@ use sum_basis::Form;
 use sum_basis::laws::forms_are_unique;
 
 /// The places of the kept records, and the form of their marked rows, with a mark more for the set of a question. There is no
-/// form if that of some front of the marked rows isn't narrow.
+/// form if that of some front of the marked rows isn't narrow, nor if there are as many kept records as rows: no question is denied as
+/// unsafe then.
 #[derive(Drop)]
 pub(crate) struct Marks {
     pub(crate) places: Vec<u32>,
     pub(crate) form: Option<Form>,
 }
 
-/// The marks of a column. The records may leave no room for a form of all marks, so they must not determine every number: row
-/// 0's unit row is outside their span.
+/// The marks of a column.
 pub(crate) fn marks_of(
     alloc: Global,
     n: u16,
@@ -35,8 +34,7 @@ pub(crate) fn marks_of(
     requires at_most { n ≤ most_rows }
     requires few { length history.now ≤ 65536 }
     requires same_n { AllByRecursion (λ r. r.rows.n ≡ n) history.now }
-    requires narrow { (place : ℕ) → place ≤ length history.now → HasNarrowForm most_width n (sets_before column history.now place) }
-    requires open { ¬ (InSpan (map (set_row n) (sets_before column history.now (length history.now))) (set_row n (0 ∷ []))) }
+    requires narrow { AreNarrowSums n column history.now }
     ensures { IfOk result (λ marks. AreMarksOf n column history.now marks.places.items marks.form) }
 {
     let places = kept_places(alloc, n, history, column)?;
@@ -49,6 +47,7 @@ impl Marks {
     pub(crate) fn with_asked(&self, asked: &Asked) -> Result<Form, ProveFault>
         requires room { IfSome self.now.form (λ form. form.n ≡ asked.now.rows.n + (length self.now.places.items + 1)) }
         requires width { IfSome self.now.form (λ form. form.width ≡ most_width) }
+        requires few { length self.now.places.items < asked.now.rows.n }
         ensures marks { IfOk result (λ form. (history : List Answered) → AreMarksOf asked.now.rows.n asked.now.column history self.now.places.items self.now.form → AreMarks asked.now.rows.n history asked.now self.now.places.items form) }
         ensures wide { result ≡ Err ProveFault.Wide → (history : List Answered) → AreMarksOf asked.now.rows.n asked.now.column history self.now.places.items self.now.form → AreMarksWide asked.now.rows.n history asked.now }
     {

@@ -1,14 +1,15 @@
 //! The canonical proof of a maximum.
-ghost use Rattle.std.specs.Prelude.{◌≡◌, ◌≢◌, ◌↔◌, ◌<◌, ◌≤◌, [], Some, IsTrue, All, IfOk, IfSome, IfNone, length};
+ghost use Rattle.std.specs.Prelude.{◌≡◌, ◌≢◌, ◌↔◌, ◌<◌, ◌≤◌, ℕ, false, [], Some, IsTrue, All, IfOk, IfSome, IfNone, length};
 ghost use Rattle.std.specs.List.{AllByRecursion};
-ghost use Rattle.audit_types.specs.Rows.{IsLeast};
-ghost use Rattle.audit_types.specs.Extremes.{IsConsistent, IsLeastLone, least_of, upper_bound};
-ghost use Rattle.audit_types.specs.Column.{known_max};
+ghost use Rattle.audit_types.specs.Rows.{has_row, IsLeast};
+ghost use Rattle.audit_types.specs.Extremes.{IsConsistent, IsLone, least_of, upper_bound};
+ghost use Rattle.audit_types.specs.Column.{known_max, guarding};
 ghost use Rattle.audit_types.specs.History.{answers_of};
 ghost use Rattle.max_audit.specs.Laws.{LeavesLoneRow, HasBadCandidate};
 ghost use Rattle.max_audit.specs.Witnesses.{highest, bound_or_zero};
 ghost use Rattle.max_audit.specs.Candidates.{AreCandidates, IsNearRange};
 ghost use Rattle.max_bounds.specs.Maxima.{and_answer};
+ghost use Rattle.max_bounds.specs.Outside.{IsLeastOwnLone};
 ghost use Rattle.denial_proof.specs.Lone.{IsAt, IsOnly};
 ghost use Rattle.denial_proof.specs.Outlook.{IsOutlook};
 ghost use Rattle.denial_proof.specs.Canonical.{IsFirstAnswer, IsOnlyAt, IsMaxProof};
@@ -21,43 +22,57 @@ use max_audit::laws::others_are_free;
 use max_bounds::Bounds;
 use std::alloc::Global;
 
-// An answer that leaves a lone row, and the least such row.
+// An answer that leaves a lone row that isn't shared, and the least such row.
 #[derive(Clone, Copy)]
 struct LoneRow {
     answer: i128,
     row: u16,
 }
 
-// The least lone row after this answer, if the answer is possible and leaves one.
-fn lone_row(bounds: &Bounds, outlook: &Outlook, rows: &RowSet, answer: i128) -> Option<u16>
+// The least lone row that isn't shared after this answer, if the answer is possible and leaves one.
+fn lone_row(
+    bounds: &Bounds,
+    outlook: &Outlook,
+    rows: &RowSet,
+    shared: &RowSet,
+    answer: i128,
+) -> Option<u16>
     requires same_n { rows.now.n ≡ bounds.now.n }
     requires some { rows.now.list ≢ [] }
-    requires outlook { IsOutlook bounds.now.answers rows.now.list outlook.now }
+    requires none_lone { (row : ℕ) → has_row shared.now.list row ≡ false → ¬ (IsLone bounds.now.answers row) }
+    requires outlook { IsOutlook bounds.now.answers shared.now.list rows.now.list outlook.now }
     requires near { IsNearRange answer }
-    ensures some { IfSome result (λ row. IsConsistent (and_answer bounds.now.answers rows.now.list answer) × IsLeastLone (and_answer bounds.now.answers rows.now.list answer) (Some row)) }
-    ensures none { IfNone result (¬ (LeavesLoneRow (known_max bounds.now.n bounds.now.answers) rows.now.list answer)) }
+    ensures some { IfSome result (λ row. IsConsistent (and_answer bounds.now.answers rows.now.list answer) × IsLeastOwnLone shared.now.list (and_answer bounds.now.answers rows.now.list answer) (Some row)) }
+    ensures none { IfNone result (¬ (LeavesLoneRow (guarding (known_max bounds.now.n bounds.now.answers) shared.now.list []) rows.now.list answer)) }
 {
     // Only an answer that passes is tried: a trial takes a step for each row of each set.
     if !outlook.may_leave_one(answer) {
         return None;
     }
-    let trial = bounds.trial(rows, answer);
+    let trial = bounds.trial(rows, answer, shared);
     if trial.consistent { trial.lone } else { None }
 }
 
-// The least candidate that is possible and leaves a lone row.
-fn first_answer(bounds: &Bounds, candidates: &[i128], rows: &RowSet) -> Option<LoneRow>
+// The least candidate that is possible and leaves a lone row that isn't shared.
+fn first_answer(
+    bounds: &Bounds,
+    candidates: &[i128],
+    rows: &RowSet,
+    shared: &RowSet,
+) -> Option<LoneRow>
     requires same_n { rows.now.n ≡ bounds.now.n }
     requires some { rows.now.list ≢ [] }
+    requires shared { shared.now.n ≡ bounds.now.n }
+    requires none_lone { (row : ℕ) → has_row shared.now.list row ≡ false → ¬ (IsLone bounds.now.answers row) }
     requires candidates { AreCandidates bounds.now.answers candidates.now }
     requires near { All IsNearRange candidates.now }
-    ensures first { IfSome result (λ lone. IsFirstAnswer (known_max bounds.now.n bounds.now.answers) rows.now.list lone.answer) }
-    ensures least { IfSome result (λ lone. IsLeastLone (and_answer bounds.now.answers rows.now.list lone.answer) (Some lone.row)) }
-    ensures none { IfNone result (¬ (HasBadCandidate (known_max bounds.now.n bounds.now.answers) rows.now.list)) }
+    ensures first { IfSome result (λ lone. IsFirstAnswer (guarding (known_max bounds.now.n bounds.now.answers) shared.now.list []) rows.now.list lone.answer) }
+    ensures least { IfSome result (λ lone. IsLeastOwnLone shared.now.list (and_answer bounds.now.answers rows.now.list lone.answer) (Some lone.row)) }
+    ensures none { IfNone result (¬ (HasBadCandidate (guarding (known_max bounds.now.n bounds.now.answers) shared.now.list []) rows.now.list)) }
 {
-    let outlook = Outlook::new(bounds, rows);
+    let outlook = Outlook::new(bounds, rows, shared);
     for answer in candidates {
-        if let Some(row) = lone_row(bounds, &outlook, rows, *answer) {
+        if let Some(row) = lone_row(bounds, &outlook, rows, shared, *answer) {
             return Some(LoneRow {
                 answer: *answer,
                 row,
@@ -174,27 +189,27 @@ fn prove_lone(
     maxima: &MaxColumn,
     history: &[Answered],
     asked: &Asked,
-    answer: i128,
-    row: u16,
+    shared: &RowSet,
+    lone: LoneRow,
 ) -> Result<Proof, NoMemory>
     requires same_n { asked.now.rows.n ≡ maxima.now.n }
     requires some { asked.now.rows.list ≢ [] }
     requires few { length history.now ≤ 65536 }
     requires records { AllByRecursion (λ r. r.rows.n ≡ maxima.now.n) history.now }
     requires answers { maxima.now.answers ≡ answers_of asked.now.column history.now }
-    requires first { IsFirstAnswer (known_max maxima.now.n maxima.now.answers) asked.now.rows.list answer }
-    requires least { IsLeastLone (and_answer maxima.now.answers asked.now.rows.list answer) (Some row) }
-    ensures { IfOk result (IsMaxProof maxima.now.n history.now asked.now) }
+    requires first { IsFirstAnswer (guarding (known_max maxima.now.n maxima.now.answers) shared.now.list []) asked.now.rows.list lone.answer }
+    requires least { IsLeastOwnLone shared.now.list (and_answer maxima.now.answers asked.now.rows.list lone.answer) (Some lone.row) }
+    ensures { IfOk result (IsMaxProof maxima.now.n shared.now.list history.now asked.now) }
 {
     others_are_free();
     // A set says of itself that its rows are rows of the table.
     let _ = asked.rows.n();
     let bounds = maxima.bounds();
-    let list = heights(alloc, bounds, &asked.rows, answer)?;
-    let pair = first_pair(history, asked.column, &list, row);
+    let list = heights(alloc, bounds, &asked.rows, lone.answer)?;
+    let pair = first_pair(history, asked.column, &list, lone.row);
     Ok(Proof::Max {
-        answer,
-        row,
+        answer: lone.answer,
+        row: lone.row,
         pair,
         high: Heights { list },
     })
@@ -207,6 +222,7 @@ pub(crate) fn prove_max(
     candidates: &[i128],
     history: &[Answered],
     asked: &Asked,
+    shared: &RowSet,
 ) -> Result<Proof, NoMemory>
     requires same_n { asked.now.rows.n ≡ maxima.now.n }
     requires some { asked.now.rows.list ≢ [] }
@@ -215,11 +231,13 @@ pub(crate) fn prove_max(
     requires answers { maxima.now.answers ≡ answers_of asked.now.column history.now }
     requires candidates { AreCandidates maxima.now.answers candidates.now }
     requires near { All IsNearRange candidates.now }
-    requires dangerous { HasBadCandidate (known_max maxima.now.n maxima.now.answers) asked.now.rows.list }
-    ensures { IfOk result (IsMaxProof maxima.now.n history.now asked.now) }
+    requires shared { shared.now.n ≡ maxima.now.n }
+    requires none_lone { (row : ℕ) → has_row shared.now.list row ≡ false → ¬ (IsLone maxima.now.answers row) }
+    requires dangerous { HasBadCandidate (guarding (known_max maxima.now.n maxima.now.answers) shared.now.list []) asked.now.rows.list }
+    ensures { IfOk result (IsMaxProof maxima.now.n shared.now.list history.now asked.now) }
 {
-    match first_answer(maxima.bounds(), candidates, &asked.rows) {
-        Some(lone) => prove_lone(alloc, maxima, history, asked, lone.answer, lone.row),
+    match first_answer(maxima.bounds(), candidates, &asked.rows, shared) {
+        Some(lone) => prove_lone(alloc, maxima, history, asked, shared, lone),
         None => unreachable!(),
     }
 }

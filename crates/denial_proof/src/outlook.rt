@@ -3,7 +3,7 @@ ghost use Rattle.std.specs.Prelude.{◌≡◌, ◌↔◌, ◌<◌, ◌&&◌, not
 ghost use Rattle.audit_types.specs.Rows.{has_row};
 ghost use Rattle.audit_types.specs.Extremes.{is_bound, upper_bound};
 ghost use Rattle.max_bounds.specs.Maxima.{answer_of};
-ghost use Rattle.denial_proof.specs.Outlook.{IsLeftOutside, HoldsAfter, ReachesAfter, IsHolding, IsReach, IsOutlook, MayLeaveOne, reach_of};
+ghost use Rattle.denial_proof.specs.Outlook.{IsLeftOutside, HoldsAfter, ReachesAfter, ReachesAfterShared, IsHolding, IsReach, IsOutlook, MayLeaveOne, reach_of};
 
 use audit_types::RowSet;
 use max_bounds::{AnsweredMax, Bounds};
@@ -13,7 +13,7 @@ const ABOVE_ALL: i128 = 1 << 64;
 
 const BELOW_ALL: i128 = -(1 << 64);
 
-// How many extreme rows of an answer are outside a set, as far as it matters.
+// How many extreme rows of an answer are outside a set, as far as it matters: a shared one counts as more.
 #[derive(Clone, Copy)]
 pub(crate) enum Left {
     Nothing,
@@ -31,17 +31,18 @@ fn is_left(bounds: &Bounds, pair: &AnsweredMax, rows: &RowSet, row: u16) -> bool
 }
 
 // How many extreme rows of an answer are outside the set.
-fn left_outside(bounds: &Bounds, pair: &AnsweredMax, rows: &RowSet) -> Left
+fn left_outside(bounds: &Bounds, pair: &AnsweredMax, rows: &RowSet, shared: &RowSet) -> Left
     requires pair { pair.now.rows.n ≡ bounds.now.n }
     requires same_n { rows.now.n ≡ bounds.now.n }
-    ensures { IsLeftOutside bounds.now.answers rows.now.list (answer_of pair.now) result }
+    requires shared { shared.now.n ≡ bounds.now.n }
+    ensures { IsLeftOutside bounds.now.answers shared.now.list rows.now.list (answer_of pair.now) result }
 {
     // A set says of itself that its rows are rows of the table.
     let _ = pair.rows.n();
     let mut found = false;
     for row in pair.rows.iter() {
         if is_left(bounds, pair, rows, row) {
-            if found {
+            if found || shared.has(row) {
                 return Left::More;
             }
             found = true;
@@ -55,7 +56,7 @@ fn left_outside(bounds: &Bounds, pair: &AnsweredMax, rows: &RowSet) -> Left
 pub(crate) struct Holding {
     // The greatest answer of which no extreme row is outside.
     pub whole: i128,
-    // The greatest of which at most one is.
+    // The greatest of which at most one is, which isn't shared.
     pub stranded: i128,
 }
 
@@ -80,16 +81,18 @@ impl Holding {
 }
 
 // What a set takes from all answers.
-fn holding_of(bounds: &Bounds, rows: &RowSet) -> Holding
+fn holding_of(bounds: &Bounds, rows: &RowSet, shared: &RowSet) -> Holding
     requires same_n { rows.now.n ≡ bounds.now.n }
-    ensures { IsHolding bounds.now.answers rows.now.list bounds.now.answers result }
+    requires shared { shared.now.n ≡ bounds.now.n }
+    ensures { IsHolding bounds.now.answers shared.now.list rows.now.list bounds.now.answers result }
 {
     let mut holding = Holding {
         whole: BELOW_ALL,
         stranded: BELOW_ALL,
     };
     for pair in bounds.pairs() {
-        holding = holding.and(left_outside(bounds, pair, rows), pair.answer);
+        let left = left_outside(bounds, pair, rows, shared);
+        holding = holding.and(left, pair.answer);
     }
     holding
 }
@@ -128,12 +131,23 @@ impl Reach {
             }
         }
     }
+
+    // With a shared row more, which counts as two.
+    fn and_shared(self, reach: i128) -> Reach
+        ensures { ReachesAfterShared self reach result }
+    {
+        Reach {
+            top: self.top.max(reach),
+            next: self.next.max(reach),
+        }
+    }
 }
 
 // How high the rows of a set can be.
-fn reach_in(bounds: &Bounds, rows: &RowSet) -> Reach
+fn reach_in(bounds: &Bounds, rows: &RowSet, shared: &RowSet) -> Reach
     requires same_n { rows.now.n ≡ bounds.now.n }
-    ensures { IsReach bounds.now.answers rows.now.list result }
+    requires shared { shared.now.n ≡ bounds.now.n }
+    ensures { IsReach bounds.now.answers shared.now.list rows.now.list result }
 {
     // A set says of itself that its rows are rows of the table.
     let _ = rows.n();
@@ -142,7 +156,12 @@ fn reach_in(bounds: &Bounds, rows: &RowSet) -> Reach
         next: BELOW_ALL,
     };
     for row in rows.iter() {
-        reach = reach.and(reach_of(bounds.upper(row)));
+        let height = reach_of(bounds.upper(row));
+        reach = if shared.has(row) {
+            reach.and_shared(height)
+        } else {
+            reach.and(height)
+        };
     }
     reach
 }
@@ -152,30 +171,28 @@ fn reach_in(bounds: &Bounds, rows: &RowSet) -> Reach
 pub(crate) struct Outlook {
     holding: Holding,
     reach: Reach,
-    // Whether a row is lone before any answer.
-    is_lone: bool,
 }
 
 impl Outlook {
     /// The outlook of a question on these rows: a step for each row of each set at most.
-    pub(crate) fn new(bounds: &Bounds, rows: &RowSet) -> Outlook
+    pub(crate) fn new(bounds: &Bounds, rows: &RowSet, shared: &RowSet) -> Outlook
         requires same_n { rows.now.n ≡ bounds.now.n }
-        ensures { IsOutlook bounds.now.answers rows.now.list result }
+        requires shared { shared.now.n ≡ bounds.now.n }
+        ensures { IsOutlook bounds.now.answers shared.now.list rows.now.list result }
     {
         Outlook {
-            holding: holding_of(bounds, rows),
-            reach: reach_in(bounds, rows),
-            is_lone: bounds.lone_extreme().is_some(),
+            holding: holding_of(bounds, rows, shared),
+            reach: reach_in(bounds, rows, shared),
         }
     }
 
-    /// Whether this answer may be possible and leave a lone row.
+    /// Whether this answer may be possible and leave a lone row that isn't shared, where none is lone before.
     pub(crate) fn may_leave_one(&self, answer: i128) -> bool
         ensures { IsTrue result ↔ MayLeaveOne self.now answer }
     {
         if answer < self.holding.whole || self.reach.top < answer {
             return false;
         }
-        self.is_lone || answer < self.holding.stranded || self.reach.next < answer
+        answer < self.holding.stranded || self.reach.next < answer
     }
 }

@@ -44,8 +44,8 @@ impl Prover {
         ensures column { IfOk result (λ prover. prover.column ≡ column) }
     {
         legal_sums();
-        // A core says of its protected groups that they fit the table.
-        let _ = core.groups();
+        // A core says of what is guarded that it fits the table.
+        let _ = core.protected();
         let history = core.history();
         let preparation = match core.column(column) {
             ColumnRef::Sum(sums) => Preparation::Sums(marks_of(alloc, sums.n(), history, column)?),
@@ -82,7 +82,7 @@ impl Prover {
         denied_sums();
         denied_maxima();
         let history = core.history();
-        let protected = core.groups();
+        let protected = core.protected();
         match (core.column(asked.column), &self.preparation) {
             (ColumnRef::Sum(sums), Preparation::Sums(marks)) => {
                 let facts = PublicFacts {
@@ -94,7 +94,8 @@ impl Prover {
                 prove_sum(self.alloc, sums, marks, &facts)
             }
             (ColumnRef::Max(maxima), Preparation::Maxima(candidates)) => {
-                Ok(prove_max(self.alloc, maxima, candidates, history, asked)?)
+                let shared = protected.shared().over(asked.rows.n());
+                Ok(prove_max(self.alloc, maxima, candidates, history, asked, &shared)?)
             }
             _ => unreachable!(),
         }

@@ -74,7 +74,8 @@ pub(crate) fn prove_sum(
     requires same_n { facts.now.n ≡ sums.now.n }
     requires rows { AllByRecursion (λ r. AreRows sums.now.n r.rows.list) facts.now.history.now }
     requires answers { sums.now.answers ≡ answers_of facts.now.asked.now.column facts.now.history.now }
-    requires few_groups { length facts.now.protected.now ≤ most_groups }
+    requires shared { AreRows sums.now.n facts.now.protected.now.shared }
+    requires few_groups { length facts.now.protected.now.groups ≤ most_groups }
     requires marks { AreMarksOf sums.now.n facts.now.asked.now.column facts.now.history.now marks.now.places.items marks.now.form }
     requires denied { IsUnsafeSum sums.now.n sums.now.width facts.now.history.now facts.now.protected.now facts.now.asked.now }
     ensures is { IfOk result (IsSumProof sums.now.n facts.now.history.now facts.now.protected.now facts.now.asked.now) }
@@ -88,7 +89,7 @@ pub(crate) fn prove_sum(
     let _ = sums.n();
     let form = marks.with_asked(facts.asked)?;
     let basis = basis_with(sums, &facts.asked.rows)?;
-    match first_target(&basis, facts.protected, facts.asked.column) {
+    match first_target(facts.n, &basis, facts.protected, facts.asked.column) {
         Some(target) => prove_target(alloc, facts, &marks.places, &form, target),
         None => unreachable!(),
     }

@@ -4,6 +4,7 @@ ghost use Rattle.std.specs.List.{AllByRecursion};
 ghost use Rattle.denial_proof.specs.Weights.{adds, rows_at, sum_at, weights_of};
 ghost use Rattle.denial_proof.specs.Certificates.{NamesRecord, IsSmall, IsTerm, IsTarget, rows_of, ShowsTotal};
 
+use crate::lone_rows::holds;
 use crate::proof_parts::{Target, Term};
 use crate::public_facts::PublicFacts;
 use audit_types::{Answered, RowSet};
@@ -61,8 +62,8 @@ fn is_target(facts: &PublicFacts<'_>, target: Target) -> bool
     ensures { IsTrue result ↔ IsTarget facts.now.n facts.now.protected.now facts.now.asked.now.column target }
 {
     match target {
-        Target::Row(row) => row < facts.n,
-        Target::Group(place) => match facts.protected.get(place as usize) {
+        Target::Row(row) => row < facts.n && !holds(facts.protected.shared(), row),
+        Target::Group(place) => match facts.protected.groups().get(place as usize) {
             Some(entry) => entry.column == facts.asked.column,
             None => false,
         },
@@ -86,7 +87,10 @@ fn target_adds(facts: &PublicFacts<'_>, total: &Total<'_>, row: u16) -> i128
 {
     match total.target {
         Target::Row(only) => { if only == row { total.times } else { 0 } }
-        Target::Group(place) => adds(&facts.protected[place as usize].rows, total.times, row),
+        Target::Group(place) => {
+            let entry = &facts.protected.groups()[place as usize];
+            adds(&entry.rows, total.times, row)
+        }
     }
 }
 

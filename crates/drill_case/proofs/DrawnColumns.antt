@@ -62,6 +62,7 @@ are_lists number rows some most =
     let long : length (bands number rows) ≡ rows = (public_numbers number rows).0.one_each in
     record {
       no_texts = (λ is. cc, (λ is. cc, (λ is. cc, (λ is. cc, tt))));
+      no_counts = (λ is. cc, (λ is. cc, (λ is. cc, (λ is. cc, tt))));
       one_each = refl;
       some = omega (arith, long, some);
       at_most = omega (arith, long, most);

@@ -1,12 +1,13 @@
 -- The lines on the rows of a column of sums.
-use Rattle.std.proofs.Common.{◌≡◌, ℕ, ◌+◌, ◌<◌, ℤ, List, [], ◌∷◌, ◌++◌, ap, ◌∙◌, subst, arith}
+use Rattle.std.proofs.Common.{◌≡◌, ℕ, ◌+◌, ◌<◌, ℤ, true, false, cond, List, [], ◌∷◌, ◌++◌, ap, ◌∙◌, subst, arith}
+use Rattle.audit_types.specs.Rows.{has_row}
 use Rattle.audit_types.specs.Column.{Answer}
 use Rattle.audit_types.specs.Form.{Reduced}
 use Rattle.audit_types.specs.Direction.{IsPinned, IsCanonicalDirection}
 use Rattle.audit_types.specs.History.{answers_of}
 use Rattle.sum_audit.specs.Sets.{sets_of}
 use Rattle.journal_audit.specs.Texts.{direction_line}
-use Rattle.journal_audit.specs.Reports.{Audit, Subject, row_of, secret_name, sets_of_column, IsRowLine}
+use Rattle.journal_audit.specs.Reports.{Audit, Subject, row_of, row_subjects, secret_name, sets_of_column, IsRowLine}
 use Rattle.journal_audit.proofs.Subjects.{rows_before, rows_before-more, rows_after}
 
 -- what is written of a column's own form is a row's line
@@ -30,8 +31,20 @@ pub not_pinned_here : (audit : Audit) (column row n : ℕ) (answers : List Answe
 not_pinned_here audit column row n answers same_n same_answers free pinned =
     free (subst (λ a. IsPinned audit.shape.rows (sets_of a) row) same_answers (subst (λ k. IsPinned k (sets_of answers) row) same_n pinned))
 
--- a row among all rows
-pub row_among : (column row n : ℕ) → row < n → (others : List Subject) × (rows_before column n ≡ rows_before column row ++ row_of column row ∷ [] ++ others)
-row_among column row n below =
-    let rest = rows_after column (row + 1) n (omega (arith, below)) in
-    (rest.0, rest.1 ∙ ap (λ l. l ++ rest.0) (rows_before-more column row))
+-- what is about a row that isn't shared
+pub one_subject : (shared : List ℕ) (column row : ℕ) → has_row shared row ≡ false → row_subjects shared column row ≡ row_of column row ∷ []
+one_subject shared column row own = ap (λ b. cond b [] (row_of column row ∷ [])) own
+
+-- and about one that is
+pub no_subject : (shared : List ℕ) (column row : ℕ) → has_row shared row ≡ true → row_subjects shared column row ≡ []
+no_subject shared column row common = ap (λ b. cond b [] (row_of column row ∷ [])) common
+
+-- such a row among all rows
+pub row_among : (shared : List ℕ) (column row n : ℕ) → row < n → has_row shared row ≡ false →
+    (others : List Subject) × (rows_before shared column n ≡ rows_before shared column row ++ row_of column row ∷ [] ++ others)
+row_among shared column row n below own =
+    let rest = rows_after shared column (row + 1) n (omega (arith, below)) in (
+      rest.0,
+      rest.1 ∙ ap (λ l. l ++ rest.0) (rows_before-more shared column row
+          ∙ ap (λ l. rows_before shared column row ++ l) (one_subject shared column row own)),
+    )

@@ -1,5 +1,5 @@
 -- The texts of a report's lines.
-use Rattle.std.specs.Prelude.{ℕ, ◌+◌, ℤ, List, [], ◌∷◌, ◌++◌, Bool, if◌then◌else◌, codes, decimal}
+use Rattle.std.specs.Prelude.{ℕ, ◌+◌, ℤ, List, [], ◌∷◌, ◌++◌, Bool, if◌then◌else◌, Option, Some, None, codes, decimal}
 use Rattle.audit_types.specs.Truth.{is_zero}
 use Rattle.line_wire.specs.CommaLists.{with_commas, at_place, bounds}
 
@@ -16,6 +16,12 @@ direction_line name row d = codes "{\"column\":\"" ++ name ++ codes "\",\"row\":
 unfoldable pub bound_line : Bool → List ℕ → List ℤ → List ℕ
 bound_line least name numbers = codes "{\"column\":\"" ++ name ++ codes "\"," ++ bounds least numbers ++ codes "}\n"
 
+-- how many people the rows stand for, if they are counted
+abbrev pub people_part : Option ℕ → List ℕ
+people_part None = []
+people_part (Some people) = codes ",\"people\":" ++ decimal people
+
 -- the last line
-unfoldable pub total_line : ℕ → ℕ → ℕ → List ℕ
-total_line records columns rows = codes "{\"audited\":" ++ decimal records ++ codes ",\"columns\":" ++ decimal columns ++ codes ",\"rows\":" ++ decimal rows ++ codes "}\n"
+unfoldable pub total_line : ℕ → ℕ → ℕ → Option ℕ → List ℕ
+total_line records columns rows people =
+    codes "{\"audited\":" ++ decimal records ++ codes ",\"columns\":" ++ decimal columns ++ codes ",\"rows\":" ++ decimal rows ++ people_part people ++ codes "}\n"

@@ -1,8 +1,9 @@
 //! Making the lists that show a secret to be free, and checking them.
-ghost use Rattle.std.specs.Prelude.{◌≡◌, ◌<◌, ◌==◌, List, ℤ, map, filter, None, IfOk, OnOk};
+ghost use Rattle.std.specs.Prelude.{◌≡◌, ◌<◌, ◌==◌, List, ℕ, ℤ, false, map, filter, IfOk, OnOk};
 ghost use Rattle.std.specs.List.{AllByRecursion, All};
 ghost use Rattle.audit_types.specs.Direction.{IsPinned, IsCanonicalDirection};
-ghost use Rattle.audit_types.specs.Extremes.{IsConsistent, IsLeastLone};
+ghost use Rattle.audit_types.specs.Rows.{has_row};
+ghost use Rattle.audit_types.specs.Extremes.{IsConsistent, IsLone};
 ghost use Rattle.audit_types.specs.Form.{Reduced};
 ghost use Rattle.audit_types.specs.History.{answers_of, FitsShape};
 ghost use Rattle.max_audit.specs.Witnesses.{highest};
@@ -15,7 +16,7 @@ use audit_types::{Answered, NoMemory, RowSet};
 use max_audit::MaxColumn;
 use std::alloc::{AllocError, Global};
 use sum_audit::SumColumn;
-use witness_build::{max_witness, sum_witness};
+use witness_build::{highest, max_witness, sum_witness};
 use witness_check::{check_direction, check_pair};
 
 /// The sets of a column's records, in order.
@@ -67,7 +68,7 @@ fn check_row(
 ) -> Result<(), NoMemory>
     requires row { row < maxima.now.n }
     requires consistent { IsConsistent maxima.now.answers }
-    requires free { IsLeastLone maxima.now.answers None }
+    requires free { ¬ (IsLone maxima.now.answers row) }
     requires answers { maxima.now.answers ≡ answers_of column list.now }
     requires same_n { AllByRecursion (λ r. r.rows.n ≡ maxima.now.n) list.now }
 {
@@ -80,7 +81,8 @@ fn check_row(
 }
 
 /// Writes the line on a column of maxima, or on one of minima if `least` says so: the list with each row at its upper bound. For
-/// each row the pair of it and the list with that row less by 1 was checked. The numbers of a column of minima are kept negated.
+/// each row that isn't shared the pair of it and the list with that row less by 1 was checked. The numbers of a column of minima are
+/// kept negated.
 pub fn write_column(
     alloc: Global,
     line: &mut Vec<u8>,
@@ -89,18 +91,22 @@ pub fn write_column(
     column: u8,
     list: &[Answered],
     maxima: &MaxColumn,
+    shared: &RowSet,
 ) -> Result<(), NoMemory>
-    requires some { 0 < maxima.now.n }
+    requires shared { shared.now.n ≡ maxima.now.n }
     requires consistent { IsConsistent maxima.now.answers }
-    requires free { IsLeastLone maxima.now.answers None }
+    requires free { (row : ℕ) → row < maxima.now.n → has_row shared.now.list row ≡ false → ¬ (IsLone maxima.now.answers row) }
     requires answers { maxima.now.answers ≡ answers_of column list.now }
     requires same_n { AllByRecursion (λ r. r.rows.n ≡ maxima.now.n) list.now }
     ensures { OnOk result (line.new.items ≡ bound_line least name.now (highest maxima.now.n maxima.now.answers)) }
 {
-    for row in 0..maxima.bounds().n() {
-        check_row(alloc, column, list, maxima, row)?;
+    let bounds = maxima.bounds();
+    for row in 0..bounds.n() {
+        if !shared.has(row) {
+            check_row(alloc, column, list, maxima, row)?;
+        }
     }
-    let pair = max_witness(alloc, maxima, 0)?;
-    write_bounds(line, name, least, &pair.hi)?;
+    let numbers = highest(alloc, bounds)?;
+    write_bounds(line, name, least, &numbers)?;
     Ok(())
 }

@@ -33,7 +33,7 @@ fn send_line<B: Bench>(bench: &mut B, line: &[u8]) -> Result<(), AuditFault>
     }
 }
 
-// Sends the lines on the rows of a column of sums.
+// Sends the lines on the rows of a column of sums that aren't shared.
 fn send_rows<B: Bench>(
     alloc: Global,
     schema: &Schema,
@@ -48,15 +48,18 @@ fn send_rows<B: Bench>(
     requires is { IsStore store.now }
     requires below { column < columns store.now.secret.shape }
     requires part { HasItsPart (contents_of store.now) column kind.Sum sums.now }
-    ensures { SendsLinesOn B.Bench (audit_of schema.now.columns store.now) (subjects_of store.now.secret.shape column kind.Sum) bench.old bench.new result }
+    ensures { SendsLinesOn B.Bench (audit_of schema.now.columns store.now) (subjects_of store.now.secret.shape store.now.protected.shared column kind.Sum) bench.old bench.new result }
 {
     lists_of_secrets();
     free_numbers();
     let name = schema.name(place);
     let sets = column_sets(alloc, column, store.history())?;
+    let shared = store.protected().shared().over(sums.n());
     for row in 0..sums.n() {
-        write_row(alloc, line, name, sums, &sets, row)?;
-        send_line(bench, line)?;
+        if !shared.has(row) {
+            write_row(alloc, line, name, sums, &sets, row)?;
+            send_line(bench, line)?;
+        }
     }
     Ok(())
 }
@@ -80,13 +83,11 @@ fn send_highest<B: Bench>(
 {
     lists_of_secrets();
     free_numbers();
-    // By the law no row is fixed; `fixed` says so in the words that the lists ask for.
-    if let Some(_) = maxima.fixed() {
-        unreachable!();
-    }
     let name = schema.name(place);
     let least = store.shape().is_least(column);
-    write_column(alloc, line, name, least, column, store.history(), maxima)?;
+    let shared = store.protected().shared().over(maxima.bounds().n());
+    let history = store.history();
+    write_column(alloc, line, name, least, column, history, maxima, &shared)?;
     send_line(bench, line)
 }
 
@@ -104,7 +105,7 @@ fn send_column<B: Bench>(
     requires usable { store.now.usable ≡ true }
     requires is { IsStore store.now }
     requires below { column < columns store.now.secret.shape }
-    ensures { SendsLinesOn B.Bench (audit_of schema.now.columns store.now) (subjects_of store.now.secret.shape column (kind_at store.now.secret.shape column)) bench.old bench.new result }
+    ensures { SendsLinesOn B.Bench (audit_of schema.now.columns store.now) (subjects_of store.now.secret.shape store.now.protected.shared column (kind_at store.now.secret.shape column)) bench.old bench.new result }
 {
     match store.core().column(column) {
         ColumnRef::Sum(sums) => send_rows(alloc, schema, store, place, column, sums, line, bench),
@@ -125,7 +126,7 @@ fn send_columns<B: Bench>(
     requires usable { store.now.usable ≡ true }
     requires is { IsStore store.now }
     requires shape { store.now.secret.shape ≡ shape_of schema.now.columns store.now.secret.shape.rows }
-    ensures { SendsLinesOn B.Bench (audit_of schema.now.columns store.now) (subjects_before store.now.secret.shape (columns store.now.secret.shape)) bench.old bench.new result }
+    ensures { SendsLinesOn B.Bench (audit_of schema.now.columns store.now) (subjects_before store.now.secret.shape store.now.protected.shared (columns store.now.secret.shape)) bench.old bench.new result }
 {
     schema_json::laws::shape_of_a_table();
     for place in 0..schema.count() {
@@ -140,35 +141,38 @@ fn send_columns<B: Bench>(
 fn send_totals<B: Bench>(
     store: &Store,
     schema: &Schema,
+    people: Option<u64>,
     line: &mut Vec<u8>,
     bench: &mut B,
 ) -> Result<(), AuditFault>
-    ensures { SendsLinesOn B.Bench (audit_of schema.now.columns store.now) (totals ∷ []) bench.old bench.new result }
+    ensures { SendsLinesOn B.Bench (audit_of schema.now.columns store.now) (totals people ∷ []) bench.old bench.new result }
 {
     let shape = store.shape();
-    write_totals(line, store.history().len(), shape.columns(), shape.rows)?;
+    let records = store.history().len();
+    write_totals(line, records, shape.columns(), shape.rows, people)?;
     send_line(bench, line)
 }
 
-/// Sends the report of a store's history over the secret columns of a schema: a line a send. Each list is checked before its
-/// line leaves; its clauses say that it would pass. Nothing is written.
+/// Sends the report of a store's history over the secret columns of a schema, with how many people the rows stand for if they are
+/// counted: a line a send. Each list is checked before its line leaves; its clauses say that it would pass. Nothing is written.
 pub fn audit<B: Bench>(
     alloc: Global,
     schema: &Schema,
     store: &Store,
+    people: Option<u64>,
     bench: &mut B,
 ) -> Result<(), AuditFault>
     requires usable { store.now.usable ≡ true }
     requires shape { store.now.secret.shape ≡ shape_of schema.now.columns store.now.secret.shape.rows }
 
     // The report was sent, or a front of it: at the end, and at every moment.
-    ensures report { B.told → OnOk result (Reports (audit_of schema.now.columns store.now) (B.sent bench.old) (B.sent bench.new)) }
-    ensures part { B.told → OnErr result (ReportsFront (audit_of schema.now.columns store.now) (B.sent bench.old) (B.sent bench.new)) }
+    ensures report { B.told → OnOk result (Reports (audit_of schema.now.columns store.now) people (B.sent bench.old) (B.sent bench.new)) }
+    ensures part { B.told → OnErr result (ReportsFront (audit_of schema.now.columns store.now) people (B.sent bench.old) (B.sent bench.new)) }
     ensures any_moment { B.told → IsQuiet B.Bench bench.old
-        → LeavesOnly B.Bench bench.old bench.new (SendsMeanwhile (audit_of schema.now.columns store.now) (subjects store.now.secret.shape) (B.file bench.old) (B.sent bench.old)) }
+        → LeavesOnly B.Bench bench.old bench.new (SendsMeanwhile (audit_of schema.now.columns store.now) (subjects store.now.secret.shape store.now.protected.shared people) (B.file bench.old) (B.sent bench.old)) }
 
     // One send for each line, and no other call.
-    ensures ticks { B.told → OnOk result (B.moment bench.new ≡ B.moment bench.old + length (subjects store.now.secret.shape)) }
+    ensures ticks { B.told → OnOk result (B.moment bench.new ≡ B.moment bench.old + length (subjects store.now.secret.shape store.now.protected.shared people)) }
 
     // The file isn't touched.
     ensures file { B.file bench.new ≡ B.file bench.old }
@@ -182,5 +186,5 @@ pub fn audit<B: Bench>(
     let _history = store.history();
     let mut line = Vec::new(alloc);
     send_columns(alloc, schema, store, &mut line, bench)?;
-    send_totals(store, schema, &mut line, bench)
+    send_totals(store, schema, people, &mut line, bench)
 }

@@ -62,6 +62,16 @@ pub fn write_bounds(
     line.extend_from_slice(b"}\n")
 }
 
+// Appends how many people the rows stand for, if they are counted.
+fn put_people(line: &mut Vec<u8>, people: Option<u64>) -> Result<(), AllocError>
+    ensures { OnOk result (line.new.items ≡ line.old.items ++ spec.people_part people) }
+{
+    match people {
+        Some(people) => put_number(line, b",\"people\":", people),
+        None => Ok(()),
+    }
+}
+
 /// Writes the last line, in place of what the buffer held.
 #[tactic(auto, unfolding(crate::specs::Texts::total_line))]
 pub fn write_totals(
@@ -69,12 +79,14 @@ pub fn write_totals(
     records: usize,
     columns: u8,
     rows: u16,
+    people: Option<u64>,
 ) -> Result<(), AllocError>
-    ensures { OnOk result (line.new.items ≡ spec.total_line records columns rows) }
+    ensures { OnOk result (line.new.items ≡ spec.total_line records columns rows people) }
 {
     line.clear();
     put_number(line, b"{\"audited\":", records)?;
     put_number(line, b",\"columns\":", columns)?;
     put_number(line, b",\"rows\":", rows)?;
+    put_people(line, people)?;
     line.extend_from_slice(b"}\n")
 }

@@ -5,7 +5,7 @@ pub mod HighestBounds
 pub mod Pushes
 pub mod KeptRecords
 pub mod KeptOfLegal
-pub mod WithoutGroups
+pub mod GreatestBounds
 pub mod RowByRow
 pub mod OwnColumn
 pub mod NextRecord

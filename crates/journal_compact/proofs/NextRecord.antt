@@ -1,5 +1,5 @@
 -- The next record of a legal history, after what is kept of those before it.
-use Rattle.std.proofs.Common.{◌≡◌, ℕ, zero, suc, ◌+◌, ◌<◌, List, [], ◌∷◌, ◌++◌, length, take, get_or, Some, refl, sym, ap, ◌∙◌, subst, arith, length-take}
+use Rattle.std.proofs.Common.{◌≡◌, ℕ, zero, suc, ◌+◌, ◌<◌, ◌≤◌, List, [], ◌∷◌, ◌++◌, length, take, get_or, Some, refl, sym, ap, ◌∙◌, subst, arith, length-take}
 use Rattle.std.specs.Prelude.{slice_get}
 use Rattle.std.proofs.lemmas.List.{take_more}
 use Rattle.std.proofs.lemmas.Option.{none-some}
@@ -7,6 +7,7 @@ use Rattle.audit_types.specs.declared.shapes.Shape.{Shape}
 use Rattle.audit_types.specs.declared.records.Answered.{Answered}
 use Rattle.audit_types.specs.declared.records.Verdict.TheVariants.{Released}
 use Rattle.audit_types.specs.Laws.{LegalIsPossible}
+use Rattle.audit_types.specs.Limits.{most_rows}
 use Rattle.audit_types.specs.History.{Setting, Table, FitsShape, IsLegal, IsLegalRecord, IsPossibleHistory, setting_of, known_of}
 use Rattle.audit_types.specs.Judgement.{IsWithinWidth}
 use Rattle.audit_core.specs.Laws.{LegalGrows}
@@ -15,7 +16,7 @@ use Rattle.journal_compact.specs.Kept.IsKeptOf.{left_out, stays}
 use Rattle.journal_compact.specs.Laws.{SameDecisions, KeptIsLegal, IsLegalForSome}
 use Rattle.journal_compact.proofs.Pushes.{legal_front, legal_last, room_before}
 use Rattle.journal_compact.proofs.KeptRecords.{same_lists, no_more}
-use Rattle.journal_compact.proofs.WithoutGroups.{without_groups, legal_without_groups}
+use Rattle.journal_compact.proofs.GreatestBounds.{within_greatest, possible_still}
 
 -- what stands among the first records stands there in all, after the same
 get-take : (h : List Answered) (k i : ℕ) (x : Answered) → slice_get (take k h) i ≡ Some x → (slice_get h i ≡ Some x) × (take i (take k h) ≡ take i h)
@@ -54,19 +55,15 @@ pub record NextLaws : Type 0 where
 module _ (laws : NextLaws) (shape : Shape) (h : List Answered) (some : IsLegalForSome shape h) (setting : Setting)
     (setting_is : setting ≡ setting_of shape no_groups)
     (k : ℕ) (r : Answered) (inside : k < length h) (is : r ≡ get_or h k r) (kept : List Answered) (keeps : IsKeptOf shape (take k h) kept) where
-  -- the same table without protected groups, of which the core knows none
   abbrev table : Table
-  table = without_groups some.table
+  table = some.table
 
-  legal : IsLegal table h
-  legal = legal_without_groups some.table h some.plain some.legal
-
-  -- its setting is the core's
-  same_setting : table.setting ≡ setting
+  -- with no group protected and no row shared its setting is the core's
+  same_setting : setting_of table.setting.shape no_groups ≡ setting
   same_setting = ap (λ s. setting_of s no_groups) some.same_shape ∙ sym setting_is
 
   with_it : IsLegal table (take k h ++ r ∷ [])
-  with_it = subst (IsLegal table) (taken h k r inside is) (legal_take table h (k + 1) legal)
+  with_it = subst (IsLegal table) (taken h k r inside is) (legal_take table h (k + 1) some.legal)
 
   kept_of_table : IsKeptOf table.setting.shape (take k h) kept
   kept_of_table = subst (λ s. IsKeptOf s (take k h) kept) (sym some.same_shape) keeps
@@ -87,7 +84,11 @@ module _ (laws : NextLaws) (shape : Shape) (h : List Answered) (some : IsLegalFo
   fits = subst (λ (s : Setting). FitsShape s.shape r.column r.rows) same_setting may_follow.fits
 
   pub narrow : IsWithinWidth (known_of setting kept r.column) r.rows.list
-  narrow = subst (λ (s : Setting). IsWithinWidth (known_of s kept r.column) r.rows.list) same_setting may_follow.released.0
+  narrow =
+      let known = known_of table.setting kept r.column in
+      let few : known.n ≤ most_rows = subst (λ (s : Shape). s.rows ≤ most_rows) (sym some.same_shape) some.valid.at_most in
+      subst (λ (s : Setting). IsWithinWidth (known_of s kept r.column) r.rows.list) same_setting
+      (within_greatest known.kind known r.rows.list few some.guard.0.5 may_follow.released.0)
 
   pub possible : IsPossibleHistory setting (kept ++ r ∷ [])
   possible =
@@ -95,7 +96,8 @@ module _ (laws : NextLaws) (shape : Shape) (h : List Answered) (some : IsLegalFo
       let kept_legal = laws.legal table (take k h) kept some.are_secrets front kept_of_table in
       let few : length kept < 65536 = omega (arith, no_more table.setting.shape kept_of_table, room_before table (take k h) r with_it) in
       subst (λ s. IsPossibleHistory s (kept ++ r ∷ [])) same_setting
-      (laws.possible table (kept ++ r ∷ []) some.are_secrets (laws.grows table kept r kept_legal few may_follow))
+      (possible_still table.setting (kept ++ r ∷ [])
+      (laws.possible table (kept ++ r ∷ []) some.are_secrets (laws.grows table kept r kept_legal few may_follow)))
 
   -- and it stays if the kept ones don't imply it
   pub one_stays : ¬ (IsImpliedBy setting.shape kept r) → IsKeptOf shape (take (k + 1) h) (kept ++ r ∷ [])

@@ -68,7 +68,7 @@ module _ (audited : Audited) (r : Answered) (fits : FitsShape audited.setting.sh
 
   -- what is known of a column, apart from protected groups
   abbrev knows : Kind → List Answer → Known
-  knows kind answers = outsiders_as kind size answers [] most_width most_rows
+  knows kind answers = outsiders_as kind size answers [] [] most_width most_rows
 
   rows_are : AreRows size r.rows.list
   rows_are = subst (λ m. AreRows m r.rows.list) fits.same_n fits.are_rows

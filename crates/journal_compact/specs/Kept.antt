@@ -14,11 +14,11 @@ use Rattle.max_bounds.specs.Outside.{HasExtremesWithin}
 abbrev pub IsImplied : Known → Answer → Type 0
 IsImplied known a = (w : List ℤ) → Agrees known w → truth known.kind w a.rows ≡ a.value
 
--- plain protection by no group
+-- no group is protected and no row shared
 abbrev pub no_groups : Protection
 no_groups = against_outsiders [] [] most_width most_rows
 
--- every list that agrees with the records before it, on its column, gives the record's answer. Which groups are protected doesn't matter
+-- every list that agrees with the records before it, on its column, gives the record's answer. What is guarded doesn't matter
 abbrev pub IsImpliedBy : Shape → List Answered → Answered → Type 0
 IsImpliedBy shape before r = IsImplied (known_of (setting_of shape no_groups) before r.column) (answer_in r)
 

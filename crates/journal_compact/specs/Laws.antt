@@ -64,11 +64,11 @@ KeptIsLegal =
     (table : Table) (history kept : List Answered) → AreSecrets table.setting.shape table.secrets → IsLegal table history → IsKeptOf table.setting.shape history kept →
     IsLegal table kept
 
--- the history is legal for some table of this shape, under plain protection
+-- the history is legal for some table of this shape, of which what is guarded is so against outsiders
 pub record IsLegalForSome (shape : Shape) (history : List Answered) : Type 0 where
   pub valid : IsShape shape
   pub table : Table
   pub same_shape : table.setting.shape ≡ shape
-  pub plain : IsGuardFor table.setting.shape table.setting.protected
+  pub guard : IsGuardFor table.setting.shape table.setting.protected
   pub are_secrets : AreSecrets table.setting.shape table.secrets
   pub legal : IsLegal table history

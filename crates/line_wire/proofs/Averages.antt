@@ -6,9 +6,9 @@ use Rattle.std.proofs.lemmas.Bool.{eqb-true, eq-eqb}
 use Rattle.std.proofs.lemmas.Nat.Gcd.{same_from_IsGcd}
 use Rattle.line_wire.specs.Reply.{IsAverage}
 
-pub is_average : (num : ℤ) (den g size : ℕ) → IsGcd size den g → size ≡ unsigned_abs num → size ≤ 1024 * 10 ^ 12 → 1 ≤ den → den ≤ 1024 →
+pub is_average : (num : ℤ) (den g size : ℕ) → IsGcd size den g → size ≡ unsigned_abs num → size ≤ 1024 * 10 ^ 12 → 1 ≤ den → den ≤ 1024 * 10 ^ 12 →
     IsTrue (nat_eq g 1) ↔ IsAverage num den
-is_average num den g size divisor same within positive rows = (to, from)
+is_average num den g size divisor same within positive people = (to, from)
   where
     at_num : (k : ℕ) → IsGcd size den k → IsGcd (unsigned_abs num) den k
     at_num k = subst (λ (n : ℕ). IsGcd n den k) same
@@ -17,7 +17,7 @@ is_average num den g size divisor same within positive rows = (to, from)
     to one = record {
       within = subst (λ (n : ℕ). n ≤ 1024 * 10 ^ 12) same within;
       positive = positive;
-      rows = rows;
+      people = people;
       lowest = subst (λ (k : ℕ). IsGcd (unsigned_abs num) den k) (eqb-true g 1 one) (at_num g divisor);
     }
 

@@ -72,8 +72,8 @@ by_mark (Sum a) (Sum b) _ low high is =
     (same_number (codes "{\"sum\":") (signed_decimal a) (signed_decimal b) is))
 by_mark (Sum a) s marks _ _ _ = absurd (omega arith)
 by_mark (Avg a c) (Avg b d) _ low high is =
-    let parts : (a ≡ b) × (c ≡ d) = same_average a b c d (omega (arith, low.within)) (omega (arith, high.within)) (omega (arith, low.rows))
-    (omega (arith, high.rows)) is in
+    let parts : (a ≡ b) × (c ≡ d) = same_average a b c d (omega (arith, low.within)) (omega (arith, high.within)) (omega (arith, low.people))
+    (omega (arith, high.people)) is in
     (λ i. Avg (parts.0 i) (parts.1 i))
 by_mark (Avg a da) s marks _ _ _ = absurd (omega arith)
 by_mark (Max a) (Max b) _ low high is =

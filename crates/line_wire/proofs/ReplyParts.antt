@@ -70,7 +70,8 @@ pub unconfirmed : {P : Type 0} (r : Option Reply) (line : List ℕ) (s : Reply) 
 unconfirmed None line s wrong so = so wrong
 unconfirmed (Some reply) line s found so = tt
 
--- a number without a sign, of 16 bits
-pub whole : {E : Type 0} (z : ℤ) (n : ℕ) (r : Result ℕ E) → z ≡ pos n → n < 2 ^ 16 → OkIff r (FitsUnsignedBits 16 z) (unsigned_abs z) → r ≡ Ok n
-whole z n (Ok m) is small read = ap Ok (read.1 ∙ ap unsigned_abs is)
-whole z n (Err e) is small refused = absurd (refused (subst (λ (y : ℤ). FitsUnsignedBits 16 y) (sym is) small))
+-- a number without a sign, of so many bits
+pub whole : {E : Type 0} (bits : ℕ) (z : ℤ) (n : ℕ) (r : Result ℕ E) → z ≡ pos n → n < 2 ^ bits →
+    OkIff r (FitsUnsignedBits bits z) (unsigned_abs z) → r ≡ Ok n
+whole bits z n (Ok m) is small read = ap Ok (read.1 ∙ ap unsigned_abs is)
+whole bits z n (Err e) is small refused = absurd (refused (subst (λ (y : ℤ). FitsUnsignedBits bits y) (sym is) small))

@@ -4,7 +4,7 @@ use Rattle.std.proofs.Math.Seq.{take-append_seam}
 use Rattle.std.proofs.lemmas.Bool.{false≢true}
 use Rattle.std.proofs.lemmas.List.{append-nil}
 use Rattle.bench_core.specs.declared.source.Source.{Ghosts}
-use Rattle.line_wire.specs.Lines.{CountedLine, counted_lines, whole_lines, most_input}
+use Rattle.line_wire.specs.Lines.{CountedLine, counted_lines, most_input}
 use Rattle.line_wire.specs.Cutter.{Cutter, StopsAt}
 use Rattle.line_wire.specs.Calls.{Cuts, GivesLine, GivesNone, FailsRead, PassesLimit}
 use Rattle.line_wire.specs.ReadLines.{IsRead, ReadsLines}

@@ -2,7 +2,7 @@
 use Rattle.std.specs.Prelude.{◌≡◌, ◌≤◌, ℕ, ℤ, unsigned_abs, List, [], ◌∷◌, ◌++◌, codes, decimal}
 use Rattle.std.specs.Fmt.{signed_decimal}
 use Rattle.std.specs.Int.{IsGcd}
-use Rattle.audit_types.specs.Limits.{most_rows, most_number, most_answer}
+use Rattle.audit_types.specs.Limits.{most_number, most_answer}
 use Rattle.line_wire.specs.declared.reply.Reply.{Reply}
 use Rattle.line_wire.specs.declared.reply.Reply.TheVariants.{Count, Sum, Avg, Max, Min, Unsafe, Wide, Line, Long, Column, Kind, Condition, Empty, Full}
 
@@ -39,17 +39,17 @@ reply_bytes (Condition at) = numbered (codes "{\"refused\":\"where\",\"at\":") (
 reply_bytes Empty = refused (codes "empty")
 reply_bytes Full = refused (codes "full")
 
--- an average over at most 1,024 rows of at most 10^12 each, in lowest terms: no number above 1 divides both
+-- an average over at most 1,024 rows, of at most 10^12 people and 10^12 in size each, in lowest terms: no number above 1 divides both
 pub record IsAverage (num : ℤ) (den : ℕ) : Type 0 where
   pub within : unsigned_abs num ≤ most_answer
   pub positive : 1 ≤ den
-  pub rows : den ≤ most_rows
+  pub people : den ≤ most_answer
   pub lowest : IsGcd (unsigned_abs num) den 1
 
--- a reply that may be written: a table has at most 1,024 rows, a secret is at most 10^12 either way, and a condition has at
--- most 8,192 bytes
+-- a reply that may be written: a table has at most 1,024 rows, each of at most 10^12 people and numbers of at most 10^12 either way, and a
+-- condition has at most 8,192 bytes
 abbrev pub IsInRange : Reply → Type 0
-IsInRange (Count count) = count ≤ most_rows
+IsInRange (Count count) = count ≤ most_answer
 IsInRange (Sum sum) = unsigned_abs sum ≤ most_answer
 IsInRange (Avg num den) = IsAverage num den
 IsInRange (Max max) = unsigned_abs max ≤ most_number

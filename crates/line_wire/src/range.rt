@@ -9,7 +9,7 @@ use audit_types::{MOST_NUMBER, MOST_ROWS};
 // The greatest size of a secret.
 const MOST_SIZE: u64 = MOST_NUMBER as u64;
 
-// The greatest size of a sum over a table.
+// The greatest size of a sum over a table, and the most people that its rows stand for.
 const MOST_SUM: u64 = MOST_ROWS as u64 * MOST_SIZE;
 
 // How long a condition may be.
@@ -29,14 +29,14 @@ fn common_divisor(a: u64, b: u64) -> u64
     x
 }
 
-fn is_average(num: i64, den: u16) -> bool
+fn is_average(num: i64, den: u64) -> bool
     ensures { IsTrue result ↔ IsAverage num den }
 {
     let size = num.unsigned_abs();
-    if size > MOST_SUM || den == 0 || den > MOST_ROWS {
+    if size > MOST_SUM || den == 0 || den > MOST_SUM {
         return false;
     }
-    common_divisor(size, u64::from(den)) == 1
+    common_divisor(size, den) == 1
 }
 
 /// Whether a reply may be written.
@@ -44,7 +44,7 @@ pub(crate) fn is_in_range(reply: &Reply) -> bool
     ensures { IsTrue result ↔ IsInRange reply.now }
 {
     match reply {
-        Reply::Count(count) => *count <= MOST_ROWS,
+        Reply::Count(count) => *count <= MOST_SUM,
         Reply::Sum(sum) => sum.unsigned_abs() <= MOST_SUM,
         Reply::Avg { num, den } => is_average(*num, *den),
         Reply::Max(max) => max.unsigned_abs() <= MOST_SIZE,

@@ -8,15 +8,15 @@ use itoa::{Buffer, Integer};
 /// What is sent for one counted line.
 #[derive(Clone, Copy, PartialEq, Eq)]
 pub enum Reply {
-    /// So many rows satisfy the condition.
-    Count(u16),
+    /// So many people stand behind the rows that satisfy the condition.
+    Count(u64),
     /// The sum of a column over the rows that satisfy the condition.
     Sum(i64),
-    /// Their average, in lowest terms.
-    Avg { num: i64, den: u16 },
-    /// Their maximum.
+    /// This sum divided by the people behind these rows, in lowest terms.
+    Avg { num: i64, den: u64 },
+    /// The maximum of a column over these rows.
     Max(i64),
-    /// Their minimum.
+    /// The minimum of a column over these rows.
     Min(i64),
     /// The answer would give a secret away.
     Unsafe,
@@ -59,7 +59,7 @@ fn write_number<I: Integer>(out: &mut [u8; 64], front: &[u8], number: I) -> usiz
     append(out, at, b"}\n")
 }
 
-fn write_average(out: &mut [u8; 64], num: i64, den: u16) -> usize
+fn write_average(out: &mut [u8; 64], num: i64, den: u64) -> usize
     ensures count { result < 64 }
     ensures bytes { take result out.new ≡ average num den }
 {

@@ -79,11 +79,21 @@ fn number_between(line: &[u8], front: &[u8], end: &[u8]) -> Option<i64>
 }
 
 // The number without a sign between a front and an end. It may be written in other ways than replies write it.
-fn size_between(line: &[u8], front: &[u8], end: &[u8]) -> Option<u16>
-    ensures { (size : ℕ) → size < 2 ^ 16 → line.now ≡ front.now ++ (decimal size ++ end.now) → result ≡ Some size }
+fn size_between(line: &[u8], front: &[u8], end: &[u8]) -> Option<u64>
+    ensures { (size : ℕ) → size < 2 ^ 63 → line.now ≡ front.now ++ (decimal size ++ end.now) → result ≡ Some size }
 {
     match number_between(line, front, end) {
-        Some(number) => u16::try_from(number).ok(),
+        Some(number) => u64::try_from(number).ok(),
+        None => None,
+    }
+}
+
+// The place of a byte between a front and an end, as such a number.
+fn place_between(line: &[u8], front: &[u8], end: &[u8]) -> Option<u32>
+    ensures { (place : ℕ) → place < 2 ^ 32 → line.now ≡ front.now ++ (decimal place ++ end.now) → result ≡ Some place }
+{
+    match size_between(line, front, end) {
+        Some(size) => u32::try_from(size).ok(),
         None => None,
     }
 }
@@ -147,8 +157,8 @@ fn read_condition(line: &[u8]) -> Option<Reply>
     ensures found { IfSome result (IsReply line.now) }
     ensures none { IfNone result ((at : ℕ) → IsReply line.now (Reply.Condition at) → ⊥) }
 {
-    let at = size_between(line, b"{\"refused\":\"where\",\"at\":", b"}")?;
-    confirmed(line, Reply::Condition { at: at.into() })
+    let at = place_between(line, b"{\"refused\":\"where\",\"at\":", b"}")?;
+    confirmed(line, Reply::Condition { at })
 }
 
 /// The reply that a line, without its line feed, is: `write_reply` writes that line, and for no other reply.

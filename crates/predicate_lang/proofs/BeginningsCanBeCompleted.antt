@@ -27,6 +27,7 @@ unfolding some_literal
 has_literal None h = h
 has_literal (Some role.Number) h = refl
 has_literal (Some role.Text) h = refl
+has_literal (Some role.Count) h = h
 has_literal (Some role.Sum) h = h
 has_literal (Some role.Max) h = h
 has_literal (Some role.Min) h = h
@@ -36,6 +37,7 @@ has_equal : (r : Option Role) → public_role r ≡ true → has_operator r op.E
 has_equal None h = h
 has_equal (Some role.Number) h = refl
 has_equal (Some role.Text) h = refl
+has_equal (Some role.Count) h = h
 has_equal (Some role.Sum) h = h
 has_equal (Some role.Max) h = h
 has_equal (Some role.Min) h = h

@@ -32,6 +32,7 @@ run-append columns (t ∷ a) b (Some s) = run-append columns a b (run columns (t
 role_public : (r : Option Role) (l : Literal) → is_of_role r l ≡ true → public_role r ≡ true
 role_public (Some role.Number) l h = refl
 role_public (Some role.Text) l h = refl
+role_public (Some role.Count) l h = h
 role_public (Some role.Sum) l h = h
 role_public (Some role.Max) l h = h
 role_public (Some role.Min) l h = h

@@ -140,7 +140,7 @@ fn is_public(role: Option<Role>) -> bool
     ensures { result ≡ public_role role }
 {
     match role {
-        Some(role) => !role.is_secret(),
+        Some(role) => !role.is_secret() && !role.is_count(),
         None => false,
     }
 }
@@ -158,6 +158,7 @@ fn takes_operator(role: Option<Role>, op: Op) -> bool
             Op::Gt => false,
             Op::Ge => false,
         },
+        Some(Role::Count) => false,
         Some(Role::Sum) => false,
         Some(Role::Max) => false,
         Some(Role::Min) => false,
@@ -171,6 +172,7 @@ fn takes_literal(role: Option<Role>, literal: &Literal) -> bool
     match role {
         Some(Role::Number) => matches!(literal, Literal::Number(_)),
         Some(Role::Text) => matches!(literal, Literal::Text(_)),
+        Some(Role::Count) => false,
         Some(Role::Sum) => false,
         Some(Role::Max) => false,
         Some(Role::Min) => false,

@@ -8,7 +8,7 @@ use Rattle.audit_types.specs.Shapes.{columns}
 use Rattle.audit_types.specs.History.{FitsShape}
 use Rattle.schema_json.specs.Columns.{Column, AreColumns, place_of, secret_place}
 use Rattle.schema_json.specs.SecretShape.{PlacesAreColumns, shape_of}
-use Rattle.table_load.specs.Cells.{PublicView}
+use Rattle.table_load.specs.Cells.{PublicView, counts_of}
 use Rattle.predicate_lang.specs.Trees.{Tree, tree_of}
 use Rattle.set_index.specs.Asked.{meaning}
 use Rattle.line_wire.specs.Lines.{CountedLine, text, long}
@@ -40,25 +40,26 @@ module _ (places : PlacesAreColumns) (schema : List Column) (valid : AreColumns 
   TakesColumnBelow (request.Min c p) = c < columns (shape_of schema public.rows)
 
   -- a question of such a column over the rows of a condition fits the shape
-  question_fits : (t take : Take) (column : ℕ) (rows : List ℕ) (asked : Asked) → column < columns (shape_of schema public.rows) → AreRows public.rows rows →
-      question_over t column public.rows rows ≡ Ask take asked → FitsShape (shape_of schema public.rows) asked.column asked.rows
-  question_fits t take column [] asked below are is = absurd (cc)
-  question_fits t take column (row ∷ rows) asked below are is =
+  question_fits : (t take : Take) (column : ℕ) (counts rows : List ℕ) (people : ℕ) (asked : Asked) → column < columns (shape_of schema public.rows) →
+      AreRows public.rows rows → question_over t column public.rows counts rows ≡ Ask take people asked →
+      FitsShape (shape_of schema public.rows) asked.column asked.rows
+  question_fits t take column counts [] people asked below are is = absurd (cc)
+  question_fits t take column counts (row ∷ rows) people asked below are is =
       let same : record { column = column; rows = record { n = public.rows; list = row ∷ rows } } ≡ asked = cc in
       subst (λ (a : Asked). FitsShape (shape_of schema public.rows) a.column a.rows) same
       (record { column_below = below; same_n = refl; are_rows = are; some = λ (e : row ∷ rows ≡ []). cc })
 
-  request_fits : (r : Request) (take : Take) (asked : Asked) → TakesColumnBelow r → plan_of public r ≡ Ask take asked →
-      FitsShape (shape_of schema public.rows) asked.column asked.rows
-  request_fits (request.Count p) take asked below is = absurd (cc)
-  request_fits (request.Sum c p) take asked below is =
-      question_fits Sum take c (meaning public (tree_of p)) asked below (AreRows-rows_that _ public.rows) is
-  request_fits (request.Avg c p) take asked below is =
-      question_fits Avg take c (meaning public (tree_of p)) asked below (AreRows-rows_that _ public.rows) is
-  request_fits (request.Max c p) take asked below is =
-      question_fits Max take c (meaning public (tree_of p)) asked below (AreRows-rows_that _ public.rows) is
-  request_fits (request.Min c p) take asked below is =
-      question_fits Min take c (meaning public (tree_of p)) asked below (AreRows-rows_that _ public.rows) is
+  request_fits : (counts : List ℕ) (r : Request) (take : Take) (people : ℕ) (asked : Asked) → TakesColumnBelow r →
+      plan_of counts public r ≡ Ask take people asked → FitsShape (shape_of schema public.rows) asked.column asked.rows
+  request_fits counts (request.Count p) take people asked below is = absurd (cc)
+  request_fits counts (request.Sum c p) take people asked below is =
+      question_fits Sum take c counts (meaning public (tree_of p)) people asked below (AreRows-rows_that _ public.rows) is
+  request_fits counts (request.Avg c p) take people asked below is =
+      question_fits Avg take c counts (meaning public (tree_of p)) people asked below (AreRows-rows_that _ public.rows) is
+  request_fits counts (request.Max c p) take people asked below is =
+      question_fits Max take c counts (meaning public (tree_of p)) people asked below (AreRows-rows_that _ public.rows) is
+  request_fits counts (request.Min c p) take people asked below is =
+      question_fits Min take c counts (meaning public (tree_of p)) people asked below (AreRows-rows_that _ public.rows) is
 
   -- the column of a request that a question means
   taken_below : (written : Written) (t : Tree) (r : Request) → IsRequest schema written t r → TakesColumnBelow r
@@ -70,10 +71,11 @@ module _ (places : PlacesAreColumns) (schema : List Column) (valid : AreColumns 
   taken_below question t r means = absurd means
 
   -- a question that a line comes to fits the shape
-  pub plan_fits : (line : CountedLine) (take : Take) (asked : Asked) → IsPlan schema public line (Ask take asked) →
+  pub plan_fits : (line : CountedLine) (take : Take) (people : ℕ) (asked : Asked) → IsPlan schema public line (Ask take people asked) →
       FitsShape (shape_of schema public.rows) asked.column asked.rows
-  plan_fits long take asked is = absurd (cc)
-  plan_fits (text line) take asked (inl refused) = never_asks refused.fault take asked refused.told
-  plan_fits (text line) take asked (inr requested) =
-      request_fits requested.request take asked (taken_below requested.requests.question requested.requests.tree requested.request requested.requests.is)
+  plan_fits long take people asked is = absurd (cc)
+  plan_fits (text line) take people asked (inl refused) = never_asks refused.fault take people asked refused.told
+  plan_fits (text line) take people asked (inr requested) =
+      request_fits (counts_of schema public) requested.request take people asked
+      (taken_below requested.requests.question requested.requests.tree requested.request requested.requests.is)
       (sym requested.plan_is)

@@ -1,5 +1,5 @@
 -- Answering lines keeps a history legal.
-use Rattle.std.proofs.Common.{◌≡◌, ℕ, ◌<◌, List, [], ◌∷◌, ◌++◌, Option, Some, None, refl, sym, ap, subst, inl, inr, append_assoc}
+use Rattle.std.proofs.Common.{◌≡◌, ℕ, List, [], ◌∷◌, ◌++◌, Option, None, refl, sym, ap, subst, append_assoc}
 use Rattle.std.specs.Option.{option_to_list}
 use Rattle.std.proofs.lemmas.List.{append-nil}
 use Rattle.audit_types.specs.declared.records.Asked.{Asked}
@@ -42,20 +42,21 @@ module _ (grows : LegalGrows) (places : PlacesAreColumns) (base : Database) (is_
 
   -- so does the reply of a plan
   reply_keeps : (plan : Plan) (history : List Answered) (replied : Replied Answered)
-      → ((take : Take) (asked : Asked) → plan ≡ Ask take asked → FitsShape base.secret.shape asked.column asked.rows)
+      → ((take : Take) (people : ℕ) (asked : Asked) → plan ≡ Ask take people asked → FitsShape base.secret.shape asked.column asked.rows)
       → IsLegal (table_in base) history
       → IsReplyOf (table_in base) history plan replied → IsLegal (table_in base) (history ++ option_to_list replied.added)
   reply_keeps (Ready answer) history replied fit legal reply = nothing_keeps history replied (ap (λ (r : Replied Answered). r.added) reply) legal
-  reply_keeps (Ask take asked) history replied fit legal reply =
+  reply_keeps (Ask take people asked) history replied fit legal reply =
       only_keeps history replied (record_of asked reply.outcome) (ap (λ (r : Replied Answered). r.added) reply.replied_is)
-      (outcome_keeps history asked reply.outcome (fit take asked refl) legal reply.due)
+      (outcome_keeps history asked reply.outcome (fit take people asked refl) legal reply.due)
 
   due_keeps : (history : List Answered) (line : CountedLine) (replied : Replied Answered) → IsLegal (table_in base) history →
       IsDue base history line replied → IsLegal (table_in base) (history ++ option_to_list replied.added)
   due_keeps history line replied legal due =
       reply_keeps due.plan history replied
-      (λ take asked is. subst (λ (s : Shape). FitsShape s asked.column asked.rows) (sym is_base.shape)
-      (plan_fits places base.columns is_base.schema base.public line take asked (subst (λ (p : Plan). IsPlan base.columns base.public line p) is due.planned)))
+      (λ take people asked is. subst (λ (s : Shape). FitsShape s asked.column asked.rows) (sym is_base.shape)
+      (plan_fits places base.columns is_base.schema base.public line take people asked
+      (subst (λ (p : Plan). IsPlan base.columns base.public line p) is due.planned)))
       legal due.reply
 
   -- and those to all lines

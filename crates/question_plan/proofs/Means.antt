@@ -30,7 +30,7 @@ module _ (sum : ℤ) (size g : ℕ) (some : 0 < size) (common : IsGcd (unsigned_
   abs_is : unsigned_abs sum ≡ g * unsigned_abs (int_div sum (pos g))
   abs_is = ap unsigned_abs sum_is ∙ unsigned_abs-mul (pos g) (int_div sum (pos g))
 
-  -- a common divisor of some rows is not 0
+  -- a common divisor with some people is not 0
   pub divisor_some : 0 < g
   divisor_some = by g size_is
     where
@@ -65,7 +65,7 @@ module _ (sum : ℤ) (size g : ℕ) (some : 0 < size) (common : IsGcd (unsigned_
 
   pub mean : IsMean sum size (int_div sum (pos g)) (size / g)
   mean = record {
-    some = den_some;
+    some = (some, den_some);
     same = ap (λ (n : ℕ). int_div sum (pos g) *ℤ pos n) size_is ∙ across (int_div sum (pos g)) (size / g) ∙ ap (λ (z : ℤ). z *ℤ pos (size / g)) (sym sum_is);
     lowest = lowest;
   }
@@ -77,15 +77,15 @@ module _ (sum : ℤ) (size g : ℕ) (some : 0 < size) (common : IsGcd (unsigned_
       across z d = ap (λ (y : ℤ). z *ℤ y) (factors d) ∙ sym (times_assoc z (pos g) (pos d)) ∙ ap (λ (y : ℤ). y *ℤ pos d) (*ℤ_comm z (pos g))
 
   -- and it is in range
-  pub in_range : size ≤ 1024 → unsigned_abs sum ≤ 1024 * 10 ^ 12 → IsAverage (int_div sum (pos g)) (size / g)
+  pub in_range : size ≤ 1024 * 10 ^ 12 → unsigned_abs sum ≤ 1024 * 10 ^ 12 → IsAverage (int_div sum (pos g)) (size / g)
   in_range at_most small = record {
     within = omega (arith, small, abs_is, le-mul_of_pos_right (unsigned_abs (int_div sum (pos g))) divisor_some);
     positive = omega (arith, den_some);
-    rows = omega (arith, at_most, size_is, le-mul_of_pos_right (size / g) divisor_some);
+    people = omega (arith, at_most, size_is, le-mul_of_pos_right (size / g) divisor_some);
     lowest = lowest;
   }
 
--- every sum over some rows has an average in lowest terms
+-- every sum over some people has an average in lowest terms
 pub some_mean : (sum : ℤ) (size : ℕ) → 0 < size → (num : ℤ) × (den : ℕ) × IsMean sum size num den
 some_mean sum size some =
     let common = scaled_gcd 1 (omega arith) (suc size) (unsigned_abs sum) size (omega arith) in

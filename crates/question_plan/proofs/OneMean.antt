@@ -66,7 +66,7 @@ module _ (sum : ℤ) (size : ℕ) (some : 0 < size) (num other : ℤ) (den divis
   same_num = cancel_ℤ num other size some (first.same ∙ ap (λ (d : ℕ). sum *ℤ pos d) same_den ∙ sym second.same)
 
 -- so one reply tells it
-pub one_mean : (sum : ℤ) (size : ℕ) (told other : Reply) → 0 < size → Tells Avg size sum told → Tells Avg size sum other → told ≡ other
-one_mean sum size told other some first second =
-    first.3 ∙ ap (λ (n : ℤ). reply.Avg n first.1) (same_num sum size some first.0 second.0 first.1 second.1 first.2 second.2)
-    ∙ ap (λ (d : ℕ). reply.Avg second.0 d) (same_den sum size some first.0 second.0 first.1 second.1 first.2 second.2) ∙ sym second.3
+pub one_mean : (sum : ℤ) (size : ℕ) (told other : Reply) → Tells Avg size sum told → Tells Avg size sum other → told ≡ other
+one_mean sum size told other first second =
+    first.3 ∙ ap (λ (n : ℤ). reply.Avg n first.1) (same_num sum size first.2.some.0 first.0 second.0 first.1 second.1 first.2 second.2)
+    ∙ ap (λ (d : ℕ). reply.Avg second.0 d) (same_den sum size first.2.some.0 first.0 second.0 first.1 second.1 first.2 second.2) ∙ sym second.3

@@ -1,9 +1,10 @@
 -- A line comes to one plan, whatever is secret.
-use Rattle.std.proofs.Common.{◌≡◌, ℕ, ◌<◌, List, [], ◌∷◌, length, Option, Some, None, refl, sym, ◌∙◌, ap, subst, arith, inl, inr, option_and_then}
+use Rattle.std.proofs.Common.{◌≡◌, ℕ, List, Option, Some, None, refl, sym, ◌∙◌, ap, subst, arith, inl, inr, option_and_then}
 use Rattle.std.proofs.lemmas.Option.{none-some, same_Some}
 use Rattle.audit_types.specs.declared.records.Asked.{Asked}
+use Rattle.audit_types.specs.PeopleLaws.{people_behind}
 use Rattle.schema_json.specs.Columns.{Column}
-use Rattle.table_load.specs.Cells.{PublicView}
+use Rattle.table_load.specs.Cells.{PublicView, counts_of}
 use Rattle.predicate_lang.specs.Trees.{Tree, tree_of}
 use Rattle.predicate_lang.specs.Places.{Means, IsPlace}
 use Rattle.predicate_lang.specs.Laws.{OneMeaning}
@@ -22,50 +23,30 @@ use Rattle.question_plan.specs.declared.planning.Plan.{Plan}
 use Rattle.question_plan.specs.declared.planning.Plan.TheVariants.{Ready, Ask}
 use Rattle.question_plan.specs.Replies.{IsPlan, plan_of, question_over, refusal}
 
--- ---- questions over some rows
-
--- a question is asked over some row
-question_some : (t take : Take) (column n : ℕ) (rows : List ℕ) (asked : Asked) → question_over t column n rows ≡ Ask take asked → 0 < length asked.rows.list
-question_some t take column n [] asked is = absurd (cc)
-question_some t take column n (row ∷ rows) asked is =
-    let same : record { column = column; rows = record { n = n; list = row ∷ rows } } ≡ asked = cc in
-    subst (λ (a : Asked). 0 < length a.rows.list) same (omega arith)
-
-request_some : (public : PublicView) (r : Request) (take : Take) (asked : Asked) → plan_of public r ≡ Ask take asked → 0 < length asked.rows.list
-request_some public (request.Count p) take asked is = absurd (cc)
-request_some public (request.Sum c p) take asked is = question_some Sum take c public.rows (meaning public (tree_of p)) asked is
-request_some public (request.Avg c p) take asked is = question_some Avg take c public.rows (meaning public (tree_of p)) asked is
-request_some public (request.Max c p) take asked is = question_some Max take c public.rows (meaning public (tree_of p)) asked is
-request_some public (request.Min c p) take asked is = question_some Min take c public.rows (meaning public (tree_of p)) asked is
-
 -- a refusal asks nothing
-pub never_asks : {X : Type 0} (f : LineFault) (take : Take) (asked : Asked) → refusal f ≡ Some (Ask take asked) → X
-never_asks fault.Line take asked is = absurd cc
-never_asks fault.Column take asked is = absurd cc
-never_asks fault.Kind take asked is = absurd cc
-never_asks (fault.Condition at) take asked is = absurd cc
-never_asks fault.NoMemory take asked is = absurd cc
-
-pub asked_some : (columns : List Column) (public : PublicView) (line : CountedLine) (take : Take) (asked : Asked) →
-    IsPlan columns public line (Ask take asked) → 0 < length asked.rows.list
-asked_some columns public long take asked is = absurd (cc)
-asked_some columns public (text line) take asked (inl refused) = never_asks refused.fault take asked refused.told
-asked_some columns public (text line) take asked (inr requested) = request_some public requested.request take asked (sym requested.plan_is)
+pub never_asks : {X : Type 0} (f : LineFault) (take : Take) (people : ℕ) (asked : Asked) → refusal f ≡ Some (Ask take people asked) → X
+never_asks fault.Line take people asked is = absurd cc
+never_asks fault.Column take people asked is = absurd cc
+never_asks fault.Kind take people asked is = absurd cc
+never_asks (fault.Condition at) take people asked is = absurd cc
+never_asks fault.NoMemory take people asked is = absurd cc
 
 -- ---- requests that one question means
 
-module _ (columns : List Column) (public : PublicView) where
+module _ (columns : List Column) (counts : List ℕ) (public : PublicView) where
   over_same : (take : Take) (column other : ℕ) (t u : Tree) → column ≡ other → t ≡ u →
-      question_over take column public.rows (meaning public t) ≡ question_over take other public.rows (meaning public u)
+      question_over take column public.rows counts (meaning public t) ≡ question_over take other public.rows counts (meaning public u)
   over_same take column other t u one tree =
-      ap (λ (c : ℕ). question_over take c public.rows (meaning public t)) one ∙ ap (λ (v : Tree). question_over take other public.rows (meaning public v)) tree
+      ap (λ (c : ℕ). question_over take c public.rows counts (meaning public t)) one
+      ∙ ap (λ (v : Tree). question_over take other public.rows counts (meaning public v)) tree
 
   some_same : (x y : ℕ) (o : Option ℕ) → o ≡ Some x → o ≡ Some y → x ≡ y
   some_same x y o first second = let both : Some x ≡ Some y = sym first ∙ second in cc
 
-  requests_same : (w : Written) (t : Tree) (r q : Request) → IsRequest columns w t r → IsRequest columns w t q → plan_of public r ≡ plan_of public q
+  requests_same : (w : Written) (t : Tree) (r q : Request) → IsRequest columns w t r → IsRequest columns w t q →
+      plan_of counts public r ≡ plan_of counts public q
   requests_same (counted condition) t (request.Count p) (request.Count q) r_is q_is =
-      ap (λ (u : Tree). Ready (reply.Count (length (meaning public u)))) (r_is ∙ sym q_is)
+      ap (λ (u : Tree). Ready (reply.Count (people_behind counts (meaning public u)))) (r_is ∙ sym q_is)
   requests_same (counted condition) t (request.Count p) q r_is q_is = absurd q_is
   requests_same (taken Sum name condition) t (request.Sum c p) (request.Sum d q) r_is q_is =
       over_same Sum c d (tree_of p) (tree_of q) (some_same c d (secret_of columns name) r_is.0 q_is.0) (r_is.1 ∙ sym q_is.1)
@@ -145,13 +126,14 @@ module _ (columns : List Column) (o : Option Written) where
 -- ---- lines
 
 module _ (meanings : OneMeaning) (columns : List Column) (public : PublicView) where
-  one_request : (o : Option Written) (r q : Request) → Requests columns o r → Requests columns o q → plan_of public r ≡ plan_of public q
+  one_request : (o : Option Written) (r q : Request) → Requests columns o r → Requests columns o q →
+      plan_of (counts_of columns public) public r ≡ plan_of (counts_of columns public) public q
   one_request o r q first second =
       let one = same_Some second.question first.question (sym second.writes ∙ first.writes) in
       let means = subst (λ (w : Written). Means columns (text_of w) second.tree) one second.means in
       let tree = meanings.tree columns (text_of first.question) second.tree first.tree means first.means in
       let is = subst (λ (w : Written). IsRequest columns w first.tree q) one (subst (λ (t : Tree). IsRequest columns second.question t q) tree second.is) in
-      requests_same columns public first.question first.tree r q first.is is
+      requests_same columns (counts_of columns public) public first.question first.tree r q first.is is
 
   pub one_plan : (line : CountedLine) (p q : Plan) → IsPlan columns public line p → IsPlan columns public line q → p ≡ q
   one_plan long p q first second = first ∙ sym second

@@ -1,16 +1,13 @@
 -- The replies that are due to one line over tables that differ in their secrets alone.
-use Rattle.std.proofs.Common.{◌≡◌, ℕ, ℤ, pos, ◌<◌, List, length, Some, refl, sym, ◌∙◌, ap, subst, arith, inl, inr, ◌⊎◌, ⊎_elim}
+use Rattle.std.proofs.Common.{◌≡◌, ℕ, ℤ, pos, List, Some, refl, sym, ◌∙◌, ap, subst, arith, inl, inr, ◌⊎◌, ⊎_elim}
 use Rattle.std.specs.Prelude.{◌*ℤ◌, neg_ℤ}
 use Rattle.std.proofs.lemmas.Int.{ints}
-use Rattle.audit_types.specs.declared.shapes.Kind.{Kind}
 use Rattle.audit_types.specs.declared.shapes.Shape.{Shape}
-use Rattle.audit_types.specs.declared.shapes.Kind.TheVariants as kind
 use Rattle.audit_types.specs.declared.records.Asked.{Asked}
 use Rattle.audit_types.specs.declared.records.Answered.{Answered}
 use Rattle.audit_types.specs.declared.records.Verdict.{Verdict}
 use Rattle.audit_types.specs.declared.records.Verdict.TheVariants.{Released, DeniedUnsafe, DeniedWide}
-use Rattle.audit_types.specs.Column.{Known}
-use Rattle.audit_types.specs.Judgement.{IsDecision, IsJudgement, IsWideFor, IsWithinWidthFor, sets_with}
+use Rattle.audit_types.specs.Judgement.{IsDecision}
 use Rattle.audit_types.specs.History.{Protection, Table, Setting, setting_of, known_of}
 use Rattle.sum_basis.specs.Laws.{SetsHaveOneForm}
 use Rattle.audit_core.specs.declared.outcome.Outcome.{Outcome}
@@ -28,19 +25,19 @@ use Rattle.line_wire.specs.declared.reply.Reply.TheVariants as reply
 use Rattle.question_plan.specs.declared.planning.Plan.{Plan}
 use Rattle.question_plan.specs.declared.planning.Plan.TheVariants.{Ready, Ask}
 use Rattle.question_plan.specs.Session.{Replied}
-use Rattle.audit_core.specs.OneDecision.{never_both, one_decision, one_judgement}
-use Rattle.question_plan.specs.Replies.{IsDue, IsPlan, IsReplyOf, TellsOutcome, Tells, only}
+use Rattle.audit_core.specs.OneDecision.{one_decision, one_judgement}
+use Rattle.question_plan.specs.Replies.{IsDue, IsReplyOf, TellsOutcome, Tells, only}
 use Rattle.question_plan.specs.Laws.{AreAnswersAlike, OneDecisionIsMade, OneJudgementIsMade, OneAnswerIsTold, OneReplyIsDue, DecidedAlike, EqualAnswersEqualReplies}
 use Rattle.question_plan.proofs.OneMean.{cancel_ℤ, one_mean}
 use Rattle.predicate_lang.specs.Laws.{OneMeaning}
-use Rattle.question_plan.proofs.OnePlan.{asked_some, one_plan}
+use Rattle.question_plan.proofs.OnePlan.{one_plan}
 
 -- one reply tells an answer
-one_telling : (take : Take) (size : ℕ) (answer : ℤ) (a b : Reply) → 0 < size → Tells take size answer a → Tells take size answer b → a ≡ b
-one_telling Sum size answer a b some first second = first ∙ sym second
-one_telling Avg size answer a b some first second = one_mean answer size a b some first second
-one_telling Max size answer a b some first second = first ∙ sym second
-one_telling Min size answer a b some first second = first ∙ sym second
+one_telling : (take : Take) (size : ℕ) (answer : ℤ) (a b : Reply) → Tells take size answer a → Tells take size answer b → a ≡ b
+one_telling Sum size answer a b first second = first ∙ sym second
+one_telling Avg size answer a b first second = one_mean answer size a b first second
+one_telling Max size answer a b first second = first ∙ sym second
+one_telling Min size answer a b first second = first ∙ sym second
 
 pub decided_once : SetsHaveOneForm → OneDecisionIsMade
 decided_once forms setting history column rows v w first second = one_decision forms (known_of setting history column) rows v w first second
@@ -55,7 +52,7 @@ told_once Avg size a b told first second =
     let both : reply.Avg first.0 first.1 ≡ reply.Avg second.0 second.1 = sym first.3 ∙ second.3 in
     let num : first.0 ≡ second.0 = cc in
     let den : first.1 ≡ second.1 = cc in
-    cancel_ℤ a b first.1 first.2.some (sym first.2.same ∙ ap (λ (z : ℤ). z *ℤ pos size) num ∙ second.2.same ∙ ap (λ (d : ℕ). b *ℤ pos d) (sym den))
+    cancel_ℤ a b first.1 first.2.some.1 (sym first.2.same ∙ ap (λ (z : ℤ). z *ℤ pos size) num ∙ second.2.same ∙ ap (λ (d : ℕ). b *ℤ pos d) (sym den))
 told_once Max size a b told first second = let both : reply.Max a ≡ reply.Max b = sym first ∙ second in cc
 told_once Min size a b told first second =
     let both : reply.Min (neg_ℤ a) ≡ reply.Min (neg_ℤ b) = sym first ∙ second in
@@ -69,8 +66,8 @@ one_denial take asked size Released a b first second = absurd first
 one_denial take asked size DeniedUnsafe a b first second = first ∙ sym second
 one_denial take asked size DeniedWide a b first second = first ∙ sym second
 
-module _ (forms : SetsHaveOneForm) (table twin : Table) (same : twin.setting ≡ table.setting) (history : List Answered) (take : Take) (asked : Asked)
-    (some : 0 < length asked.rows.list) where
+module _ (forms : SetsHaveOneForm) (table twin : Table) (same : twin.setting ≡ table.setting) (history : List Answered) (take : Take)
+    (people : ℕ) (asked : Asked) where
   rows : List ℕ
   rows = asked.rows.list
 
@@ -87,7 +84,7 @@ module _ (forms : SetsHaveOneForm) (table twin : Table) (same : twin.setting ≡
 
   -- what becomes of a question over both
   outcomes_alike : (x y : Outcome) (answer other : Reply) (a b : Replied Answered) → IsOutcome table history asked x → IsOutcome twin history asked y
-      → TellsOutcome take (length asked.rows.list) x answer → TellsOutcome take (length asked.rows.list) y other
+      → TellsOutcome take people x answer → TellsOutcome take people y other
       → a ≡ record { bytes = reply_bytes answer; added = record_of asked x } → b ≡ record { bytes = reply_bytes other; added = record_of asked y } →
       (a ≡ b) ⊎ AreAnswersAlike table twin a b
   outcomes_alike Full Full answer other a b first second tells told a_is b_is = inl (same_only answer other a b (tells ∙ sym told) a_is b_is)
@@ -98,27 +95,25 @@ module _ (forms : SetsHaveOneForm) (table twin : Table) (same : twin.setting ≡
   outcomes_alike (Denied v) (Denied w) answer other a b first second tells told a_is b_is =
       let one = one_verdict v w first.2 second.2 in
       inl
-      (same_only answer other a b (one_denial take asked (length asked.rows.list) v answer other tells
-      (subst (λ (u : Verdict). TellsOutcome take (length asked.rows.list) (Denied u) other) (sym one) told)) a_is b_is)
+      (same_only answer other a b (one_denial take asked people v answer other tells
+      (subst (λ (u : Verdict). TellsOutcome take people (Denied u) other) (sym one) told)) a_is b_is)
   outcomes_alike (Denied v) (Answer y) answer other a b first second tells told a_is b_is = absurd (first.1 (one_verdict v Released first.2 second.1))
   outcomes_alike (Answer x) (Denied w) answer other a b first second tells told a_is b_is = absurd (second.1 (sym (one_verdict Released w first.1 second.2)))
   outcomes_alike (Answer x) (Answer y) answer other a b first second tells told a_is b_is = inr (record {
     take = take;
+    people = people;
     asked = asked;
-    some = some;
     first = record { answer = x; is_true = first.2; told = answer; tells = tells; replied_is = a_is };
     second = record { answer = y; is_true = second.2; told = other; tells = told; replied_is = b_is };
   })
 
 -- what a plan comes to over both
 replies_alike : SetsHaveOneForm → (plan : Plan) (table twin : Table) → twin.setting ≡ table.setting → (history : List Answered) (a b : Replied Answered)
-    → ((take : Take) (asked : Asked) → plan ≡ Ask take asked → 0 < length asked.rows.list)
     → IsReplyOf table history plan a → IsReplyOf twin history plan b → (a ≡ b) ⊎ AreAnswersAlike table twin a b
-replies_alike forms (Ready answer) table twin same history a b some first second = inl (first ∙ sym second)
-replies_alike forms (Ask take asked) table twin same history a b some first second =
-    outcomes_alike forms table twin same history take asked
-    (some take asked refl) first.outcome second.outcome first.answer second.answer a b first.due second.due first.tells second.tells first.replied_is
-    second.replied_is
+replies_alike forms (Ready answer) table twin same history a b first second = inl (first ∙ sym second)
+replies_alike forms (Ask take people asked) table twin same history a b first second =
+    outcomes_alike forms table twin same history take people asked first.outcome second.outcome first.answer second.answer a b first.due second.due
+    first.tells second.tells first.replied_is second.replied_is
 
 pub due_alike : SetsHaveOneForm → OneMeaning → (columns : List Column) (public : PublicView) (protected : Protection) (secret twin : SecretView)
     → twin.shape ≡ secret.shape → (history : List Answered) (line : CountedLine) (a b : Replied Answered)
@@ -126,16 +121,15 @@ pub due_alike : SetsHaveOneForm → OneMeaning → (columns : List Column) (publ
     (a ≡ b) ⊎ AreAnswersAlike (secret_table secret protected) (secret_table twin protected) a b
 due_alike forms meanings columns public protected secret twin same history line a b first second =
     replies_alike forms first.plan (secret_table secret protected) (secret_table twin protected)
-    (ap (λ (shape : Shape). setting_of shape protected) same) history a b
-    (λ take asked is. asked_some columns public line take asked (subst (λ (p : Plan). IsPlan columns public line p) is first.planned)) first.reply
+    (ap (λ (shape : Shape). setting_of shape protected) same) history a b first.reply
     (subst (λ (p : Plan). IsReplyOf (secret_table twin protected) history p b)
     (one_plan meanings columns public line second.plan first.plan second.planned first.planned) second.reply)
 
 -- two replies that tell equal answers are equal
 pub equal_answers : EqualAnswersEqualReplies
 equal_answers table twin a b alike value =
-    let told = one_telling alike.take (length alike.asked.rows.list) alike.first.answer alike.first.told alike.second.told alike.some alike.first.tells
-    (subst (λ (z : ℤ). Tells alike.take (length alike.asked.rows.list) z alike.second.told) (sym value) alike.second.tells) in
+    let told = one_telling alike.take alike.people alike.first.answer alike.first.told alike.second.told alike.first.tells
+    (subst (λ (z : ℤ). Tells alike.take alike.people z alike.second.told) (sym value) alike.second.tells) in
     let whole : Reply → ℤ → Replied Answered = λ r z. record {
       bytes = reply_bytes r;
       added =

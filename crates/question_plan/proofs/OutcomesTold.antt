@@ -58,7 +58,7 @@ module _ (sums : SumsAreSmall) (maxima : MaximaAreSmall) (secret : SecretView) (
   can_be_told protected history (Answer z) due = answer_small z due.2
 
 pub outcomes_can_be_told : SumsAreSmall → MaximaAreSmall → OutcomesCanBeTold
-outcomes_can_be_told sums maxima secret protected history take asked outcome is askable due =
+outcomes_can_be_told sums maxima secret protected history take people asked outcome is askable due =
     can_be_told sums maxima secret is take asked askable.fits askable.own_kind protected history outcome due
 
 -- each outcome has a reply that tells it

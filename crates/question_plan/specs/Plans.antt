@@ -1,5 +1,5 @@
 -- What can be done with a plan.
-use Rattle.std.specs.Prelude.{◌≡◌, ◌≢◌, ◌≤◌, ℕ, unsigned_abs}
+use Rattle.std.specs.Prelude.{◌≡◌, ◌≢◌, ◌<◌, ◌≤◌, ℕ, unsigned_abs}
 use Rattle.audit_types.specs.declared.shapes.Shape.{Shape}
 use Rattle.audit_types.specs.declared.records.Asked.{Asked}
 use Rattle.audit_types.specs.declared.records.Verdict.TheVariants.{Released}
@@ -26,15 +26,18 @@ condition_of (request.Avg column p) = tree_of p
 condition_of (request.Max column p) = tree_of p
 condition_of (request.Min column p) = tree_of p
 
--- a question that can be decided over each table of a shape: it fits, and its column answers what is taken of it
-pub record IsAskable (shape : Shape) (take : Take) (asked : Asked) : Type 0 where
+-- a question that can be decided over each table of a shape: it fits, its column answers what is taken of it, and it is over somebody, and over
+-- no more people than the rows of a table stand for
+pub record IsAskable (shape : Shape) (take : Take) (people : ℕ) (asked : Asked) : Type 0 where
   pub fits : FitsShape shape asked.column asked.rows
   pub own_kind : kind_at shape asked.column ≡ kind_for take
+  pub somebody : 0 < people
+  pub at_most : people ≤ most_answer
 
 -- the reply can be written, or the question decided over each table of the shape
 abbrev pub CanBeServed : Shape → Plan → Type 0
 CanBeServed shape (Ready answer) = IsInRange answer
-CanBeServed shape (Ask take asked) = IsAskable shape take asked
+CanBeServed shape (Ask take people asked) = IsAskable shape take people asked
 
 -- the greatest size of an answer over a table
 abbrev pub most_of : Take → ℕ

@@ -1,17 +1,20 @@
 //! Planning a line.
 ghost use Rattle.std.specs.Prelude.{◌≡◌, ◌≤◌, true, length, IfOk, MatchResult, Some};
-ghost use Rattle.schema_json.specs.SecretShape.{shape_of};
-ghost use Rattle.table_load.specs.Cells.{FitsSchema};
-ghost use Rattle.set_index.specs.Asked.{fits_public};
+ghost use Rattle.audit_types.specs.PeopleLaws.{people_behind};
+ghost use Rattle.schema_json.specs.SecretShape.{HasSecret, shape_of};
+ghost use Rattle.table_load.specs.Cells.{FitsSchema, counts_of};
+ghost use Rattle.set_index.specs.Asked.{fits_public, meaning};
+ghost use Rattle.predicate_lang.specs.Trees.{tree_of};
 ghost use Rattle.line_wire.specs.Lines.{text};
 ghost use Rattle.line_wire.specs.Reply.{IsInRange};
-ghost use Rattle.line_wire.specs.Requests.{IsWithin};
+ghost use Rattle.line_wire.specs.Requests.{CanBeAsked, IsWithin, kind_for};
 ghost use Rattle.question_plan.specs.Plans.{CanBeServed, condition_of};
 ghost use Rattle.question_plan.specs.Replies.{IsPlan, plan_of, question_over, refusal};
 
 use audit_types::{Asked, NoMemory, RowSet};
 use json::Scratch;
 use line_wire::{LineFault, Reply, Request, Take, read_line_request};
+use predicate_lang::Pred;
 use schema_json::Schema;
 use set_index::{Index, reads_what_fits};
 use std::alloc::Global;
@@ -21,35 +24,58 @@ use std::alloc::Global;
 pub enum Plan {
     /// The reply, which is due after every history.
     Ready(Reply),
-    /// The question that has to be decided. An answer is told as what is taken of the column.
-    Ask { take: Take, asked: Asked },
+    /// The question that has to be decided. An answer is told as what is taken of the column, over so many people.
+    Ask {
+        take: Take,
+        people: u64,
+        asked: Asked,
+    },
+}
+
+// The people behind the rows of a condition.
+fn plan_count(schema: &Schema, index: &Index, pred: &Pred) -> Plan
+    requires public { FitsSchema schema.now.columns index.now.public }
+    requires fits { fits_public index.now.public (tree_of pred.now) ≡ true }
+    ensures exact { result ≡ Plan.Ready (Reply.Count (people_behind (counts_of schema.now.columns index.now.public) (meaning index.now.public (tree_of pred.now)))) }
+    ensures served { CanBeServed (shape_of schema.now.columns index.now.public.rows) result }
+{
+    let rows = index.rows_of(pred);
+    Plan::Ready(Reply::Count(index.people(schema, &rows)))
 }
 
 // What a question of a secret column comes to.
-fn plan_question(take: Take, column: u8, rows: RowSet) -> Plan
-    ensures { result ≡ question_over take column rows.n rows.list }
+fn plan_question(schema: &Schema, index: &Index, take: Take, column: u8, pred: &Pred) -> Plan
+    requires public { FitsSchema schema.now.columns index.now.public }
+    requires fits { fits_public index.now.public (tree_of pred.now) ≡ true }
+    requires has { HasSecret schema.now.columns column (kind_for take) }
+    ensures exact { result ≡ question_over take column index.now.public.rows (counts_of schema.now.columns index.now.public) (meaning index.now.public (tree_of pred.now)) }
+    ensures served { CanBeServed (shape_of schema.now.columns index.now.public.rows) result }
 {
+    let rows = index.rows_of(pred);
     if rows.is_empty() {
-        Plan::Ready(Reply::Empty)
-    } else {
-        Plan::Ask {
-            take,
-            asked: Asked { column, rows },
-        }
+        return Plan::Ready(Reply::Empty);
+    }
+    Plan::Ask {
+        take,
+        people: index.people(schema, &rows),
+        asked: Asked { column, rows },
     }
 }
 
 // What a request comes to.
-fn plan_request(index: &Index, request: &Request) -> Plan
-    requires { fits_public index.now.public (condition_of request.now) ≡ true }
-    ensures { result ≡ plan_of index.now.public request.now }
+fn plan_request(schema: &Schema, index: &Index, request: &Request) -> Plan
+    requires public { FitsSchema schema.now.columns index.now.public }
+    requires fits { fits_public index.now.public (condition_of request.now) ≡ true }
+    requires can { CanBeAsked schema.now.columns request.now }
+    ensures exact { result ≡ plan_of (counts_of schema.now.columns index.now.public) index.now.public request.now }
+    ensures served { CanBeServed (shape_of schema.now.columns index.now.public.rows) result }
 {
     match request {
-        Request::Count { pred } => Plan::Ready(Reply::Count(index.rows_of(pred).len())),
-        Request::Sum { column, pred } => plan_question(Take::Sum, *column, index.rows_of(pred)),
-        Request::Avg { column, pred } => plan_question(Take::Avg, *column, index.rows_of(pred)),
-        Request::Max { column, pred } => plan_question(Take::Max, *column, index.rows_of(pred)),
-        Request::Min { column, pred } => plan_question(Take::Min, *column, index.rows_of(pred)),
+        Request::Count { pred } => plan_count(schema, index, pred),
+        Request::Sum { column, pred } => plan_question(schema, index, Take::Sum, *column, pred),
+        Request::Avg { column, pred } => plan_question(schema, index, Take::Avg, *column, pred),
+        Request::Max { column, pred } => plan_question(schema, index, Take::Max, *column, pred),
+        Request::Min { column, pred } => plan_question(schema, index, Take::Min, *column, pred),
     }
 }
 
@@ -82,10 +108,8 @@ pub fn plan_line(
     ensures served { IfOk result (CanBeServed (shape_of schema.now.columns index.now.public.rows)) }
 {
     reads_what_fits();
-    // A public part says of itself that it has 1 to 1,024 rows.
-    let _ = index.public().rows();
     match read_line_request(alloc, schema, line, scratch) {
-        Ok(request) => Ok(plan_request(index, &request)),
+        Ok(request) => Ok(plan_request(schema, index, &request)),
         Err(fault) => Ok(Plan::Ready(refused(fault)?)),
     }
 }

@@ -3,7 +3,7 @@ use Rattle.std.proofs.Common.{◌||◌, ◌≡◌, ℕ, zero, suc, ◌+◌, ◌<
 use Rattle.std.specs.Prelude.{is_some, unwrap_or, nat_lt}
 use Rattle.std.proofs.lemmas.Bool.{false≢true, ltb-false, or_parts}
 use Rattle.std.proofs.lemmas.List.{append-nil}
-use Rattle.schema_json.specs.Columns.{Column, AreColumns, is_secret, secret_count, count_count, role_at}
+use Rattle.schema_json.specs.Columns.{Column, AreColumns, is_count, is_secret, secret_count, role_at}
 use Rattle.schema_json.specs.SecretShape.{kind_bytes, kind_byte_and}
 use Rattle.schema_json.proofs.SecretPlaces.{filtered}
 use Rattle.schema_json.specs.declared.roles.Role.{Role}
@@ -66,7 +66,7 @@ taken_count (c ∷ cs) (suc k) =
 -- at most eight columns are secret
 pub at_most_eight : (cs : List Column) → AreColumns cs → secret_count cs ≤ 8
 at_most_eight cs are =
-    let few = (or_parts (nat_lt 32 (length cs) || nat_lt 8 (secret_count cs)) (nat_lt 1 (count_count cs)) are.within).0 in
+    let few = (or_parts (nat_lt 32 (length cs) || nat_lt 8 (secret_count cs)) (nat_lt 1 (length (filter (λ c. is_count c.role) cs))) are.within).0 in
     ltb-false 8 (secret_count cs) (or_parts (nat_lt 32 (length cs)) (nat_lt 8 (secret_count cs)) few).1
 
 -- a secret column finds room

@@ -10,12 +10,10 @@ use Rattle.schema_json.specs.declared.roles.Role.TheVariants.{Text, Number, Coun
 
 -- a kind byte for a secret column, and none for a public one, before the bytes of later columns
 abbrev pub kind_byte_and : Role → List ℕ → List ℕ
-kind_byte_and Text bytes = bytes
-kind_byte_and Number bytes = bytes
-kind_byte_and Count bytes = bytes
 kind_byte_and Sum bytes = 1 ∷ bytes
 kind_byte_and Max bytes = 2 ∷ bytes
 kind_byte_and Min bytes = 3 ∷ bytes
+kind_byte_and role bytes = bytes
 
 -- the kind bytes of the secret columns, in order
 abbrev pub kind_bytes : List Column → List ℕ

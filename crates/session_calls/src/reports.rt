@@ -5,7 +5,7 @@ ghost use Rattle.schema_json.specs.SecretShape.{shape_of};
 use crate::people::people;
 use crate::staff::{TABLE, staff};
 use audit_store::Store;
-use audit_types::{Answered, Guard, MOST_REACH, MOST_WIDTH};
+use audit_types::{Answered, Guard, MOST_REACH, MOST_WIDTH, RowSet};
 use bench_core::{MemoryBench, Room};
 use journal_audit::audit;
 use schema_json::Schema;
@@ -43,13 +43,14 @@ fn send_report(
 ) -> Option<()>
     requires { secret.shape ≡ shape_of schema.now.columns secret.shape.rows }
 {
+    let shared = RowSet::new(secret.shape().rows);
     match Store::start(
         alloc,
         secret,
-        Guard::new(Vec::new(alloc), MOST_WIDTH, MOST_REACH),
+        Guard::new(Vec::new(alloc), shared, MOST_WIDTH, MOST_REACH),
         bench,
     ) {
-        Ok(store) => audit(alloc, schema, &store, bench).ok(),
+        Ok(store) => audit(alloc, schema, &store, None, bench).ok(),
         Err(_) => None,
     }
 }

@@ -26,6 +26,7 @@ kept (Some found) cells l holds is = of found cells l (holds found refl) is
     of role.Text (texts ts) (literal.Text t) holds is = refl
     of role.Text hidden l holds is = absurd holds
     of role.Text (numbers xs) l holds is = absurd holds
+    of role.Count cells l holds is = absurd (false≢true is)
     of role.Sum cells l holds is = absurd (false≢true is)
     of role.Max cells l holds is = absurd (false≢true is)
     of role.Min cells l holds is = absurd (false≢true is)

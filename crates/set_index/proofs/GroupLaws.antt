@@ -5,24 +5,27 @@ use Rattle.std.proofs.lemmas.List.{length-append}
 use Rattle.std.proofs.lemmas.List.Elements.{All-append, All-nil, All-cons}
 use Rattle.std.proofs.lemmas.Option.{same_Some}
 use Rattle.audit_types.specs.Rows.{AreRows}
-use Rattle.audit_types.specs.RowLaws.{AreRows-rows_that}
+use Rattle.audit_types.specs.RowLaws.{AreRows-rows_that, AscendsFrom-wider}
 use Rattle.audit_types.specs.Limits.{most_groups}
 use Rattle.audit_types.specs.OutsiderLaws.{guard_fits}
 use Rattle.audit_types.specs.History.{Protection, IsProtected, IsGuardFor, FitsShape, against_outsiders, entry_of}
+use Rattle.audit_types.specs.People.{shared_of}
 use Rattle.audit_types.specs.declared.records.Protected.{Protected}
 use Rattle.audit_types.specs.declared.shapes.Kind.TheVariants as kind
 use Rattle.schema_json.specs.Columns.{Column, Group, Guards, AreColumns, place_of, role_at, secret_place}
 use Rattle.schema_json.specs.SecretShape.{IsSecretOf, PlacesAreColumns, shape_of}
 use Rattle.schema_json.specs.declared.roles.Role.TheVariants.{Sum}
-use Rattle.table_load.specs.Cells.{PublicView, whole}
+use Rattle.table_load.specs.Cells.{PublicView, IsPublic, counts_of, whole}
+use Rattle.table_load.specs.SchemaFits.{somebody_everywhere}
 use Rattle.predicate_lang.specs.Laws.{OneMeaning}
 use Rattle.predicate_lang.specs.Trees.{Tree}
 use Rattle.set_index.specs.Asked.{meaning}
 use Rattle.set_index.specs.declared.index.GuardPart.{GuardPart}
 use Rattle.set_index.specs.declared.index.GuardPart.TheVariants as part
 use Rattle.set_index.specs.Groups.{AreEntries, Protects, AreSound, HasNoFault, IsFirstBad, IsGroup, IsSoundOnly, AsksOnly}
-use Rattle.set_index.specs.Indexed.{EntriesFit, OneListOfEntries}
+use Rattle.set_index.specs.Indexed.{EntriesFit, OneListOfEntries, RowsAreLines}
 use Rattle.set_index.proofs.Entries.{entries_sound}
+use Rattle.set_index.proofs.PeopleCounts.{counts_few}
 
 -- ---- one list
 
@@ -83,14 +86,14 @@ one_way : OneMeaning → (columns : List Column) (public : PublicView) (guards :
     Protects columns public guards b → a ≡ b
 one_way means columns public guards a b first second =
     let entries = one_list means columns public 0 guards.groups a.groups b.groups first.0 second.0 in
-    first.1 ∙ ap (λ groups. against_outsiders groups [] guards.width guards.reach) entries ∙ sym second.1
+    first.1 ∙ ap (λ groups. against_outsiders groups (shared_of (counts_of columns public)) guards.width guards.reach) entries ∙ sym second.1
 
 some_way : (columns : List Column) (public : PublicView) (guards : Guards) → AreSound columns guards →
     (asked : PublicView) × (protected : Protection) × (whole asked ≡ whole public) × Protects columns asked guards protected
 some_way columns public guards sound =
     let part = some_part columns guards.only public sound.only in
     let list = some_list columns part.0 0 guards.groups sound.groups in
-    (part.0, against_outsiders list.0 [] guards.width guards.reach, part.1, (list.1, refl, part.2))
+    (part.0, against_outsiders list.0 (shared_of (counts_of columns part.0)) guards.width guards.reach, part.1, (list.1, refl, part.2))
 
 -- what has a fault isn't sound
 bad_way : (columns : List Column) (guards : Guards) (bad : GuardPart) → IsFirstBad columns guards bad → ¬ (AreSound columns guards)
@@ -150,10 +153,24 @@ entries_fit places columns public from (g ∷ gs) protected are (c, t, rest, is,
     subst (λ xs. All (IsProtected shape) xs × (length xs ≤ length (g ∷ gs))) (sym protected_is)
     (All-append (IsProtected shape) entry rest first.0 others.0, few)
 
+-- so do the rows of several people
+shared_are_rows : (columns : List Column) (public : PublicView) → IsPublic public → AreRows public.rows (shared_of (counts_of columns public))
+shared_are_rows columns public is =
+    AscendsFrom-wider 0 (length (counts_of columns public)) public.rows (shared_of (counts_of columns public)) (counts_few columns public is)
+    (AreRows-rows_that _ (length (counts_of columns public)))
+
 pub entries_are_protected : PlacesAreColumns → EntriesFit
 entries_are_protected places columns public guards protected are is guarded protects =
     let shape = shape_of columns public.rows in
     let fit = entries_fit places columns public 0 guards.groups protected.groups are protects.0 in
     let few : length protected.groups ≤ most_groups = omega (arith, fit.1, guarded.few) in
-    let plain = guard_fits shape protected.groups guards.width guards.reach fit.0 few guarded.width.0 guarded.width.1 guarded.reach.0 guarded.reach.1 in
-    subst (IsGuardFor shape) (sym protects.1) plain
+    let fits = guard_fits shape protected.groups (shared_of (counts_of columns public)) guards.width guards.reach fit.0 few guarded.width.0 guarded.width.1
+    guarded.reach.0 guarded.reach.1 (shared_are_rows columns public is) in
+    subst (IsGuardFor shape) (sym protects.1) fits
+
+-- ---- behind each row is somebody
+
+pub rows_are_lines : RowsAreLines
+rows_are_lines base guards fits is protects =
+    let counted = somebody_everywhere base.columns base.public fits is in
+    record { somebody = counted.0; one_each = counted.1; shared = ap (λ (p : Protection). p.shared) protects.1 }

@@ -7,3 +7,4 @@ pub mod GroupLaws
 pub mod Meets
 pub mod Columns
 pub mod Fitting
+pub mod PeopleCounts

@@ -4,13 +4,14 @@ ghost use Rattle.std.specs.List.Sorted.{IsSorted};
 ghost use Rattle.std.specs.Option.{option_to_list};
 ghost use Rattle.std.specs.Ordering.{nat_cmp};
 ghost use Rattle.audit_types.specs.History.{IsGuardFor, entry_of};
-ghost use Rattle.audit_types.specs.Limits.{most_rows};
+ghost use Rattle.audit_types.specs.Limits.{most_answer, most_rows};
+ghost use Rattle.audit_types.specs.PeopleLaws.{people_behind};
 ghost use Rattle.audit_types.specs.Rows.{intersection, rows_that};
 ghost use Rattle.schema_json.specs.Columns.{Group};
 ghost use Rattle.schema_json.specs.SecretShape.{shape_of};
 ghost use Rattle.predicate_lang.specs.Places.{Means};
 ghost use Rattle.predicate_lang.specs.Trees.{Tree, fits, tree_of};
-ghost use Rattle.table_load.specs.Cells.{FitsSchema, cells_at, whole};
+ghost use Rattle.table_load.specs.Cells.{FitsSchema, cells_at, counts_of, whole};
 ghost use Rattle.table_load.specs.Kept.{cells_kept};
 ghost use Rattle.set_index.specs.Asked.{meaning, fits_public};
 ghost use Rattle.set_index.specs.Groups.{AreEntries, AsksOnly, Protects, HasNoFault, IsFirstBad, IsFirstBadGroup, IsSoundOnly, IsGroup};
@@ -19,6 +20,7 @@ ghost use Rattle.set_index.specs.Ordered.{IsOrder, IsShown, compare_rows};
 
 use crate::asking::rows_of;
 use crate::laws::{groups_of_a_schema, reads_what_fits};
+use crate::people::{people_by, shared_rows};
 use crate::sorted::Sorted;
 use crate::values::sort_by_value;
 use audit_types::{Guard, NoMemory, Protected, RowSet};
@@ -237,8 +239,8 @@ fn among(only: &Option<RowSet>, rows: RowSet) -> RowSet
 }
 
 impl Index {
-    /// Makes a public part ready, and finds the rows that may be asked of, and those of the groups that its schema protects. With
-    /// a refusal it is dropped.
+    /// Makes a public part ready, and finds the rows that may be asked of, those of the groups that its schema protects, and those of
+    /// several people. With a refusal it is dropped.
     pub fn new(alloc: Global, schema: &Schema, public: Public) -> Result<Index, IndexFault>
         requires { FitsSchema schema.now.columns public }
         ensures public { IfOk result (λ index. whole index.public ≡ public) }
@@ -255,14 +257,15 @@ impl Index {
         let Ok(columns) = sorted_columns(alloc, &public) else {
             return Err(IndexFault::NoMemory);
         };
+        let shared = shared_rows(schema, &public);
         let mut index = Index {
             public,
             only: None,
-            protected: Guard::new(Vec::new(alloc), width, reach),
+            protected: Guard::new(Vec::new(alloc), shared, width, reach),
             columns,
         };
         index.only = only_rows(alloc, schema, &index)?;
-        index.protected = Guard::new(entries_of(alloc, schema, &index)?, width, reach);
+        index.protected = Guard::new(entries_of(alloc, schema, &index)?, shared, width, reach);
         Ok(index)
     }
 
@@ -273,7 +276,8 @@ impl Index {
         &self.public
     }
 
-    /// What the schema guards: each row, and the groups that some row satisfies, in the order of the schema; and by which width and reach.
+    /// What the schema guards: each row of one person, and the groups that some row satisfies, in the order of the schema; and by which
+    /// width and reach.
     pub fn protected(&self) -> &Guard
         ensures { result.now ≡ self.now.protected }
     {
@@ -309,5 +313,19 @@ impl Index {
         ensures rows { result.list ≡ meaning self.now.public (tree_of pred.now) }
     {
         among(&self.only, rows_of(self, pred))
+    }
+
+    /// How many people stand behind rows: as many as the rows if no column says so.
+    pub fn people(&self, schema: &Schema, rows: &RowSet) -> u64
+        requires fits { FitsSchema schema.now.columns self.now.public }
+        requires n { rows.now.n ≡ self.now.public.rows }
+        ensures exact { result ≡ people_behind (counts_of schema.now.columns self.now.public) rows.now.list }
+        ensures at_least { length rows.now.list ≤ result }
+        ensures at_most { result ≤ most_answer }
+    {
+        match self.public().counts(schema) {
+            Some(counts) => people_by(counts, rows),
+            None => u64::from(rows.len()),
+        }
     }
 }

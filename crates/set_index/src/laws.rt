@@ -5,7 +5,7 @@ ghost use Rattle.schema_json.specs.Columns.{Column};
 ghost use Rattle.table_load.specs.Cells.{PublicView, FitsSchema};
 ghost use Rattle.predicate_lang.specs.Trees.{Tree, fits};
 ghost use Rattle.set_index.specs.Asked.{fits_public};
-ghost use Rattle.set_index.specs.Indexed.{EntriesFit, OneListOfEntries};
+ghost use Rattle.set_index.specs.Indexed.{EntriesFit, OneListOfEntries, RowsAreLines};
 
 use predicate_lang::one_meaning;
 use schema_json::laws::secret_columns;
@@ -23,3 +23,8 @@ pub fn groups_of_a_schema()
     one_meaning();
     secret_columns();
 }
+
+/// Behind each row is somebody, and the rows of several people are the shared ones of what is guarded.
+pub fn lines_of_a_table()
+    ensures { RowsAreLines }
+{}

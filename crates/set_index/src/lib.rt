@@ -8,8 +8,9 @@
 mod asking;
 mod index;
 mod laws;
+mod people;
 mod sorted;
 mod values;
 
 pub use index::{GuardPart, Index, IndexFault};
-pub use laws::{groups_of_a_schema, reads_what_fits};
+pub use laws::{groups_of_a_schema, lines_of_a_table, reads_what_fits};

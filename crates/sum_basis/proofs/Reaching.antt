@@ -17,6 +17,7 @@ use Rattle.sum_basis.specs.Reach.{IsReached, ReachesAll, IsNear, AreCounts, one_
 use Rattle.sum_basis.specs.Elimination.{IsRemainder}
 use Rattle.sum_basis.specs.Sparse.{entry_at, IsListed}
 use Rattle.sum_basis.specs.declared.sparse.FreeEntry.{FreeEntry}
+use Rattle.sum_basis.proofs.Along.{extent_is, column_below}
 use Rattle.sum_basis.proofs.FormsAreUnique.{own}
 use Rattle.sum_basis.proofs.Remainders.{span_from_left, span_to_left}
 use Rattle.sum_basis.proofs.SparseRows.{zero_past}
@@ -24,10 +25,10 @@ use Rattle.sum_basis.proofs.NearColumns.{Tells, reached_if_near, near_if_reached
 use Rattle.sum_basis.proofs.WithinReach.{IsOff, HasGrown, row_value, column_value, set_value, new_value, same_free}
 
 -- a test that decides what a value is told by
-cond_false : (b : Bool) (m : ℕ) → b ≡ false → cond b 0 m ≡ m
+pub cond_false : (b : Bool) (m : ℕ) → b ≡ false → cond b 0 m ≡ m
 cond_false b m e = ap (λ t. cond t 0 m) e
 
-cond_true : (b : Bool) (m : ℕ) → b ≡ true → cond b 0 m ≡ 0
+pub cond_true : (b : Bool) (m : ℕ) → b ≡ true → cond b 0 m ≡ 0
 cond_true b m e = ap (λ t. cond t 0 m) e
 
 -- ---- counting the rows
@@ -47,7 +48,7 @@ pub record AreFirstCounts (n : ℕ) (old : List (List ℤ)) (new : List FreeEntr
 
 module _ (n : ℕ) (old : List (List ℤ)) (new : List FreeEntry) (grown : List (List ℤ)) (g : HasGrown n old new grown) where
   -- the new list after its first entry is 0 at the pivots
-  rest_off : (j : ℕ) → is_pivot grown j ≡ true → rest_at new j ≡ pos 0
+  pub rest_off : (j : ℕ) → is_pivot grown j ≡ true → rest_at new j ≡ pos 0
   rest_off j e = elim (zero_or_not (rest_at new j)) [ inl z ↦ z | inr some ↦ absurd (true≢false (sym e ∙ at new g some)) ]
     where
       at : (list : List FreeEntry) → HasGrown n old list grown → rest_at list j ≢ pos 0 → is_pivot grown j ≡ false
@@ -62,16 +63,15 @@ module _ (n : ℕ) (old : List (List ℤ)) (new : List FreeEntry) (grown : List 
           omega arith
       go j false e = let start = first j in let test = cond_false (is_pivot grown j) (one_if (rest_at new j) + 0) e in omega arith
 
-  pub more_counts : (k : ℕ) (counts next : List ℕ) (entries : List FreeEntry) → k < length old → IsFreeList n old (get_or old k []) entries →
-      ((j : ℕ) → get_or next j 0 ≡ get_or counts j 0 + one_if (without_new new (entry_at entries) j)) →
-      AreFirstCounts n old new grown k counts → AreFirstCounts n old new grown (k + 1) next
-  more_counts k counts next entries l free step before = record { is = λ j. go j (is_pivot grown j) refl }
+  -- the count of one row more
+  pub row_counted : (k j : ℕ) (entries : List FreeEntry) → k < length old → IsFreeList n old (get_or old k []) entries →
+      cond (is_pivot grown j) 0 (one_if (rest_at new j) + count_with new (take (k + 1) old) j)
+      ≡ cond (is_pivot grown j) 0 (one_if (rest_at new j) + count_with new (take k old) j) + one_if (without_new new (entry_at entries) j)
+  row_counted k j entries l free = go (is_pivot grown j) refl
     where
-      go : (j : ℕ) (b : Bool) → is_pivot grown j ≡ b →
-          get_or next j 0 ≡ cond (is_pivot grown j) 0 (one_if (rest_at new j) + count_with new (take (k + 1) old) j)
-      go j true e =
-          let old_count = before.is j in
-          let more = step j in
+      go : (b : Bool) → is_pivot grown j ≡ b → cond (is_pivot grown j) 0 (one_if (rest_at new j) + count_with new (take (k + 1) old) j)
+          ≡ cond (is_pivot grown j) 0 (one_if (rest_at new j) + count_with new (take k old) j) + one_if (without_new new (entry_at entries) j)
+      go true e =
           let off : without_new new (entry_at entries) j ≡ pos 0 = elim (zero_or_not (without_new new (entry_at entries) j)) [
             | inl z ↦ z
             | inr some ↦ absurd (true≢false (sym e ∙ ((row_value n old new grown g k entries l free).inside j some).1))
@@ -80,14 +80,19 @@ module _ (n : ℕ) (old : List (List ℤ)) (new : List FreeEntry) (grown : List 
           let test = cond_true (is_pivot grown j) (one_if (rest_at new j) + count_with new (take k old) j) e in
           let after = cond_true (is_pivot grown j) (one_if (rest_at new j) + count_with new (take (k + 1) old) j) e in
           omega arith
-      go j false e =
-          let old_count = before.is j in
-          let more = step j in
+      go false e =
           let same = ap one_if (same_free n old new grown g (get_or old k []) entries j free e) in
           let test = cond_false (is_pivot grown j) (one_if (rest_at new j) + count_with new (take k old) j) e in
           let after = cond_false (is_pivot grown j) (one_if (rest_at new j) + count_with new (take (k + 1) old) j) e in
           let count = count_more new old k j l in
           omega arith
+
+  pub more_counts : (k : ℕ) (counts next : List ℕ) (entries : List FreeEntry) → k < length old → IsFreeList n old (get_or old k []) entries →
+      ((j : ℕ) → get_or next j 0 ≡ get_or counts j 0 + one_if (without_new new (entry_at entries) j)) →
+      AreFirstCounts n old new grown k counts → AreFirstCounts n old new grown (k + 1) next
+  more_counts k counts next entries l free step before = record {
+    is = λ j. let old_count = before.is j in let more = step j in let row = row_counted k j entries l free in omega arith;
+  }
 
   pub all_counts : (k : ℕ) (counts : List ℕ) → length old ≤ k → length counts ≡ n → AreFirstCounts n old new grown k counts → AreCounts n grown counts
   all_counts k counts past long before = record { one_each = long; is = λ j. go j (is_pivot grown j) refl }
@@ -116,6 +121,19 @@ pivot_found (row ∷ rows) i e = elim (or_cases (pivot row == i) (is_pivot rows 
   | inr later ↦ let rest = pivot_found rows i later in (suc rest.0, omega arith, rest.2)
 ]
 
+module _ (n : ℕ) (old : List (List ℤ)) (new : List FreeEntry) (grown : List (List ℤ)) (g : HasGrown n old new grown) (reach : ℕ) where
+  -- if no free column has too many rows, whatever is asked is within reach
+  pub all_few : (shared : List ℕ) (sets : List (List ℕ)) → ((j : ℕ) → j < n → is_pivot grown j ≡ false → met grown j < reach) →
+      ReachesAll n reach shared sets grown
+  all_few shared sets few = record { numbers = λ i l own. within (λ w. number_at w i); totals = λ set found. within (λ w. sum_over w set) }
+    where
+      within : (value : List ℤ → ℤ) → IsReached n reach grown value
+      within value change =
+          let long = extent_is n grown g.primitive g.echelon change.column change.direction change.along in
+          let below = column_below n grown g.primitive g.echelon change.column change.direction change.along in
+          let rows = few change.column below change.along.free in
+          record { column = change.column; direction = change.direction; along = change.along; near = omega arith; changed = change.changed }
+
 module _ (n : ℕ) (old : List (List ℤ)) (new : List FreeEntry) (grown : List (List ℤ)) (g : HasGrown n old new grown) (counts : List ℕ) (reach : ℕ)
     (are : AreCounts n grown counts) where
   counted : (j : ℕ) → j < n → is_pivot grown j ≡ false → get_or counts j 0 ≡ met grown j
@@ -127,6 +145,11 @@ module _ (n : ℕ) (old : List (List ℤ)) (new : List FreeEntry) (grown : List 
 
   pub near : (value : List ℤ → ℤ) (row : ℕ → ℤ) → Tells n grown value row → IsReached n reach grown value → IsNear counts reach row
   near value row tells = near_if_reached n grown g.primitive g.echelon value row tells counts reach counted
+
+  pub all_below : (shared : List ℕ) (sets : List (List ℕ)) → ((j : ℕ) → j < length counts → get_or counts j 0 < reach) →
+      ReachesAll n reach shared sets grown
+  all_below shared sets below = all_few n old new grown g reach shared sets (λ j l e.
+      let all = are.one_each in let is = counted j l e in let small = below j (omega arith) in omega arith)
 
   -- a free column with a count below the reach
   spike_near : (i : ℕ) → get_or counts i 0 < reach → IsNear counts reach (λ j. cond (i == j) (pos 1) (pos 0))

@@ -61,7 +61,7 @@ pub record HasGrown (n : ℕ) (old : List (List ℤ)) (new : List FreeEntry) (gr
   pub rows_in : AllByRecursion (InSpan grown) old
   pub has_new : HasNew n new grown
 
-same_count : (old : List (List ℤ)) (j : ℕ) → met old j ≡ count_with [] old j
+pub same_count : (old : List (List ℤ)) (j : ℕ) → met old j ≡ count_with [] old j
 same_count [] j = refl
 same_count (row ∷ old) j = ap (λ (m : ℕ). one_if (number_at row j) + m) (same_count old j)
 
@@ -70,7 +70,7 @@ all_zero [] = tt
 all_zero (row ∷ old) = (refl, all_zero old)
 
 -- with an empty list nothing changes
-grown_by_none : (n : ℕ) (old : List (List ℤ)) → AllByRecursion (IsPrimitive n) old → IsEchelon old → HasGrown n old [] old
+pub grown_by_none : (n : ℕ) (old : List (List ℤ)) → AllByRecursion (IsPrimitive n) old → IsEchelon old → HasGrown n old [] old
 grown_by_none n old p h = record {
   primitive = p;
   echelon = h;
@@ -163,7 +163,7 @@ has_grown form (e ∷ es) grown f left is = elim left [
 -- ---- what each value is told by
 
 -- a product with a function is less by a product of both
-product_less : (by x times y : ℤ) → x ≡ pos 0 → y ≡ pos 0 → by *ℤ x -ℤ times *ℤ y ≡ pos 0
+pub product_less : (by x times y : ℤ) → x ≡ pos 0 → y ≡ pos 0 → by *ℤ x -ℤ times *ℤ y ≡ pos 0
 product_less by x times y e g =
     let first = ap (λ z. by *ℤ z) e ∙ *ℤ-zero by in
     let second = ap (λ z. times *ℤ z) g ∙ *ℤ-zero times in
@@ -236,7 +236,7 @@ module _ (n : ℕ) (old : List (List ℤ)) (new : List FreeEntry) (grown : List 
       later false b not_one = not_one
 
   -- the pivot of the new list is none of the old ones
-  place_open : (first : FreeEntry) (rest : List FreeEntry) → IsListed 0 n (first ∷ rest) →
+  pub place_open : (first : FreeEntry) (rest : List FreeEntry) → IsListed 0 n (first ∷ rest) →
       AllByRecursion (λ row. entry_at (first ∷ rest) (pivot row) ≡ pos 0) old → is_pivot old first.place ≡ false
   place_open first rest listed zeros = go (is_pivot old first.place) refl
     where

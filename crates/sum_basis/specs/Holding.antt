@@ -4,6 +4,7 @@ use Rattle.std.specs.declared.alloc.Global.{Global}
 use Rattle.audit_types.specs.Form.{set_row, InSpan}
 use Rattle.sum_basis.specs.Basis.{Echelon}
 use Rattle.sum_basis.specs.Growth.{IsLeft}
+use Rattle.sum_basis.specs.Reach.{AreCounts}
 use Rattle.sum_basis.specs.declared.basis.Held.{Held}
 use Rattle.sum_basis.specs.declared.keeping.KeptSet.{KeptSet}
 use Rattle.sum_basis.specs.declared.sparse.FreeEntry.{FreeEntry}
@@ -22,6 +23,10 @@ IsHeld form held = IfSome held (λ h. LeavesList form (set_row form.n h.rows.lis
 -- a list kept with a set of the form's columns is what the form leaves of its row
 abbrev pub IsKeptOf : Echelon → KeptSet → Type 0
 IsKeptOf form kept = (kept.rows.n ≡ form.n) × IfSome kept.list (λ list. IsLeft form (set_row form.n kept.rows.list) (Entries list))
+
+-- kept counts are those of the form
+abbrev pub AreKeptCounts : Echelon → Option (Vec ℕ Global) → Type 0
+AreKeptCounts form counts = IfSome counts (λ c. AreCounts form.n form.rows c.items)
 
 -- a list kept with a set has 0 at the place
 abbrev pub IsKeptWithout : ℕ → KeptSet → Type 0

@@ -167,16 +167,6 @@ impl Form {
         }
     }
 
-    /// Tells what the form would become with a row of zeros and ones, which is used up.
-    pub(crate) fn prospect(&self, row: &mut [i128]) -> Result<Prospect, NoMemory>
-        requires length { length row.old ≡ self.now.n }
-        requires bits { (j : ℕ) → unsigned_abs (number_at row.old j) ≤ 1 }
-        ensures { IfOk result (λ prospect. Foresees self.now row.old prospect) }
-    {
-        let weighed = self.weigh(row)?;
-        Ok(weighed.prospect)
-    }
-
     // What the form is with a row of its span.
     fn as_it_is(&self) -> Prospect
         ensures { IsAsItIs self.now result }

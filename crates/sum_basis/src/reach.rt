@@ -10,28 +10,18 @@ ghost use Rattle.audit_types.specs.Form.{pivot};
 ghost use Rattle.audit_types.specs.Direction.{is_pivot};
 ghost use Rattle.audit_types.specs.Truth.{sum_over};
 ghost use Rattle.sum_basis.specs.Elimination.{IsZeroAtPivots};
+ghost use Rattle.sum_basis.specs.Holding.{AreKeptCounts};
 ghost use Rattle.sum_basis.specs.Reach.{IsNear, IsReached, IsLeftOverOrNone, ReachesAll, IsGrownBy, AreSmallEntries, AreCounts, one_if, without_new, count_with, times_of, rest_at};
 ghost use Rattle.sum_basis.specs.Sparse.{entry_at, row_of, IsListed, IsNew};
 
 use crate::cleared_list::value_at;
+use crate::counting::{are_below, are_surely_below, count_grown, count_rows, times_at};
 use crate::elimination::write_set;
 use crate::form::Form;
 use crate::merging::combine_into;
 use crate::sparse::FreeEntry;
 use audit_types::{NoMemory, RowSet};
 use std::alloc::Global;
-
-// Counts one row more at each column of a list.
-fn tally(counts: &mut [u16], entries: &[FreeEntry])
-    requires listed { IsListed 0 (length counts.old) entries.now }
-    requires few { (j : ℕ) → slice_index_or counts.old j 0 < 65535 }
-    ensures length { length counts.new ≡ length counts.old }
-    ensures counted { (j : ℕ) → slice_index_or counts.new j 0 ≡ slice_index_or counts.old j 0 + one_if (entry_at entries.now j) }
-{
-    for e in entries {
-        counts[e.place as usize] += 1;
-    }
-}
 
 // Whether a list is empty, or has an entry at a column with a count below the reach.
 fn is_near(counts: &[u16], reach: u16, entries: &[FreeEntry]) -> bool
@@ -47,17 +37,6 @@ fn is_near(counts: &[u16], reach: u16, entries: &[FreeEntry]) -> bool
         }
     }
     false
-}
-
-// What a list has at the new list's pivot, 0 if there is none.
-fn times_at(entries: &[FreeEntry], new: &[FreeEntry]) -> i128
-    requires { IsListed 0 65536 entries.now }
-    ensures { result ≡ times_of new.now (entry_at entries.now) }
-{
-    if new.is_empty() {
-        return 0;
-    }
-    value_at(entries, new[0].place)
 }
 
 // Writes the list of a row of the form, given by its entries at free columns, cleared by the new list.
@@ -82,32 +61,6 @@ fn clear_entries(
     combine_into(room, columns, &by, free, &times, new);
 }
 
-// Counts one row more at each column at which a row of the form isn't 0 when it is cleared.
-fn tally_row(
-    counts: &mut [u16],
-    columns: u16,
-    free: &[FreeEntry],
-    new: &[FreeEntry],
-    room: &mut Vec<FreeEntry>,
-)
-    requires counts { columns ≡ length counts.old }
-    requires few { (j : ℕ) → slice_index_or counts.old j 0 < 65535 }
-    requires room { columns ≤ vec_capacity room.old }
-    requires free { AreSmallEntries columns free.now }
-    requires new { AreSmallEntries columns new.now }
-    ensures length { length counts.new ≡ length counts.old }
-    ensures counted { (j : ℕ) → slice_index_or counts.new j 0 ≡ slice_index_or counts.old j 0 + one_if (without_new new.now (entry_at free.now) j) }
-    ensures room { columns ≤ vec_capacity room.new }
-{
-    let times = times_at(free, new);
-    if times == 0 {
-        tally(counts, free);
-    } else {
-        clear_entries(room, columns, free, new, times);
-        tally(counts, room);
-    }
-}
-
 // Whether a row of the form, cleared, is near.
 fn is_near_row(
     counts: &[u16],
@@ -130,21 +83,6 @@ fn is_near_row(
     }
     clear_entries(room, columns, free, new, times);
     is_near(counts, reach, room)
-}
-
-// Counts, at each column, the new row and all rows of the form that aren't 0 there when they are cleared.
-fn tally_rows(form: &Form, counts: &mut [u16], new: &[FreeEntry], room: &mut Vec<FreeEntry>)
-    requires counts { form.now.n ≡ length counts.old }
-    requires first { (j : ℕ) → slice_index_or counts.old j 0 ≡ one_if (rest_at new.now j) }
-    requires room { form.now.n ≤ vec_capacity room.old }
-    requires new { IsLeftOverOrNone form.now new.now }
-    ensures counted { (grown : List (List ℤ)) → IsGrownBy form.now new.now grown → AreCounts form.now.n grown counts.new }
-    ensures room { form.now.n ≤ vec_capacity room.new }
-{
-    let columns = form.columns();
-    for k in 0..form.rank() {
-        tally_row(counts, columns, form.free(k), new, room);
-    }
 }
 
 // Whether the number at each pivot that isn't shared is within reach.
@@ -181,7 +119,7 @@ fn are_columns_near(counts: &[u16], reach: u16, shared: &RowSet) -> bool
     ensures { IsTrue result ↔ ((j : ℕ) → j < length counts.now → has_row shared.now.list j ≡ false → slice_index_or counts.now j 0 < reach) }
 {
     for j in 0..shared.n() {
-        if !shared.has(j) && counts[j as usize] >= reach {
+        if counts[j as usize] >= reach && !shared.has(j) {
             return false;
         }
     }
@@ -322,20 +260,39 @@ fn are_sets_near(
     true
 }
 
-// Whether all that is guarded is within reach of the form with a new list, by counts that are all 0 at first.
+// Whether the total of each of these sets is within reach, by a whole row for each.
+fn are_totals_near(
+    form: &Form,
+    counts: &[u16],
+    reach: u16,
+    new: &[FreeEntry],
+    sets: &[RowSet],
+) -> bool
+    requires at_most { form.now.n ≤ most_rows }
+    requires same_n { All (λ s. s.n ≡ form.now.n) sets.now }
+    requires new { IsLeftOverOrNone form.now new.now }
+    requires counts { length counts.now ≡ form.now.n }
+    requires counted { (grown : List (List ℤ)) → IsGrownBy form.now new.now grown → AreCounts form.now.n grown counts.now }
+    ensures { (grown : List (List ℤ)) → IsGrownBy form.now new.now grown → IsTrue result ↔ All (λ s. IsReached form.now.n reach grown (λ w. sum_over w s.list)) sets.now }
+{
+    let mut whole = [0; 1024];
+    let row = &mut whole[..form.columns() as usize];
+    are_sets_near(form, counts, reach, row, new, sets)
+}
+
+// Whether all that is guarded is within reach of the form with a new list, by its counts. If all of them are below the reach, no row is
+// looked at.
 fn is_within(
     form: &Form,
     new: &[FreeEntry],
-    counts: &mut [u16],
-    row: &mut [i128],
+    counts: &[u16],
     reach: u16,
     shared: &RowSet,
     sets: &[RowSet],
     room: &mut Vec<FreeEntry>,
 ) -> bool
-    requires counts { length counts.old ≡ form.now.n }
-    requires zeros { (j : ℕ) → slice_index_or counts.old j 0 ≡ 0 }
-    requires length { length row.old ≡ form.now.n }
+    requires counts { length counts.now ≡ form.now.n }
+    requires counted { (grown : List (List ℤ)) → IsGrownBy form.now new.now grown → AreCounts form.now.n grown counts.now }
     requires at_most { form.now.n ≤ most_rows }
     requires reach { 0 < reach }
     requires shared { shared.now.n ≡ form.now.n }
@@ -346,10 +303,9 @@ fn is_within(
 {
     // What every form is: its rows are a form.
     let _ = form.columns();
-    if !new.is_empty() {
-        tally(counts, &new[1..]);
+    if are_below(counts, reach) {
+        return true;
     }
-    tally_rows(form, counts, new, room);
     if !are_columns_near(counts, reach, shared) {
         return false;
     }
@@ -359,22 +315,25 @@ fn is_within(
     if !are_rows_near(form, counts, reach, shared, new, room) {
         return false;
     }
-    are_sets_near(form, counts, reach, row, new, sets)
+    if sets.is_empty() {
+        return true;
+    }
+    are_totals_near(form, counts, reach, new, sets)
 }
 
-/// Whether all that is guarded is within reach of the form with a new list, or as it is if the list is empty: the number of each row that
-/// isn't shared, and the total of each of these sets.
-pub(crate) fn is_within_after(
+// Whether all that is guarded is within reach of the form with a new list, by the counts of the form as it is. They are brought up to date
+// only where bounds don't show that it is.
+fn is_within_counted(
     form: &Form,
     alloc: Global,
+    before: &[u16],
     new: &[FreeEntry],
-    row: &mut [i128],
     reach: u16,
     shared: &RowSet,
     sets: &[RowSet],
 ) -> Result<bool, NoMemory>
-    requires length { length row.old ≡ form.now.n }
     requires at_most { form.now.n ≤ most_rows }
+    requires before { AreCounts form.now.n form.now.rows before.now }
     requires reach { 0 < reach }
     requires shared { shared.now.n ≡ form.now.n }
     requires same_n { All (λ s. s.n ≡ form.now.n) sets.now }
@@ -382,8 +341,62 @@ pub(crate) fn is_within_after(
     ensures { IfOk result (λ within. (grown : List (List ℤ)) → IsGrownBy form.now new.now grown → IsTrue within ↔ ReachesAll form.now.n reach shared.now.list (map (λ s. s.list) sets.now) grown) }
 {
     let columns = form.columns() as usize;
+    // What every form is: it has no more rows than columns.
+    let _ = form.rank();
+    if are_surely_below(before, reach, new) {
+        return Ok(true);
+    }
     let mut zeros = [0; 1024];
     let counts = &mut zeros[..columns];
+    counts.copy_from_slice(before);
+    count_grown(form, counts, new);
     let mut room = Vec::with_capacity(alloc, columns)?;
-    Ok(is_within(form, new, counts, row, reach, shared, sets, &mut room))
+    Ok(is_within(form, new, counts, reach, shared, sets, &mut room))
+}
+
+// The same, if the form isn't counted yet.
+fn is_within_after(
+    form: &Form,
+    alloc: Global,
+    new: &[FreeEntry],
+    reach: u16,
+    shared: &RowSet,
+    sets: &[RowSet],
+) -> Result<bool, NoMemory>
+    requires at_most { form.now.n ≤ most_rows }
+    requires reach { 0 < reach }
+    requires shared { shared.now.n ≡ form.now.n }
+    requires same_n { All (λ s. s.n ≡ form.now.n) sets.now }
+    requires new { IsLeftOverOrNone form.now new.now }
+    ensures { IfOk result (λ within. (grown : List (List ℤ)) → IsGrownBy form.now new.now grown → IsTrue within ↔ ReachesAll form.now.n reach shared.now.list (map (λ s. s.list) sets.now) grown) }
+{
+    let mut zeros = [0; 1024];
+    let counts = &mut zeros[..form.columns() as usize];
+    count_rows(form, counts);
+    is_within_counted(form, alloc, counts, new, reach, shared, sets)
+}
+
+/// Whether all that is guarded is within reach of the form with a new list, or as it is if the list is empty: the number of each row that
+/// isn't shared, and the total of each of these sets. It takes less time if the counts of the form are kept.
+pub(crate) fn is_within_kept(
+    form: &Form,
+    alloc: Global,
+    kept: &Option<Vec<u16>>,
+    new: &[FreeEntry],
+    reach: u16,
+    shared: &RowSet,
+    sets: &[RowSet],
+) -> Result<bool, NoMemory>
+    requires at_most { form.now.n ≤ most_rows }
+    requires kept { AreKeptCounts form.now kept.now }
+    requires reach { 0 < reach }
+    requires shared { shared.now.n ≡ form.now.n }
+    requires same_n { All (λ s. s.n ≡ form.now.n) sets.now }
+    requires new { IsLeftOverOrNone form.now new.now }
+    ensures { IfOk result (λ within. (grown : List (List ℤ)) → IsGrownBy form.now new.now grown → IsTrue within ↔ ReachesAll form.now.n reach shared.now.list (map (λ s. s.list) sets.now) grown) }
+{
+    match kept {
+        Some(counts) => is_within_counted(form, alloc, counts, new, reach, shared, sets),
+        None => is_within_after(form, alloc, new, reach, shared, sets),
+    }
 }

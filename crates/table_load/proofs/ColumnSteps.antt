@@ -1,6 +1,8 @@
 -- The columns of a table, one after another, and what they are if no record has a fault.
-use Rattle.std.proofs.Common.{◌≡◌, ℕ, zero, suc, ◌+◌, ◌<◌, Bool, true, false, cond, List, [], ◌∷◌, length, drop, filter, Option, Some, None, refl, sym, ap, ◌∙◌, add-one}
-use Rattle.std.specs.Prelude.{ℤ, pos, neg_ℤ, unwrap_or, not, nat_lt}
+use Rattle.std.proofs.Common.{◌≡◌, ℕ, zero, suc, ◌+◌, ◌<◌, Bool, true, false, cond, List, [], ◌∷◌, length, drop, filter, get_or, subst, Option, Some, None, refl, sym, ap, ◌∙◌, arith, add-one}
+use Rattle.std.specs.Prelude.{ℤ, pos, ◌<ℤ◌, int_lt, neg_ℤ, unwrap_or, not, nat_lt}
+use Rattle.std.proofs.lemmas.Bool.{and_parts}
+use Rattle.std.proofs.lemmas.Int.{ints}
 use Rattle.std.specs.List.{AllByRecursion}
 use Rattle.std.proofs.lemmas.List.{length-map}
 use Rattle.audit_types.specs.History.{Secrets}
@@ -11,7 +13,7 @@ use Rattle.schema_json.specs.Columns.{Column, is_public, is_secret, role_at, sec
 use Rattle.schema_json.specs.declared.roles.Role.{Role}
 use Rattle.schema_json.specs.declared.roles.Role.TheVariants as role
 use Rattle.table_load.specs.Numerals.{number_in, in_range}
-use Rattle.table_load.specs.Cells.{AreCells, AreNumbers}
+use Rattle.table_load.specs.Cells.{AreCells, AreNumbers, HoldsRole, hidden}
 use Rattle.table_load.specs.Reading.{Fields, is_in_file, has_numbers, file_columns, roles_of, records_fault}
 use Rattle.table_load.specs.Tables.{HasCell, is_number, field_of, number_of_field, number_column, kept_as, kept_number, cells_of, place_after, cells_from, secrets_from}
 use Rattle.table_load.specs.declared.layout.FileColumns.{FileColumns}
@@ -76,6 +78,7 @@ role_of_all cs place r within is =
 pub secret_numbers : (r : Role) → is_secret r ≡ true → has_numbers r ≡ true
 secret_numbers role.Text secret = absurd (cc)
 secret_numbers role.Number secret = refl
+secret_numbers role.Count secret = refl
 secret_numbers role.Sum secret = refl
 secret_numbers role.Max secret = refl
 secret_numbers role.Min secret = refl
@@ -105,6 +108,7 @@ negated_in_range z within = ap (λ n. not (nat_lt most_number n)) (size_negated 
 kept_are : (r : Role) (n : ℕ) (w : List ℤ) → AreNumbers n w → AreNumbers n (kept_as r w)
 kept_are role.Text n w are = are
 kept_are role.Number n w are = are
+kept_are role.Count n w are = are
 kept_are role.Sum n w are = are
 kept_are role.Max n w are = are
 kept_are role.Min n w are = record { one_each = length-map w neg_ℤ ∙ are.one_each; within = all w are.within }
@@ -117,6 +121,7 @@ kept_are role.Min n w are = record { one_each = length-map w neg_ℤ ∙ are.one
 pub kept_one : (r : Role) (z : ℤ) (w : List ℤ) → kept_as r (z ∷ w) ≡ kept_number r z ∷ kept_as r w
 kept_one role.Text z w = refl
 kept_one role.Number z w = refl
+kept_one role.Count z w = refl
 kept_one role.Sum z w = refl
 kept_one role.Max z w = refl
 kept_one role.Min z w = refl
@@ -125,6 +130,7 @@ kept_one role.Min z w = refl
 pub kept_none : (r : Role) → kept_as r [] ≡ []
 kept_none role.Text = refl
 kept_none role.Number = refl
+kept_none role.Count = refl
 kept_none role.Sum = refl
 kept_none role.Max = refl
 kept_none role.Min = refl
@@ -133,9 +139,27 @@ kept_none role.Min = refl
 cells_are : (r : Role) (k : ℕ) (rows : List Fields) → (is_public r ≡ true → AllByRecursion (HasCell r k) rows) → AreCells (length rows) (cells_of r k rows)
 cells_are role.Text k rows all = length-map rows (field_of k)
 cells_are role.Number k rows all = numbers_are role.Number k rows refl (all refl)
+cells_are role.Count k rows all = numbers_are role.Count k rows refl (all refl)
 cells_are role.Sum k rows all = tt
 cells_are role.Max k rows all = tt
 cells_are role.Min k rows all = tt
+
+-- the counts of a column are at least 1
+counts_are : (k : ℕ) (rows : List Fields) → AllByRecursion (HasCell role.Count k) rows → AllByRecursion (λ z. pos 0 <ℤ z) (number_column k rows)
+counts_are k [] all = tt
+counts_are k (fields ∷ rows) all =
+    let z = number_of_field (field_of k fields) in
+    let above = (and_parts (in_range z) (int_lt (pos 0) z) (all.0.fits refl)).1 in
+    (omega (arith, ints), counts_are k rows all.1)
+
+-- the cells of a role hold what it says
+cells_hold_role : (r : Role) (k : ℕ) (rows : List Fields) → (is_public r ≡ true → AllByRecursion (HasCell r k) rows) → HoldsRole r (cells_of r k rows)
+cells_hold_role role.Text k rows all = tt
+cells_hold_role role.Number k rows all = tt
+cells_hold_role role.Count k rows all = (tt, counts_are k rows (all refl))
+cells_hold_role role.Sum k rows all = refl
+cells_hold_role role.Max k rows all = refl
+cells_hold_role role.Min k rows all = refl
 
 -- a column that is in the file has the next role
 roles_in : (which : FileColumns) (c : Column) (cs : List Column) (r : Role) (b : Bool) → is_in_file which r ≡ b → b ≡ true →
@@ -158,6 +182,19 @@ all_cells_are which roles rows k (c ∷ cs) good at_k = (
       (at_k ∙ roles_in which c cs c.role (is_in_file which c.role) refl (public_in_file which c.role public))),
   all_cells_are which roles rows (place_after which c.role k) cs good (next_roles which roles k c cs (is_in_file which c.role) at_k),
 )
+
+-- they fit the schema
+pub cells_fit : (which : FileColumns) (roles : List Role) (rows : List Fields) (k : ℕ) (cs : List Column) → records_fault roles 2 rows ≡ None
+    → drop k roles ≡ roles_of (file_columns which cs)
+    → (place : ℕ) (r : Role) → role_at cs place ≡ Some r → HoldsRole r (get_or (cells_from which k cs rows) place hidden)
+cells_fit which roles rows k [] good at_k place r is = absurd (cc)
+cells_fit which roles rows k (c ∷ cs) good at_k zero r is =
+    let same : c.role ≡ r = ap (λ o. unwrap_or o r) is in
+    let P : Role → Type 0 = λ x. HoldsRole x (cells_of c.role k rows) in
+    subst P same (cells_hold_role c.role k rows (λ public. records_hold roles 2 rows k c.role (roles_of (file_columns which cs)) good
+    (at_k ∙ roles_in which c cs c.role (is_in_file which c.role) refl (public_in_file which c.role public))))
+cells_fit which roles rows k (c ∷ cs) good at_k (suc place) r is =
+    cells_fit which roles rows (place_after which c.role k) cs good (next_roles which roles k c cs (is_in_file which c.role) at_k) place r is
 
 -- a list joins the others if its column is secret
 secret_of : (b : Bool) (list : List ℤ) (lists : Secrets) (n : ℕ) → (b ≡ true → AreNumbers n list) → AllByRecursion (AreNumbers n) lists →

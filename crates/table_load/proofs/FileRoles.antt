@@ -1,10 +1,10 @@
 -- The columns of a file: their roles and names, from a place of the schema on.
-use Rattle.std.proofs.Common.{◌≡◌, ℕ, ◌+◌, ◌<◌, ◌≤◌, Bool, true, false, cond, List, [], ◌∷◌, length, drop, get_or, Some, refl, sym, ap, ◌∙◌, arith, inl, inr, zero, suc}
-use Rattle.std.specs.Prelude.{nat_lt, ◌&&◌, ◌==◌}
+use Rattle.std.proofs.Common.{◌≡◌, ℕ, ◌+◌, ◌<◌, ◌≤◌, Bool, true, false, cond, List, [], ◌∷◌, length, drop, get_or, Some, refl, sym, ap, ◌∙◌, arith, inl, inr, zero, suc, filter}
+use Rattle.std.specs.Prelude.{nat_lt, ◌&&◌, ◌||◌, ◌==◌}
 use Rattle.std.specs.Str.{bytes_eq}
 use Rattle.std.proofs.lemmas.Bool.{cases_eq, eq-eqb, ne_eqb, ltb-false, or_parts}
 use Rattle.std.proofs.Math.ListN.{drop_of_length-le}
-use Rattle.schema_json.specs.Columns.{Column, AreColumns, role_at, name_at, secret_count}
+use Rattle.schema_json.specs.Columns.{Column, AreColumns, role_at, name_at, secret_count, is_count}
 use Rattle.schema_json.specs.declared.roles.Role.{Role}
 use Rattle.table_load.specs.Reading.{Fields, is_in_file, file_columns, roles_of, names_are}
 use Rattle.table_load.specs.declared.layout.FileColumns.{FileColumns}
@@ -23,7 +23,9 @@ not_more which (c ∷ cs) = let most = one_of (is_in_file which c.role) c (file_
 
 -- a file has at most 32 columns
 pub few_roles : (which : FileColumns) (cs : List Column) → AreColumns cs → length (roles_of (file_columns which cs)) ≤ 32
-few_roles which cs are = omega (arith, not_more which cs, ltb-false 32 (length cs) (or_parts (nat_lt 32 (length cs)) (nat_lt 8 (secret_count cs)) are.within).0)
+few_roles which cs are =
+    let few = (or_parts (nat_lt 32 (length cs) || nat_lt 8 (secret_count cs)) (nat_lt 1 (length (filter (λ c. is_count c.role) cs))) are.within).0 in
+    omega (arith, not_more which cs, ltb-false 32 (length cs) (or_parts (nat_lt 32 (length cs)) (nat_lt 8 (secret_count cs)) few).0)
 
 -- the columns of the file from a place of the schema on
 columns_from : (which : FileColumns) (cs : List Column) (place : ℕ) (h : Here cs place) (r : Role) → Some r ≡ role_at cs place

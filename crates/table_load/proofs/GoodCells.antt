@@ -1,15 +1,16 @@
 -- Records without a fault have the cells that the roles of their columns want.
 use Rattle.std.proofs.Common.{◌≡◌, ℕ, zero, suc, ◌+◌, ◌<◌, Bool, true, false, cond, List, [], ◌∷◌, length, drop, map, get_or, Option, Some, None, refl, sym, ap, ◌∙◌, arith, subst}
-use Rattle.std.specs.Prelude.{ℤ, not, ◌==◌, if◌then◌else◌}
+use Rattle.std.specs.Prelude.{ℤ, pos, not, ◌==◌, ◌&&◌, if◌then◌else◌, int_lt, unwrap_or}
 use Rattle.std.specs.List.{AllByRecursion, list_all}
 use Rattle.std.specs.Str.{is_utf8}
-use Rattle.std.proofs.lemmas.Bool.{false≢true, eqb-true}
+use Rattle.std.proofs.lemmas.Bool.{false≢true, eqb-true, and_parts}
 use Rattle.csv.specs.Records.{Row, fields_of}
 use Rattle.schema_json.specs.declared.roles.Role.{Role}
+use Rattle.schema_json.specs.declared.roles.Role.TheVariants as role
 use Rattle.table_load.specs.Numerals.{number_in, in_range}
 use Rattle.table_load.specs.Numbers.{IsNumeralOf}
-use Rattle.table_load.specs.Reading.{Fields, has_numbers, number_fault, cell_fault, cells_fault, record_fault, records_fault}
-use Rattle.table_load.specs.Tables.{HasCell, is_number}
+use Rattle.table_load.specs.Reading.{Fields, has_numbers, fits_role, number_fault, cell_fault, cells_fault, record_fault, records_fault}
+use Rattle.table_load.specs.Tables.{HasCell, is_number, number_of_field}
 use Rattle.table_load.specs.declared.faults.TableFault.TheVariants as fault
 use Rattle.table_load.specs.declared.numerals.Numeral.TheVariants as numeral
 use Rattle.table_load.specs.MeaningLaws.{none_first}
@@ -28,16 +29,37 @@ in_range_from : (line column : ℕ) (z : ℤ) (b : Bool) → cond b None (Some (
 in_range_from line column z true is = refl
 in_range_from line column z false is = absurd (cc)
 
--- if a field that should be a number has no fault, it is one in range
-fine_number : (line column : ℕ) (meant : Option ℤ) → number_fault line column meant ≡ None → is_number meant ≡ true
-fine_number line column None is = absurd (cc)
-fine_number line column (Some z) is = in_range_from line column z (in_range z) is
+-- what a role may have is in range
+pub fits_in_range : (r : Role) (z : ℤ) → fits_role r z ≡ true → in_range z ≡ true
+fits_in_range role.Text z fits = fits
+fits_in_range role.Number z fits = fits
+fits_in_range role.Count z fits = (and_parts (in_range z) (int_lt (pos 0) z) fits).0
+fits_in_range role.Sum z fits = fits
+fits_in_range role.Max z fits = fits
+fits_in_range role.Min z fits = fits
 
--- a field without a fault spells a number in range if its role wants one
+-- a number that is too large is none
+pub large_fits_not : (r : Role) (z : ℤ) → in_range z ≡ false → fits_role r z ≡ false
+large_fits_not role.Text z large = large
+large_fits_not role.Number z large = large
+large_fits_not role.Count z large = ap (λ b. b && int_lt (pos 0) z) large
+large_fits_not role.Sum z large = large
+large_fits_not role.Max z large = large
+large_fits_not role.Min z large = large
+
+-- if a field that should be a number has no fault, it is one that its role may have
+fine_number : (r : Role) (line column : ℕ) (meant : Option ℤ) → number_fault r line column meant ≡ None →
+    (is_number meant ≡ true) × (fits_role r (unwrap_or meant (pos 0)) ≡ true)
+fine_number r line column None is = absurd (cc)
+fine_number r line column (Some z) is =
+    let fits = in_range_from line column z (fits_role r z) is in
+    (fits_in_range r z fits, fits)
+
+-- a field without a fault spells one if its role wants one
 fine_cell : (role : Role) (line column : ℕ) (field : List ℕ) → cell_fault role line column field ≡ None → has_numbers role ≡ true →
-    is_number (number_in field) ≡ true
+    (is_number (number_in field) ≡ true) × (fits_role role (number_of_field field) ≡ true)
 fine_cell role line column field fine numeric =
-    fine_number line column (number_in field) (sym (ap (λ b. cond b (number_fault line column (number_in field)) None) numeric) ∙ fine)
+    fine_number role line column (number_in field) (sym (ap (λ b. cond b (number_fault role line column (number_in field)) None) numeric) ∙ fine)
 
 -- the first of the roles, if there is one
 head_or : Role → List Role → Role
@@ -54,11 +76,15 @@ cells_hold line column (r ∷ roles) [] k role rest same fine at_k = absurd (ome
 cells_hold line column (r ∷ roles) (f ∷ fields) zero role rest same fine at_k =
     let is : r ≡ role = ap (head_or r) at_k in
     let first = (none_first (cell_fault r line column f) (cells_fault line (column + 1) roles fields) fine).0 in
-    record { within = omega arith; number = λ numeric. fine_cell r line column f first (ap has_numbers is ∙ numeric) }
+    record {
+      within = omega arith;
+      number = λ numeric. (fine_cell r line column f first (ap has_numbers is ∙ numeric)).0;
+      fits = λ numeric. subst (λ x. fits_role x (number_of_field f) ≡ true) is (fine_cell r line column f first (ap has_numbers is ∙ numeric)).1;
+    }
 cells_hold line column (r ∷ roles) (f ∷ fields) (suc k) role rest same fine at_k =
     let later = cells_hold line (column + 1) roles fields k role rest (omega (arith, same))
     (none_first (cell_fault r line column f) (cells_fault line (column + 1) roles fields) fine).1 at_k in
-    record { within = omega (arith, later.within); number = later.number }
+    record { within = omega (arith, later.within); number = later.number; fits = later.fits }
 
 -- the parts of a record's test
 record FineRecord (roles : List Role) (line : ℕ) (fields : Fields) : Type 0 where

@@ -10,8 +10,7 @@ use Rattle.table_load.specs.Steps.{AreData}
 use Rattle.table_load.specs.Tables.{data_of, public_in, secret_in, table_of}
 use Rattle.table_load.specs.declared.layout.FileColumns.TheVariants as file
 use Rattle.table_load.specs.MeaningLaws.{answered, file_is, records_fine}
-use Rattle.table_load.specs.SchemaFits.{cells_fit}
-use Rattle.table_load.proofs.ColumnSteps.{all_cells_are, all_secrets_are, all_roles_from, secrets_counted}
+use Rattle.table_load.proofs.ColumnSteps.{all_cells_are, all_secrets_are, all_roles_from, secrets_counted, cells_fit}
 
 -- a file without a fault has 1 to 1,024 data records, none of which has one
 fine_data : (columns : List Column) (bytes : List ℕ) → file_fault columns bytes ≡ None → AreData columns bytes (data_of bytes)
@@ -71,7 +70,8 @@ public_is schema t parts =
 
 -- such a public part has columns that hold what the schema's roles say
 pub public_fits : (schema : List Column) (t : TableView) → HasParts schema t → FitsSchema schema t.public
-public_fits schema t parts = subst (FitsSchema schema) parts.public (cells_fit file.All 0 schema parts.rows)
+public_fits schema t parts =
+    subst (FitsSchema schema) parts.public (cells_fit file.All (roles_of (file_columns file.All schema)) parts.rows 0 schema parts.good refl)
 
 -- such a secret part has the schema's shape over the rows of the public part
 pub shape_is : (schema : List Column) (t : TableView) → HasParts schema t → t.secret.shape ≡ shape_of schema t.public.rows

@@ -1,13 +1,13 @@
 -- What a table holds, column by column.
-use Rattle.std.specs.Prelude.{◌≡◌, ◌≢◌, ℕ, ◌<◌, ◌≤◌, ℤ, pos, true, cond, List, [], ◌∷◌, length, drop, count_by, slice_index_or, Option, Some, None}
+use Rattle.std.specs.Prelude.{◌≡◌, ◌≢◌, ℕ, ◌<◌, ◌≤◌, ℤ, pos, ◌<ℤ◌, unsigned_abs, true, cond, List, [], ◌∷◌, length, drop, map, count_by, slice_index_or, Option, Some, None, option_map, unwrap_or, position}
 use Rattle.std.specs.List.{AllByRecursion}
 use Rattle.audit_types.specs.Limits.{most_rows}
 use Rattle.audit_types.specs.History.{Secrets}
 use Rattle.audit_types.specs.Shapes.{IsShape, columns}
 use Rattle.audit_types.specs.declared.shapes.Shape.{Shape}
-use Rattle.schema_json.specs.Columns.{Column, is_public, is_secret, role_at}
+use Rattle.schema_json.specs.Columns.{Column, is_public, is_secret, is_count, role_at}
 use Rattle.schema_json.specs.declared.roles.Role.{Role}
-use Rattle.schema_json.specs.declared.roles.Role.TheVariants.{Text, Number, Sum, Max, Min}
+use Rattle.schema_json.specs.declared.roles.Role.TheVariants.{Text, Number, Count, Sum, Max, Min}
 use Rattle.table_load.specs.Numerals.{in_range}
 
 -- a column by its place in the schema: numbers, texts, or one that is not public
@@ -59,6 +59,10 @@ number_of_cell p place row = slice_index_or (numbers_of (cells_at p place)) row 
 abbrev pub text_of_cell : PublicView → ℕ → ℕ → List ℕ
 text_of_cell p place row = slice_index_or (texts_of (cells_at p place)) row []
 
+-- how many people each row stands for; no numbers if no column says so
+abbrev pub counts_of : List Column → PublicView → List ℕ
+counts_of columns p = unwrap_or (option_map (λ place. map unsigned_abs (numbers_of (cells_at p place))) (position (λ c. is_count c.role) columns)) []
+
 -- n numbers in range
 pub record AreNumbers (n : ℕ) (list : List ℤ) : Type 0 where
   pub one_each : length list ≡ n
@@ -94,10 +98,15 @@ HasTexts hidden = ⊥
 HasTexts (numbers xs) = ⊥
 HasTexts (texts ts) = Unit {0}
 
+-- a column of numbers that are at least 1
+abbrev pub HasCounts : Cells → Type 0
+HasCounts cells = HasNumbers cells × AllByRecursion (λ z. pos 0 <ℤ z) (numbers_of cells)
+
 -- a column that holds what its role says
 abbrev pub HoldsRole : Role → Cells → Type 0
 HoldsRole Text cells = HasTexts cells
 HoldsRole Number cells = HasNumbers cells
+HoldsRole Count cells = HasCounts cells
 HoldsRole Sum cells = cells ≡ hidden
 HoldsRole Max cells = cells ≡ hidden
 HoldsRole Min cells = cells ≡ hidden
@@ -115,9 +124,10 @@ abbrev pub first_list : List (List ℤ) → List ℤ
 first_list [] = []
 first_list (w ∷ lists) = w
 
--- a list for each public column, all of them numbers in range, 1 to 1,024 and as many in each
+-- a list for each public column, none of them a count and all of them numbers in range, 1 to 1,024 and as many in each
 pub record AreLists (schema : List Column) (lists : List (List ℤ)) : Type 0 where
   pub no_texts : AllByRecursion (λ c. c.role ≢ Text) schema
+  pub no_counts : AllByRecursion (λ c. c.role ≢ Count) schema
   pub one_each : length lists ≡ public_count schema
   pub some : 0 < length (first_list lists)
   pub at_most : length (first_list lists) ≤ most_rows

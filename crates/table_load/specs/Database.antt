@@ -1,10 +1,12 @@
 -- What the files of a table mean to the auditor.
-use Rattle.std.specs.Prelude.{◌≡◌, ℕ, ◌<◌, List, map, take}
+use Rattle.std.specs.Prelude.{◌≡◌, ◌≢◌, ℕ, ◌<◌, List, [], map, length, take}
+use Rattle.std.specs.List.{AllByRecursion}
 use Rattle.audit_types.specs.History.{Table, Protection, IsGuardFor, setting_of}
+use Rattle.audit_types.specs.People.{shared_of}
 use Rattle.audit_types.specs.Widening.{over, protection_among}
 use Rattle.schema_json.specs.Columns.{Column, AreColumns}
 use Rattle.schema_json.specs.SecretShape.{shape_of}
-use Rattle.table_load.specs.Cells.{Cells, hidden, numbers, texts, PublicView, SecretView}
+use Rattle.table_load.specs.Cells.{Cells, hidden, numbers, texts, PublicView, SecretView, counts_of}
 
 -- what a schema's file and a table's file mean together
 pub record Database : Type 0 where
@@ -22,6 +24,12 @@ pub record IsDatabase (base : Database) : Type 0 where
   pub schema : AreColumns base.columns
   pub shape : base.secret.shape ≡ shape_of base.columns base.public.rows
   pub protected : IsGuardFor base.secret.shape base.protected
+
+-- behind each row is somebody, and the rows of several people are the shared ones
+pub record AreLines (base : Database) : Type 0 where
+  pub somebody : AllByRecursion (λ count. 0 < count) (counts_of base.columns base.public)
+  pub one_each : counts_of base.columns base.public ≢ [] → length (counts_of base.columns base.public) ≡ base.public.rows
+  pub shared : base.protected.shared ≡ shared_of (counts_of base.columns base.public)
 
 -- tables that differ in their secrets alone, which are of one shape
 abbrev pub AreTwins : Database → Database → Type 0

@@ -7,15 +7,15 @@ use Rattle.schema_json.specs.Columns.{Column}
 use Rattle.schema_json.specs.SecretShape.{shape_of}
 use Rattle.schema_json.specs.declared.roles.Role.TheVariants.{Text}
 use Rattle.table_load.specs.Cells.{Cells, PublicView, SecretView}
-use Rattle.table_load.specs.Numerals.{number_in, in_range}
-use Rattle.table_load.specs.Reading.{Fields, records_of, most_table}
+use Rattle.table_load.specs.Numerals.{number_in}
+use Rattle.table_load.specs.Reading.{Fields, fits_role, records_of, most_table}
 use Rattle.table_load.specs.Tables.{cells_of, secrets_from}
 
 -- a record with a field for each column, all of them text; where a column isn't one of texts, a number in range
 pub record IsRecordOf (columns : List Column) (fields : Fields) : Type 0 where
   pub one_each : length fields ≡ length columns
   pub texts : list_all is_utf8 fields ≡ true
-  pub numbers : AllByRecursion (λ cell. cell.0.role ≢ Text → (z : ℤ) × (number_in cell.1 ≡ Some z) × (in_range z ≡ true)) (zip columns fields)
+  pub numbers : AllByRecursion (λ cell. cell.0.role ≢ Text → (z : ℤ) × (number_in cell.1 ≡ Some z) × (fits_role cell.0.role z ≡ true)) (zip columns fields)
 
 -- what everybody may see of the columns, where all of them stand in the file from column k on
 abbrev pub publics_from : ℕ → List Column → List Fields → List Cells

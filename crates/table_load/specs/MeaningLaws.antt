@@ -12,8 +12,8 @@ use Rattle.schema_json.specs.declared.roles.Role.{Role}
 use Rattle.schema_json.specs.declared.roles.Role.TheVariants as role
 use Rattle.table_load.specs.Cells.{PublicView, SecretView, TableView, whole}
 use Rattle.table_load.specs.Faults.{unless_fault}
-use Rattle.table_load.specs.Numerals.{number_in, in_range}
-use Rattle.table_load.specs.Reading.{Fields, records_of, file_columns, roles_of, number_fault, cell_fault, cells_fault, record_fault, records_fault, names_are, count_fault, data_fault, header_fault, file_fault}
+use Rattle.table_load.specs.Numerals.{number_in}
+use Rattle.table_load.specs.Reading.{Fields, records_of, file_columns, roles_of, fits_role, number_fault, cell_fault, cells_fault, record_fault, records_fault, names_are, count_fault, data_fault, header_fault, file_fault}
 use Rattle.table_load.specs.Tables.{cells_of, cells_from, data_of, public_in, secret_in, table_of}
 use Rattle.table_load.specs.Meaning.{IsRecordOf, MeansTable, publics_from}
 use Rattle.table_load.specs.declared.faults.TableFault.{TableFault}
@@ -34,43 +34,46 @@ all_publics k (c ∷ columns) rows = ap (λ cells. cells_of c.role k rows ∷ ce
 
 -- ---- a record
 
--- what a field is that spells a number in range
-abbrev IsNumber : List ℕ → Type 0
-IsNumber field = (z : ℤ) × (number_in field ≡ Some z) × (in_range z ≡ true)
+-- what a field is that spells a number that a column of this role may have
+abbrev IsNumber : Role → List ℕ → Type 0
+IsNumber r field = (z : ℤ) × (number_in field ≡ Some z) × (fits_role r z ≡ true)
 
--- a number that has no fault is in range
-number_from : (line column : ℕ) (field : List ℕ) (meant : Option ℤ) → number_in field ≡ meant → number_fault line column meant ≡ None → IsNumber field
-number_from line column field None is fine = absurd (cc)
-number_from line column field (Some z) is fine = (z, is, by (in_range z) fine)
+-- a number that has no fault is one
+number_from : (r : Role) (line column : ℕ) (field : List ℕ) (meant : Option ℤ) → number_in field ≡ meant → number_fault r line column meant ≡ None →
+    IsNumber r field
+number_from r line column field None is fine = absurd (cc)
+number_from r line column field (Some z) is fine = (z, is, by (fits_role r z) fine)
   where
     by : (within : Bool) → cond within None (Some (OutOfRange line column)) ≡ None → within ≡ true
     by true fine = refl
     by false fine = absurd (cc)
 
--- a number in range has none
-number_fine : (line column : ℕ) (field : List ℕ) → IsNumber field → number_fault line column (number_in field) ≡ None
-number_fine line column field number =
-    ap (number_fault line column) number.1 ∙ ap (λ b. cond b None (Some (OutOfRange line column))) number.2
+-- such a number has none
+number_fine : (r : Role) (line column : ℕ) (field : List ℕ) → IsNumber r field → number_fault r line column (number_in field) ≡ None
+number_fine r line column field number =
+    ap (number_fault r line column) number.1 ∙ ap (λ b. cond b None (Some (OutOfRange line column))) number.2
 
 -- a field without a fault is a number where its column isn't one of texts
-cell_from : (r : Role) (line column : ℕ) (field : List ℕ) → cell_fault r line column field ≡ None → r ≢ role.Text → IsNumber field
+cell_from : (r : Role) (line column : ℕ) (field : List ℕ) → cell_fault r line column field ≡ None → r ≢ role.Text → IsNumber r field
 cell_from role.Text line column field fine other = absurd (other refl)
-cell_from role.Number line column field fine other = number_from line column field (number_in field) refl fine
-cell_from role.Sum line column field fine other = number_from line column field (number_in field) refl fine
-cell_from role.Max line column field fine other = number_from line column field (number_in field) refl fine
-cell_from role.Min line column field fine other = number_from line column field (number_in field) refl fine
+cell_from role.Number line column field fine other = number_from role.Number line column field (number_in field) refl fine
+cell_from role.Count line column field fine other = number_from role.Count line column field (number_in field) refl fine
+cell_from role.Sum line column field fine other = number_from role.Sum line column field (number_in field) refl fine
+cell_from role.Max line column field fine other = number_from role.Max line column field (number_in field) refl fine
+cell_from role.Min line column field fine other = number_from role.Min line column field (number_in field) refl fine
 
 -- and such a field has none
-cell_fine : (r : Role) (line column : ℕ) (field : List ℕ) → (r ≢ role.Text → IsNumber field) → cell_fault r line column field ≡ None
+cell_fine : (r : Role) (line column : ℕ) (field : List ℕ) → (r ≢ role.Text → IsNumber r field) → cell_fault r line column field ≡ None
 cell_fine role.Text line column field number = refl
-cell_fine role.Number line column field number = number_fine line column field (number (search rules))
-cell_fine role.Sum line column field number = number_fine line column field (number (search rules))
-cell_fine role.Max line column field number = number_fine line column field (number (search rules))
-cell_fine role.Min line column field number = number_fine line column field (number (search rules))
+cell_fine role.Number line column field number = number_fine role.Number line column field (number (search rules))
+cell_fine role.Count line column field number = number_fine role.Count line column field (number (search rules))
+cell_fine role.Sum line column field number = number_fine role.Sum line column field (number (search rules))
+cell_fine role.Max line column field number = number_fine role.Max line column field (number (search rules))
+cell_fine role.Min line column field number = number_fine role.Min line column field (number (search rules))
 
 -- the columns that hold no texts have numbers in these fields
 abbrev AreNumbered : List Column → Fields → Type 0
-AreNumbered columns fields = AllByRecursion (λ cell. cell.0.role ≢ role.Text → IsNumber cell.1) (zip columns fields)
+AreNumbered columns fields = AllByRecursion (λ cell. cell.0.role ≢ role.Text → IsNumber cell.0.role cell.1) (zip columns fields)
 
 -- where the first of two is none, so is the other or it counts
 pub none_first : (a b : Option TableFault) → option_or a b ≡ None → (a ≡ None) × (b ≡ None)

@@ -1,5 +1,5 @@
 -- The table that bytes mean, over the columns of a schema, and the first fault of bytes that mean none.
-use Rattle.std.specs.Prelude.{ℕ, ◌+◌, ℤ, Bool, true, false, ◌&&◌, not, cond, if◌then◌else◌, List, [], ◌∷◌, length, map, filter, take, Option, Some, None, nat_lt, ◌==◌}
+use Rattle.std.specs.Prelude.{ℕ, ◌+◌, ℤ, pos, Bool, true, false, ◌&&◌, not, cond, if◌then◌else◌, List, [], ◌∷◌, length, map, filter, take, Option, Some, None, nat_lt, int_lt, ◌==◌}
 use Rattle.std.specs.List.{list_all}
 use Rattle.std.specs.Option.{option_or}
 use Rattle.std.specs.Str.{bytes_eq, is_utf8}
@@ -7,7 +7,7 @@ use Rattle.audit_types.specs.Limits.{most_rows}
 use Rattle.csv.specs.Reading.{default_config, strip_bom, records}
 use Rattle.schema_json.specs.Columns.{Column, is_public}
 use Rattle.schema_json.specs.declared.roles.Role.{Role}
-use Rattle.schema_json.specs.declared.roles.Role.TheVariants.{Text}
+use Rattle.schema_json.specs.declared.roles.Role.TheVariants.{Text, Count}
 use Rattle.table_load.specs.Numerals.{number_in, in_range}
 use Rattle.table_load.specs.declared.faults.TableFault.{TableFault}
 use Rattle.table_load.specs.declared.faults.TableFault.TheVariants.{TooLong, Header, Length, NotText, NotNumber, OutOfRange, TooManyRows, NoRows}
@@ -40,14 +40,19 @@ abbrev pub has_numbers : Role → Bool
 has_numbers Text = false
 has_numbers role = true
 
+-- whether a number is one that a column may have: in range, and at least 1 if it is a count
+abbrev pub fits_role : Role → ℤ → Bool
+fits_role Count z = in_range z && int_lt (pos 0) z
+fits_role role z = in_range z
+
 -- the fault of a field that should be a number, and spells this one or none
-abbrev pub number_fault : ℕ → ℕ → Option ℤ → Option TableFault
-number_fault line column None = Some (NotNumber line column)
-number_fault line column (Some z) = cond (in_range z) None (Some (OutOfRange line column))
+abbrev pub number_fault : Role → ℕ → ℕ → Option ℤ → Option TableFault
+number_fault role line column None = Some (NotNumber line column)
+number_fault role line column (Some z) = cond (fits_role role z) None (Some (OutOfRange line column))
 
 -- the fault of a field
 abbrev pub cell_fault : Role → ℕ → ℕ → List ℕ → Option TableFault
-cell_fault role line column field = cond (has_numbers role) (number_fault line column (number_in field)) None
+cell_fault role line column field = cond (has_numbers role) (number_fault role line column (number_in field)) None
 
 -- the first fault of the fields of a record, column by column, from this column on
 abbrev pub cells_fault : ℕ → ℕ → List Role → Fields → Option TableFault

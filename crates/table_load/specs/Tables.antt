@@ -4,11 +4,11 @@ use Rattle.audit_types.specs.History.{Secrets}
 use Rattle.schema_json.specs.Columns.{Column, is_secret}
 use Rattle.schema_json.specs.SecretShape.{shape_of}
 use Rattle.schema_json.specs.declared.roles.Role.{Role}
-use Rattle.schema_json.specs.declared.roles.Role.TheVariants.{Text, Number, Min}
+use Rattle.schema_json.specs.declared.roles.Role.TheVariants.{Text, Number, Count, Min}
 use Rattle.table_load.specs.Cells.{Cells, hidden, numbers, texts, PublicView, SecretView, TableView}
 use Rattle.table_load.specs.Faults.{unless_fault}
 use Rattle.table_load.specs.Numerals.{number_in, in_range}
-use Rattle.table_load.specs.Reading.{Fields, records_of, is_in_file, has_numbers, file_columns, file_fault}
+use Rattle.table_load.specs.Reading.{Fields, records_of, is_in_file, has_numbers, fits_role, file_columns, file_fault}
 use Rattle.table_load.specs.declared.faults.TableFault.{TableFault}
 use Rattle.table_load.specs.declared.layout.FileColumns.{FileColumns}
 use Rattle.table_load.specs.declared.layout.FileColumns.TheVariants.{All, Public}
@@ -26,10 +26,11 @@ abbrev pub is_number : Option ℤ → Bool
 is_number None = false
 is_number (Some z) = in_range z
 
--- a record with a field at a place, which spells a number in range if the role wants one
+-- a record with a field at a place, which spells a number that the role may have if it wants one
 pub record HasCell (role : Role) (k : ℕ) (fields : Fields) : Type 0 where
   pub within : k < length fields
   pub number : has_numbers role ≡ true → is_number (number_in (field_of k fields)) ≡ true
+  pub fits : has_numbers role ≡ true → fits_role role (number_of_field (field_of k fields)) ≡ true
 
 -- the numbers of a column of the file
 abbrev pub number_column : ℕ → List Fields → List ℤ
@@ -48,6 +49,7 @@ text_column k rows = map (field_of k) rows
 abbrev pub cells_of : Role → ℕ → List Fields → Cells
 cells_of Text k rows = texts (text_column k rows)
 cells_of Number k rows = numbers (number_column k rows)
+cells_of Count k rows = numbers (number_column k rows)
 cells_of role k rows = hidden
 
 -- the place in the file of the next column

@@ -89,6 +89,10 @@ fn cells(alloc: Global, role: Role, k: usize, rows: &[ByteRecord]) -> Result<Col
             Ok(numbers) => Ok(Column::Numbers(numbers)),
             Err(NoMemory) => Err(NoMemory),
         },
+        Role::Count => match number_column(alloc, role, k, rows) {
+            Ok(numbers) => Ok(Column::Numbers(numbers)),
+            Err(NoMemory) => Err(NoMemory),
+        },
         Role::Sum => Ok(Column::Hidden),
         Role::Max => Ok(Column::Hidden),
         Role::Min => Ok(Column::Hidden),

@@ -47,6 +47,6 @@ pub(crate) fn has_numbers(role: Role) -> bool
 {
     match role {
         Role::Text => false,
-        Role::Number | Role::Sum | Role::Max | Role::Min => true,
+        Role::Number | Role::Count | Role::Sum | Role::Max | Role::Min => true,
     }
 }

@@ -44,7 +44,6 @@ fn data_rows(
 }
 
 // The public part of a table with these records, none of which has a fault.
-#[tactic(auto, using(crate::specs::SchemaFits::cells_fit))]
 fn public_part(
     alloc: Global,
     schema: &Schema,

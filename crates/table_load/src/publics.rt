@@ -1,10 +1,11 @@
 //! The public part of a table.
-ghost use Rattle.std.specs.Prelude.{◌≡◌, ◌<◌, ◌≤◌, cond, false, drop, length, map, IfOk};
+ghost use Rattle.std.specs.Prelude.{◌≡◌, ◌<◌, ◌≤◌, ◌<ℤ◌, cond, false, drop, length, map, option_map, pos, unsigned_abs, unwrap_or, IfOk, IfSome, []};
+ghost use Rattle.std.specs.List.{AllByRecursion};
 ghost use Rattle.std.specs.Vec.Iter.{into_iter_items};
 ghost use Rattle.audit_types.specs.Limits.{most_rows};
 ghost use Rattle.schema_json.specs.Columns.{is_secret};
 ghost use Rattle.table_load.specs.Kept.{cells_kept, public_with};
-ghost use Rattle.table_load.specs.Cells.{AreLists, FitsSchema, IsPublic, first_list, hidden, numbers, numbered, number_of_cell, text_of_cell, cells_at, whole, HasNumbers, HasTexts};
+ghost use Rattle.table_load.specs.Cells.{AreLists, AreNumbers, FitsSchema, IsPublic, first_list, hidden, numbers, numbered, number_of_cell, text_of_cell, cells_at, counts_of, numbers_of, whole, HasNumbers, HasTexts};
 
 use audit_types::NoMemory;
 use schema_json::{Role, Schema};
@@ -112,6 +113,31 @@ impl Public {
         ensures { map cells_kept result.now ≡ self.now.columns }
     {
         self.columns.as_slice()
+    }
+
+    /// How many people each row stands for, from 1 to 10^12; none if no column says so, and each row is one person.
+    pub fn counts(&self, schema: &Schema) -> Option<&[i64]>
+        requires { FitsSchema schema.now.columns self.now }
+        ensures counts { unwrap_or (option_map (λ list. map unsigned_abs list.now) result) [] ≡ counts_of schema.now.columns self.now }
+        ensures numbers { IfSome result (λ list. AreNumbers self.now.rows list.now) }
+        ensures above { IfSome result (λ list. AllByRecursion (λ z. pos 0 <ℤ z) list.now) }
+    {
+        match schema.people() {
+            Some(place) => Some(self.numbers(place)),
+            None => None,
+        }
+    }
+
+    // The numbers of a column of numbers.
+    fn numbers(&self, place: u8) -> &[i64]
+        requires { HasNumbers (cells_at self.now place) }
+        ensures numbers { result.now ≡ numbers_of (cells_at self.now place) }
+        ensures public { IsPublic self.now }
+    {
+        match self.columns.get(place as usize) {
+            Some(Column::Numbers(list)) => list.as_slice(),
+            _ => unreachable!(),
+        }
     }
 
     /// A number of a column of numbers, by the column's place in the schema.

@@ -1,11 +1,11 @@
 //! The records of a file, read and tested one by one.
-ghost use Rattle.std.specs.Prelude.{◌≡◌, ◌<◌, ◌≤◌, ℤ, Option, length};
+ghost use Rattle.std.specs.Prelude.{◌≡◌, ◌<◌, ◌≤◌, ℤ, Option, true, length};
 ghost use Rattle.std.specs.List.{list_all};
 ghost use Rattle.std.specs.Str.{is_utf8};
 ghost use Rattle.csv.specs.Records.{fields_of};
-ghost use Rattle.table_load.specs.Numerals.{number_in};
+ghost use Rattle.table_load.specs.Numerals.{in_range, number_in};
 ghost use Rattle.table_load.specs.Numbers.{IsNumeralOf};
-ghost use Rattle.table_load.specs.Reading.{cell_fault, cells_fault, record_fault, names_are, file_columns, number_fault};
+ghost use Rattle.table_load.specs.Reading.{cell_fault, cells_fault, record_fault, names_are, file_columns, fits_role, number_fault};
 ghost use Rattle.table_load.specs.Tables.{field_of};
 
 use crate::faults::TableFault;
@@ -48,11 +48,23 @@ fn are_texts(row: &ByteRecord) -> bool
     true
 }
 
-fn number_fault(line: u32, column: u8, numeral: Numeral) -> Option<TableFault>
-    ensures { (meant : Option ℤ) → IsNumeralOf numeral meant → result ≡ number_fault line column meant }
+// Whether a number in range is one that a column of this role may have.
+fn fits(role: Role, number: i64) -> bool
+    ensures { in_range number ≡ true → result ≡ fits_role role number }
+{
+    match role {
+        Role::Count => number > 0,
+        Role::Text | Role::Number | Role::Sum | Role::Max | Role::Min => true,
+    }
+}
+
+#[tactic(auto, using(crate::proofs::GoodCells::large_fits_not))]
+fn number_fault(role: Role, line: u32, column: u8, numeral: Numeral) -> Option<TableFault>
+    ensures { (meant : Option ℤ) → IsNumeralOf numeral meant → result ≡ number_fault role line column meant }
 {
     match numeral {
-        Numeral::Number(_) => None,
+        Numeral::Number(number) if fits(role, number) => None,
+        Numeral::Number(_) => Some(TableFault::OutOfRange { line, column }),
         Numeral::TooLarge => Some(TableFault::OutOfRange { line, column }),
         Numeral::NoNumber => Some(TableFault::NotNumber { line, column }),
     }
@@ -62,7 +74,7 @@ fn cell_fault(role: Role, line: u32, column: u8, field: &[u8]) -> Option<TableFa
     ensures { result ≡ cell_fault role line column field.now }
 {
     if has_numbers(role) {
-        number_fault(line, column, numeral_in(field))
+        number_fault(role, line, column, numeral_in(field))
     } else {
         None
     }

@@ -1,5 +1,5 @@
 -- A transcript begins with one history, and a journal that gives one is never refused.
-use Rattle.std.proofs.Common.{◌≡◌, ◌≢◌, ℕ, List, [], Result, Ok, Err, OnOk, IfErr, sym, ◌∙◌, subst, inl, inr}
+use Rattle.std.proofs.Common.{◌≡◌, ℕ, List, Result, Ok, Err, OnOk, IfErr, sym, ◌∙◌, subst, inl, inr}
 use Rattle.audit_types.specs.declared.records.Answered.{Answered}
 use Rattle.audit_types.specs.declared.shapes.Shape.{Shape}
 use Rattle.audit_types.specs.History.{Setting}
@@ -8,7 +8,7 @@ use Rattle.answer_journal.specs.MadeFiles.{stands_is_made}
 use Rattle.journal_form.specs.Journal.{StandsAt, BreaksAt}
 use Rattle.transcript_sim.specs.declared.simulating.SimulationFault.{SimulationFault}
 use Rattle.transcript_sim.specs.declared.simulating.SimulationFault.TheVariants as fault
-use Rattle.transcript_sim.specs.Beginning.{BeginsWith, EndBegins, HistoryCause, IsUnbegun, OnRefused}
+use Rattle.transcript_sim.specs.Beginning.{BeginsWith, EndBegins, HistoryCause, OnRefused}
 
 -- a file is read in one way
 abbrev pub OneReading : Type 0

@@ -1,5 +1,5 @@
 -- A transcript has one list of verdicts: a question calls for one reply, and a line that agrees makes one record.
-use Rattle.std.proofs.Common.{◌≡◌, ◌↔◌, ℕ, ℤ, zero, suc, Bool, true, false, IsTrue, List, [], ◌∷◌, ◌++◌, length, take, Option, Some, None, refl, sym, ◌∙◌, ap, subst, arith, inl, inr}
+use Rattle.std.proofs.Common.{◌≡◌, ◌↔◌, ℕ, ℤ, zero, suc, Bool, true, false, IsTrue, List, [], ◌∷◌, ◌++◌, take, Option, Some, None, refl, sym, ◌∙◌, ap, subst, arith, inl, inr}
 use Rattle.std.specs.Option.{option_to_list}
 use Rattle.std.proofs.lemmas.Bool.{true≢false}
 use Rattle.audit_types.specs.declared.records.Answered.{Answered}
@@ -37,24 +37,25 @@ module _ (replies : LineIsOneReply) (plans : OnePlanIsMade) (judgements : OneJud
   same_truth false true first second = absurd (true≢false (sym (first.1 (second.0 refl))))
 
   -- a verdict calls for one reply
-  one_called : (setting : Setting) (history : List Answered) (take : Take) (asked : Asked) (verdict : Verdict) (a b : Expected) →
-      CalledBy setting history take asked verdict a → CalledBy setting history take asked verdict b → a ≡ b
-  one_called setting history take asked Released a b first second =
-      first.expected_is ∙ ap (λ (f : Bool). Answer take asked f) (same_truth first.follows second.follows first.told second.told) ∙ sym second.expected_is
-  one_called setting history take asked DeniedUnsafe a b first second = first ∙ sym second
-  one_called setting history take asked DeniedWide a b first second = first ∙ sym second
+  one_called : (setting : Setting) (history : List Answered) (take : Take) (people : ℕ) (asked : Asked) (verdict : Verdict) (a b : Expected) →
+      CalledBy setting history take people asked verdict a → CalledBy setting history take people asked verdict b → a ≡ b
+  one_called setting history take people asked Released a b first second =
+      first.expected_is ∙ ap (λ (f : Bool). Answer take people asked f) (same_truth first.follows second.follows first.told second.told)
+      ∙ sym second.expected_is
+  one_called setting history take people asked DeniedUnsafe a b first second = first ∙ sym second
+  one_called setting history take people asked DeniedWide a b first second = first ∙ sym second
 
   -- a plan calls for one reply
   one_call : (setting : Setting) (history : List Answered) (plan : Plan) (a b : Expected) → CallsFor setting history plan a → CallsFor setting history plan b →
       a ≡ b
   one_call setting history (Ready answer) a b first second = first ∙ sym second
-  one_call setting history (Ask take asked) a b (inl first) (inl second) = first.1 ∙ sym second.1
-  one_call setting history (Ask take asked) a b (inl first) (inr second) = absurd (omega (arith, first.0, second.room))
-  one_call setting history (Ask take asked) a b (inr first) (inl second) = absurd (omega (arith, second.0, first.room))
-  one_call setting history (Ask take asked) a b (inr first) (inr second) =
+  one_call setting history (Ask take people asked) a b (inl first) (inl second) = first.1 ∙ sym second.1
+  one_call setting history (Ask take people asked) a b (inl first) (inr second) = absurd (omega (arith, first.0, second.room))
+  one_call setting history (Ask take people asked) a b (inr first) (inl second) = absurd (omega (arith, second.0, first.room))
+  one_call setting history (Ask take people asked) a b (inr first) (inr second) =
       let same = judgements setting history asked.column asked.rows.list second.verdict first.verdict second.judged first.judged in
-      one_called setting history take asked first.verdict a b first.called
-      (subst (λ (v : Verdict). CalledBy setting history take asked v b) same second.called)
+      one_called setting history take people asked first.verdict a b first.called
+      (subst (λ (v : Verdict). CalledBy setting history take people asked v b) same second.called)
 
   -- so does a question
   pub one_expected : (columns : List Column) (index : IndexView) (history : List Answered) (line : CountedLine) (a b : Expected) →
@@ -68,10 +69,10 @@ module _ (replies : LineIsOneReply) (plans : OnePlanIsMade) (judgements : OneJud
   one_record : (line : CountedLine) (expected : Expected) (a b : Option Answered) → AgreesWith line expected a → AgreesWith line expected b → a ≡ b
   one_record long expected a b first second = absurd first
   one_record (text line) (Only answer) a b first second = first.1 ∙ sym second.1
-  one_record (text line) (Answer take asked follows) a b first second =
+  one_record (text line) (Answer take people asked follows) a b first second =
       let told = replies line second.told first.told second.is_reply first.is_reply in
-      let same = answers take (length asked.rows.list) first.answer second.answer first.told first.tells
-      (subst (λ (r : Reply). Tells take (length asked.rows.list) second.answer r) told second.tells) in
+      let same = answers take people first.answer second.answer first.told first.tells
+      (subst (λ (r : Reply). Tells take people second.answer r) told second.tells) in
       let made : ℤ → Option Answered = λ z. Some (record { column = asked.column; rows = asked.rows; answer = z }) in
       first.added_is ∙ ap made same ∙ sym second.added_is
 

@@ -34,7 +34,7 @@ use Rattle.transcript_sim.specs.Verdicts.{Expects, AgreesWith, line_of}
 -- the record of an answer to the question may follow the history
 abbrev pub CanBeTaken : Setting → List Answered → Expected → Type 0
 CanBeTaken setting history (Only answer) = Unit {0}
-CanBeTaken setting history (Answer take asked follows) = FitsShape setting.shape asked.column asked.rows ×
+CanBeTaken setting history (Answer take people asked follows) = FitsShape setting.shape asked.column asked.rows ×
     IsWithinWidth (known_of setting history asked.column) asked.rows.list
 
 -- what a line that was shown comes to: it agrees, and makes this record, or it agrees with none

@@ -16,9 +16,10 @@ use question_plan::{Due, Plan, due_of_reply, is_full, verdict_line};
 pub(crate) enum Expected {
     /// This reply and no other. It makes no record.
     Only(Reply),
-    /// An answer, told as what is taken of the column, and whether it follows from the answers before it.
+    /// An answer, told as what is taken of the column, over so many people, and whether it follows from the answers before it.
     Answer {
         take: Take,
+        people: u64,
         asked: Asked,
         follows: bool,
     },
@@ -48,13 +49,14 @@ impl Expected {
 }
 
 // What the verdict on a question calls for: an answer, or the reply that refuses one.
-fn called_by(core: &Core, take: Take, asked: Asked, verdict: Verdict) -> Expected
+fn called_by(core: &Core, take: Take, people: u64, asked: Asked, verdict: Verdict) -> Expected
     requires { FitsShape core.now.setting.shape asked.column asked.rows }
-    ensures { CalledBy core.now.setting core.now.history take asked verdict result }
+    ensures { CalledBy core.now.setting core.now.history take people asked verdict result }
 {
     match verdict {
         Verdict::Released => Expected::Answer {
             take,
+            people,
             asked,
             follows: follows(core, &asked),
         },
@@ -74,9 +76,13 @@ pub(crate) fn expected_of(core: &mut Core, plan: Plan) -> Result<Expected, NoMem
     match plan {
         Plan::Ready(reply) => Ok(Expected::Only(reply)),
         Plan::Ask { .. } if is_full(core) => Ok(Expected::Only(Reply::Full)),
-        Plan::Ask { take, asked } => {
+        Plan::Ask {
+            take,
+            people,
+            asked,
+        } => {
             let verdict = core.weigh(&asked)?;
-            Ok(called_by(core, take, asked, verdict))
+            Ok(called_by(core, take, people, asked, verdict))
         }
     }
 }

@@ -1,5 +1,5 @@
 -- Why two journals aren't opened: one cause at most holds, and none of files that keep together.
-use Rattle.std.proofs.Common.{◌≡◌, ℕ, ◌<◌, inl, inr, ◌⊎◌, List, Result, Err, refl, sym, ap, subst, ◌∙◌, arith}
+use Rattle.std.proofs.Common.{rules, ◌≡◌, ◌≢◌, ℕ, ◌<◌, inl, inr, ◌⊎◌, List, Result, Err, refl, sym, ap, subst, ◌∙◌, arith}
 use Rattle.std.proofs.lemmas.Bool.{cases_lt}
 use Rattle.std.proofs.lemmas.Option.{same_Some}
 use Rattle.audit_types.specs.declared.records.Answered.{Answered}
@@ -91,6 +91,41 @@ own_of_refused fault (inl gives) = given_up fault gives
     given_up SpareFailed gives = tt
     given_up NoMemory gives = tt
 own_of_refused fault (inr (place, is)) = subst (λ (f : TwinFault). IsOwn f) (sym is) tt
+
+-- what a fault of the journal says by itself, and one of the spare
+pub record MainSays (given : StartFault) : Type 1 where
+  pub failed : given ≡ start.Failed → fault_of_main given ≡ MainFailed
+  pub of_failed : fault_of_main given ≡ MainFailed → given ≡ start.Failed
+  pub other : fault_of_main given ≢ SpareFailed
+
+pub main_says : (given : StartFault) → MainSays given
+main_says start.NoMemory = search rules
+main_says given = search rules
+
+pub record SpareSays (given : StartFault) : Type 1 where
+  pub failed : given ≡ start.Failed → fault_of_spare given ≡ SpareFailed
+  pub of_failed : fault_of_spare given ≡ SpareFailed → given ≡ start.Failed
+  pub other : fault_of_spare given ≢ MainFailed
+  pub not_main : (fault : StartFault) → fault_of_spare given ≢ Main fault
+
+pub spare_says : (given : StartFault) → SpareSays given
+spare_says start.NoMemory = search rules
+spare_says given = search rules
+
+-- a refusal to open one
+abbrev pub not_started : {X : Type 0} → StartFault → Result X StartFault
+not_started fault = Err fault
+
+-- the catching up isn't refused for a fault of the journal
+pub never_main : (given : TwinFault) → TwinGivesUp given ⊎ ((place : ℕ) × (given ≡ Differ place)) → (fault : StartFault) → given ≡ Main fault → ⊥
+never_main given (inl gives) fault same = let none : TwinGivesUp (Main fault) = subst (λ (f : TwinFault). TwinGivesUp f) same gives in none
+never_main given (inr (place, is)) fault same = let none : ⊥ = cc in none
+
+-- if it is refused and didn't give up, they differ
+pub only_read : (given : TwinFault) → TwinGivesUp given ⊎ ((place : ℕ) × (given ≡ Differ place)) → (TwinGivesUp given → ⊥) → (P : Type 0) →
+    ((place : ℕ) → given ≡ Differ place → P) → P
+only_read given (inl gives) some P differ = absurd (some gives)
+only_read given (inr (place, is)) some P differ = differ place is
 
 -- a refusal with this fault
 abbrev pub refused : {X : Type 0} → TwinFault → Result X TwinFault

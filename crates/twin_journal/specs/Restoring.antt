@@ -5,6 +5,7 @@ use Rattle.audit_types.specs.declared.records.Answered.{Answered}
 use Rattle.audit_types.specs.History.{Table, IsLegal}
 use Rattle.journal_form.specs.Journal.{StandsFor}
 use Rattle.answer_journal.specs.Moments.{IsMade}
+use Rattle.journal_compact.specs.Whole.{HoldsWhole}
 use Rattle.audit_store.specs.Starting.{StartCause, GivesUp}
 use Rattle.twin_journal.specs.declared.copying.CopyFault.{CopyFault}
 use Rattle.twin_journal.specs.declared.copying.CopyFault.TheVariants as copy
@@ -52,11 +53,13 @@ abbrev pub NotRestoredUnlessGivenUp : RestoreFault → Result (Unit {0}) Restore
 NotRestoredUnlessGivenUp due (Ok done) = ⊥
 NotRestoredUnlessGivenUp due (Err fault) = (fault ≡ due) ⊎ GivesUpRestoring fault
 
--- one file was lost; the other is as it was, and both now stand for its history, which is legal
+-- one file was lost; the other is as it was, and both now stand for its history, which is legal. The one that was lost holds it whole, with
+-- nothing behind its last gate but what stood there before
 pub record Restored (table : Table) (lost kept new_lost new_kept : List ℕ) (history : List Answered) : Type 0 where
   pub was : IsLostOf table lost kept history
   pub same : new_kept ≡ kept
   pub stands : StandsFor new_lost table.setting.shape history
+  pub whole : HoldsWhole table.setting.shape history lost new_lost
 
 -- the files stand for the same, if for anything
 abbrev pub StandForTheSame : List ℕ → List ℕ → Type 0

@@ -59,6 +59,10 @@ pub(crate) fn catch_up<B: Bench, S: Bench>(
     ensures spare_sent { S.sent spare.new ≡ S.sent spare.old }
     ensures ticks { B.told → OnOk result (B.moment bench.new ≡ B.moment bench.old + calls_to_bring_up (missing store.old.history store.new.history)) }
     ensures spare_ticks { S.told → OnOk result (S.moment spare.new ≡ S.moment spare.old + calls_to_bring_up (missing list.now store.new.history)) }
+
+    // If a call of one failed, the other wasn't called.
+    ensures main_failed { IsErrOf result TwinFault.MainFailed → spare.new ≡ spare.old }
+    ensures spare_failed { IsErrOf result TwinFault.SpareFailed → bench.new ≡ bench.old }
     ensures fault { TellsFault B.Bench bench.old bench.new (IsErrOf result TwinFault.MainFailed) }
     ensures spare_fault { TellsFault S.Bench spare.old spare.new (IsErrOf result TwinFault.SpareFailed) }
 {

@@ -5,7 +5,7 @@ ghost use Rattle.audit_types.specs.History.{IsGuardFor, IsLegal};
 ghost use Rattle.bench_core.specs.Calls.{IsQuiet, IsUntouched, LeavesOnly, OnlyReads, TellsFault};
 ghost use Rattle.journal_form.specs.Journal.{StandsFor};
 ghost use Rattle.answer_journal.specs.Make.{calls_to_make};
-ghost use Rattle.journal_compact.specs.Whole.{IsUnmadeOrWhole};
+ghost use Rattle.journal_compact.specs.Whole.{HoldsWhole, IsUnmadeOrWhole};
 ghost use Rattle.table_load.specs.Database.{secret_table};
 ghost use Rattle.audit_store.specs.Starting.{GivesUp, StartCause};
 ghost use Rattle.audit_store.specs.declared.starting.StartFault.{StartFault};
@@ -58,8 +58,9 @@ pub fn copy_journal<K: Bench, L: Bench>(
     requires fit { IsGuardFor secret.shape protected }
     requires lost { L.told → IsLost (L.file lost.old) }
 
-    // The lost one then stands for the history of the kept one, which is only read.
-    ensures done { K.told → L.told → OnOk result ((history : List Answered) × IsKeptFor (secret_table secret protected) (K.file kept.old) history × StandsFor (L.file lost.new) secret.shape history) }
+    // The lost one then stands for the history of the kept one, which is only read, and holds it whole.
+    ensures done { K.told → L.told → OnOk result ((history : List Answered) × IsKeptFor (secret_table secret protected) (K.file kept.old) history × StandsFor (L.file lost.new) secret.shape history
+        × HoldsWhole secret.shape history (L.file lost.old) (L.file lost.new)) }
     ensures reads { OnlyReads K.Bench kept.old kept.new }
 
     // Each refusal has its cause in the kept file, and each cause has its refusal; a legal history is never refused.

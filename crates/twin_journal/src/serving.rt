@@ -44,6 +44,7 @@ pub fn serve_twin<P: Source, B: Bench, S: Bench>(
     ensures input_end { P.told → B.told → result ≡ Err TwinEnd.Input → ServesWhole (base_of schema.now.columns index.now.public index.now.protected twin.old.store.secret) twin.old.store.history batch (P.left source.old) (P.left source.new) twin.new.store.history (B.sent bench.old) (B.sent bench.new) }
     ensures limit_end { P.told → B.told → result ≡ Err TwinEnd.Limit → ServesWhole (base_of schema.now.columns index.now.public index.now.protected twin.old.store.secret) twin.old.store.history batch (limited (P.left source.old)) [] twin.new.store.history (B.sent bench.old) (B.sent bench.new) }
     ensures memory_end { P.told → B.told → result ≡ Err TwinEnd.NoMemory → ServesSome (base_of schema.now.columns index.now.public index.now.protected twin.old.store.secret) twin.old.store.history batch (counted_lines (P.left source.old)) twin.new.store.history (B.sent bench.old) (B.sent bench.new) }
+    ensures spare_end { P.told → B.told → result ≡ Err TwinEnd.Spare → ServesSome (base_of schema.now.columns index.now.public index.now.protected twin.old.store.secret) twin.old.store.history batch (counted_lines (P.left source.old)) twin.new.store.history (B.sent bench.old) (B.sent bench.new) }
     ensures stands { B.told → result ≢ Err TwinEnd.Bench → StandsFor (B.file bench.new) twin.new.store.secret.shape twin.new.store.history }
     ensures quiet { B.told → IsQuiet B.Bench bench.old → result ≢ Err TwinEnd.Bench → IsQuiet B.Bench bench.new }
 

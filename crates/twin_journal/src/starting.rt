@@ -132,8 +132,11 @@ impl TwinStore {
         ensures sent { B.sent bench.new ≡ B.sent bench.old }
         ensures spare_sent { S.sent spare.new ≡ S.sent spare.old }
 
-        // If the files are refused, both were only read; if the journal is, the spare wasn't called.
+        // If the files are refused, both were only read; if the journal is, the spare wasn't called; if a call of one failed, the other was
+        // only read.
         ensures reads { (fault : TwinFault) → result ≡ Err fault → (TwinGivesUp fault → ⊥) → OnlyReads B.Bench bench.old bench.new × OnlyReads S.Bench spare.old spare.new }
+        ensures main_failed { IsErrOf result TwinFault.MainFailed → OnlyReads S.Bench spare.old spare.new }
+        ensures spare_failed { IsErrOf result TwinFault.SpareFailed → OnlyReads B.Bench bench.old bench.new }
         ensures main_first { (fault : StartFault) → result ≡ Err (TwinFault.Main fault) → spare.new ≡ spare.old }
         ensures ticks { (main other whole : List Answered) → B.told → S.told → KeepTogether (secret_table secret protected) (B.file bench.old) (S.file spare.old) main other whole
             → OnOk result (B.moment bench.new ≡ B.moment bench.old + calls_to_open main whole) }

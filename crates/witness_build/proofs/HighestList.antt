@@ -41,12 +41,12 @@ agrees_with known w kind agrees = record {
 
 -- if no row is lone, both lists agree, by the laws of maxima
 pub both_agree : HighestAgrees → LoneOrLowered → (known : Known) (row : ℕ) → known.kind ≡ Max → IsWellFormed known → IsConsistent known.answers →
-    ((r : ℕ) → ¬ (IsLone known.answers r)) →
+    ¬ (IsLone known.answers row) →
     row < known.n → Agrees known (lowered_at (highest known.n known.answers) row) × Agrees known (highest known.n known.answers)
 both_agree highest_law lowered_law known row kind well consistent free below =
     let same_well : IsWellFormed (known_max known.n known.answers) = record { are_rows = well.are_rows; some = well.some } in (
       elim (lowered_law known.n known.answers row same_well consistent below) [
-        | inl lone ↦ absurd (free row lone)
+        | inl lone ↦ absurd (free lone)
         | inr agrees ↦ agrees_with known (lowered_at (highest known.n known.answers) row) kind agrees
       ],
       agrees_with known (highest known.n known.answers) kind (highest_law known.n known.answers same_well consistent),

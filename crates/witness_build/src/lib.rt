@@ -7,5 +7,5 @@
 mod maxima;
 mod sums;
 
-pub use maxima::{Pair, max_witness};
+pub use maxima::{Pair, highest, max_witness};
 pub use sums::sum_witness;

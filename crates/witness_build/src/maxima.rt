@@ -1,9 +1,9 @@
 //! A pair of lists for a column of maxima.
-ghost use Rattle.std.specs.Prelude.{◌≡◌, ◌≢◌, ◌<◌, ◌++◌, ◌∷◌, [], None, IfOk, OnOk, length};
+ghost use Rattle.std.specs.Prelude.{◌≡◌, ◌≢◌, ◌<◌, ◌++◌, ◌∷◌, [], IfOk, OnOk, length};
 ghost use Rattle.std.specs.List.{All};
 ghost use Rattle.audit_types.specs.Truth.{number_at};
 ghost use Rattle.audit_types.specs.Column.{Agrees};
-ghost use Rattle.audit_types.specs.Extremes.{IsConsistent, IsLeastLone};
+ghost use Rattle.audit_types.specs.Extremes.{IsConsistent, IsLone};
 ghost use Rattle.max_audit.specs.Candidates.{IsNearRange};
 ghost use Rattle.max_audit.specs.Witnesses.{bound_or_zero, highest, lowered_at};
 
@@ -36,8 +36,8 @@ fn push(list: &mut Vec<i128>, number: i128) -> Result<(), NoMemory>
     Ok(())
 }
 
-// Each row at its upper bound, and at 0 without one.
-fn highest(alloc: Global, bounds: &Bounds) -> Result<Vec<i128>, NoMemory>
+/// Each row at its upper bound, and at 0 without one.
+pub fn highest(alloc: Global, bounds: &Bounds) -> Result<Vec<i128>, NoMemory>
     ensures exact { IfOk result (λ list. list.items ≡ highest bounds.now.n bounds.now.answers) }
     ensures one_each { IfOk result (λ list. length list.items ≡ bounds.now.n) }
     ensures near { IfOk result (λ list. All IsNearRange list.items) }
@@ -65,7 +65,7 @@ fn lowered(alloc: Global, list: &[i128], row: u16) -> Result<Vec<i128>, NoMemory
 pub fn max_witness(alloc: Global, column: &MaxColumn, row: u16) -> Result<Pair, NoMemory>
     requires row { row < column.now.n }
     requires consistent { IsConsistent column.now.answers }
-    requires free { IsLeastLone column.now.answers None }
+    requires free { ¬ (IsLone column.now.answers row) }
     ensures high { IfOk result (λ pair. pair.hi.items ≡ highest column.now.n column.now.answers) }
     ensures low { IfOk result (λ pair. pair.lo.items ≡ lowered_at (highest column.now.n column.now.answers) row) }
     ensures agree { IfOk result (λ pair. Agrees column.now pair.lo.items × Agrees column.now pair.hi.items) }

@@ -1,6 +1,6 @@
-use Rattle.std.proofs.Common.{rules, ◌≡◌}
+use Rattle.std.proofs.Common.{rules}
 use Rattle.audit_types.specs.declared.records.Verdict.TheVariants.{Released, DeniedWide}
-use Rattle.audit_types.specs.History.{IsDecisionAfter, IsJudgementAfter, known_of}
+use Rattle.audit_types.specs.History.{known_of}
 use Rattle.audit_types.specs.Judgement.{IsDecision, IsJudgement}
 use Rattle.audit_core.specs.OneDecision.{one_decision, one_judgement}
 use Rattle.audit_store.proofs.starting.is_released.Goals as goal

@@ -9,8 +9,8 @@ pub returns-in-Ok-clause-done : goal.returns-in-Ok-clause-done
 returns-in-Ok-clause-done g c = λ told.
     let shape = c.shape-shape.ensures.shape in
     let line : c.as_bytes.result.now ≡ compact_line (length c.args.store.now.history) (length c.in_ok-list.list.items) = search rules in
-    sent_whole _ _ _ _ _ _ shape c.history-history.ensures.history c.deref.ensures.value c.in_ok-list.ensures.kept _ line _ _ _
-    (c.in_ok-write_whole.ensures.done told) (c.in-Ok.ensures.all told)
+    sent_whole _ _ _ _ _ _ shape c.history-history.ensures.history c.deref.ensures.value c.in_ok-list.ensures.kept _ line _ _ _ _
+    (c.in_ok-write_whole.ensures.done told) (c.in_ok-write_whole.ensures.written told) (c.in-Ok.ensures.all told)
 
 pub returns-in-Ok-clause-any_moment : goal.returns-in-Ok-clause-any_moment
 returns-in-Ok-clause-any_moment g c = λ told unmade quiet.
@@ -32,8 +32,8 @@ pub returns-clause-part : goal.returns-clause-part
 returns-clause-part g c = λ told is.
     let shape = c.shape-shape.ensures.shape in
     let line : c.as_bytes.result.now ≡ compact_line (length c.args.store.now.history) (length c.in_ok-list.list.items) = search rules in
-    sent_front _ _ _ _ _ _ shape c.history-history.ensures.history c.deref.ensures.value c.in_ok-list.ensures.kept _ line _ _ _
-    (c.in_ok-write_whole.ensures.done told) (c.in-Err.ensures.part told)
+    sent_front _ _ _ _ _ _ shape c.history-history.ensures.history c.deref.ensures.value c.in_ok-list.ensures.kept _ line _ _ _ _
+    (c.in_ok-write_whole.ensures.done told) (c.in_ok-write_whole.ensures.written told) (c.in-Err.ensures.part told)
 
 pub returns-clause-any_moment : goal.returns-clause-any_moment
 returns-clause-any_moment g c = λ told unmade quiet.

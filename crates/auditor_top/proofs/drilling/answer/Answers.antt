@@ -24,7 +24,9 @@ up_to_some (Err fault) last UpTo is = tt
 pub answer_over-requires : goal.answer_over-requires
 answer_over-requires c = record {
   usable = c.in-Ok.ensures.store.2;
-  entries = c.requires.none ∙ sym (c.new-2.ensures ∙ ap (λ (groups : List Protected). against_outsiders groups [] most_width most_rows) c.new.ensures.items)
+  entries = c.requires.none
+      ∙ sym (c.new-2.ensures ∙ ap (λ (groups : List Protected). against_outsiders groups c.new-shared.result.list most_width most_rows) c.new.ensures.items
+      ∙ ap (λ (shared : List ℕ). against_outsiders [] shared most_width most_rows) c.new-shared.ensures.empty)
       ∙ sym c.in-Ok.ensures.store.1;
   fits = c.requires.fits;
   shape = ap (λ (secret : SecretView). secret.shape) c.in-Ok.ensures.store.0 ∙ c.requires.shape;

@@ -1,11 +1,14 @@
-use Rattle.std.proofs.Common.{◌≡◌, ◌∙◌, ℕ, ◌<◌, List, [], length, Err, None, refl, arith, ap, subst}
+use Rattle.std.proofs.Common.{◌≡◌, ◌∙◌, ℕ, ◌<◌, nat_lt, List, [], length, Err, None, refl, arith, ap, subst}
 use Rattle.std.proofs.lemmas.Option.{slice_get_within}
 use Rattle.std.proofs.lemmas.Result.{IfOk-from_err}
 use Rattle.audit_types.specs.declared.records.Protected.{Protected}
 use Rattle.audit_types.specs.Limits.{most_rows, most_width}
 use Rattle.audit_types.specs.History.{Protection, against_outsiders}
+use Rattle.audit_types.specs.People.{count_at, shared_of}
+use Rattle.audit_types.specs.RowLaws.{rows_that_none}
 use Rattle.schema_json.specs.Columns.{Column, Group, Guards, no_guards}
-use Rattle.table_load.specs.Cells.{PublicView, whole}
+use Rattle.table_load.specs.Cells.{PublicView, counts_of, whole}
+use Rattle.drill_case.specs.Tables.{drill_columns}
 use Rattle.set_index.specs.declared.index.GuardPart.{GuardPart}
 use Rattle.set_index.specs.declared.index.GuardPart.TheVariants as part
 use Rattle.set_index.specs.Groups.{Protects, IsFirstBad}
@@ -23,13 +26,17 @@ unreachable-requires c =
     (subst (λ (guards : Guards). IsFirstBad schema.columns guards c.in-Bad.part) c.requires.guards
     (c.in-Err.ensures.bad c.in-Bad.part (ap (λ f. Err f) c.in-Bad.is)))
 
--- no group guards each row alone
-none_guarded : (columns : List Column) (public : PublicView) (guards : Guards) (protected : Protection) → guards ≡ no_guards →
+-- no group guards each row alone, and none stands for several people
+none_guarded : (columns : List Column) (public : PublicView) (guards : Guards) (protected : Protection) → columns ≡ drill_columns → guards ≡ no_guards →
     Protects columns public guards protected →
     protected ≡ against_outsiders [] [] most_width most_rows
-none_guarded columns public guards protected none protects =
-    let alone = subst (λ (g : Guards). Protects columns public g protected) none protects in
-    alone.1 ∙ ap (λ (entries : List Protected). against_outsiders entries [] most_width most_rows) alone.0
+none_guarded columns public guards protected drills none protects =
+    let alone = subst (λ (g : Guards). Protects drill_columns public g protected) none
+    (subst (λ (l : List Column). Protects l public guards protected) drills protects) in
+    alone.1
+    ∙ ap (λ (entries : List Protected). against_outsiders entries (shared_of (counts_of drill_columns public)) most_width most_rows) alone.0
+    ∙ ap (λ (shared : List ℕ). against_outsiders [] shared most_width most_rows)
+    (rows_that_none (λ line. nat_lt 1 (count_at [] line)) 0 (λ line below. absurd (omega (arith, below))))
 
 -- and each row may be asked of
 none_left : (columns : List Column) (public : PublicView) (guards : Guards) (protected : Protection) → guards ≡ no_guards →
@@ -46,7 +53,8 @@ answer_lines-requires-clause-public c =
 
 pub answer_lines-requires-clause-none : goal.answer_lines-requires-clause-none
 answer_lines-requires-clause-none c =
-    none_guarded c.args.schema.now.columns c.in-Ok.index.public c.args.schema.now.guards c.in-Ok.index.protected c.requires.guards c.in-Ok.ensures.entries
+    none_guarded c.args.schema.now.columns c.in-Ok.index.public c.args.schema.now.guards c.in-Ok.index.protected c.requires.columns c.requires.guards
+    c.in-Ok.ensures.entries
 
 -- ---- the lines were not answered
 

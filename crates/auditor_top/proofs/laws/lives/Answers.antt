@@ -23,6 +23,7 @@ returns-clause-longer c = λ schema table base runs at run files life goes.
       life = longer;
       keeps = c.lives.ensures.keep base _ run.left database (c.lists_of_secrets.ensures run.left.base.secret numbers) longer;
       hides = c.hidden.ensures.hide base _ run.left database numbers longer;
+      people = c.hidden.ensures.people base _ run.left database (c.sound_files.ensures.lines schema table run.left.base files) numbers longer;
       stood = c.hidden.ensures.stood base _ run.left database numbers longer;
       ranges = c.open_ranges.ensures base _ run.left database numbers longer;
       alike = λ twin others final line a b twins other are. c.two_worlds.ensures.lives base twin _ others run.left final line a b twins longer other are;

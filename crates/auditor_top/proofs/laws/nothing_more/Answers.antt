@@ -6,7 +6,7 @@ use Rattle.audit_types.specs.History.{Secrets, AreSecrets}
 use Rattle.table_load.specs.Database.{IsDatabase, table_in}
 use Rattle.audit_session.specs.Hidden.{with_secrets, run_with, standing_with}
 use Rattle.auditor_top.specs.declared.status.Status.TheVariants.{Done}
-use Rattle.auditor_top.specs.Ends.{audit_over}
+use Rattle.auditor_top.specs.Ends.{audit_over, people_over}
 use Rattle.auditor_top.proofs.OneReport.{one_report, rows_of_legal}
 use Rattle.auditor_top.proofs.ShownAlike.{twins_alike}
 use Rattle.auditor_top.proofs.laws.nothing_more.Goals as goal
@@ -17,7 +17,7 @@ returns-clause-alike c = twins_alike
 pub returns-clause-one : goal.returns-clause-one
 returns-clause-one c = λ base other history before after sent twins legal here there.
     one_report c.forms_are_unique.ensures c.canonical_direction.ensures (audit_over base history) (rows_of_legal (table_in base) history legal)
-    before after sent here (((twins_alike base other history twins).report Done before sent).1 there)
+    (people_over base) before after sent here (((twins_alike base other history twins).report Done before sent).1 there)
 
 pub returns-clause-lives : goal.returns-clause-lives
 returns-clause-lives c = λ schema table base runs last column own value files life below are_own guarded.

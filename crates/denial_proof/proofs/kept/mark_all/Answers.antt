@@ -10,7 +10,7 @@ use Rattle.denial_proof.proofs.MarkedFronts.{front_step, length-marked_rows, tak
 use Rattle.denial_proof.proofs.kept.mark_all.Goals as goal
 
 pub returns-then-not-branch-clause-none : goal.returns-then-not-branch-clause-none
-returns-then-not-branch-clause-none c =
+returns-then-not-branch-clause-none c = λ few.
     let k = c.loop-mark.mark in
     let r = c.index-history-places.result in
     let place = get_or c.args.places.now k 0 in

@@ -1,17 +1,9 @@
-use Rattle.std.proofs.Common.{IfSome, IfNone, ◌+◌, ◌<◌, ℕ, List, [], ◌∷◌, map, length, sym, ap, subst, arith}
+use Rattle.std.proofs.Common.{IfSome, IfNone, ◌+◌, ◌<◌, ℕ, List, map, length, sym, subst, arith}
 use Rattle.std.specs.List.{AllByRecursion}
 use Rattle.audit_types.specs.FilteredRows.{rows_within}
 use Rattle.denial_proof.specs.Weights.{rows_at}
 use Rattle.denial_proof.specs.Kept.{marked_rows, HasWideFront, IsMarked}
-use Rattle.denial_proof.proofs.KeptFew.{kept_few}
 use Rattle.denial_proof.proofs.marks.marks_of.Goals as goal
-
-pub mark_all-requires-clause-room : goal.mark_all-requires-clause-room
-mark_all-requires-clause-room c =
-    let few = kept_few c.args.n c.args.column c.args.history.now c.in_ok-places.places.items c.in_ok-places.ensures.kept (0 ∷ []) c.requires.open in
-    let value = ap length c.deref.ensures.value in
-    let most = c.requires.at_most in
-    omega arith
 
 pub mark_all-requires-clause-there : goal.mark_all-requires-clause-there
 mark_all-requires-clause-there c =
@@ -27,6 +19,6 @@ returns c =
       marked = subst (λ (some : List ℕ). IfSome c.in_ok-form.form (IsMarked n (length some + 1) (map (rows_at history) some))) c.deref.ensures.value
           c.in_ok-form.ensures.some;
       wide = subst (λ (some : List ℕ). IfNone c.in_ok-form.form
-          (HasWideFront (n + (length some + 1)) (marked_rows n (length some + 1) 0 (map (rows_at history) some)))) c.deref.ensures.value
+          (length some < n → HasWideFront (n + (length some + 1)) (marked_rows n (length some + 1) 0 (map (rows_at history) some)))) c.deref.ensures.value
           c.in_ok-form.ensures.none;
     }

@@ -23,6 +23,6 @@ loop-pair-preserved c =
     let more : answers_of (take (i + 1) items) ≡ seen ++ x ∷ [] =
     map_more answer_of items i pair c.loop-pair-test.true ∙ ap (λ y. seen ++ answer_of y ∷ []) (sym c.pair-item.is) in
     let one = subst (λ list. IsOneOf x list) c.pairs-pair-items.ensures.answers (one_here items i pair c.loop-pair-test.true c.pair-item.is) in
-    subst (λ list. IsHolding answers rows list c.and-holding.result) (sym more)
-    (holding_step answers rows seen x c.left_outside.result c.loop-pair.holding c.and-holding.result one c.left_outside.ensures
+    subst (λ list. IsHolding answers c.args.shared.now.list rows list c.and-holding.result) (sym more)
+    (holding_step answers c.args.shared.now.list rows seen x c.left_outside-left.result c.loop-pair.holding c.and-holding.result one c.left_outside-left.ensures
     (rw same at c.and-holding.ensures) c.loop-pair.invariant)

@@ -4,4 +4,4 @@ use Rattle.denial_proof.specs.Outlook.{IsHolding}
 use Rattle.denial_proof.proofs.outlook.holding_of.Given as goal
 
 abbrev pub invariant-loop-pair : goal.invariant-loop-pair
-invariant-loop-pair l = IsHolding l.bounds.answers l.rows.list (answers_of (take l.pair-index l.pair-items)) l.holding
+invariant-loop-pair l = IsHolding l.bounds.answers l.shared.list l.rows.list (answers_of (take l.pair-index l.pair-items)) l.holding

@@ -1,11 +1,11 @@
-use Rattle.std.proofs.Common.{◌≡◌, ◌∙◌, ◌++◌, ◌∷◌, [], ℕ, List, map, sym, subst}
+use Rattle.std.proofs.Common.{◌≡◌, ◌∙◌, ◌++◌, ◌∷◌, [], ℕ, List, map, sym, subst, arith}
 use Rattle.std.specs.List.{AllByRecursion}
 use Rattle.audit_types.specs.declared.records.Protected.{Protected}
 use Rattle.audit_types.specs.Column.{Answer}
 use Rattle.audit_types.specs.Form.{HasNarrowForm}
 use Rattle.audit_types.specs.Rows.{AreRows}
 use Rattle.denial_proof.specs.Kept.{AreMarks, AreMarksOf}
-use Rattle.denial_proof.proofs.KeptFew.{independent_with}
+use Rattle.denial_proof.proofs.KeptFew.{independent_with, kept_few}
 use Rattle.denial_proof.proofs.OneCanonicalSum.{none_too_wide}
 use Rattle.denial_proof.proofs.SumParts.{target_parts, target_there}
 use Rattle.denial_proof.proofs.sums.prove_sum.Goals as goal
@@ -15,8 +15,15 @@ basis_with-requires-clause-narrow c =
     subst (λ (answers : List Answer). HasNarrowForm c.args.sums.now.width c.args.sums.now.n
     (map (λ a. a.rows) answers ++ c.args.facts.now.asked.now.rows.list ∷ [])) (sym c.requires.answers) c.requires.denied.narrow
 
+pub with_asked-requires-clause-few : goal.with_asked-requires-clause-few
+with_asked-requires-clause-few c =
+    let few = kept_few c.args.sums.now.n c.args.facts.now.asked.now.column c.args.facts.now.history.now c.args.marks.now.places.items c.requires.marks.kept
+    c.args.facts.now.asked.now.rows.list c.requires.denied.new in
+    let same = c.args.facts.now.same_n ∙ c.requires.same_n in
+    omega arith
+
 pub first_target-requires-clause-same_n : goal.first_target-requires-clause-same_n
-first_target-requires-clause-same_n c = subst (λ (k : ℕ). AllByRecursion (λ (p : Protected). p.rows.n ≡ k) c.args.facts.now.protected.now)
+first_target-requires-clause-same_n c = subst (λ (k : ℕ). AllByRecursion (λ (p : Protected). p.rows.n ≡ k) c.args.facts.now.protected.now.groups)
     (c.requires.same_n ∙ sym c.in_ok-basis.ensures.n) c.args.facts.now.entries
 
 pub prove_target-requires-clause-independent : goal.prove_target-requires-clause-independent

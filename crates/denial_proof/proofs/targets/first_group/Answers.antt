@@ -1,4 +1,5 @@
-use Rattle.std.proofs.Common.{◌≡◌, below_more, Some, length, refl, sym, ◌∙◌, arith}
+use Rattle.std.proofs.Common.{◌≡◌, below_more, List, Some, length, refl, sym, ap, ◌∙◌, subst, arith}
+use Rattle.audit_types.specs.declared.records.Protected.{Protected}
 use Rattle.std.specs.Prelude.{slice_get}
 use Rattle.std.proofs.lemmas.Bool.{true≢false}
 use Rattle.std.proofs.lemmas.Option.{slice_get_read, slice_get_within}
@@ -10,9 +11,11 @@ pub loop-place-preserved : goal.loop-place-preserved
 loop-place-preserved c =
     let form = c.args.basis.now in
     let protected = c.args.protected.now in
-    let p = c.index-protected-place.result in
-    let there : slice_get protected c.loop-place.place ≡ Some p = slice_get_read protected
-    (length protected) c.loop-place.place p refl c.loop-place-test.true c.index-protected-place.is in
+    let items = c.groups-entry-items.result.now in
+    let p = c.entry-item.result in
+    let place = c.loop-place.place in
+    let read : slice_get items place ≡ Some p = slice_get_read items (length items) place p refl c.loop-place-test.true c.entry-item.is in
+    let there = subst (λ (list : List Protected). slice_get list c.loop-place.place ≡ Some p) c.groups-entry-items.ensures.is read in
     below_more _ _ c.loop-place.invariant
     (elim c.else-entry-column.branch [
       | else-entry-column-via-then-entry-column+else-contains w ↦
@@ -24,6 +27,7 @@ pub returns-clause-none : goal.returns-clause-none
 returns-clause-none c = record {
   no_row = c.requires.no_row;
   no_group = λ place spans.
-      let within = slice_get_within c.args.protected.now place spans.entry spans.there in
+      let within = slice_get_within c.args.protected.now.groups place spans.entry spans.there in
+      let all = ap (λ (list : List Protected). length list) c.groups-entry-items.ensures.is in
       c.loop-place.invariant place (omega arith) spans;
 }

@@ -1,11 +1,12 @@
 use Rattle.std.proofs.Common.{◌<◌, ◌∙◌, ap, subst, ℤ, List}
+use Rattle.max_audit.specs.Witnesses.{highest}
 use Rattle.journal_audit.specs.Texts.{bound_line}
 use Rattle.journal_audit.proofs.checking.write_column.Goals as goal
 
 pub returns : goal.returns
 returns c =
-    let high = c.deref.ensures.value ∙ c.in_ok-pair.ensures.high in
+    let high = c.deref.ensures.value ∙ c.in_ok-numbers.ensures.exact ∙ ap (λ b. highest b.n b.answers) c.bounds-bounds.ensures.exact in
     c.in_ok-write_bounds.ensures ∙ ap (λ (l : List ℤ). bound_line c.args.least c.args.name.now l) high
 
 pub check_row-requires-clause-row : goal.check_row-requires-clause-row
-check_row-requires-clause-row c = subst (λ n. c.loop-row.row < n) (c.n-row-end.ensures.exact ∙ ap (λ b. b.n) c.bounds.ensures.exact) c.loop-row-test.true
+check_row-requires-clause-row c = subst (λ n. c.loop-row.row < n) (c.n-row-end.ensures.exact ∙ ap (λ b. b.n) c.bounds-bounds.ensures.exact) c.loop-row-test.true

@@ -1,6 +1,6 @@
-use Rattle.std.proofs.Common.{◌≡◌, ◌<◌, [], ◌∷◌, Err, sym, ap, ◌∙◌, subst}
+use Rattle.std.proofs.Common.{◌≡◌, ◌<◌, ℕ, List, [], ◌∷◌, Err, sym, ap, ◌∙◌, subst}
 use Rattle.std.specs.List.{AllByRecursion}
-use Rattle.audit_types.specs.Rows.{has_row}
+use Rattle.audit_types.specs.Rows.{Rows, has_row}
 use Rattle.audit_types.specs.Shapes.{is_least}
 use Rattle.audit_types.specs.declared.shapes.Shape.{Shape}
 use Rattle.audit_types.specs.History.{Protection}
@@ -14,18 +14,6 @@ use Rattle.journal_audit.proofs.LinesOn.{refusal_is, no_memory, line_on}
 use Rattle.journal_audit.proofs.SecretNames.{name_is, place_below}
 use Rattle.journal_audit.proofs.reporting.send_highest.Goals as goal
 
-pub unreachable-requires : goal.unreachable-requires
-unreachable-requires g c =
-    let secret = c.args.store.now.secret in
-    let history = c.args.store.now.history in
-    let free = c.free_numbers.ensures.lone (secret_table secret c.args.store.now.protected) history c.args.column
-    (c.lists_of_secrets.ensures secret c.requires.is.numbers) c.requires.is.fit.0 c.requires.is.legal c.requires.below c.requires.part.own_kind in
-    let consistent = subst IsConsistent (sym c.requires.part.answers) free.0 in
-    let found = c.in-Some.ensures.fixed consistent in
-    free.1 c.in-Some.field-0 (subst (λ n. c.in-Some.field-0 < n) c.requires.part.n found.0.0)
-    (ap (λ (p : Protection). has_row p.shared c.in-Some.field-0) c.requires.is.fit.1)
-    (subst (λ a. IsLone a c.in-Some.field-0) c.requires.part.answers c.in-Some.ensures.lone.0)
-
 pub name-name-requires : goal.name-name-requires
 name-name-requires g c = place_below c.args.schema.now.columns c.args.place c.args.column c.requires.named
 
@@ -36,9 +24,18 @@ write_column-requires-clause-consistent g c =
     (c.lists_of_secrets.ensures secret c.requires.is.numbers) c.requires.is.fit.0 c.requires.is.legal c.requires.below c.requires.part.own_kind in
     subst IsConsistent (sym c.requires.part.answers) free.0
 
+pub write_column-requires-clause-free : goal.write_column-requires-clause-free
+write_column-requires-clause-free g c = λ row below own lone.
+    let secret = c.args.store.now.secret in
+    let free = c.free_numbers.ensures.lone (secret_table secret c.args.store.now.protected) c.args.store.now.history c.args.column
+    (c.lists_of_secrets.ensures secret c.requires.is.numbers) c.requires.is.fit.0 c.requires.is.legal c.requires.below c.requires.part.own_kind in
+    let shared = ap (λ (s : Rows). s.list) c.over-shared.ensures ∙ c.shared.ensures.is ∙ ap (λ (p : Protection). p.shared) c.protected.ensures in
+    free.1 row (subst (λ n. row < n) c.requires.part.n below) (ap (λ (l : List ℕ). has_row l row) (sym shared) ∙ own)
+    (subst (λ a. IsLone a row) c.requires.part.answers lone)
+
 pub write_column-requires-clause-same_n : goal.write_column-requires-clause-same_n
 write_column-requires-clause-same_n g c =
-    subst (λ l. AllByRecursion (λ r. r.rows.n ≡ c.args.maxima.now.n) l) (sym c.history.ensures.history)
+    subst (λ l. AllByRecursion (λ r. r.rows.n ≡ c.args.maxima.now.n) l) (sym c.history-history.ensures.history)
     (subst (λ n. AllByRecursion (λ r. r.rows.n ≡ n) c.args.store.now.history) (sym c.requires.part.n)
     (same_n (secret_table c.args.store.now.secret c.args.store.now.protected) c.args.store.now.history c.requires.is.legal))
 

@@ -13,7 +13,8 @@ use Rattle.journal_compact.proofs.keeping.kept.Goals.{then-not-is_implied+in_ok-
 pub loop-answered-init : goal.loop-answered-init
 loop-answered-init c = record {
   setting = ap (λ (a : Audited). a.setting) c.in_ok-core.ensures ∙ ap (setting_of c.args.shape.now) c.new-unguarded.ensures
-      ∙ ap (λ groups. setting_of c.args.shape.now (against_outsiders groups [] most_width most_rows)) c.new.ensures.items;
+      ∙ ap (λ groups. setting_of c.args.shape.now (against_outsiders groups c.new-shared.result.list most_width most_rows)) c.new.ensures.items
+      ∙ ap (λ shared. setting_of c.args.shape.now (against_outsiders [] shared most_width most_rows)) c.new-shared.ensures.empty;
   kept = subst (λ (l : List Answered). IsKeptOf c.args.shape.now [] l) (sym (ap (λ (a : Audited). a.history) c.in_ok-core.ensures)) none;
 }
 

@@ -23,7 +23,7 @@ returns-in_err-num-clause-none c = if_none c.from_residual-in_err-num.result (λ
 
 pub returns-in_err-den-clause-none : goal.returns-in_err-den-clause-none
 returns-in_err-den-clause-none c = if_none c.from_residual-in_err-den.result (λ num den reply.
-    missed c.size_between.result den c.in_err-den.was (c.size_between.ensures den (omega (arith, reply.range.rows))
+    missed c.size_between.result den c.in_err-den.was (c.size_between.ensures den (omega (arith, reply.range.people))
     (take_rest c.args.line.now c.in_ok-comma.comma ∙ average_rest c.args.line.now num den c.in_ok-comma.comma (omega (arith, reply.range.within)) reply.bytes
     (sym c.first_comma.ensures ∙ c.in_ok-comma.was))))
 
@@ -35,7 +35,7 @@ returns-clause-none c = unconfirmed c.confirmed.result c.args.line.now _ c.confi
     (sym (c.number_between.ensures num (omega (arith, reply.range.within))
     (average_front c.args.line.now num den c.in_ok-comma.comma (omega (arith, reply.range.within)) reply.bytes at)) ∙ c.in_ok-num.was) in
     let same_den : den ≡ c.in_ok-den.den = same_Some den c.in_ok-den.den
-    (sym (c.size_between.ensures den (omega (arith, reply.range.rows))
+    (sym (c.size_between.ensures den (omega (arith, reply.range.people))
     (take_rest c.args.line.now c.in_ok-comma.comma ∙ average_rest c.args.line.now num den c.in_ok-comma.comma
     (omega (arith, reply.range.within)) reply.bytes at)) ∙ c.in_ok-den.was) in
     wrong

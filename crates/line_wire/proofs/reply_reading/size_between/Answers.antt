@@ -1,4 +1,4 @@
-use Rattle.std.proofs.Common.{◌≡◌, pos, arith, rules, w64, ap, sym, ◌∙◌}
+use Rattle.std.proofs.Common.{◌≡◌, ◌<◌, ◌^◌, pos, arith, rules, w64, ap, sym, ◌∙◌}
 use Rattle.std.specs.Result.{result_ok}
 use Rattle.std.proofs.lemmas.Int.{to_z-of_z}
 use Rattle.std.proofs.lemmas.Option.{same_Some}
@@ -11,7 +11,8 @@ returns-in-Some c = λ size small is.
     let fits : SFits w64 c.in-Some.number = search rules in
     let number : c.in-Some.number ≡ pos size = same_Some c.in-Some.number (pos size)
     (sym c.in-Some.is ∙ c.number_between.ensures (pos size) (omega arith) is) in
-    c.ok.ensures.value ∙ ap result_ok (whole c.in-Some.number size c.try_from.result number small (simp to_z-of_z at c.try_from.ensures))
+    let below : size < 2 ^ 64 = omega arith in
+    c.ok.ensures.value ∙ ap result_ok (whole 64 c.in-Some.number size c.try_from.result number below (simp to_z-of_z at c.try_from.ensures))
 
 pub returns-in-None : goal.returns-in-None
 returns-in-None c = λ size small is. absurd (missed c.number_between.result (pos size) c.in-None.is (c.number_between.ensures (pos size) (omega arith) is))

@@ -13,7 +13,8 @@ loop-pair-preserved c =
     let fits : SFits w64 c.pair-item.result.answer = search rules in
     let same = widened c.pair-item.result.answer fits in
     rw (more, ← c.pair-item.is)
-    (TellsOf-push (bound_at c.args.bounds.now) c.args.shared.now.list _ (answer_of c.pair-item.result) c.loop-pair.trial c.and-trial.result c.extreme_rows-extremes.result.count
+    (TellsOf-push (bound_at c.args.bounds.now) c.args.shared.now.list _ (answer_of c.pair-item.result) c.loop-pair.trial c.and-trial.result
+    c.extreme_rows-extremes.result.count
     c.extreme_rows-extremes.result.lone c.loop-pair.invariant
     (c.extreme_rows-extremes.ensures.count ∙ ap (λ a. length (reaching (bound_at c.args.bounds.now) c.pair-item.result.rows.list a)) same)
     (c.extreme_rows-extremes.ensures.lone ∙ ap (λ a. lone_of (reaching (bound_at c.args.bounds.now) c.pair-item.result.rows.list a)) same)

@@ -18,7 +18,8 @@ returns c =
     ∙ ap (bound_with last.rows last.value r) (c.upper_bounds-bounds.ensures.exact r) ∙ sym (upper_bound-push (answers_of c.args.pairs.now) last r)) in
     record {
       tells = subst (λ bound. TellsOf bound c.args.shared.now.list (and_answer (answers_of c.args.pairs.now) last.rows last.value) c.and.result) bounds
-          (TellsOf-push (bound_at c.lower.new.bounds) c.args.shared.now.list (answers_of c.args.pairs.now) last c.survey_under.result c.and.result c.extreme_rows-extremes.result.count
+          (TellsOf-push (bound_at c.lower.new.bounds) c.args.shared.now.list (answers_of c.args.pairs.now) last c.survey_under.result c.and.result
+          c.extreme_rows-extremes.result.count
           c.extreme_rows-extremes.result.lone c.survey_under.ensures.tells
           (c.extreme_rows-extremes.ensures.count ∙ ap (λ a. length (reaching (bound_at c.lower.new.bounds) last.rows a)) same)
           (c.extreme_rows-extremes.ensures.lone ∙ ap (λ a. lone_of (reaching (bound_at c.lower.new.bounds) last.rows a)) same)

@@ -12,11 +12,11 @@ returns-clause-tells c =
     let num : FitsSigned w64 c.quotient.result = search rules in
     let sum : to_z w64 (of_z w64 c.args.sum) ≡ c.args.sum = to_z-of_z w64 c.args.sum c.ranges.sum in
     let is = to_z-of_z w64 c.quotient.result num ∙ c.quotient.ensures ∙ ap (λ (z : ℤ). int_div z (pos c.divisor_of-divisor.result)) sum in
-    let divisor = subst (λ (z : ℤ). IsGcd (unsigned_abs z) c.args.size c.divisor_of-divisor.result) sum c.divisor_of-divisor.ensures.divisor in (
+    let divisor = subst (λ (z : ℤ). IsGcd (unsigned_abs z) c.args.people c.divisor_of-divisor.result) sum c.divisor_of-divisor.ensures.divisor in (
       to_z w64 (of_z w64 c.quotient.result),
-      c.args.size / c.divisor_of-divisor.result,
-      subst (λ (z : ℤ). IsMean c.args.sum c.args.size z (c.args.size / c.divisor_of-divisor.result)) (sym is)
-          (mean c.args.sum c.args.size c.divisor_of-divisor.result c.requires.some divisor),
+      c.args.people / c.divisor_of-divisor.result,
+      subst (λ (z : ℤ). IsMean c.args.sum c.args.people z (c.args.people / c.divisor_of-divisor.result)) (sym is)
+          (mean c.args.sum c.args.people c.divisor_of-divisor.result c.requires.somebody divisor),
       refl,
     )
 
@@ -25,6 +25,6 @@ returns-clause-in_range c =
     let num : FitsSigned w64 c.quotient.result = search rules in
     let sum : to_z w64 (of_z w64 c.args.sum) ≡ c.args.sum = to_z-of_z w64 c.args.sum c.ranges.sum in
     let is = to_z-of_z w64 c.quotient.result num ∙ c.quotient.ensures ∙ ap (λ (z : ℤ). int_div z (pos c.divisor_of-divisor.result)) sum in
-    let divisor = subst (λ (z : ℤ). IsGcd (unsigned_abs z) c.args.size c.divisor_of-divisor.result) sum c.divisor_of-divisor.ensures.divisor in
-    subst (λ (z : ℤ). IsAverage z (c.args.size / c.divisor_of-divisor.result)) (sym is)
-    (in_range c.args.sum c.args.size c.divisor_of-divisor.result c.requires.some divisor c.requires.at_most c.requires.small)
+    let divisor = subst (λ (z : ℤ). IsGcd (unsigned_abs z) c.args.people c.divisor_of-divisor.result) sum c.divisor_of-divisor.ensures.divisor in
+    subst (λ (z : ℤ). IsAverage z (c.args.people / c.divisor_of-divisor.result)) (sym is)
+    (in_range c.args.sum c.args.people c.divisor_of-divisor.result c.requires.somebody divisor c.requires.at_most c.requires.small)

@@ -2,5 +2,5 @@ use Rattle.std.proofs.Common.{arith}
 use Rattle.sum_basis.proofs.SmallEntries.{zeros_taken}
 use Rattle.sum_basis.proofs.reach.is_within_after.Goals as goal
 
-pub is_within-requires-clause-zeros : goal.is_within-requires-clause-zeros
-is_within-requires-clause-zeros c = λ j. zeros_taken c.columns-columns.result 1024 j (omega (arith, c.columns-columns.ensures.columns, c.requires.at_most))
+pub count_rows-requires-clause-zeros : goal.count_rows-requires-clause-zeros
+count_rows-requires-clause-zeros c = λ j. zeros_taken c.columns.result 1024 j (omega (arith, c.columns.ensures.columns, c.requires.at_most))

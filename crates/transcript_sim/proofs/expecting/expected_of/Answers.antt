@@ -1,4 +1,4 @@
-use Rattle.std.proofs.Common.{rules, tests, ◌<◌, ◌≤◌, List, length, refl, sym, subst, inl, inr}
+use Rattle.std.proofs.Common.{rules, tests, ℕ, ◌<◌, ◌≤◌, List, length, refl, sym, subst, inl, inr}
 use Rattle.std.proofs.lemmas.Result.{IfOk-from_err}
 use Rattle.audit_types.specs.History.{Setting, FitsShape, IsJudgementAfter}
 use Rattle.audit_types.specs.declared.records.Asked.{Asked}
@@ -18,12 +18,13 @@ use Rattle.transcript_sim.specs.Verdicts.{CalledBy, CallsFor}
 use Rattle.transcript_sim.proofs.expecting.expected_of.Goals as goal
 
 -- an answer that the judgement releases may be taken
-taken_if_released : (setting : Setting) (history : List Answered) (take : Take) (asked : Asked) (verdict : Verdict)
+taken_if_released : (setting : Setting) (history : List Answered) (take : Take) (people : ℕ) (asked : Asked) (verdict : Verdict)
     → FitsShape setting.shape asked.column asked.rows → IsJudgementAfter setting history asked.column asked.rows.list verdict
-    → (expected : Expected) → CalledBy setting history take asked verdict expected → CanBeTaken setting history expected
-taken_if_released setting history take asked Released fits judged expected called = subst (CanBeTaken setting history) (sym called.expected_is) (fits, judged.0)
-taken_if_released setting history take asked DeniedUnsafe fits judged expected called = subst (CanBeTaken setting history) (sym called) tt
-taken_if_released setting history take asked DeniedWide fits judged expected called = subst (CanBeTaken setting history) (sym called) tt
+    → (expected : Expected) → CalledBy setting history take people asked verdict expected → CanBeTaken setting history expected
+taken_if_released setting history take people asked Released fits judged expected called =
+    subst (CanBeTaken setting history) (sym called.expected_is) (fits, judged.0)
+taken_if_released setting history take people asked DeniedUnsafe fits judged expected called = subst (CanBeTaken setting history) (sym called) tt
+taken_if_released setting history take people asked DeniedWide fits judged expected called = subst (CanBeTaken setting history) (sym called) tt
 
 pub returns-in-Ready : goal.returns-in-Ready
 returns-in-Ready c = record {
@@ -55,7 +56,8 @@ called_by-requires c =
 
 pub returns-in_ok-verdict-in-Ask-2 : goal.returns-in_ok-verdict-in-Ask-2
 returns-in_ok-verdict-in-Ask-2 c =
-    let called = subst (λ (a : Audited). CalledBy a.setting a.history c.in-Ask.take c.in-Ask.asked c.in_ok-verdict-in-Ask-2.verdict c.called_by.result)
+    let called = subst (λ (a : Audited). CalledBy a.setting a.history c.in-Ask.take c.in-Ask.people c.in-Ask.asked
+    c.in_ok-verdict-in-Ask-2.verdict c.called_by.result)
     c.weigh.ensures.same c.called_by.ensures in
     record {
       calls =
@@ -65,7 +67,7 @@ returns-in_ok-verdict-in-Ask-2 c =
           (inr (record { room = room; verdict = c.in_ok-verdict-in-Ask-2.verdict; judged = judged; called = called }));
       can =
           let fits = subst (λ (plan : Plan). CanBeServed c.args.core.now.setting.shape plan) c.in-Ask.is c.requires in
-          taken_if_released c.args.core.now.setting c.args.core.now.history c.in-Ask.take c.in-Ask.asked c.in_ok-verdict-in-Ask-2.verdict fits.fits
-          c.in_ok-verdict-in-Ask-2.ensures.judged c.called_by.result called;
+          taken_if_released c.args.core.now.setting c.args.core.now.history c.in-Ask.take c.in-Ask.people c.in-Ask.asked
+          c.in_ok-verdict-in-Ask-2.verdict fits.fits c.in_ok-verdict-in-Ask-2.ensures.judged c.called_by.result called;
       same = c.weigh.ensures.same;
     }

@@ -1,9 +1,6 @@
-use Rattle.std.proofs.Common.{rules, ◌≡◌, ◌≢◌, List, Result, Ok, Err, sym, ap, subst}
+use Rattle.std.proofs.Common.{rules, ◌≡◌, sym, subst}
 use Rattle.audit_types.specs.History.{Setting, setting_of}
-use Rattle.audit_types.specs.declared.records.Answered.{Answered}
 use Rattle.audit_core.specs.Audited.{Audited}
-use Rattle.bench_core.specs.Calls.{TellsFault}
-use Rattle.transcript_sim.specs.declared.simulating.SimulationFault.{SimulationFault}
 use Rattle.transcript_sim.specs.declared.simulating.SimulationFault.TheVariants as fault
 use Rattle.transcript_sim.specs.Beginning.{BeginsWith, EndBegins, public_setting}
 use Rattle.transcript_sim.proofs.Beginnings.{ended_by}

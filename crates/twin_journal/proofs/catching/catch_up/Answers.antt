@@ -1,16 +1,26 @@
-use Rattle.std.proofs.Common.{◌≡◌, ◌++◌, ◌-◌, List, ℕ, All, length, take, drop, sym, ap, subst, ◌∙◌, arith}
+use Rattle.std.proofs.Common.{◌≡◌, inl, inr, ◌+◌, ◌++◌, ◌-◌, List, ℕ, All, length, take, drop, refl, sym, ap, subst, ◌∙◌, arith, length-append}
+use Rattle.std.specs.Prelude.{Err}
+use Rattle.std.proofs.Math.Seq.{drop-append_seam}
 use Rattle.std.proofs.lemmas.List.Elements.{All-take, All-drop}
 use Rattle.audit_types.specs.declared.records.Answered.{Answered}
 use Rattle.audit_types.specs.declared.shapes.Shape.{Shape}
 use Rattle.audit_types.specs.History.{FitsShape}
 use Rattle.bench_core.specs.Calls.{LeavesOnly}
+use Rattle.bench_core.specs.Reports.{not_called, told_as}
 use Rattle.journal_form.specs.Journal.{StandsAt}
 use Rattle.audit_core.specs.LegalFronts.{legal_fits}
+use Rattle.table_load.specs.Cells.{SecretView}
+use Rattle.audit_store.specs.Refusals.{no_refusal}
 use Rattle.audit_store.specs.Stores.{table_of}
-use Rattle.audit_store.specs.Twice.{IsBroughtUp, StandsWithSome}
-use Rattle.twin_journal.specs.Twins.{DifferFirst}
-use Rattle.twin_journal.proofs.CatchingUp.{differ_first, main_lacks, meet_at_main, meet_at_other, other_lacks, same_as_main, some_between, still_between, still_there, while_brought_up, whole_is_main, whole_is_other}
+use Rattle.audit_store.specs.Twice.{IsBroughtUp, StandsWithSome, calls_to_bring_up}
+use Rattle.audit_store.specs.declared.outcome.StoreFault.TheVariants.{Failed, NoMemory}
+use Rattle.twin_journal.specs.Twins.{DifferFirst, Meet, missing}
+use Rattle.twin_journal.proofs.CatchingUp.{differ_first, lacks_nothing, main_lacks, meet_at_main, meet_at_other, other_lacks, same_as_main, some_between, still_between, still_there, while_brought_up, whole_is_main, whole_is_other}
 use Rattle.twin_journal.proofs.catching.catch_up.Goals as goal
+
+-- what a longer history has beyond a front of it is what the front lacks
+lacks_is : (front lacks whole : List Answered) → whole ≡ front ++ lacks → lacks ≡ missing front whole
+lacks_is front lacks whole is = sym (ap (λ (l : List Answered). drop (length front) l) is ∙ drop-append_seam front lacks)
 
 -- ---- the spare's history begins the journal's
 
@@ -26,257 +36,384 @@ bring_up-requires-clause-fit g c =
     subst (λ (s : Shape). All (P s) (take (length shown - place) (drop place shown))) (sym c.requires.other.same_shape)
     (All-take (P store.secret.shape) (length shown - place) (drop place shown) (All-drop (P store.secret.shape) place shown fit))
 
-pub returns-in-Ok-clause-meet : goal.returns-in-Ok-clause-meet
-returns-in-Ok-clause-meet g c =
-    let main = c.args.store.now.history in
-    let shown = c.history-history.result.now in
-    let list = c.args.list.now in
-    let place = c.agreement-place.result in
-    let hist : shown ≡ main = c.history-history.ensures.history in
-    let same = same_as_main main shown list place hist c.agreement-place.ensures.same in
-    meet_at_other main list place same c.if-place-list.true
-
-pub returns-in-Ok-clause-spare_moments : goal.returns-in-Ok-clause-spare_moments
-returns-in-Ok-clause-spare_moments g c = λ whole told quiet meet.
-    let main = c.args.store.now.history in
-    let shown = c.history-history.result.now in
-    let list = c.args.list.now in
-    let place = c.agreement-place.result in
-    let hist : shown ≡ main = c.history-history.ensures.history in
-    let lacks = take (length shown - place) (drop place shown) in
-    let all : main ≡ list ++ lacks = other_lacks main shown list place hist c.agreement-place.ensures.same c.if-place-list.true in
-    let shape = c.requires.other.same_shape in
-    let journal = c.args.journal.now in
-    let bench = g.S.Bench in
-    let old = c.args.spare.now in
-    let here : StandsAt (bench.file old) journal.shape list journal.gate =
-    subst (λ (s : Shape). StandsAt (bench.file old) s list journal.gate) (sym shape) (c.requires.spare_stands told) in
-    let found = c.bring_up.ensures.any_moment list told here (sym c.requires.other.counted) quiet in
-    while_brought_up bench c.args.store.now.secret.shape list whole old c.bring_up.new.bench lacks
-    (whole_is_main main list whole meet (record { rest = lacks; is = all }) ∙ all)
-    (subst (λ (s : Shape). LeavesOnly bench old c.bring_up.new.bench (IsBroughtUp s list lacks (bench.sent old))) shape found)
-
-pub returns-in-Ok-clause-apart : goal.returns-in-Ok-clause-apart
-returns-in-Ok-clause-apart g c = λ none.
-    let main = c.args.store.now.history in
-    let shown = c.history-history.result.now in
-    let list = c.args.list.now in
-    let place = c.agreement-place.result in
-    let hist : shown ≡ main = c.history-history.ensures.history in
-    let same = same_as_main main shown list place hist c.agreement-place.ensures.same in
-    absurd (none main (meet_at_other main list place same c.if-place-list.true))
-
-pub returns-in-Err-Failed-clause-spare_moments : goal.returns-in-Err-Failed-clause-spare_moments
-returns-in-Err-Failed-clause-spare_moments g c = λ whole told quiet meet.
-    let main = c.args.store.now.history in
-    let shown = c.history-history.result.now in
-    let list = c.args.list.now in
-    let place = c.agreement-place.result in
-    let hist : shown ≡ main = c.history-history.ensures.history in
-    let lacks = take (length shown - place) (drop place shown) in
-    let all : main ≡ list ++ lacks = other_lacks main shown list place hist c.agreement-place.ensures.same c.if-place-list.true in
-    let shape = c.requires.other.same_shape in
-    let journal = c.args.journal.now in
-    let bench = g.S.Bench in
-    let old = c.args.spare.now in
-    let here : StandsAt (bench.file old) journal.shape list journal.gate =
-    subst (λ (s : Shape). StandsAt (bench.file old) s list journal.gate) (sym shape) (c.requires.spare_stands told) in
-    let found = c.bring_up.ensures.any_moment list told here (sym c.requires.other.counted) quiet in
-    while_brought_up bench c.args.store.now.secret.shape list whole old c.bring_up.new.bench lacks
-    (whole_is_main main list whole meet (record { rest = lacks; is = all }) ∙ all)
-    (subst (λ (s : Shape). LeavesOnly bench old c.bring_up.new.bench (IsBroughtUp s list lacks (bench.sent old))) shape found)
-
-pub returns-in-Err-Failed-clause-apart : goal.returns-in-Err-Failed-clause-apart
-returns-in-Err-Failed-clause-apart g c = λ none.
-    let main = c.args.store.now.history in
-    let shown = c.history-history.result.now in
-    let list = c.args.list.now in
-    let place = c.agreement-place.result in
-    let hist : shown ≡ main = c.history-history.ensures.history in
-    let same = same_as_main main shown list place hist c.agreement-place.ensures.same in
-    absurd (none main (meet_at_other main list place same c.if-place-list.true))
-
-pub returns-in-Err-NoMemory-clause-spare_moments : goal.returns-in-Err-NoMemory-clause-spare_moments
-returns-in-Err-NoMemory-clause-spare_moments g c = λ whole told quiet meet.
-    let main = c.args.store.now.history in
-    let shown = c.history-history.result.now in
-    let list = c.args.list.now in
-    let place = c.agreement-place.result in
-    let hist : shown ≡ main = c.history-history.ensures.history in
-    let lacks = take (length shown - place) (drop place shown) in
-    let all : main ≡ list ++ lacks = other_lacks main shown list place hist c.agreement-place.ensures.same c.if-place-list.true in
-    let shape = c.requires.other.same_shape in
-    let journal = c.args.journal.now in
-    let bench = g.S.Bench in
-    let old = c.args.spare.now in
-    let here : StandsAt (bench.file old) journal.shape list journal.gate =
-    subst (λ (s : Shape). StandsAt (bench.file old) s list journal.gate) (sym shape) (c.requires.spare_stands told) in
-    let found = c.bring_up.ensures.any_moment list told here (sym c.requires.other.counted) quiet in
-    while_brought_up bench c.args.store.now.secret.shape list whole old c.bring_up.new.bench lacks
-    (whole_is_main main list whole meet (record { rest = lacks; is = all }) ∙ all)
-    (subst (λ (s : Shape). LeavesOnly bench old c.bring_up.new.bench (IsBroughtUp s list lacks (bench.sent old))) shape found)
-
-pub returns-in-Err-NoMemory-clause-no_memory : goal.returns-in-Err-NoMemory-clause-no_memory
-returns-in-Err-NoMemory-clause-no_memory g c = λ whole told meet refused.
+pub returns-in-Ok : goal.returns-in-Ok
+returns-in-Ok g c =
     let store = c.args.store.now in
-    still_between store.secret.shape store.history whole (g.B.Bench.file c.args.bench.now) store.journal.gate (c.requires.stands told) meet.main_front
-
-pub returns-in-Err-NoMemory-clause-spare_no_memory : goal.returns-in-Err-NoMemory-clause-spare_no_memory
-returns-in-Err-NoMemory-clause-spare_no_memory g c = λ whole told meet refused.
-    let main = c.args.store.now.history in
-    let shown = c.history-history.result.now in
-    let list = c.args.list.now in
-    let place = c.agreement-place.result in
-    let file = g.S.Bench.file c.bring_up.new.bench in
-    let hist : shown ≡ main = c.history-history.ensures.history in
-    let lacks = take (length shown - place) (drop place shown) in
-    let all : main ≡ list ++ lacks = other_lacks main shown list place hist c.agreement-place.ensures.same c.if-place-list.true in
-    let shape = c.requires.other.same_shape in
-    let journal = c.args.journal.now in
-    let here : StandsAt (g.S.Bench.file c.args.spare.now) journal.shape list journal.gate =
-    subst (λ (s : Shape). StandsAt (g.S.Bench.file c.args.spare.now) s list journal.gate) (sym shape) (c.requires.spare_stands told) in
-    some_between c.args.store.now.secret.shape list whole file lacks (whole_is_main main list whole meet (record { rest = lacks; is = all }) ∙ all)
-    (subst (λ (s : Shape). StandsWithSome s list lacks file) shape (c.bring_up.ensures.no_memory list told here (sym c.requires.other.counted) cc))
-
-pub returns-in-Err-NoMemory-clause-apart : goal.returns-in-Err-NoMemory-clause-apart
-returns-in-Err-NoMemory-clause-apart g c = λ none.
-    let main = c.args.store.now.history in
+    let main = store.history in
     let shown = c.history-history.result.now in
     let list = c.args.list.now in
     let place = c.agreement-place.result in
     let hist : shown ≡ main = c.history-history.ensures.history in
     let same = same_as_main main shown list place hist c.agreement-place.ensures.same in
-    absurd (none main (meet_at_other main list place same c.if-place-list.true))
+    let lacks = take (length shown - place) (drop place shown) in
+    let all : main ≡ list ++ lacks = other_lacks main shown list place hist c.agreement-place.ensures.same c.if-place-list.true in
+    let shape = c.requires.other.same_shape in
+    let journal = c.args.journal.now in
+    let old = c.args.spare.now in
+    let new = c.bring_up.new.bench in
+    let here : g.S.Bench.told → StandsAt (g.S.Bench.file old) journal.shape list journal.gate = λ told.
+    subst (λ (s : Shape). StandsAt (g.S.Bench.file old) s list journal.gate) (sym shape) (c.requires.spare_stands told) in
+    let many : length list ≡ journal.count = sym c.requires.other.counted in
+    record {
+      meet = meet_at_other main list place same c.if-place-list.true;
+      stands = λ told. c.requires.stands told;
+      spare_stands = λ told.
+          let gate = c.bring_up.new.journal.gate in
+          subst (λ (h : List Answered). StandsAt (g.S.Bench.file new) store.secret.shape h gate) (sym all)
+          (subst (λ (s : Shape). StandsAt (g.S.Bench.file new) s (list ++ lacks) gate) (c.bring_up.ensures.shape ∙ shape)
+          (c.in-Ok.ensures.done list told (here told) many));
+      usable = (
+        c.requires.usable,
+        record {
+          usable = c.in-Ok.ensures.usable;
+          same_shape = c.bring_up.ensures.shape ∙ shape;
+          counted = omega (arith, c.in-Ok.ensures.counted, many, ap length all, length-append list lacks);
+        },
+      );
+      table = (refl, refl);
+      is = c.history-history.ensures.is;
+      differ = λ at is. let none : ⊥ = cc in absurd none;
+      cause = tt;
+      moments = λ whole told quiet meet.
+          still_there g.B.Bench store.secret.shape main whole c.args.bench.now store.journal.gate
+          (λ image sent was. g.met.B.Bench.only_now c.args.bench.now image sent was) quiet (c.requires.stands told) meet.main_front;
+      spare_moments = λ whole told quiet meet.
+          while_brought_up g.S.Bench store.secret.shape list whole old new lacks
+          (whole_is_main main list whole meet (record { rest = lacks; is = all }) ∙ all)
+          (subst (λ (s : Shape). LeavesOnly g.S.Bench old new (IsBroughtUp s list lacks (g.S.Bench.sent old))) shape
+          (c.bring_up.ensures.any_moment list told (here told) many quiet));
+      no_memory = λ whole told meet refused. no_refusal _ _ refused;
+      spare_no_memory = λ whole told meet refused. no_refusal _ _ refused;
+      reads = λ at refused. let none : ⊥ = cc in absurd none;
+      apart = λ none. absurd (none main (meet_at_other main list place same c.if-place-list.true));
+      quiet = λ told quiet fine. quiet;
+      spare_quiet = λ told quiet fine. c.in-Ok.ensures.quiet told quiet (λ is. no_refusal _ _ is);
+      sent = refl;
+      spare_sent = c.bring_up.ensures.sent;
+      ticks = λ told. omega (arith, lacks_nothing main);
+      spare_ticks = λ told.
+          c.in-Ok.ensures.ticks told ∙ ap (λ (l : List Answered). g.S.Bench.moment old + calls_to_bring_up l) (lacks_is list lacks main all);
+      main_failed = λ refused. no_refusal _ _ refused;
+      spare_failed = λ refused. no_refusal _ _ refused;
+      fault = not_called g.B.Bench c.args.bench.now _ (λ is. no_refusal _ _ is);
+      spare_fault = told_as g.S.Bench old new _ _ (λ is. no_refusal _ _ is) (λ is. no_refusal _ _ is) c.in-Ok.ensures.fault;
+    }
+
+pub returns-in-Err-Failed : goal.returns-in-Err-Failed
+returns-in-Err-Failed g c =
+    let store = c.args.store.now in
+    let main = store.history in
+    let shown = c.history-history.result.now in
+    let list = c.args.list.now in
+    let place = c.agreement-place.result in
+    let hist : shown ≡ main = c.history-history.ensures.history in
+    let same = same_as_main main shown list place hist c.agreement-place.ensures.same in
+    let lacks = take (length shown - place) (drop place shown) in
+    let all : main ≡ list ++ lacks = other_lacks main shown list place hist c.agreement-place.ensures.same c.if-place-list.true in
+    let shape = c.requires.other.same_shape in
+    let journal = c.args.journal.now in
+    let old = c.args.spare.now in
+    let new = c.bring_up.new.bench in
+    let here : g.S.Bench.told → StandsAt (g.S.Bench.file old) journal.shape list journal.gate = λ told.
+    subst (λ (s : Shape). StandsAt (g.S.Bench.file old) s list journal.gate) (sym shape) (c.requires.spare_stands told) in
+    let many : length list ≡ journal.count = sym c.requires.other.counted in
+    let is : c.bring_up.result ≡ Err Failed = cc in
+    record {
+      meet = tt;
+      stands = λ told. tt;
+      spare_stands = λ told. tt;
+      usable = tt;
+      table = (refl, refl);
+      is = c.history-history.ensures.is;
+      differ = λ at is. let none : ⊥ = cc in absurd none;
+      cause = inl tt;
+      moments = λ whole told quiet meet.
+          still_there g.B.Bench store.secret.shape main whole c.args.bench.now store.journal.gate
+          (λ image sent was. g.met.B.Bench.only_now c.args.bench.now image sent was) quiet (c.requires.stands told) meet.main_front;
+      spare_moments = λ whole told quiet meet.
+          while_brought_up g.S.Bench store.secret.shape list whole old new lacks
+          (whole_is_main main list whole meet (record { rest = lacks; is = all }) ∙ all)
+          (subst (λ (s : Shape). LeavesOnly g.S.Bench old new (IsBroughtUp s list lacks (g.S.Bench.sent old))) shape
+          (c.bring_up.ensures.any_moment list told (here told) many quiet));
+      no_memory = λ whole told meet refused. let none : ⊥ = cc in absurd none;
+      spare_no_memory = λ whole told meet refused. let none : ⊥ = cc in absurd none;
+      reads = λ at refused. let none : ⊥ = cc in absurd none;
+      apart = λ none. absurd (none main (meet_at_other main list place same c.if-place-list.true));
+      quiet = λ told quiet fine. quiet;
+      spare_quiet = λ told quiet fine. absurd (fine refl);
+      sent = refl;
+      spare_sent = c.bring_up.ensures.sent;
+      ticks = λ told. tt;
+      spare_ticks = λ told. tt;
+      main_failed = λ refused. let none : ⊥ = cc in absurd none;
+      spare_failed = λ refused. refl;
+      fault = not_called g.B.Bench c.args.bench.now _ (λ refused. let none : ⊥ = cc in absurd none);
+      spare_fault = told_as g.S.Bench old new _ _ (λ failed. refl) (λ refused. is) c.bring_up.ensures.fault;
+    }
+
+pub returns-in-Err-NoMemory : goal.returns-in-Err-NoMemory
+returns-in-Err-NoMemory g c =
+    let store = c.args.store.now in
+    let main = store.history in
+    let shown = c.history-history.result.now in
+    let list = c.args.list.now in
+    let place = c.agreement-place.result in
+    let hist : shown ≡ main = c.history-history.ensures.history in
+    let same = same_as_main main shown list place hist c.agreement-place.ensures.same in
+    let lacks = take (length shown - place) (drop place shown) in
+    let all : main ≡ list ++ lacks = other_lacks main shown list place hist c.agreement-place.ensures.same c.if-place-list.true in
+    let shape = c.requires.other.same_shape in
+    let journal = c.args.journal.now in
+    let old = c.args.spare.now in
+    let new = c.bring_up.new.bench in
+    let here : g.S.Bench.told → StandsAt (g.S.Bench.file old) journal.shape list journal.gate = λ told.
+    subst (λ (s : Shape). StandsAt (g.S.Bench.file old) s list journal.gate) (sym shape) (c.requires.spare_stands told) in
+    let many : length list ≡ journal.count = sym c.requires.other.counted in
+    let is : c.bring_up.result ≡ Err NoMemory = cc in
+    record {
+      meet = tt;
+      stands = λ told. tt;
+      spare_stands = λ told. tt;
+      usable = tt;
+      table = (refl, refl);
+      is = c.history-history.ensures.is;
+      differ = λ at is. let none : ⊥ = cc in absurd none;
+      cause = inl tt;
+      moments = λ whole told quiet meet.
+          still_there g.B.Bench store.secret.shape main whole c.args.bench.now store.journal.gate
+          (λ image sent was. g.met.B.Bench.only_now c.args.bench.now image sent was) quiet (c.requires.stands told) meet.main_front;
+      spare_moments = λ whole told quiet meet.
+          while_brought_up g.S.Bench store.secret.shape list whole old new lacks
+          (whole_is_main main list whole meet (record { rest = lacks; is = all }) ∙ all)
+          (subst (λ (s : Shape). LeavesOnly g.S.Bench old new (IsBroughtUp s list lacks (g.S.Bench.sent old))) shape
+          (c.bring_up.ensures.any_moment list told (here told) many quiet));
+      no_memory = λ whole told meet refused.
+          still_between store.secret.shape main whole (g.B.Bench.file c.args.bench.now) store.journal.gate (c.requires.stands told) meet.main_front;
+      spare_no_memory = λ whole told meet refused.
+          some_between store.secret.shape list whole (g.S.Bench.file new) lacks
+          (whole_is_main main list whole meet (record { rest = lacks; is = all }) ∙ all)
+          (subst (λ (s : Shape). StandsWithSome s list lacks (g.S.Bench.file new)) shape (c.bring_up.ensures.no_memory list told (here told) many is));
+      reads = λ at refused. let none : ⊥ = cc in absurd none;
+      apart = λ none. absurd (none main (meet_at_other main list place same c.if-place-list.true));
+      quiet = λ told quiet fine. quiet;
+      spare_quiet = λ told quiet fine. c.bring_up.ensures.quiet told quiet (λ failed. let none : ⊥ = cc in absurd none);
+      sent = refl;
+      spare_sent = c.bring_up.ensures.sent;
+      ticks = λ told. tt;
+      spare_ticks = λ told. tt;
+      main_failed = λ refused. let none : ⊥ = cc in absurd none;
+      spare_failed = λ refused. let none : ⊥ = cc in absurd none;
+      fault = not_called g.B.Bench c.args.bench.now _ (λ refused. let none : ⊥ = cc in absurd none);
+      spare_fault =
+          told_as g.S.Bench old new _ _ (λ failed. let none : ⊥ = cc in absurd none) (λ refused. let none : ⊥ = cc in absurd none) c.bring_up.ensures.fault;
+    }
 
 -- ---- they differ
 
-pub returns-then-place-history-clause-differ : goal.returns-then-place-history-clause-differ
-returns-then-place-history-clause-differ g c = λ at is.
-    let main = c.args.store.now.history in
+pub returns-then-place-history : goal.returns-then-place-history
+returns-then-place-history g c =
+    let store = c.args.store.now in
+    let main = store.history in
     let shown = c.history-history.result.now in
     let list = c.args.list.now in
     let place = c.agreement-place.result in
     let hist : shown ≡ main = c.history-history.ensures.history in
-    let here : place ≡ at = cc in
-    let within = c.agreement-place.ensures.within in
-    let differ = differ_first shown list place c.agreement-place.ensures.same c.if-place-history.true
-    (omega (arith, within.1, c.if-place-list.false)) c.agreement-place.ensures.differ in
-    subst (λ (n : ℕ). DifferFirst main list n) here (subst (λ (h : List Answered). DifferFirst h list place) hist differ)
-
-pub returns-then-place-history-clause-moments : goal.returns-then-place-history-clause-moments
-returns-then-place-history-clause-moments g c = λ whole told quiet meet.
-    let store = c.args.store.now in
-    still_there g.B.Bench store.secret.shape store.history whole c.args.bench.now store.journal.gate
-    (λ image sent was. g.met.B.Bench.only_now c.args.bench.now image sent was) quiet (c.requires.stands told) meet.main_front
-
-pub returns-then-place-history-clause-spare_moments : goal.returns-then-place-history-clause-spare_moments
-returns-then-place-history-clause-spare_moments g c = λ whole told quiet meet.
-    still_there g.S.Bench c.args.store.now.secret.shape c.args.list.now whole c.args.spare.now c.args.journal.now.gate
-    (λ image sent was. g.met.S.Bench.only_now c.args.spare.now image sent was) quiet (c.requires.spare_stands told) meet.other_front
+    record {
+      meet = tt;
+      stands = λ told. tt;
+      spare_stands = λ told. tt;
+      usable = tt;
+      table = (refl, refl);
+      is = c.history-history.ensures.is;
+      differ = λ at is.
+          let here : place ≡ at = cc in
+          let within = c.agreement-place.ensures.within in
+          let differ = differ_first shown list place c.agreement-place.ensures.same c.if-place-history.true
+          (omega (arith, within.1, c.if-place-list.false)) c.agreement-place.ensures.differ in
+          subst (λ (n : ℕ). DifferFirst main list n) here (subst (λ (h : List Answered). DifferFirst h list place) hist differ);
+      cause = inr (_, refl);
+      moments = λ whole told quiet meet.
+          still_there g.B.Bench store.secret.shape main whole c.args.bench.now store.journal.gate
+          (λ image sent was. g.met.B.Bench.only_now c.args.bench.now image sent was) quiet (c.requires.stands told) meet.main_front;
+      spare_moments = λ whole told quiet meet.
+          still_there g.S.Bench store.secret.shape list whole c.args.spare.now c.args.journal.now.gate
+          (λ image sent was. g.met.S.Bench.only_now c.args.spare.now image sent was) quiet (c.requires.spare_stands told) meet.other_front;
+      no_memory = λ whole told meet refused. let none : ⊥ = cc in absurd none;
+      spare_no_memory = λ whole told meet refused. let none : ⊥ = cc in absurd none;
+      reads = λ at refused. (refl, refl);
+      apart = λ none. (refl, refl);
+      quiet = λ told quiet fine. quiet;
+      spare_quiet = λ told quiet fine. quiet;
+      sent = refl;
+      spare_sent = refl;
+      ticks = λ told. tt;
+      spare_ticks = λ told. tt;
+      main_failed = λ refused. let none : ⊥ = cc in absurd none;
+      spare_failed = λ refused. let none : ⊥ = cc in absurd none;
+      fault = not_called g.B.Bench c.args.bench.now _ (λ refused. let none : ⊥ = cc in absurd none);
+      spare_fault = not_called g.S.Bench c.args.spare.now _ (λ refused. let none : ⊥ = cc in absurd none);
+    }
 
 -- ---- the journal's begins the spare's
 
-pub returns-in-Ok-bring_up-clause-moments : goal.returns-in-Ok-bring_up-clause-moments
-returns-in-Ok-bring_up-clause-moments g c = λ whole told quiet meet.
-    let main = c.args.store.now.history in
-    let shown = c.history-history.result.now in
-    let list = c.args.list.now in
-    let place = c.agreement-place.result in
-    let hist : shown ≡ main = c.history-history.ensures.history in
-    let at : place ≡ length main = omega (arith, c.if-place-history.false, c.agreement-place.ensures.within.0, ap length hist) in
-    let lacks = take (length list - place) (drop place list) in
-    let all : list ≡ main ++ lacks = main_lacks main shown list place hist c.agreement-place.ensures.same at in
-    while_brought_up g.B.Bench c.args.store.now.secret.shape main whole c.args.bench.now c.bring_up-2.new.bench lacks
-    (whole_is_other main list whole meet (record { rest = lacks; is = all }) ∙ all) (c.bring_up-2.ensures.any_moment told quiet)
-
-pub returns-in-Ok-bring_up-clause-spare_moments : goal.returns-in-Ok-bring_up-clause-spare_moments
-returns-in-Ok-bring_up-clause-spare_moments g c = λ whole told quiet meet.
-    still_there g.S.Bench c.args.store.now.secret.shape c.args.list.now whole c.args.spare.now c.args.journal.now.gate
-    (λ image sent was. g.met.S.Bench.only_now c.args.spare.now image sent was) quiet (c.requires.spare_stands told) meet.other_front
-
-pub returns-in-Ok-bring_up-clause-apart : goal.returns-in-Ok-bring_up-clause-apart
-returns-in-Ok-bring_up-clause-apart g c = λ none.
-    let main = c.args.store.now.history in
+pub returns-in-Ok-bring_up : goal.returns-in-Ok-bring_up
+returns-in-Ok-bring_up g c =
+    let store = c.args.store.now in
+    let main = store.history in
     let shown = c.history-history.result.now in
     let list = c.args.list.now in
     let place = c.agreement-place.result in
     let hist : shown ≡ main = c.history-history.ensures.history in
     let same = same_as_main main shown list place hist c.agreement-place.ensures.same in
     let at : place ≡ length main = omega (arith, c.if-place-history.false, c.agreement-place.ensures.within.0, ap length hist) in
-    absurd (none list (meet_at_main main list place same at))
-
-pub returns-in-Err-Failed-bring_up-clause-moments : goal.returns-in-Err-Failed-bring_up-clause-moments
-returns-in-Err-Failed-bring_up-clause-moments g c = λ whole told quiet meet.
-    let main = c.args.store.now.history in
-    let shown = c.history-history.result.now in
-    let list = c.args.list.now in
-    let place = c.agreement-place.result in
-    let hist : shown ≡ main = c.history-history.ensures.history in
-    let at : place ≡ length main = omega (arith, c.if-place-history.false, c.agreement-place.ensures.within.0, ap length hist) in
     let lacks = take (length list - place) (drop place list) in
     let all : list ≡ main ++ lacks = main_lacks main shown list place hist c.agreement-place.ensures.same at in
-    while_brought_up g.B.Bench c.args.store.now.secret.shape main whole c.args.bench.now c.bring_up-2.new.bench lacks
-    (whole_is_other main list whole meet (record { rest = lacks; is = all }) ∙ all) (c.bring_up-2.ensures.any_moment told quiet)
+    let old = c.args.bench.now in
+    let new = c.bring_up-2.new.bench in
+    let now = c.bring_up-2.new.self in
+    let now_is : now.history ≡ list = c.in-Ok-bring_up.ensures.history ∙ sym all in
+    let secret = c.bring_up-2.ensures.secret in
+    record {
+      meet = subst (λ (h : List Answered). Meet main list h) (sym now_is) (meet_at_main main list place same at);
+      stands = λ told. c.in-Ok-bring_up.ensures.stands told;
+      spare_stands = λ told.
+          let spare = g.S.Bench.file c.args.spare.now in
+          let gate = c.args.journal.now.gate in
+          subst (λ (h : List Answered). StandsAt spare now.secret.shape h gate) (sym now_is)
+          (subst (λ (s : SecretView). StandsAt spare s.shape list gate) (sym secret) (c.requires.spare_stands told));
+      usable = (
+        c.in-Ok-bring_up.ensures.usable,
+        record {
+          usable = c.requires.other.usable;
+          same_shape = c.requires.other.same_shape ∙ ap (λ (s : SecretView). s.shape) (sym secret);
+          counted = c.requires.other.counted ∙ ap (λ (h : List Answered). length h) (sym now_is);
+        },
+      );
+      table = (secret, c.bring_up-2.ensures.protected);
+      is = c.bring_up-2.ensures.is;
+      differ = λ at is. let none : ⊥ = cc in absurd none;
+      cause = tt;
+      moments = λ whole told quiet meet.
+          while_brought_up g.B.Bench store.secret.shape main whole old new lacks
+          (whole_is_other main list whole meet (record { rest = lacks; is = all }) ∙ all) (c.bring_up-2.ensures.any_moment told quiet);
+      spare_moments = λ whole told quiet meet.
+          still_there g.S.Bench store.secret.shape list whole c.args.spare.now c.args.journal.now.gate
+          (λ image sent was. g.met.S.Bench.only_now c.args.spare.now image sent was) quiet (c.requires.spare_stands told) meet.other_front;
+      no_memory = λ whole told meet refused. no_refusal _ _ refused;
+      spare_no_memory = λ whole told meet refused. no_refusal _ _ refused;
+      reads = λ at refused. let none : ⊥ = cc in absurd none;
+      apart = λ none. absurd (none list (meet_at_main main list place same at));
+      quiet = λ told quiet fine. c.in-Ok-bring_up.ensures.quiet told quiet (λ is. no_refusal _ _ is);
+      spare_quiet = λ told quiet fine. quiet;
+      sent = c.bring_up-2.ensures.sent;
+      spare_sent = refl;
+      ticks = λ told.
+          c.in-Ok-bring_up.ensures.ticks told
+          ∙ ap (λ (l : List Answered). g.B.Bench.moment old + calls_to_bring_up l)
+          (lacks_is main lacks list all ∙ ap (λ (h : List Answered). missing main h) (sym now_is));
+      spare_ticks = λ told.
+          let none = ap (λ (h : List Answered). calls_to_bring_up (missing list h)) now_is ∙ lacks_nothing list in
+          omega (arith, none);
+      main_failed = λ refused. no_refusal _ _ refused;
+      spare_failed = λ refused. no_refusal _ _ refused;
+      fault = told_as g.B.Bench old new _ _ (λ is. no_refusal _ _ is) (λ is. no_refusal _ _ is) c.in-Ok-bring_up.ensures.fault;
+      spare_fault = not_called g.S.Bench c.args.spare.now _ (λ is. no_refusal _ _ is);
+    }
 
-pub returns-in-Err-Failed-bring_up-clause-spare_moments : goal.returns-in-Err-Failed-bring_up-clause-spare_moments
-returns-in-Err-Failed-bring_up-clause-spare_moments g c = λ whole told quiet meet.
-    still_there g.S.Bench c.args.store.now.secret.shape c.args.list.now whole c.args.spare.now c.args.journal.now.gate
-    (λ image sent was. g.met.S.Bench.only_now c.args.spare.now image sent was) quiet (c.requires.spare_stands told) meet.other_front
-
-pub returns-in-Err-Failed-bring_up-clause-apart : goal.returns-in-Err-Failed-bring_up-clause-apart
-returns-in-Err-Failed-bring_up-clause-apart g c = λ none.
-    let main = c.args.store.now.history in
+pub returns-in-Err-Failed-bring_up : goal.returns-in-Err-Failed-bring_up
+returns-in-Err-Failed-bring_up g c =
+    let store = c.args.store.now in
+    let main = store.history in
     let shown = c.history-history.result.now in
     let list = c.args.list.now in
     let place = c.agreement-place.result in
     let hist : shown ≡ main = c.history-history.ensures.history in
     let same = same_as_main main shown list place hist c.agreement-place.ensures.same in
     let at : place ≡ length main = omega (arith, c.if-place-history.false, c.agreement-place.ensures.within.0, ap length hist) in
-    absurd (none list (meet_at_main main list place same at))
-
-pub returns-in-Err-NoMemory-bring_up-clause-moments : goal.returns-in-Err-NoMemory-bring_up-clause-moments
-returns-in-Err-NoMemory-bring_up-clause-moments g c = λ whole told quiet meet.
-    let main = c.args.store.now.history in
-    let shown = c.history-history.result.now in
-    let list = c.args.list.now in
-    let place = c.agreement-place.result in
-    let hist : shown ≡ main = c.history-history.ensures.history in
-    let at : place ≡ length main = omega (arith, c.if-place-history.false, c.agreement-place.ensures.within.0, ap length hist) in
     let lacks = take (length list - place) (drop place list) in
     let all : list ≡ main ++ lacks = main_lacks main shown list place hist c.agreement-place.ensures.same at in
-    while_brought_up g.B.Bench c.args.store.now.secret.shape main whole c.args.bench.now c.bring_up-2.new.bench lacks
-    (whole_is_other main list whole meet (record { rest = lacks; is = all }) ∙ all) (c.bring_up-2.ensures.any_moment told quiet)
+    let old = c.args.bench.now in
+    let new = c.bring_up-2.new.bench in
+    let is : c.bring_up-2.result ≡ Err Failed = cc in
+    record {
+      meet = tt;
+      stands = λ told. tt;
+      spare_stands = λ told. tt;
+      usable = tt;
+      table = (c.bring_up-2.ensures.secret, c.bring_up-2.ensures.protected);
+      is = c.bring_up-2.ensures.is;
+      differ = λ at is. let none : ⊥ = cc in absurd none;
+      cause = inl tt;
+      moments = λ whole told quiet meet.
+          while_brought_up g.B.Bench store.secret.shape main whole old new lacks
+          (whole_is_other main list whole meet (record { rest = lacks; is = all }) ∙ all) (c.bring_up-2.ensures.any_moment told quiet);
+      spare_moments = λ whole told quiet meet.
+          still_there g.S.Bench store.secret.shape list whole c.args.spare.now c.args.journal.now.gate
+          (λ image sent was. g.met.S.Bench.only_now c.args.spare.now image sent was) quiet (c.requires.spare_stands told) meet.other_front;
+      no_memory = λ whole told meet refused. let none : ⊥ = cc in absurd none;
+      spare_no_memory = λ whole told meet refused. let none : ⊥ = cc in absurd none;
+      reads = λ at refused. let none : ⊥ = cc in absurd none;
+      apart = λ none. absurd (none list (meet_at_main main list place same at));
+      quiet = λ told quiet fine. absurd (fine refl);
+      spare_quiet = λ told quiet fine. quiet;
+      sent = c.bring_up-2.ensures.sent;
+      spare_sent = refl;
+      ticks = λ told. tt;
+      spare_ticks = λ told. tt;
+      main_failed = λ refused. refl;
+      spare_failed = λ refused. let none : ⊥ = cc in absurd none;
+      fault = told_as g.B.Bench old new _ _ (λ failed. refl) (λ refused. is) c.bring_up-2.ensures.fault;
+      spare_fault = not_called g.S.Bench c.args.spare.now _ (λ refused. let none : ⊥ = cc in absurd none);
+    }
 
-pub returns-in-Err-NoMemory-bring_up-clause-no_memory : goal.returns-in-Err-NoMemory-bring_up-clause-no_memory
-returns-in-Err-NoMemory-bring_up-clause-no_memory g c = λ whole told meet refused.
-    let main = c.args.store.now.history in
-    let shown = c.history-history.result.now in
-    let list = c.args.list.now in
-    let place = c.agreement-place.result in
-    let hist : shown ≡ main = c.history-history.ensures.history in
-    let at : place ≡ length main = omega (arith, c.if-place-history.false, c.agreement-place.ensures.within.0, ap length hist) in
-    let lacks = take (length list - place) (drop place list) in
-    let all : list ≡ main ++ lacks = main_lacks main shown list place hist c.agreement-place.ensures.same at in
-    some_between c.args.store.now.secret.shape main whole (g.B.Bench.file c.bring_up-2.new.bench) lacks
-    (whole_is_other main list whole meet (record { rest = lacks; is = all }) ∙ all) (c.bring_up-2.ensures.no_memory told cc)
-
-pub returns-in-Err-NoMemory-bring_up-clause-spare_no_memory : goal.returns-in-Err-NoMemory-bring_up-clause-spare_no_memory
-returns-in-Err-NoMemory-bring_up-clause-spare_no_memory g c = λ whole told meet refused.
-    still_between c.args.store.now.secret.shape c.args.list.now whole (g.S.Bench.file c.args.spare.now) c.args.journal.now.gate
-    (c.requires.spare_stands told) meet.other_front
-
-pub returns-in-Err-NoMemory-bring_up-clause-spare_moments : goal.returns-in-Err-NoMemory-bring_up-clause-spare_moments
-returns-in-Err-NoMemory-bring_up-clause-spare_moments g c = λ whole told quiet meet.
-    still_there g.S.Bench c.args.store.now.secret.shape c.args.list.now whole c.args.spare.now c.args.journal.now.gate
-    (λ image sent was. g.met.S.Bench.only_now c.args.spare.now image sent was) quiet (c.requires.spare_stands told) meet.other_front
-
-pub returns-in-Err-NoMemory-bring_up-clause-apart : goal.returns-in-Err-NoMemory-bring_up-clause-apart
-returns-in-Err-NoMemory-bring_up-clause-apart g c = λ none.
-    let main = c.args.store.now.history in
+pub returns-in-Err-NoMemory-bring_up : goal.returns-in-Err-NoMemory-bring_up
+returns-in-Err-NoMemory-bring_up g c =
+    let store = c.args.store.now in
+    let main = store.history in
     let shown = c.history-history.result.now in
     let list = c.args.list.now in
     let place = c.agreement-place.result in
     let hist : shown ≡ main = c.history-history.ensures.history in
     let same = same_as_main main shown list place hist c.agreement-place.ensures.same in
     let at : place ≡ length main = omega (arith, c.if-place-history.false, c.agreement-place.ensures.within.0, ap length hist) in
-    absurd (none list (meet_at_main main list place same at))
+    let lacks = take (length list - place) (drop place list) in
+    let all : list ≡ main ++ lacks = main_lacks main shown list place hist c.agreement-place.ensures.same at in
+    let old = c.args.bench.now in
+    let new = c.bring_up-2.new.bench in
+    let is : c.bring_up-2.result ≡ Err NoMemory = cc in
+    record {
+      meet = tt;
+      stands = λ told. tt;
+      spare_stands = λ told. tt;
+      usable = tt;
+      table = (c.bring_up-2.ensures.secret, c.bring_up-2.ensures.protected);
+      is = c.bring_up-2.ensures.is;
+      differ = λ at is. let none : ⊥ = cc in absurd none;
+      cause = inl tt;
+      moments = λ whole told quiet meet.
+          while_brought_up g.B.Bench store.secret.shape main whole old new lacks
+          (whole_is_other main list whole meet (record { rest = lacks; is = all }) ∙ all) (c.bring_up-2.ensures.any_moment told quiet);
+      spare_moments = λ whole told quiet meet.
+          still_there g.S.Bench store.secret.shape list whole c.args.spare.now c.args.journal.now.gate
+          (λ image sent was. g.met.S.Bench.only_now c.args.spare.now image sent was) quiet (c.requires.spare_stands told) meet.other_front;
+      no_memory = λ whole told meet refused.
+          some_between store.secret.shape main whole (g.B.Bench.file new) lacks
+          (whole_is_other main list whole meet (record { rest = lacks; is = all }) ∙ all) (c.bring_up-2.ensures.no_memory told is);
+      spare_no_memory = λ whole told meet refused.
+          still_between store.secret.shape list whole (g.S.Bench.file c.args.spare.now) c.args.journal.now.gate (c.requires.spare_stands told)
+          meet.other_front;
+      reads = λ at refused. let none : ⊥ = cc in absurd none;
+      apart = λ none. absurd (none list (meet_at_main main list place same at));
+      quiet = λ told quiet fine. c.bring_up-2.ensures.quiet told quiet (λ failed. let none : ⊥ = cc in absurd none);
+      spare_quiet = λ told quiet fine. quiet;
+      sent = c.bring_up-2.ensures.sent;
+      spare_sent = refl;
+      ticks = λ told. tt;
+      spare_ticks = λ told. tt;
+      main_failed = λ refused. let none : ⊥ = cc in absurd none;
+      spare_failed = λ refused. let none : ⊥ = cc in absurd none;
+      fault =
+          told_as g.B.Bench old new _ _ (λ failed. let none : ⊥ = cc in absurd none)
+          (λ refused. let none : ⊥ = cc in absurd none) c.bring_up-2.ensures.fault;
+      spare_fault = not_called g.S.Bench c.args.spare.now _ (λ refused. let none : ⊥ = cc in absurd none);
+    }

@@ -1,25 +1,25 @@
 -- What `run` says of `audit`.
-use Rattle.std.proofs.Common.{◌≡◌, ◌+◌, ℕ, List, length, Some, OnOk, OnErr, refl, sym, ◌∙◌, ap, subst, map, string_bytes}
+use Rattle.std.proofs.Common.{◌≡◌, ◌+◌, ℕ, Option, List, length, Some, OnOk, OnErr, refl, sym, ◌∙◌, ap, subst, map, string_bytes}
 use Rattle.audit_types.specs.declared.records.Answered.{Answered}
 use Rattle.bench_core.specs.Calls.{LeavesOnly, IsUntouched}
 use Rattle.bench_core.specs.Moments.{joins, weakens}
 use Rattle.table_load.specs.Cells.{SecretView, PublicView}
 use Rattle.table_load.specs.Database.{Database, base_of, table_in, secret_table}
-use Rattle.journal_audit.specs.Reports.{audit_of, subjects, Reports, ReportsFront, SendsMeanwhile}
+use Rattle.journal_audit.specs.Reports.{Subject, audit_of, subjects, Reports, ReportsFront, SendsMeanwhile}
 use Rattle.auditor_top.specs.declared.words.Command.{Command}
 use Rattle.auditor_top.specs.declared.words.Command.TheVariants as command
 use Rattle.auditor_top.specs.declared.status.Status.{Status}
 use Rattle.auditor_top.specs.Words.{command_of}
 use Rattle.auditor_top.specs.Commands.{ServesOver, opens_store, reads_files, reads_lines, calls_spare, AreSoundFilesOf}
 use Rattle.auditor_top.specs.Causes.{FaultCause, IsReadyFor}
-use Rattle.auditor_top.specs.Ends.{AuditEnds, audit_over}
+use Rattle.auditor_top.specs.Ends.{AuditEnds, audit_over, people_told, subjects_over}
 use Rattle.auditor_top.specs.Ready.{IsReady, IsReadyOver, IsOpened}
 use Rattle.auditor_top.specs.Runs.{objects, faults_of, Auditing}
 use Rattle.auditor_top.specs.Faults.{audit_status}
 use Rattle.auditor_top.proofs.AuditEndings.{untouched_report, report_ends, report_faults, report_wants, report_says}
 use Rattle.auditor_top.proofs.OneCommand.{one_command, same_command, asked_for, not_asked, none_asked, takes_step, lacks_step, spare_called}
 use Rattle.auditor_top.proofs.OneRunMore.{does_so, never_goes_on}
-use Rattle.auditor_top.proofs.OneTable.{same_given, carried, one_secret}
+use Rattle.auditor_top.proofs.OneTable.{same_given, carried, one_base}
 use Rattle.auditor_top.proofs.Openings.{stays}
 use Rattle.auditor_top.proofs.Refusals.{as_quiet}
 use Rattle.auditor_top.specs.Stages.{opening_spare}
@@ -33,7 +33,8 @@ abbrev seen : (g : Over) (c : goal.After-drop-schema-inside-in-Ok-Audit-3 g) →
 seen g c public = base_of c.in-Ok-Audit.schema.columns public c.in-Ok-Audit.store.protected c.in-Ok-Audit.store.secret
 
 are : (g : Over) (c : goal.After-drop-schema-inside-in-Ok-Audit-3 g) → g.P.Source.told →
-    (public : PublicView) × AreSoundFilesOf (g.P.Source.left c.args.schema.now) (g.P.Source.left c.args.table.now) (seen g c public)
+    (public : PublicView) × AreSoundFilesOf (g.P.Source.left c.args.schema.now) (g.P.Source.left c.args.table.now) (seen g c public) ×
+    (c.in-Ok-Audit.people ≡ people_told c.in-Ok-Audit.schema.columns public)
 are g c ptold = subst (IsReadyOver _ _) c.in-Ok-Audit.field-0-is (c.in-Ok-Audit.ensures.over ptold)
 
 opened : (g : Over) (c : goal.After-drop-schema-inside-in-Ok-Audit-3 g) → IsOpened g.B.Bench c.open.new.bench c.in-Ok-Audit.store
@@ -59,6 +60,8 @@ reporting g c =
     let store = c.in-Ok-Audit.store in
     let columns = c.in-Ok-Audit.schema.columns in
     let kept = store.history in
+    let people = c.in-Ok-Audit.people in
+    let about : (Option ℕ → List Subject) = λ p. subjects store.secret.shape store.protected.shared p in
     let sent = g.B.Bench.sent at in
     let file = g.B.Bench.file at in
     let same : c.in-Ok.command ≡ command.Audit = same_command _ _ _ c.in-Ok-Audit.field-0-is c.in-Ok-Audit.ensures.asked in
@@ -74,27 +77,31 @@ reporting g c =
           (known ptold) base kept history
           (given ptold told base history over)
           (report_ends c.audit.result (known ptold) kept sent (g.B.Bench.sent later)
-          (subst (λ (bytes : List ℕ). OnOk c.audit.result (Reports (audit_of columns store) bytes (g.B.Bench.sent later))) reads.sent
-          (c.audit.ensures.report told))
-          (subst (λ (bytes : List ℕ). OnErr c.audit.result (ReportsFront (audit_of columns store) bytes (g.B.Bench.sent later))) reads.sent
-          (c.audit.ensures.part told)));
+          (subst (λ (p : Option ℕ). OnOk c.audit.result (Reports (audit_of columns store) p sent (g.B.Bench.sent later))) (are g c ptold).2
+          (subst (λ (bytes : List ℕ). OnOk c.audit.result (Reports (audit_of columns store) people bytes (g.B.Bench.sent later))) reads.sent
+          (c.audit.ensures.report told)))
+          (subst (λ (p : Option ℕ). OnErr c.audit.result (ReportsFront (audit_of columns store) p sent (g.B.Bench.sent later))) (are g c ptold).2
+          (subst (λ (bytes : List ℕ). OnErr c.audit.result (ReportsFront (audit_of columns store) people bytes (g.B.Bench.sent later))) reads.sent
+          (c.audit.ensures.part told))));
       auditing = λ ptold told quiet base history over.
-          joins g.B.Bench at c.open.new.bench later (SendsMeanwhile (audit_over base history) (subjects base.secret.shape) file sent)
+          joins g.B.Bench at c.open.new.bench later (SendsMeanwhile (audit_over base history) (subjects_over base) file sent)
           (weakens g.B.Bench at c.open.new.bench (IsUntouched file sent) _
-          (λ image bytes same. untouched_report (audit_over base history) (subjects base.secret.shape) file sent image bytes same) (reads.untouched quiet))
+          (λ image bytes same. untouched_report (audit_over base history) (subjects_over base) file sent image bytes same) (reads.untouched quiet))
           (carried (λ (b : Database) (h : List Answered). LeavesOnly g.B.Bench c.open.new.bench later
-          (SendsMeanwhile (audit_over b h) (subjects b.secret.shape) file sent))
+          (SendsMeanwhile (audit_over b h) (subjects_over b) file sent))
           (known ptold) base kept history (given ptold told base history over)
-          (subst (λ (f : List ℕ). LeavesOnly g.B.Bench c.open.new.bench later (SendsMeanwhile (audit_of columns store) (subjects store.secret.shape) f sent))
+          (subst (λ (p : Option ℕ). LeavesOnly g.B.Bench c.open.new.bench later (SendsMeanwhile (audit_of columns store) (about p) file sent)) (are g c ptold).2
+          (subst (λ (f : List ℕ). LeavesOnly g.B.Bench c.open.new.bench later (SendsMeanwhile (audit_of columns store) (about people) f sent))
           reads.file
           (subst (λ (bytes : List ℕ). LeavesOnly g.B.Bench c.open.new.bench later
-          (SendsMeanwhile (audit_of columns store) (subjects store.secret.shape) (g.B.Bench.file c.open.new.bench) bytes)) reads.sent
-          (c.audit.ensures.any_moment told (as_quiet g.B.Bench at c.open.new.bench reads quiet)))));
+          (SendsMeanwhile (audit_of columns store) (about people) (g.B.Bench.file c.open.new.bench) bytes)) reads.sent
+          (c.audit.ensures.any_moment told (as_quiet g.B.Bench at c.open.new.bench reads quiet))))));
       audit_calls = λ ptold told done base files.
-          subst (λ (s : SecretView). g.B.Bench.moment later ≡ g.B.Bench.moment at + 2 + length (subjects s.shape))
-          (one_secret _ _ (known ptold) base (are g c ptold).1.files files)
+          subst (λ (b : Database). g.B.Bench.moment later ≡ g.B.Bench.moment at + 2 + length (subjects_over b))
+          (one_base c.groups_of_a_schema.ensures.entries _ _ (known ptold) base (are g c ptold).1 files)
+          (subst (λ (p : Option ℕ). g.B.Bench.moment later ≡ g.B.Bench.moment at + 2 + length (about p)) (are g c ptold).2
           ((report_says c.audit.result).done _ done (c.audit.ensures.ticks told)
-          ∙ ap (λ (n : ℕ). n + length (subjects store.secret.shape)) (c.in-Ok-Audit.ensures.ticks told (ap opens_store same)));
+          ∙ ap (λ (n : ℕ). n + length (about people)) (c.in-Ok-Audit.ensures.ticks told (ap opens_store same))));
       audits = λ ptold told base history over none.
           report_wants c.audit.result (faults_of g.P.Source g.I.Source g.B.Bench old) (faults_of g.P.Source g.I.Source g.B.Bench new)
           (subst (λ (s : Status). FaultCause s (faults_of g.P.Source g.I.Source g.B.Bench old) (faults_of g.P.Source g.I.Source g.B.Bench new))

@@ -118,16 +118,18 @@ compacting g c =
     let history = c.in-Ok-Compact.store.history in
     let sent = g.B.Bench.sent at in
     let file = g.B.Bench.file at in
+    let spare = g.B.Bench.file c.args.spare.now in
+    let spare_new = g.B.Bench.file spare_later in
     let does = c.compact.ensures in
     let same : c.in-Ok.command ≡ command.Compact = same_command _ _ _ c.in-Ok-Compact.field-0-is c.in-Ok-Compact.ensures.asked in
     subst (λ (s : Status). Compacting g.P.Source g.I.Source g.B.Bench s old new) (sym c.compacted.ensures) (record {
       compacted = λ ptold told base records over.
-          given g c (λ (b : Database) (h : List Answered). CompactEnds (compacting_status c.compact.result) b.secret.shape h (g.B.Bench.file spare_later) sent
+          given g c (λ (b : Database) (h : List Answered). CompactEnds (compacting_status c.compact.result) b.secret.shape h spare spare_new sent
           (g.B.Bench.sent later)) ptold told base records over
-          (compact_ends c.compact.result shape history (g.B.Bench.file spare_later) sent (g.B.Bench.sent later)
-          (subst (λ (bytes : List ℕ). OnOk c.compact.result (Compacts shape history (g.B.Bench.file spare_later) bytes (g.B.Bench.sent later))) reads.sent
+          (compact_ends c.compact.result shape history spare spare_new sent (g.B.Bench.sent later)
+          (subst (λ (bytes : List ℕ). OnOk c.compact.result (Compacts shape history spare spare_new bytes (g.B.Bench.sent later))) reads.sent
           (does.done told))
-          (subst (λ (bytes : List ℕ). IsErrOf c.compact.result compact.Bench → CompactsFront shape history (g.B.Bench.file spare_later) bytes
+          (subst (λ (bytes : List ℕ). IsErrOf c.compact.result compact.Bench → CompactsFront shape history spare spare_new bytes
           (g.B.Bench.sent later))
           reads.sent (does.part told))
           (unsent_so c.compact.result (λ is. ap g.B.Bench.sent is ∙ reads.sent) does.unsent));

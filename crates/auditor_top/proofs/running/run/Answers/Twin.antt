@@ -2,7 +2,6 @@
 use Rattle.std.proofs.Common.{◌≡◌, ℕ, Some, refl, sym, ◌∙◌, ap, subst, true, map, string_bytes}
 use Rattle.bench_core.specs.Causes.{Rose}
 use Rattle.table_load.specs.Database.{Database, table_in}
-use Rattle.line_wire.specs.Lines.{counted_lines}
 use Rattle.auditor_top.specs.Faults.{twin_session_status}
 use Rattle.auditor_top.proofs.TwinEndings.{twins_faults, twins_reads, twins_say, twins_want}
 use Rattle.auditor_top.specs.declared.words.Command.{Command}
@@ -12,6 +11,7 @@ use Rattle.auditor_top.specs.Words.{command_of}
 use Rattle.auditor_top.specs.Commands.{calls_spare, reads_files, reads_lines, writes}
 use Rattle.auditor_top.specs.Causes.{BothCause, FaultCause, InputCause, SpareCause, IsReadyFor}
 use Rattle.auditor_top.specs.Stages.{Before, opening_spare}
+use Rattle.auditor_top.specs.Ends.{outside}
 use Rattle.auditor_top.specs.Runs.{objects, faults_of, TwinServing}
 use Rattle.auditor_top.proofs.OneCommand.{one_command, asked_for, not_asked, none_asked, takes_step}
 use Rattle.auditor_top.proofs.OneRunMore.{does_so, goes_on, left_of_spare, spare_goes_on}
@@ -68,9 +68,8 @@ answering g c =
       spare_lives = λ ptold itold told quiet spare_quiet.
           spare_goes_on g.P.Source g.I.Source g.B.Bench n old new c.lives.ensures.longer c.one_reading.ensures
           (c.read_words.ensures.batch n true (is_named g c))
-          (λ base main other whole over image sent left all. left_of_spare base n main other whole (counted_lines (g.I.Source.left old.input))
-          (g.B.Bench.sent old.bench) sent
-          (g.B.Bench.sent new.bench) (g.B.Bench.file new.bench) image all
+          (λ base main other whole over image sent left all. left_of_spare base n main other whole (outside g.I.Source g.B.Bench old.input old.bench)
+          (outside g.I.Source g.B.Bench new.input new.bench) sent (g.B.Bench.file new.bench) image all
           (both_left g c ptold itold told quiet spare_quiet base main other whole over (g.B.Bench.file new.bench) image
           (g.met.B.Bench.reads new.bench told) left));
       undisclosed = discloses_nothing g c;
@@ -85,6 +84,7 @@ answering g c =
           (is_seen g c ptold base sound) ((twins_say ended).cause n _ _ _ c.in-Ok-start.twin.store.history (together g c told));
       spare_quiet = λ told quiet fine. c.serve_twin.ensures.spare_quiet told (spare_quiet_started g c told quiet) (λ is. fine (ap twin_session_status is));
       spare_unsent = c.serve_twin.ensures.spare_sent ∙ c.in-Ok-start.ensures.spare_sent;
+      spare_unwritten = (twins_say ended).at_lines _;
       twin_calls = takes_calls g c;
       spare_calls = spare_takes_calls g c;
       twins_complete = λ ptold itold told base main other whole over within none fine.

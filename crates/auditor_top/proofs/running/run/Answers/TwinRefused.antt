@@ -7,8 +7,7 @@ use Rattle.bench_core.specs.Moments.{weakens}
 use Rattle.table_load.specs.Database.{Database, base_of, table_in}
 use Rattle.twin_journal.specs.Twins.{CatchesUp, KeepApart, KeepTogether, TwinCause, TwinGivesUp}
 use Rattle.twin_journal.specs.declared.starting.TwinFault.TheVariants as twin
-use Rattle.auditor_top.specs.Ends.{outside}
-use Rattle.line_wire.specs.Lines.{counted_lines}
+use Rattle.auditor_top.specs.Ends.{Outside, outside}
 use Rattle.auditor_top.specs.Faults.{twin_status}
 use Rattle.auditor_top.specs.Twins.{BothCatchUp}
 use Rattle.auditor_top.proofs.TwinEndings.{IsOwn, own_fault, refusal, refused_status, twin_cause, twin_faults, twin_file, front_is_legal, twin_gave_up, twin_says, twin_wants, twin_words}
@@ -115,24 +114,37 @@ gave : (g : Over) (c : goal.After-drop-schema-inside-in-Ok-Twin-3 g) → g.P.Sou
     IsGiven g c base main other whole → TwinGivesUp c.in-Err-start.fault
 gave g c ptold told base main other whole over = c.in-Err-start.ensures.opens main other whole told told (keep g c ptold base main other whole over)
 
+-- what there is of the outside before and after
+abbrev before : (g : Over) → goal.After-drop-schema-inside-in-Ok-Twin-3 g → Outside
+before g c = outside g.I.Source g.B.Bench c.args.input.now c.args.bench.now
+
+abbrev after : (g : Over) → goal.After-drop-schema-inside-in-Ok-Twin-3 g → Outside
+after g c = outside g.I.Source g.B.Bench c.args.input.now c.start.new.bench
+
 -- if memory ran out both files still catch up
 still_caught : (g : Over) (c : goal.After-drop-schema-inside-in-Ok-Twin-3 g) → g.P.Source.told → g.B.Bench.told →
     (base : Database) (main other whole : List Answered) → IsGiven g c base main other whole →
     c.in-Err-start.fault ≡ twin.NoMemory →
-    BothCatchUp base main other whole (g.B.Bench.sent c.args.bench.now) (g.B.Bench.sent c.start.new.bench) (g.B.Bench.file c.start.new.bench)
-    (g.B.Bench.file c.start.new.spare)
+    BothCatchUp base main other whole (before g c) (after g c) (g.B.Bench.file c.start.new.bench) (g.B.Bench.file c.start.new.spare)
 still_caught g c ptold told base main other whole over is =
     let found = c.in-Err-start.ensures.no_memory main other whole told told (keep g c ptold base main other whole over) (ap refusal is) in
-    subst (λ (b : Database). BothCatchUp b main other whole (g.B.Bench.sent c.args.bench.now) (g.B.Bench.sent c.start.new.bench)
-    (g.B.Bench.file c.start.new.bench)
-    (g.B.Bench.file c.start.new.spare)) (is_seen g c ptold base over.files) (sent_same g c, found.0, found.1)
+    subst (λ (b : Database). BothCatchUp b main other whole (before g c) (after g c) (g.B.Bench.file c.start.new.bench) (g.B.Bench.file c.start.new.spare))
+    (is_seen g c ptold base over.files) (refl, sent_same g c, found.0, found.1)
+
+-- if the spare failed all but it is as it was
+all_else_same : (g : Over) (c : goal.After-drop-schema-inside-in-Ok-Twin-3 g) → c.in-Err-start.fault ≡ twin.SpareFailed → after g c ≡ before g c
+all_else_same g c is =
+    let same = (c.in-Err-start.ensures.spare_failed (ap refusal is)).file ∙ ap g.B.Bench.file (unopened g c) in
+    ap (λ (sent : List ℕ). record { input = g.I.Source.left c.args.input.now; sent = sent; file = g.B.Bench.file c.start.new.bench }) (sent_same g c)
+    ∙ ap (λ (file : List ℕ). record { input = g.I.Source.left c.args.input.now; sent = g.B.Bench.sent c.args.bench.now; file = file }) same
 
 both_left : (g : Over) (c : goal.After-drop-schema-inside-in-Ok-Twin-3 g) → g.P.Source.told → g.B.Bench.told → IsQuiet g.B.Bench c.args.bench.now →
     IsQuiet g.B.Bench c.args.spare.now →
     (base : Database) (main other whole : List Answered) → IsGiven g c base main other whole → (image spare : List ℕ) →
     g.B.Bench.leaves c.start.new.bench image → g.B.Bench.leaves c.start.new.spare spare →
-    BothCatchUp base main other whole (g.B.Bench.sent c.args.bench.now) (g.B.Bench.sent c.start.new.bench) image spare
+    BothCatchUp base main other whole (before g c) (after g c) image spare
 both_left g c ptold told quiet spare_quiet base main other whole over image spare left spare_left = (
+  refl,
   sent_same g c,
   left_between g.B.Bench c.args.bench.now c.start.new.bench base.secret.shape main whole image
       (λ later. g.met.B.Bench.counts_now c.start.new.bench (g.B.Bench.moment c.args.bench.now) image later left)
@@ -175,14 +187,12 @@ refusing g c =
     let old = objects c.args.schema.now c.args.table.now c.args.input.now at spare in
     let new = objects c.open.new.schema c.open.new.table c.args.input.now later spare_later in
     let n = c.in-Ok-Twin.batch in
-    let lines = counted_lines (g.I.Source.left c.args.input.now) in
     let fault = c.in-Err-start.fault in
     let does = c.in-Err-start.ensures in
     subst (λ (s : Status). TwinServing g.P.Source g.I.Source g.B.Bench n s old new) (sym c.from.ensures) (record {
       twins_served = λ ptold itold told base main other whole over.
-          twin_gave_up fault n base main other whole (outside g.I.Source g.B.Bench old.input at) (outside g.I.Source g.B.Bench new.input later)
-          (g.B.Bench.file spare_later)
-          (gave g c ptold told base main other whole over) (still_caught g c ptold told base main other whole over);
+          twin_gave_up fault n base main other whole (before g c) (after g c) (g.B.Bench.file spare_later)
+          (gave g c ptold told base main other whole over) (still_caught g c ptold told base main other whole over) (all_else_same g c);
       twin_moment = λ ptold itold told quiet base main other whole over.
           weakens g.B.Bench at later (CatchesUp base.secret.shape main whole (g.B.Bench.sent at)) _ (λ image sent is. inl is)
           (catching g c ptold told quiet base main other whole over);
@@ -194,7 +204,7 @@ refusing g c =
       spare_lives = λ ptold itold told quiet spare_quiet.
           spare_goes_on g.P.Source g.I.Source g.B.Bench n old new c.lives.ensures.longer c.one_reading.ensures
           (c.read_words.ensures.batch n true (is_named g c))
-          (λ base main other whole over image sent left all. left_of_spare base n main other whole lines (g.B.Bench.sent at) sent (g.B.Bench.sent later)
+          (λ base main other whole over image sent left all. left_of_spare base n main other whole (before g c) (after g c) sent
           (g.B.Bench.file later) image all
           (inl (both_left g c ptold told quiet spare_quiet base main other whole over (g.B.Bench.file later) image (g.met.B.Bench.reads later told) left)));
       undisclosed = λ ptold told quiet base main other whole over image sent now was.
@@ -210,6 +220,7 @@ refusing g c =
           (is_seen g c ptold base sound) (twin_cause fault n _ _ _ (cause g c told));
       spare_quiet = λ told quiet fine. does.spare_quiet told quiet (λ is. fine (ap refused_status is));
       spare_unsent = does.spare_sent;
+      spare_unwritten = (twin_says fault).at_lines _ (λ refuses. (does.reads fault refl refuses).1.file);
       twin_calls = λ ptold itold told done. absurd ((twin_says fault).undone done);
       spare_calls = λ ptold itold told done. absurd ((twin_says fault).undone done);
       twins_complete = λ ptold itold told base main other whole over within none fine.

@@ -40,11 +40,9 @@ served g c ptold itold told base main other whole over =
     (record before { sent = bytes }) after spare)
     (sent_same g c)
     (twins_end ended (asked g c) n main other c.in-Ok-start.twin.store.history now (record before { sent = g.B.Bench.sent c.start.new.bench }) after spare
-    (does.done itold told) (does.input_end itold told) (does.limit_end itold told) (does.memory_end itold told)
-    (λ bench_fine spare_fine. (
-      subst (λ (s : SecretView). StandsFor after.file s.shape now) does.table.0 (does.stands told bench_fine),
-      subst (λ (s : SecretView). StandsFor spare s.shape now) does.table.0 (does.spare_stands told bench_fine spare_fine),
-    ))))
+    (does.done itold told) (does.input_end itold told) (does.limit_end itold told) (does.memory_end itold told) (does.spare_end itold told)
+    (λ bench_fine. subst (λ (s : SecretView). StandsFor after.file s.shape now) does.table.0 (does.stands told bench_fine))
+    (λ bench_fine spare_fine. subst (λ (s : SecretView). StandsFor spare s.shape now) does.table.0 (does.spare_stands told bench_fine spare_fine))))
 
 pub moments_so : (g : Over) (c : goal.After-drop-schema-inside-in-Ok-start-3 g) → g.P.Source.told → g.I.Source.told → g.B.Bench.told →
     IsQuiet g.B.Bench c.args.bench.now →
@@ -81,8 +79,8 @@ pub both_left : (g : Over) (c : goal.After-drop-schema-inside-in-Ok-start-3 g) �
     IsQuiet g.B.Bench c.args.bench.now → IsQuiet g.B.Bench c.args.spare.now →
     (base : Database) (main other whole : List Answered) → IsGiven g c base main other whole → (image spare : List ℕ) →
     g.B.Bench.leaves c.serve_twin.new.bench image → g.B.Bench.leaves c.serve_twin.new.spare spare →
-    LeavesTwins base c.in-Ok-Twin.batch main other whole (counted_lines (g.I.Source.left c.args.input.now)) (g.B.Bench.sent c.args.bench.now)
-    (g.B.Bench.sent c.serve_twin.new.bench) image spare
+    LeavesTwins base c.in-Ok-Twin.batch main other whole (outside g.I.Source g.B.Bench c.args.input.now c.args.bench.now)
+    (outside g.I.Source g.B.Bench c.serve_twin.new.source c.serve_twin.new.bench) image spare
 both_left g c ptold itold told quiet spare_quiet base main other whole over image spare left spare_left =
     let n = c.in-Ok-Twin.batch in
     let lines = counted_lines (g.I.Source.left c.args.input.now) in

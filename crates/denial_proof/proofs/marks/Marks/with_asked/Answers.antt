@@ -16,7 +16,7 @@ returns-in_default-clause-wide c = λ fault history marks.
     let rows = c.args.asked.now.rows in record {
       places = places;
       kept = marks.kept;
-      wide = marks_wide rows.n history places rows.list (wide_without_asked rows.n history places rows.list (rw c.in_default.is at marks.wide));
+      wide = marks_wide rows.n history places rows.list (wide_without_asked rows.n history places rows.list (rw c.in_default.is at marks.wide c.requires.few));
     }
 
 pub returns-in-Some-2-clause-marks : goal.returns-in-Some-2-clause-marks

@@ -1,12 +1,13 @@
-use Rattle.std.proofs.Common.{◌≡◌, ◌∙◌, ◌≤◌, ℕ, List, length, refl, sym, ap, subst}
+use Rattle.std.proofs.Common.{◌≡◌, ◌∙◌, ◌≤◌, ℕ, List, [], length, refl, sym, ap, subst}
 use Rattle.std.specs.Prelude.{All}
 use Rattle.std.specs.List.{AllByRecursion}
 use Rattle.audit_types.specs.declared.records.Answered.{Answered}
 use Rattle.audit_types.specs.declared.records.Protected.{Protected}
 use Rattle.audit_types.specs.Limits.{most_groups}
-use Rattle.audit_types.specs.Rows.{AreRows}
-use Rattle.audit_types.specs.Column.{Answer, known_max}
-use Rattle.audit_types.specs.History.{FitsShape, IsProtected, answers_of}
+use Rattle.audit_types.specs.Rows.{Rows, AreRows, has_row}
+use Rattle.audit_types.specs.Extremes.{IsLone}
+use Rattle.audit_types.specs.Column.{Answer, known_max, guarding}
+use Rattle.audit_types.specs.History.{FitsShape, IsProtected, Protection, answers_of}
 use Rattle.max_audit.specs.Laws.{HasBadCandidate}
 use Rattle.denial_proof.specs.Denied.{IsUnsafeSum}
 use Rattle.denial_proof.proofs.ByKind.{of_column, sum_is, sum_is_narrow, sum_is_wide, max_is, max_is_narrow}
@@ -20,9 +21,11 @@ invariant_of-facts-clause-records c =
 
 pub invariant_of-facts-clause-entries : goal.invariant_of-facts-clause-entries
 invariant_of-facts-clause-entries c =
-    subst (λ (n : ℕ). AllByRecursion (λ (p : Protected). p.rows.n ≡ n) c.groups-protected.result.now) (sym (c.n.ensures.n ∙ c.in-Sum-Sums.ensures.n))
-    (entries_same_n c.args.core.now.setting.shape c.groups-protected.result.now
-    (subst (All (IsProtected c.args.core.now.setting.shape)) (sym c.groups-protected.ensures.is) c.groups-protected.ensures.fit.0.0))
+    let shape = c.args.core.now.setting.shape in
+    let groups = c.protected-protected.result.now.groups in
+    subst (λ (n : ℕ). AllByRecursion (λ (p : Protected). p.rows.n ≡ n) groups) (sym (c.n.ensures.n ∙ c.in-Sum-Sums.ensures.n))
+    (entries_same_n shape groups
+    (subst (λ (p : Protection). All (IsProtected shape) p.groups) (sym c.protected-protected.ensures.is) c.protected-protected.ensures.fit.0.0))
 
 pub invariant_of-facts-clause-same_n : goal.invariant_of-facts-clause-same_n
 invariant_of-facts-clause-same_n c = c.requires.question.same_n ∙ sym (c.n.ensures.n ∙ c.in-Sum-Sums.ensures.n)
@@ -39,8 +42,14 @@ pub prove_sum-requires-clause-answers : goal.prove_sum-requires-clause-answers
 prove_sum-requires-clause-answers c = c.in-Sum-Sums.ensures.answers ∙ ap (answers_of c.args.asked.now.column) (sym c.history-history.ensures.is)
 
 pub prove_sum-requires-clause-few_groups : goal.prove_sum-requires-clause-few_groups
-prove_sum-requires-clause-few_groups c = subst (λ (list : List Protected). length list ≤ most_groups)
-    (sym c.groups-protected.ensures.is) c.groups-protected.ensures.fit.0.1
+prove_sum-requires-clause-few_groups c = subst (λ (p : Protection). length p.groups ≤ most_groups)
+    (sym c.protected-protected.ensures.is) c.protected-protected.ensures.fit.0.1
+
+pub prove_sum-requires-clause-shared : goal.prove_sum-requires-clause-shared
+prove_sum-requires-clause-shared c =
+    subst (λ (n : ℕ). AreRows n c.protected-protected.result.now.shared) (sym c.in-Sum-Sums.ensures.n)
+    (subst (λ (p : Protection). AreRows c.args.core.now.setting.shape.rows p.shared) (sym c.protected-protected.ensures.is)
+    c.protected-protected.ensures.fit.0.8)
 
 pub prove_sum-requires-clause-denied : goal.prove_sum-requires-clause-denied
 prove_sum-requires-clause-denied c =
@@ -48,12 +57,12 @@ prove_sum-requires-clause-denied c =
     let history = c.args.core.now.history in
     let fit = subst (λ (list : List Answered). All (λ (r : Answered). FitsShape setting.shape r.column r.rows) list) c.history-history.ensures.is
     c.history-history.ensures.fit in
-    let unsafe = c.denied_sums.ensures setting history c.args.asked.now fit c.groups-protected.ensures.fit c.requires.legal c.requires.question
+    let unsafe = c.denied_sums.ensures setting history c.args.asked.now fit c.protected-protected.ensures.fit c.requires.legal c.requires.question
     c.in-Sum-Sums.ensures.own_kind c.requires.denied in
     of_column setting history c.args.asked.now c.in-Sum-Sums.sums.now.n c.history-history.result.now c.in-Sum-Sums.ensures.n c.history-history.ensures.is
-    c.groups-protected.result.now c.groups-protected.ensures.is
+    c.protected-protected.result.now c.protected-protected.ensures.is
     (λ n list groups. IsUnsafeSum n c.in-Sum-Sums.sums.now.width list groups c.args.asked.now)
-    (subst (λ (width : ℕ). IsUnsafeSum setting.shape.rows width history setting.protected.groups c.args.asked.now)
+    (subst (λ (width : ℕ). IsUnsafeSum setting.shape.rows width history setting.protected c.args.asked.now)
     (sym (c.in-Sum-Sums.ensures.width refl)) unsafe)
 
 pub prove_max-requires-clause-same_n : goal.prove_max-requires-clause-same_n
@@ -73,6 +82,29 @@ prove_max-requires-clause-records c =
 pub prove_max-requires-clause-answers : goal.prove_max-requires-clause-answers
 prove_max-requires-clause-answers c = c.in-Max-Maxima.ensures.answers ∙ ap (answers_of c.args.asked.now.column) (sym c.history-history.ensures.is)
 
+pub over-shared-requires-clause-rows : goal.over-shared-requires-clause-rows
+over-shared-requires-clause-rows c =
+    let same = c.shared.ensures.is ∙ ap (λ (p : Protection). p.shared) c.protected-protected.ensures.is in
+    subst (AreRows c.n-in-Max-Maxima.result) (sym same)
+    (subst (λ (n : ℕ). AreRows n c.args.core.now.setting.protected.shared) (sym (c.n-in-Max-Maxima.ensures.n ∙ c.requires.question.same_n))
+    c.protected-protected.ensures.fit.0.8)
+
+pub prove_max-requires-clause-shared : goal.prove_max-requires-clause-shared
+prove_max-requires-clause-shared c =
+    ap (λ (s : Rows). s.n) c.over-shared.ensures ∙ c.n-in-Max-Maxima.ensures.n ∙ c.requires.question.same_n ∙ sym c.in-Max-Maxima.ensures.n
+
+pub prove_max-requires-clause-none_lone : goal.prove_max-requires-clause-none_lone
+prove_max-requires-clause-none_lone c = λ row own lone.
+    let setting = c.args.core.now.setting in
+    let history = c.args.core.now.history in
+    let fit = subst (λ (list : List Answered). All (λ (r : Answered). FitsShape setting.shape r.column r.rows) list) c.history-history.ensures.is
+    c.history-history.ensures.fit in
+    let unsafe = c.denied_maxima.ensures setting history c.args.asked.now fit c.protected-protected.ensures.fit c.requires.legal c.requires.question
+    c.in-Max-Maxima.ensures.own_kind c.requires.denied in
+    let shared = ap (λ (s : Rows). s.list) c.over-shared.ensures ∙ c.shared.ensures.is ∙ ap (λ (p : Protection). p.shared) c.protected-protected.ensures.is in
+    unsafe.none_lone row (ap (λ (l : List ℕ). has_row l row) (sym shared) ∙ own)
+    (subst (λ (answers : List Answer). IsLone answers row) c.in-Max-Maxima.ensures.answers lone)
+
 pub prove_max-requires-clause-dangerous : goal.prove_max-requires-clause-dangerous
 prove_max-requires-clause-dangerous c =
     let setting = c.args.core.now.setting in
@@ -80,55 +112,46 @@ prove_max-requires-clause-dangerous c =
     let rows = c.args.asked.now.rows.list in
     let fit = subst (λ (list : List Answered). All (λ (r : Answered). FitsShape setting.shape r.column r.rows) list) c.history-history.ensures.is
     c.history-history.ensures.fit in
-    let bad = c.denied_maxima.ensures setting history c.args.asked.now fit c.groups-protected.ensures.fit c.requires.question c.in-Max-Maxima.ensures.own_kind
-    c.requires.denied in
-    subst (λ (n : ℕ). HasBadCandidate (known_max n c.in-Max-Maxima.maxima.now.answers) rows) (sym c.in-Max-Maxima.ensures.n)
-    (subst (λ (answers : List Answer). HasBadCandidate (known_max setting.shape.rows answers) rows) (sym c.in-Max-Maxima.ensures.answers) bad)
+    let unsafe = c.denied_maxima.ensures setting history c.args.asked.now fit c.protected-protected.ensures.fit c.requires.legal c.requires.question
+    c.in-Max-Maxima.ensures.own_kind c.requires.denied in
+    let shared = ap (λ (s : Rows). s.list) c.over-shared.ensures ∙ c.shared.ensures.is ∙ ap (λ (p : Protection). p.shared) c.protected-protected.ensures.is in
+    subst (λ (n : ℕ). HasBadCandidate (guarding (known_max n c.in-Max-Maxima.maxima.now.answers) c.over-shared.result.list []) rows)
+    (sym c.in-Max-Maxima.ensures.n)
+    (subst (λ (answers : List Answer). HasBadCandidate (guarding (known_max setting.shape.rows answers) c.over-shared.result.list []) rows)
+    (sym c.in-Max-Maxima.ensures.answers)
+    (subst (λ (list : List ℕ). HasBadCandidate (guarding (known_max setting.shape.rows (answers_of c.args.asked.now.column history)) list []) rows) (sym shared)
+    unsafe.bad))
 
-pub returns-in-Sum-Sums-clause-canonical : goal.returns-in-Sum-Sums-clause-canonical
-returns-in-Sum-Sums-clause-canonical c =
-    (sum_is c.args.core.now.setting c.args.core.now.history c.args.asked.now c.in-Sum-Sums.sums.now.n c.history-history.result.now c.in-Sum-Sums.ensures.n
-    c.history-history.ensures.is
-    c.groups-protected.result.now c.groups-protected.ensures.is c.in-Sum-Sums.ensures.own_kind
-    c.prove_sum.result c.prove_sum.ensures.is).0
+pub returns-in-Sum-Sums : goal.returns-in-Sum-Sums
+returns-in-Sum-Sums c =
+    let setting = c.args.core.now.setting in
+    let history = c.args.core.now.history in
+    let asked = c.args.asked.now in
+    let n = c.in-Sum-Sums.sums.now.n in
+    let same_n = c.in-Sum-Sums.ensures.n in
+    let same = c.history-history.ensures.is in
+    let guard = c.protected-protected.ensures.is in
+    let sums = c.in-Sum-Sums.ensures.own_kind in
+    let is = sum_is setting history asked n _ same_n same _ guard sums c.prove_sum.result c.prove_sum.ensures.is in record {
+      canonical = is.0;
+      proof = is.1;
+      wide = λ fault. sum_is_wide setting history asked n _ same_n same _ guard sums (c.prove_sum.ensures.wide fault);
+      narrow = sum_is_narrow setting history asked n _ same_n same _ guard sums c.prove_sum.result c.prove_sum.ensures.narrow;
+    }
 
-pub returns-in-Sum-Sums-clause-proof : goal.returns-in-Sum-Sums-clause-proof
-returns-in-Sum-Sums-clause-proof c =
-    (sum_is c.args.core.now.setting c.args.core.now.history c.args.asked.now c.in-Sum-Sums.sums.now.n c.history-history.result.now c.in-Sum-Sums.ensures.n
-    c.history-history.ensures.is
-    c.groups-protected.result.now c.groups-protected.ensures.is c.in-Sum-Sums.ensures.own_kind
-    c.prove_sum.result c.prove_sum.ensures.is).1
-
-pub returns-in-Sum-Sums-clause-wide : goal.returns-in-Sum-Sums-clause-wide
-returns-in-Sum-Sums-clause-wide c = λ fault.
-    sum_is_wide c.args.core.now.setting c.args.core.now.history c.args.asked.now c.in-Sum-Sums.sums.now.n c.history-history.result.now c.in-Sum-Sums.ensures.n
-    c.history-history.ensures.is
-    c.groups-protected.result.now c.groups-protected.ensures.is c.in-Sum-Sums.ensures.own_kind
-    (c.prove_sum.ensures.wide fault)
-
-pub returns-in-Sum-Sums-clause-narrow : goal.returns-in-Sum-Sums-clause-narrow
-returns-in-Sum-Sums-clause-narrow c =
-    sum_is_narrow c.args.core.now.setting c.args.core.now.history c.args.asked.now c.in-Sum-Sums.sums.now.n c.history-history.result.now c.in-Sum-Sums.ensures.n
-    c.history-history.ensures.is
-    c.groups-protected.result.now c.groups-protected.ensures.is c.in-Sum-Sums.ensures.own_kind
-    c.prove_sum.result c.prove_sum.ensures.narrow
-
-pub returns-in_ok-prove_max-in-Max-Maxima-clause-canonical : goal.returns-in_ok-prove_max-in-Max-Maxima-clause-canonical
-returns-in_ok-prove_max-in-Max-Maxima-clause-canonical c =
-    (max_is c.args.core.now.setting c.args.core.now.history c.args.asked.now c.in-Max-Maxima.maxima.now.n c.history-history.result.now c.in-Max-Maxima.ensures.n
-    c.history-history.ensures.is
-    c.in-Max-Maxima.ensures.own_kind
-    _ c.in_ok-prove_max-in-Max-Maxima.ensures).0
-
-pub returns-in_ok-prove_max-in-Max-Maxima-clause-proof : goal.returns-in_ok-prove_max-in-Max-Maxima-clause-proof
-returns-in_ok-prove_max-in-Max-Maxima-clause-proof c =
-    (max_is c.args.core.now.setting c.args.core.now.history c.args.asked.now c.in-Max-Maxima.maxima.now.n c.history-history.result.now c.in-Max-Maxima.ensures.n
-    c.history-history.ensures.is
-    c.in-Max-Maxima.ensures.own_kind
-    _ c.in_ok-prove_max-in-Max-Maxima.ensures).1
-
-pub returns-in_ok-prove_max-in-Max-Maxima-clause-narrow : goal.returns-in_ok-prove_max-in-Max-Maxima-clause-narrow
-returns-in_ok-prove_max-in-Max-Maxima-clause-narrow c =
-    max_is_narrow c.args.core.now.setting c.args.core.now.history c.args.asked.now c.in-Max-Maxima.maxima.now.n c.history-history.result.now
-    c.in-Max-Maxima.ensures.n c.history-history.ensures.is
-    c.in-Max-Maxima.ensures.own_kind
+pub returns-in_ok-prove_max-in-Max-Maxima : goal.returns-in_ok-prove_max-in-Max-Maxima
+returns-in_ok-prove_max-in-Max-Maxima c =
+    let setting = c.args.core.now.setting in
+    let history = c.args.core.now.history in
+    let asked = c.args.asked.now in
+    let n = c.in-Max-Maxima.maxima.now.n in
+    let same_n = c.in-Max-Maxima.ensures.n in
+    let same = c.history-history.ensures.is in
+    let maxima = c.in-Max-Maxima.ensures.own_kind in
+    let shared = ap (λ (s : Rows). s.list) c.over-shared.ensures ∙ c.shared.ensures.is ∙ ap (λ (p : Protection). p.shared) c.protected-protected.ensures.is in
+    let is = max_is setting history asked n _ same_n same maxima _ shared _ c.in_ok-prove_max-in-Max-Maxima.ensures in record {
+      canonical = is.0;
+      proof = is.1;
+      wide = λ fault. absurd cc;
+      narrow = max_is_narrow setting history asked n _ same_n same maxima;
+    }

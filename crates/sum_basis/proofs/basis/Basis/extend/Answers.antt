@@ -52,6 +52,7 @@ invariant_of-self c = (
   omega (arith, c.join.ensures.n, c.self.invariant.0),
   tt,
   subst (AllByRecursion (IsKeptOf c.join.new.self)) (sym c.clear.ensures.items) tt,
+  tt,
 )
 
 pub returns : goal.returns

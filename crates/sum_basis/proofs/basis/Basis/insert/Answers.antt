@@ -57,6 +57,7 @@ invariant_of-self c = (
   omega (arith, c.join_held.ensures.n, c.self.invariant.0),
   rw c.take-held.ensures.after tt,
   c.join_held.ensures.kept,
+  c.join_held.ensures.counts,
 )
 
 pub returns-in-Some : goal.returns-in-Some

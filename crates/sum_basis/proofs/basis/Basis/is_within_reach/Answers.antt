@@ -13,8 +13,8 @@ use Rattle.sum_basis.proofs.basis.Basis.is_within_reach.Goals as goal
 pub settle-requires-clause-bits : goal.settle-requires-clause-bits
 settle-requires-clause-bits c = set_bits c.args.rows.now.n c.args.rows.now.list c.write_set.new.row c.write_set.ensures
 
-pub is_within_after-requires-in-Entries-clause-new : goal.is_within_after-requires-in-Entries-clause-new
-is_within_after-requires-in-Entries-clause-new c =
+pub is_within_kept-requires-in-Entries-clause-new : goal.is_within_kept-requires-in-Entries-clause-new
+is_within_kept-requires-in-Entries-clause-new c =
     let left = rw c.in-Entries.is at c.in_ok-settle.ensures.left in
     subst (IsLeftOverOrNone c.self.inside.form) (sym c.deref.ensures.value) (inr (left.0, left.1.zeros))
 
@@ -34,7 +34,7 @@ returns-in-Nothing c =
     let left = rw c.in-Nothing.is at c.in_ok-settle.ensures.left in
     told_by form c.args.self.now c.write_set.new.row c.args.rows.now.n c.args.rows.now.list c.self.view_is c.write_set.ensures c.requires.n
     _ [] c.args.reach c.args.shared.now.list (map (λ (s : Rows). s.list) c.args.apart.now)
-    (λ other grows. by_nothing form c.write_set.new.row other grows c.settle.ensures.form left) c.is_within_after.ensures
+    (λ other grows. by_nothing form c.write_set.new.row other grows c.settle.ensures.form left) c.is_within_kept.ensures
 
 pub returns-in-Large : goal.returns-in-Large
 returns-in-Large c =
@@ -51,4 +51,4 @@ returns-in-Entries c =
     told_by form c.args.self.now c.write_set.new.row c.args.rows.now.n c.args.rows.now.list c.self.view_is c.write_set.ensures c.requires.n
     _ list c.args.reach c.args.shared.now.list (map (λ (s : Rows). s.list) c.args.apart.now)
     (λ other grows. by_list form c.write_set.new.row other grows list (subst (IsNew form.n) (sym c.deref.ensures.value) left.0)
-    (subst (λ l. IsNewRow form c.write_set.new.row (row_of form.n l)) (sym c.deref.ensures.value) left.1)) c.is_within_after-in-Entries.ensures
+    (subst (λ l. IsNewRow form c.write_set.new.row (row_of form.n l)) (sym c.deref.ensures.value) left.1)) c.is_within_kept-in-Entries.ensures

@@ -66,7 +66,7 @@ returns-clause-fits c = λ place role is.
     (map (λ (v : Vec ℤ Global). v.items) (into_iter_items c.loop-place.left))) done
     ∙ append-nil (map cells_kept c.loop-place.columns.items) in
     let P : List Cells → Type 0 = λ cells. HoldsRole role (get_or cells place hidden) in
-    subst P (made ∙ sym (ap (λ (p : PublicView). p.columns) c.of.ensures)) (numbered_fit cs lists place role c.requires.no_texts is)
+    subst P (made ∙ sym (ap (λ (p : PublicView). p.columns) c.of.ensures)) (numbered_fit cs lists place role c.requires.no_texts c.requires.no_counts is)
 
 pub returns-clause-rows : goal.returns-clause-rows
 returns-clause-rows c = ap (λ (p : PublicView). p.rows) c.of.ensures ∙ rw c.as_slice.ensures.value at c.rows_in-rows.ensures

@@ -1,5 +1,4 @@
-use Rattle.std.proofs.Common.{rules, tests, ◌≡◌, true, None, refl, sym, ◌∙◌, subst, arith}
-use Rattle.audit_types.specs.RowLaws.{length-rows}
+use Rattle.std.proofs.Common.{rules, tests, ◌≡◌, true, None, refl, sym, ◌∙◌, subst}
 use Rattle.line_wire.specs.Lines.{text}
 use Rattle.line_wire.specs.Reply.{IsReply}
 use Rattle.line_wire.specs.declared.reply.Reply.{Reply}
@@ -11,10 +10,6 @@ use Rattle.transcript_sim.proofs.expecting.Expected.shown.Goals as goal
 -- replies that compare equal are the same
 same_reply : (a b : Reply) → ghosts.eq a b ≡ true → a ≡ b
 same_reply a b is = search (rules, tests)
-
-pub answer_told-requires-clause-at_most : goal.answer_told-requires-clause-at_most
-answer_told-requires-clause-at_most c =
-    omega (arith, length-rows c.in-Answer.asked.rows.n c.in-Answer.asked.rows.list c.n.ensures.are_rows, c.n.ensures.at_most, c.len.ensures)
 
 pub returns-in-Only : goal.returns-in-Only
 returns-in-Only c =

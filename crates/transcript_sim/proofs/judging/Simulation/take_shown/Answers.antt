@@ -24,7 +24,7 @@ record_follows : (setting : Setting) (history : List Answered) (line : CountedLi
 record_follows setting history line expected None can agrees = tt
 record_follows setting history long expected (Some answered) can agrees = absurd agrees
 record_follows setting history (text line) (Only answer) (Some answered) can agrees = absurd (search rules)
-record_follows setting history (text line) (Answer take asked follows) (Some answered) can agrees =
+record_follows setting history (text line) (Answer take people asked follows) (Some answered) can agrees =
     subst (λ (added : Option Answered). CanFollow setting history (Some (Agrees added))) (sym agrees.added_is) can
 
 module _ {P : Type 0} (source : Ghosts P) (old new : Cutter) (before after : P) (expected : Expected) where

@@ -1,0 +1,20 @@
+#!/bin/sh
+# Has random questions answered over random tables whose rows stand for several people, some of which grow, and compares what the built program
+# replies, keeps, reports, explains, compacts, says of transcripts and of bad files with what the plain program of plain/ does, byte for byte; the
+# demo's scripts have to take reports and certificates. Prints how many of each there were, and ends with 1 if anything differs. It isn't
+# in the gate. Build the program first: demo/run.sh does. The plain one is built here, with cargo.
+#
+#   bench/people.sh [--keys width,askers] [ROUNDS [SEED]]     200 rounds if none is given, from seed 1 on; keys: of width, reach and askers
+#                                                             those that schemas state, none if none is given
+# A sync is free in a folder that is kept in memory.
+[ -d /dev/shm ] && export TMPDIR=/dev/shm
+keys=
+if [ "${1:-}" = --keys ]; then
+    keys=$2
+    shift 2
+fi
+rounds=${1:-200}
+seed=${2:-1}
+. "$(dirname "$0")/setup.sh"
+cargo build --quiet --release --offline --manifest-path "$here/plain/Cargo.toml" || exit 1
+python3 "$here/people.py" "$program" "${CARGO_TARGET_DIR:-$here/plain/target}/release/plain" "$keys" "$rounds" "$seed"
