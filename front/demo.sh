@@ -1,6 +1,6 @@
 #!/bin/sh
-# Makes the table of an office that doesn't exist in a fresh folder, and beside it one whose lines stand for 100,000 people, if such tables are
-# offered by now (preparing/offered.py); starts the door over them, and prints the address to open.
+# Makes the table of an office that doesn't exist in a fresh folder, and beside it one whose rows stand for 100,000 people; starts the door
+# over both, and prints the address to open.
 # Ctrl-C ends it and removes the folder. If no program is given it is built first, which takes the source and the kit; in a package it
 # is the package's own.
 #
@@ -43,15 +43,10 @@ begin() {
 }
 $python "$front/demo_table.py" "$folder/office" || exit 1
 begin office
-AUDITOR=$program $python "$front/demo_people.py" "$folder/people"
-case $? in
-0)  begin people
-    set -- --folder "$folder/{table}" --table office --table people ;;
-3)  set -- --folder "$folder/office" ;;
-*)  exit 1 ;;
-esac
+AUDITOR=$program $python "$front/demo_people.py" "$folder/people" || exit 1
+begin people
 address=127.0.0.1:$port
-$python "$front/door.py" --auditor "$program" "$@" --listen "$address" --report-every 5 &
+$python "$front/door.py" --auditor "$program" --folder "$folder/{table}" --table office --table people --listen "$address" --report-every 5 &
 door=$!
 echo "open http://$address/ and end with Ctrl-C" >&2
 wait "$door"

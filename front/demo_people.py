@@ -3,8 +3,6 @@
 and wage and sick days, which are secret. Some lines stand for thousands of people, some for one.
 
     front/demo_people.py FOLDER
-
-Ends with status 3 and nothing written as long as such tables aren't offered (preparing/offered.py).
 """
 import contextlib
 import csv
@@ -15,9 +13,7 @@ import sys
 import tempfile
 
 import prepare
-from preparing import offered
 
-NOT_OFFERED = 3
 PEOPLE = 100_000
 REGIONS = ["North", "East", "South", "West", "Lakes", "Coast", "Hills", "Islands"]
 SECTORS = ["Care", "Trade", "Building", "Schools", "Offices", "Transport", "Farming", "Hotels", "Software", "Mining", "Law", "Arts"]
@@ -61,6 +57,4 @@ def write(folder, number=PEOPLE):
 if __name__ == "__main__":
     if len(sys.argv) != 2:
         sys.exit("usage: demo_people.py FOLDER")
-    if not offered.LINES_STAND_FOR_PEOPLE:
-        sys.exit(NOT_OFFERED)
     print(write(sys.argv[1]), file=sys.stderr)

@@ -18,6 +18,15 @@
         another number in another row; numbers=later keeps the earlier numbers this time, the others say that what looks wrong is meant
     prepare.py add FILE CHOICES OLD NEW
         writes the folder NEW, with the tables of the folder OLD and the rows of FILE at their end, as auditor grow wants them
+    prepare.py choose CHOICES count=NAME
+        a table of lines: each stands for all people with the same public cells, and the column NAME has how many these are. make and
+        add condense then, in little memory however many people the file has
+    prepare.py sql CHOICES postgresql|duckdb|sqlite|spark [table=NAME]
+        prints the query by which an engine makes the lines of a table of people
+    prepare.py take LINES CHOICES FOLDER
+        writes FOLDER, as make does, of a CSV file of lines that an engine made so
+    prepare.py check FILE CHOICES LINES
+        compares a CSV file of lines, in any order, with the people, and says where they differ
 
 Nothing is guessed silently, nothing secret is rounded, nothing is overwritten, and what isn't made whole isn't there. The
 program itself, auditor in the path or the one that AUDITOR names, reads both folders before they are put into place.
@@ -27,7 +36,6 @@ import os
 import shutil
 import sys
 
-from preparing import offered
 from preparing.adding import add
 from preparing.choosing import choose
 from preparing.comparing import check
@@ -41,17 +49,6 @@ from preparing.taking import take
 from preparing.trying import say_tries
 
 OPTIONS = ("encoding", "separator", "untitled", "sheet")
-LINES = """
-    prepare.py choose CHOICES count=NAME
-        a table of lines: each stands for all people with the same public cells, and the column NAME has how many these are. make and
-        add condense then, in little memory however many people the file has
-    prepare.py sql CHOICES postgresql|duckdb|sqlite|spark [table=NAME]
-        prints the query by which an engine makes the lines of a table of people
-    prepare.py take LINES CHOICES FOLDER
-        writes FOLDER, as make does, of a CSV file of lines that an engine made so
-    prepare.py check FILE CHOICES LINES
-        compares a CSV file of lines, in any order, with the people, and says where they differ
-"""
 
 
 def options_of(words):
@@ -74,32 +71,8 @@ def program():
     return os.path.abspath(found) if found else None
 
 
-def help_words():
-    """What the script does, without what isn't offered yet."""
-    first, last = __doc__.strip().split("\n\nNothing", 1)
-    return first + (LINES.rstrip() if offered.LINES_STAND_FOR_PEOPLE else "") + "\n\nNothing" + last
-
-
-def run_lines(words):
-    """Does what the arguments say of lines that stand for people; whether they say something of it."""
-    match words:
-        case ["sql", choices, dialect]:
-            say_sql(choices, dialect)
-        case ["sql", choices, dialect, table] if table.startswith("table="):
-            say_sql(choices, dialect, table.removeprefix("table="))
-        case ["take", lines, choices, folder]:
-            take(lines, choices, folder, program())
-        case ["check", path, choices, lines]:
-            check(path, choices, lines)
-        case _:
-            return False
-    return True
-
-
 def run(words):
     """Does what the arguments say."""
-    if offered.LINES_STAND_FOR_PEOPLE and run_lines(words):
-        return 0
     match words:
         case ["look", path, *options]:
             look(path, **options_of(options))
@@ -115,10 +88,18 @@ def run(words):
             renew(path, choices, old, new, key.removeprefix("key="), meant, program())
         case ["add", path, choices, old, new]:
             (add_lines if stands_for_people(choices) else add)(path, choices, old, new, program())
+        case ["sql", choices, dialect]:
+            say_sql(choices, dialect)
+        case ["sql", choices, dialect, table] if table.startswith("table="):
+            say_sql(choices, dialect, table.removeprefix("table="))
+        case ["take", lines, choices, folder]:
+            take(lines, choices, folder, program())
+        case ["check", path, choices, lines]:
+            check(path, choices, lines)
         case ["-h" | "--help" | "help"]:
-            print(help_words())
+            print(__doc__.strip())
         case _:
-            print(help_words(), file=sys.stderr)
+            print(__doc__.strip(), file=sys.stderr)
             return 2
     return 0
 

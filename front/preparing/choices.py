@@ -8,7 +8,7 @@ import os
 import re
 import tempfile
 
-from . import limits, offered
+from . import limits
 from .cells import FORMS
 from .coarsening import coarsening_faults
 from .faults import Fault, listed, shown
@@ -57,7 +57,7 @@ SECRET_KEYS = NUMBER_KEYS + ("range",)
 
 def table_keys():
     """The keys of a file of choices, each with the type of its values: one for each limit among them, and the name of the column of counts."""
-    return TABLE_KEYS | dict.fromkeys(limits.LIMITS, int) | ({COUNT: str} if offered.LINES_STAND_FOR_PEOPLE else {})
+    return TABLE_KEYS | dict.fromkeys(limits.LIMITS, int) | {COUNT: str}
 
 
 def read(path):
@@ -71,8 +71,7 @@ def read(path):
         raise Fault(f"{path} isn't JSON: {error}") from None
     if isinstance(choices, dict):
         limits.fill_in(choices)
-        if offered.LINES_STAND_FOR_PEOPLE:
-            choices.setdefault(COUNT, None)
+        choices.setdefault(COUNT, None)
     faults = key_faults(choices, table_keys(), "the file of choices")
     if not faults:
         fill_in_columns(choices["columns"])

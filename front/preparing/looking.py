@@ -5,7 +5,7 @@ import dataclasses
 import pathlib
 
 from . import choices as choosing
-from . import limits, offered, reading
+from . import limits, reading
 from .cells import FORMS, forms_of, unit_of, without_unit
 from .faults import Fault, counted, shown
 from .names import names_of
@@ -36,7 +36,7 @@ class Seen:
 
 def look(path, encoding=None, separator=None, untitled=None, sheet=None):
     """Prints what the file is and each of its columns, and writes FILE.choices.json beside it."""
-    streamed = offered.LINES_STAND_FOR_PEOPLE and sheet is None and pathlib.Path(path).stat().st_size > reading.MOST_BYTES
+    streamed = sheet is None and pathlib.Path(path).stat().st_size > reading.MOST_BYTES
     data = first_piece(path) if streamed else load(path)
     out = pathlib.Path(path).with_suffix(".choices.json")
     if out.exists():
@@ -59,8 +59,7 @@ def look(path, encoding=None, separator=None, untitled=None, sheet=None):
         "columns": columns,
     }
     limits.fill_in(choices)
-    if offered.LINES_STAND_FOR_PEOPLE:
-        choices[choosing.COUNT] = None
+    choices[choosing.COUNT] = None
     choosing.write(out, choices, fresh=True)
     say_next(out, choices)
 
@@ -106,11 +105,10 @@ def say_seen(seen):
 
 def say_too_long(names, columns):
     """What can be done with more people than a table has rows."""
-    if offered.LINES_STAND_FOR_PEOPLE:
-        print(
-            f"a table has at most {MOST_ROWS:,} lines. With count=people a line stands for all people with the same public cells; prepare.py"
-            " lines says how many there would be, and what coarser choices give"
-        )
+    print(
+        f"a table has at most {MOST_ROWS:,} lines. With count=people a line stands for all people with the same public cells; prepare.py"
+        " lines says how many there would be, and what coarser choices give"
+    )
     if columns is not None:
         say_splits(names, columns)
 

@@ -7,7 +7,6 @@ import collections
 import dataclasses
 import itertools
 
-from . import offered
 from .faults import Fault, counted, listed, shown
 from .names import free, plain
 
@@ -16,7 +15,7 @@ FEWEST_ROWS_A_PART = 20
 SMALL_PART = 3
 MOST_TRIED = 30
 NO_SPLIT = (
-    "Leave out rows in the file itself, or add a column to it that numbers the rows from 1 to 20, or as many parts as it takes, again and again, and"
+    "Or leave out rows in the file itself, or add a column to it that numbers the rows from 1 to 20, or as many parts as it takes, again and again, and"
     " split by that"
 )
 
@@ -88,20 +87,16 @@ def parts(rows, by, public):
 
 
 def need_split(rows, public):
-    """A Fault for too many rows: by what they can be cut, or that they can't be."""
-    if offered.LINES_STAND_FOR_PEOPLE:
-        raise Fault(
-            f"{len(rows):,} rows are left, and a table has at most {MOST_ROWS:,}: choose count=people, so that a line stands for all people with"
-            ' the same public cells, or "split by"'
-        )
+    """A Fault for too many rows: that people who are alike may share one, and by what the rows can be cut, or that they can't be."""
+    alike = "choose count=people, so that one stands for all people with the same public cells"
     columns = [[row[name] for row in rows] for name in public]
     if not splits(public, columns):
         raise Fault(
             f"{len(rows):,} rows are left, a table has at most {MOST_ROWS:,}, and no public column, nor two together, cuts them into parts of"
-            f" {FEWEST_ROWS_A_PART} to {MOST_ROWS:,}. {NO_SPLIT}"
+            f" {FEWEST_ROWS_A_PART} to {MOST_ROWS:,}: {alike}. {NO_SPLIT}"
         )
     say_splits(public, columns)
-    raise Fault(f'{len(rows):,} rows are left, and a table has at most {MOST_ROWS:,}: choose "split by"')
+    raise Fault(f'{len(rows):,} rows are left, and a table has at most {MOST_ROWS:,}: {alike}, or "split by"')
 
 
 def values_words(by, values):

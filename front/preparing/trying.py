@@ -8,7 +8,6 @@ import collections
 import itertools
 
 from . import choices as choosing
-from . import offered
 from .choices import OPEN
 from .choosing import follow, name_by_steps
 from .coarsening import read_bands
@@ -126,6 +125,5 @@ def str_of(cell):
 def say_next():
     """What the table is for."""
     print("Whoever is alone in her public cells can be found by them, though not her secret numbers.")
-    if offered.LINES_STAND_FOR_PEOPLE:
-        print(f"With count=people each combination is a line, and a table has at most {MOST_ROWS:,}.")
+    print(f"With count=people each combination is a line, and a table has at most {MOST_ROWS:,}.")
     print("Try choices together as further arguments, as prepare.py lines FILE CHOICES age.bands=10; prepare.py choose writes them down.")

@@ -1,4 +1,4 @@
-"""Tests of lines that stand for people, with the switch on that offers them, and a plain count of what each line has to be."""
+"""Tests of lines that stand for people, and a plain count of what each line has to be."""
 
 import csv
 import io
@@ -13,7 +13,6 @@ CHOSEN = ("protect=none", "range=none", "width=none", "reach=none", "count=peopl
 class LinesTest(TableTest):
     def setUp(self):
         super().setUp()
-        self.enterContext(mock.patch("preparing.offered.LINES_STAND_FOR_PEOPLE", True))
         self.enterContext(mock.patch.dict(os.environ, {"PATH": ""}))
         os.environ.pop("AUDITOR", None)
 

@@ -1,17 +1,13 @@
-"""The table of the demo whose lines stand for people, with the switch on that offers it. AUDITOR=.. /usr/bin/python3 -m unittest test_demo_people"""
+"""The table of the demo whose lines stand for people. AUDITOR=.. /usr/bin/python3 -m unittest test_demo_people"""
 
 import collections
 import csv
 import json
-import subprocess
-import sys
 import unittest
 
 from lines_kit import LinesTest
-from table_kit import FRONT
 
 import demo_people
-from preparing import offered
 
 
 class DemoPeople(LinesTest):
@@ -36,11 +32,6 @@ class DemoPeople(LinesTest):
         self.assertEqual((self.out / "public/table.csv").read_text().splitlines()[0], "region,sector,age_from,people")
         self.assertEqual((self.out / "public/schema.json").read_bytes(), (self.out / "schema.json").read_bytes())
         self.assertEqual(json.loads((self.out / "public/notes.json").read_text())["columns"]["age_from"], {"title": "age, in bands of 10"})
-
-    @unittest.skipIf(offered.LINES_STAND_FOR_PEOPLE, "it is offered by now")
-    def test_nothing_is_written_as_long_as_it_isnt_offered(self):
-        run = subprocess.run([sys.executable, FRONT / "demo_people.py", self.out], capture_output=True)
-        self.assertEqual((run.returncode, run.stdout, run.stderr, self.out.exists()), (3, b"", b"", False))
 
 
 if __name__ == "__main__":

@@ -30,12 +30,10 @@ KINDS = ("dept=text", "age=number", "pay=sum", "best=max", "least=min")
 LINES = "dept,age,people,pay,best,least\nDEV,30,2,300,3,9\nQA,30,3,300,9,-8\nQA,41,1,205,8,5\n"
 
 
-# prepare.py with the switch on, and then how much memory it took at most, in kilobytes.
+# prepare.py, and then how much memory it took at most, in kilobytes.
 MEASURED = f"""
 import resource, sys
 sys.path.insert(0, {str(FRONT)!r})
-from preparing import offered
-offered.LINES_STAND_FOR_PEOPLE = True
 import prepare
 status = prepare.main(sys.argv[1:])
 print(resource.getrusage(resource.RUSAGE_SELF).ru_maxrss)
@@ -605,22 +603,8 @@ class Trying(LinesTest):
         self.assertIn("no column is called 'old'", self.lines("old.bands=10")[1])
 
 
-class NotYet(TableTest):
-    """What isn't offered isn't there: with the switch as it stands."""
-
-    def test_the_commands_and_the_key_are_unknown(self):
-        from preparing import offered
-        if offered.LINES_STAND_FOR_PEOPLE:
-            self.skipTest("it is offered by now")
-        self.look(STAFF)
-        self.assertNotIn("count", self.chosen())
-        self.assertIn("no column is called 'count'", self.choose("count=people")[1])
-        for words in (("sql", self.choices, "sqlite"), ("take", self.file, self.choices, self.out), ("check", self.file, self.choices, self.file)):
-            self.assertEqual(self.prepare(*words)[0], 2)
-        self.assertNotIn("sql", self.prepare("--help")[1])
-        choices = self.chosen()
-        self.choices.write_text(json.dumps({**choices, "count": "people"}))
-        self.assertIn("has a key 'count', which means nothing", self.prepare("make", self.file, self.choices, self.out)[1])
+class WithRows(TableTest):
+    """A table of rows, each of one person."""
 
     def test_combinations_are_shown_of_rows_too(self):
         self.look(STAFF)
