@@ -27,13 +27,13 @@ CRATES = {
     "lives": ("audit_types", "audit_core", "audit_session", "twin_journal", "auditor_top"),
 }
 MOST = {
-    "disclosure": 103,
-    "decision": 110,
+    "disclosure": 102,
+    "decision": 107,
     "lines and conditions": 393,
-    "formats of files": 234,
-    "journal and crash": 95,
-    "lives": 299,
-    "the promise": 1228,
+    "formats of files": 226,
+    "journal and crash": 92,
+    "lives": 310,
+    "the promise": 1230,
 }
 
 IMPORT = re.compile(r"(?:ghost )?use (?:Rattle\.)?([\w.]+?)(?:\.\{(.*)\}| as (\w+));?$")

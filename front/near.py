@@ -12,6 +12,10 @@ shown. Of a column of maxima a number may be anything up to the one that the rep
 all rows. This is whole numbers alone. Printed are the rows, counted from 0, of which nothing shows another number that
 differs by the share, in per cent.
 
+Where rows stand for several people, as the column that is count in the schema.json beside TABLE says, the numbers of rows of
+one person alone are guarded and shown; the others are named. LOW and HIGH are of each person then: the total of three
+people lies between three times LOW and three times HIGH.
+
 With --search those rows are looked at again. Changes with large numbers are made shorter first, each less as many times
 another one as leaves the smallest numbers; each is tried alone, and then all of them together, by linear programs
 (Debian's python3-scipy). What these find is added up again in whole numbers, so it needs no trust; what they don't find
@@ -27,9 +31,9 @@ import argparse
 import sys
 import time
 
-from nearing.columns import Sums, ends_of, read_column
+from nearing.columns import Sums, ends_of, read_column, single_rows
 from nearing.ranges import Range, for_each, is_open, need_inside, shown_by
-from preparing.faults import Fault, counted, os_words
+from preparing.faults import Fault, counted, first_numbers, os_words
 
 EVERY = 5  # seconds between two lines on how far the search is
 
@@ -75,24 +79,33 @@ def look(chosen):
     """Prints what is shown, and says whether every number is open by the share."""
     column = read_column(chosen.report, chosen.table, chosen.column)
     known = list(map(Range, *(ends(word, chosen, len(column.numbers)) for word in (chosen.low, chosen.high))))
+    if column.people and isinstance(column, Sums):
+        known = [own.of_total(people) for own, people in zip(known, column.people)]
     need_inside(column.numbers, known)
-    shown = shown_by(column, known)
+    shown, single = shown_by(column, known), single_rows(column.numbers, column.people)
     near = near_rows(column, shown, chosen.share)
     print(
-        f"{chosen.column}: {counted(len(shown), 'number')}, of which {len(shown) - len(near):,} are shown to be open by"
+        f"{chosen.column}: {counted(len(single), 'number')}, of which {len(single) - len(near):,} are shown to be open by"
         f" {chosen.share} % or more by the report's lines alone"
     )
+    say_others(sorted(set(range(len(shown))) - set(single)))
     if chosen.search and near and isinstance(column, Sums):
         search(column, known, shown, near, chosen.share)
         near = near_rows(column, shown, chosen.share)
-        print(f"searched besides: {len(shown) - len(near):,} are shown to be open by {chosen.share} % or more")
+        print(f"searched besides: {len(single) - len(near):,} are shown to be open by {chosen.share} % or more")
     for row in near:
         print(f"row {row}: {column.numbers[row]:,}, {shown_words(column.numbers[row], shown[row])}")
     return not near
 
 
+def say_others(several):
+    """Names the rows whose numbers aren't guarded, if there are any."""
+    if several:
+        print(f"{counted(len(several), 'row')} of several people, whose numbers aren't guarded: {first_numbers(several)}")
+
+
 def near_rows(column, shown, share):
-    return [row for row, number in enumerate(column.numbers) if not is_open(number, shown[row], share)]
+    return [row for row in single_rows(column.numbers, column.people) if not is_open(column.numbers[row], shown[row], share)]
 
 
 def search(column, known, shown, rows, share):

@@ -12,10 +12,12 @@ LONGEST_CELL = 2**24
 
 @dataclasses.dataclass(frozen=True)
 class Sums:
-    """A column of sums: its numbers, and for each row the change that the report prints, as numbers by row."""
+    """A column of sums: its numbers, and for each row the change that the report prints, as numbers by row; None for a row of several people.
+    `people` has how many each row stands for, or is None where each stands for one."""
 
     numbers: list
     changes: list
+    people: list = None
 
 
 @dataclasses.dataclass(frozen=True)
@@ -24,6 +26,7 @@ class Maxima:
 
     numbers: list
     highest: list
+    people: list = None
 
 
 @dataclasses.dataclass(frozen=True)
@@ -32,24 +35,47 @@ class Minima:
 
     numbers: list
     lowest: list
+    people: list = None
+
+
+def single_rows(numbers, people):
+    """The rows of one person, whose numbers alone are guarded."""
+    return [row for row in range(len(numbers)) if people is None or people[row] == 1]
 
 
 def read_column(report_path, table_path, name):
     """The column of this name, as Sums, Maxima or Minima."""
-    numbers = numbers_of(table_path, name)
-    lines = [line for line in report_lines(report_path) if line.get("column") == name]
+    numbers, report = numbers_of(table_path, name), report_lines(report_path)
+    people = people_of(report[-1]["people"], report_path, table_path) if "people" in report[-1] else None
+    lines = [line for line in report if line.get("column") == name]
     highs = [line["high"] for line in lines if "high" in line]
     if highs:
         need(len(lines) == 1 and are_numbers(highs[0], len(numbers)), report_path, name)
         need(all(number <= highest or highest == 0 for number, highest in zip(numbers, highs[0])), report_path, name)
-        return Maxima(numbers, highs[0])
+        return Maxima(numbers, highs[0], people)
     lows = [line["low"] for line in lines if "low" in line]
     if lows:
         need(len(lines) == 1 and are_numbers(lows[0], len(numbers)), report_path, name)
         need(all(number >= lowest or lowest == 0 for number, lowest in zip(numbers, lows[0])), report_path, name)
-        return Minima(numbers, lows[0])
-    need(len(lines) == len(numbers), report_path, name)
-    return Sums(numbers, [change_of(line, row, len(numbers), report_path, name) for row, line in enumerate(lines)])
+        return Minima(numbers, lows[0], people)
+    single, changes = single_rows(numbers, people), [None] * len(numbers)
+    need(len(lines) == len(single), report_path, name)
+    for row, line in zip(single, lines):
+        changes[row] = change_of(line, row, len(numbers), report_path, name)
+    return Sums(numbers, changes, people)
+
+
+def people_of(told, report_path, table_path):
+    """How many people each row stands for, by the column that the schema beside the table says; all of them have to be as many as the report tells."""
+    schema = pathlib.Path(table_path).with_name("schema.json")
+    try:
+        name = next(column["name"] for column in json.loads(schema.read_text(encoding="utf-8"))["columns"] if column["is"] == "count")
+    except (OSError, ValueError, KeyError, TypeError, StopIteration):
+        raise Fault(f"{report_path} is of rows of several people, and {schema} names no column with how many: put the table's schema.json there") from None
+    people = numbers_of(table_path, name)
+    if sum(people) != told or min(people) < 1:
+        raise Fault(f"{report_path} isn't of this table: it is of {told:,} people, and {table_path} has {sum(people):,}")
+    return people
 
 
 def need(holds, report_path, name):

@@ -24,6 +24,10 @@ class Range(NamedTuple):
         end = self.high if step > 0 else self.low
         return None if end is None else abs(end - number)
 
+    def of_total(self, people):
+        """The range of what so many people come to, each of them in this one."""
+        return Range(*(None if end is None else people * end for end in self))
+
 
 def for_each(known, rows):
     """The same range for each of so many rows."""
@@ -44,14 +48,15 @@ def times(change, numbers, known):
 
 
 def shown_by(column, known):
-    """For each row the range in which its number is shown to be open: other tables with the same answers have both ends. `known` has each row's."""
+    """For each row the range in which its number is shown to be open: other tables with the same answers have both ends. `known` has each row's.
+    What stands there for a row of several people of a column of maxima or minima means nothing, and of one of sums it is None."""
     if isinstance(column, Maxima):
         need_one_high_end(known)
         return [shown_of_maximum(*one) for one in zip(column.numbers, column.highest, known)]
     if isinstance(column, Minima):
         need_one_low_end(known)
         return [shown_of_minimum(*one) for one in zip(column.numbers, column.lowest, known)]
-    return [shown_of_change(row, change, column.numbers, known) for row, change in enumerate(column.changes)]
+    return [change and shown_of_change(row, change, column.numbers, known) for row, change in enumerate(column.changes)]
 
 
 def shown_of_change(row, change, numbers, known):

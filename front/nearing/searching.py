@@ -29,7 +29,7 @@ class Search:
 
     def __init__(self, column, known):
         self.numbers, self.known = column.numbers, known
-        different = {upright(change): change for change in column.changes}
+        different = {upright(change): change for change in column.changes if change}
         self.tried, self.shorter = shortened(list(different.values()))
         self.changes = [change for change in self.tried if greatest(change) < GREATEST_ENTRY and self.may_fit(change)]
         entries = [(step, row, place) for place, change in enumerate(self.changes) for row, step in change.items()]

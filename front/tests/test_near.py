@@ -54,6 +54,48 @@ class NearTest(unittest.TestCase):
         return said_by(near.main, [self.report, self.table, "v", *words])
 
 
+class OfSeveralPeople(NearTest):
+    """Rows 0 and 2 of one person, row 1 of three, after the sums over rows 0 and 1 and over rows 1 and 2, or after maxima."""
+
+    def people(self, numbers, kind, lines, people=5):
+        self.write(numbers, lines)
+        text = "".join(f"{row},{count},{number}\n" for row, (count, number) in enumerate(zip([1, 3, 1], numbers)))
+        self.table.write_text("id,people,v\n" + text)
+        columns = [{"name": name, "is": what} for name, what in (("id", "number"), ("people", "count"), ("v", kind))]
+        (self.folder / "schema.json").write_text(json.dumps({"columns": columns}))
+        self.report.write_text("".join(json.dumps(line) + "\n" for line in [*lines, {"audited": 2, "columns": 1, "rows": 3, "people": people}]))
+
+    def sums_of(self, numbers, **more):
+        change = [[0, 1], [1, -1], [2, 1]]
+        self.people(numbers, "sum", [{"column": "v", "row": row, "direction": change} for row in (0, 2)], **more)
+
+    def test_a_range_is_each_persons_and_rows_of_several_are_named(self):
+        self.sums_of([100, 620, 150])
+        # Three people come to 630 at most: taken off ten times, and added 60 times, when row 2 has 210.
+        self.assertEqual(self.near(0, 210, "--share", 41), (1, (
+            "v: 2 numbers, of which 1 are shown to be open by 41 % or more by the report's lines alone\n"
+            "1 row of several people, whose numbers aren't guarded: 1\nrow 2: 150, shown only from 140 to 210\n")))
+        self.assertEqual(self.near(0, 210, "--share", 40)[0], 0)
+        self.assertEqual(self.near(0, 206, "--share", 40)[0], 2)
+
+    def test_a_search_shows_the_same(self):
+        self.sums_of([100, 620, 150])
+        self.assertIn("row 2: 150, shown only from 140 to 210", self.near(0, 210, "--share", 41, "--search")[1])
+
+    def test_of_maxima_the_rows_of_one_person_are_shown(self):
+        self.people([5, 9, 9], "max", [{"column": "v", "high": [9, 9, 9]}])
+        self.assertEqual(self.near(0, 20, "--share", 81), (0, (
+            "v: 2 numbers, of which 2 are shown to be open by 81 % or more by the report's lines alone\n"
+            "1 row of several people, whose numbers aren't guarded: 1\n")))
+
+    def test_without_the_schema_or_of_another_table_it_is_said(self):
+        self.sums_of([100, 620, 150], people=6)
+        self.assertIn("isn't of this table: it is of 6 people", self.near(0, 210)[1])
+        self.sums_of([100, 620, 150])
+        (self.folder / "schema.json").unlink()
+        self.assertIn("names no column with how many", self.near(0, 210)[1])
+
+
 class Shown(NearTest):
     def test_a_change_is_added_as_often_as_it_fits(self):
         self.sums(SALARIES, CHANGES)
