@@ -1,6 +1,6 @@
 #!/usr/bin/python3
-"""Writes a table whose lines stand for 100,000 people who don't exist, for front/demo.sh: region, sector and age in bands of ten, which are public,
-and wage and sick days, which are secret. Some lines stand for thousands of people, some for one.
+"""Writes a table whose rows stand for 100,000 people who don't exist, for front/demo.sh: region, sector and age in bands of ten, which are public,
+and wage and sick days, which are secret. Some rows stand for thousands of people, some for one.
 
     front/demo_people.py FOLDER
 """

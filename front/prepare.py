@@ -19,14 +19,14 @@
     prepare.py add FILE CHOICES OLD NEW
         writes the folder NEW, with the tables of the folder OLD and the rows of FILE at their end, as auditor grow wants them
     prepare.py choose CHOICES count=NAME
-        a table of lines: each stands for all people with the same public cells, and the column NAME has how many these are. make and
-        add condense then, in little memory however many people the file has
+        rows that stand for all people with the same public cells, and a column NAME with how many these are. make and add condense
+        then, in little memory however many people the file has
     prepare.py sql CHOICES postgresql|duckdb|sqlite|spark [table=NAME]
-        prints the query by which an engine makes the lines of a table of people
-    prepare.py take LINES CHOICES FOLDER
-        writes FOLDER, as make does, of a CSV file of lines that an engine made so
-    prepare.py check FILE CHOICES LINES
-        compares a CSV file of lines, in any order, with the people, and says where they differ
+        prints the query by which an engine makes such rows of a table of people
+    prepare.py take TABLE CHOICES FOLDER
+        writes FOLDER, as make does, of a CSV file of rows that an engine made so
+    prepare.py check FILE CHOICES TABLE
+        compares a CSV file of such rows, in any order, with the people, and says where they differ
 
 Nothing is guessed silently, nothing secret is rounded, nothing is overwritten, and what isn't made whole isn't there. The
 program itself, auditor in the path or the one that AUDITOR names, reads both folders before they are put into place.

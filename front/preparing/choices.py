@@ -156,7 +156,7 @@ def table_faults(choices):
     if choices["wave"] not in (None, 1):
         faults.append(f"\"wave\" can't be {choices['wave']}: it is 1, or null for no such column")
     if choices.get(COUNT) is not None and not is_name(choices[COUNT]):
-        faults.append(f'"count" can\'t be {shown(choices[COUNT])}: it is the name of the column with how many people a line stands for, or null')
+        faults.append(f'"count" can\'t be {shown(choices[COUNT])}: it is the name of the column with how many people a row stands for, or null')
     public = [column["name"] for column in choices["columns"] if column["is"] in PUBLIC]
     faults += [
         f'"split by" can\'t be {shown(name)}: it has to be the name of a public column'

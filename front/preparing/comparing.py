@@ -22,7 +22,7 @@ def check(path, choices_path, lines_path):
     choices = choosing.read(choices_path)
     choosing.need_decided(choices)
     if choices.get(COUNT) is None:
-        raise Fault("no column of counts is chosen: a line stands for one person then, and there is nothing to compare")
+        raise Fault("no column of counts is chosen: a row stands for one person then, and there is nothing to compare")
     columns = columns_to_write(choices)
     need_columns(columns)
     lines = read_lines(lines_path, columns)
@@ -33,7 +33,7 @@ def check(path, choices_path, lines_path):
         raise Fault(f"{lines_path} isn't what the people of {path} give:\n{listed(faults)}")
     print(f"{sizes_words([line.people for line in condenser.lines.values()])}: they are those of the {condenser.people():,} people of {path}")
     if condenser.dropped.number:
-        print(f"in no line, for what they lack: {counted(condenser.dropped.number, 'row')} of {path}")
+        print(f"in no row, for what they lack: {counted(condenser.dropped.number, 'row')} of {path}")
 
 
 def due_of(line, columns):
@@ -94,4 +94,4 @@ def differences(lines, due, columns):
             faults += [f"line {place:,}, {words}: {name} is {is_now:,}, and should be {number:,}" for name, is_now, number in told]
         seen.setdefault(cells, place)
     missing = {cells: told[others.index(count_of(columns))] for cells, told in due.items() if cells not in seen}
-    return faults + [f"no line has {cells_words(names, cells)}, and {people_words(number)} should be in it" for cells, number in missing.items()]
+    return faults + [f"no row has {cells_words(names, cells)}, and {people_words(number)} should be in it" for cells, number in missing.items()]

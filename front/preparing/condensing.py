@@ -226,4 +226,4 @@ def people_words(number):
 def sizes_words(sizes):
     """How many lines there are of one, two, three or more people, of the numbers of people of each."""
     ones, twos = sum(size == 1 for size in sizes), sum(size == 2 for size in sizes)
-    return f"{counted(len(sizes), 'line')}: {ones:,} of one person, {twos:,} of two, {len(sizes) - ones - twos:,} of three or more"
+    return f"{counted(len(sizes), 'row')}: {ones:,} of one person, {twos:,} of two, {len(sizes) - ones - twos:,} of three or more"

@@ -31,7 +31,7 @@ def need_one_table(choices):
     if choices["split by"]:
         raise Fault('a table with a key isn\'t split: export each part into a file of its own, with "split by" none')
     if choices.get(COUNT) is not None:
-        raise Fault("a table whose lines stand for several people has no key: choose count=none")
+        raise Fault("a table whose rows stand for several people has no key: choose count=none")
     if choices["wave"] is not None:
         raise Fault('a table with a key has no wave, since current says who is there: choose wave=none')
 

@@ -56,7 +56,7 @@ def write_lines(rows, choices, columns, folder, program, say_first):
     say_first()
     say_lines(rows, columns)
     say_names(choices)
-    print("lines: in the order of their public cells")
+    print("rows: in the order of their public cells")
     say_limits(limits)
     say_parts(tables)
     say_totals(totals, columns, tables)
@@ -77,7 +77,7 @@ def add_lines(path, choices_path, old, new, program):
     wave_words = number_waves(before, added)
     rows = before + added
     if len(rows) > MOST_ROWS:
-        raise Fault(f"there would be {counted(len(rows), 'line')}, {len(added):,} of them of newcomers, and a table has at most {MOST_ROWS:,}")
+        raise Fault(f"there would be {counted(len(rows), 'row')}, {len(added):,} of them of newcomers, and a table has at most {MOST_ROWS:,}")
     need_apart(rows, columns)
     need_totals(schema.get("protect", []), columns)
     with put_into_place(new) as beside:
@@ -142,7 +142,7 @@ def cut(rows, choices, columns):
     """The lines as one table, or in the parts that were chosen. Too many are a Fault that says how they become fewer."""
     if not choices["split by"] and len(rows) > MOST_ROWS:
         raise Fault(
-            f"there are {counted(len(rows), 'line')}, and a table has at most {MOST_ROWS:,}: prepare.py lines shows what bands, joined values and"
+            f"there are {counted(len(rows), 'row')}, and a table has at most {MOST_ROWS:,}: prepare.py lines shows what bands, joined values and"
             ' columns that are left out would give. If nothing coarser will do, choose "split by"'
         )
     return parts(rows, choices["split by"], [column.name for column in columns if column.kind in PUBLIC])
@@ -174,7 +174,7 @@ def say_condensed(choices, columns, condenser):
     """A line for each column of the file, and for the people who aren't in any line."""
     for chosen in choices["columns"]:
         print(f"{shown(chosen['from'])}: {column_words(chosen, columns, condenser.changes)}{told_words(chosen)}")
-    print(f"{choices[COUNT]}: count, how many people a line stands for")
+    print(f"{choices[COUNT]}: count, how many people a row stands for")
     if condenser.empty:
         print(f"passed over: {counted(condenser.empty, 'line')} with nothing in it")
     dropped = condenser.dropped
@@ -189,7 +189,7 @@ def say_condensed(choices, columns, condenser):
 
 def told_words(chosen):
     """What a line has of a secret column."""
-    return {"sum": ", of each line the total", "max": ", of each line the greatest", "min": ", of each line the least"}.get(chosen["is"], "")
+    return {"sum": ", of each row the total", "max": ", of each row the greatest", "min": ", of each row the least"}.get(chosen["is"], "")
 
 
 def say_lines(rows, columns):
@@ -197,7 +197,7 @@ def say_lines(rows, columns):
     count = count_of(columns)
     sizes = [row[count] for row in rows]
     print(f"{sum(sizes):,} people in {sizes_words(sizes)}")
-    print("A line of one person is protected as a row is. What is told of a line of several people fixes nobody's number")
+    print("A row of one person is protected. What is told of a row of several people fixes nobody's number")
 
 
 def say_joined_cells(before, added, columns):
@@ -206,7 +206,7 @@ def say_joined_cells(before, added, columns):
     old = {tuple(row[name] for name in names) for row in before}
     again = sum(tuple(row[name] for name in names) in old for row in added)
     if again:
-        print(f"{counted(again, 'line')} of newcomers: the public cells are those of an old line, which goes on standing for whom it stood for")
+        print(f"{counted(again, 'row')} of newcomers: the public cells are those of an old row, which goes on standing for whom it stood for")
 
 
 def say_of_own(rows, columns, limits):
@@ -215,7 +215,7 @@ def say_of_own(rows, columns, limits):
     secret = [column for column in columns if column.kind in SECRET]
     if not own or not secret:
         return
-    print(f"Of the {counted(len(own), 'line')} of one person, counted in table.csv with its header as row 1:")
+    print(f"Of the {counted(len(own), 'row')} of one person, counted in table.csv with its header as row 1:")
     lines, public = [row for _, row in own], [column.name for column in columns if column.kind in PUBLIC]
     names = [column.name for column in secret]
     for name in names:

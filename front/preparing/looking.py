@@ -106,7 +106,7 @@ def say_seen(seen):
 def say_too_long(names, columns):
     """What can be done with more people than a table has rows."""
     print(
-        f"a table has at most {MOST_ROWS:,} lines. With count=people a line stands for all people with the same public cells; prepare.py"
+        f"a table has at most {MOST_ROWS:,} rows. With count=people a row stands for all people with the same public cells; prepare.py"
         " lines says how many there would be, and what coarser choices give"
     )
     if columns is not None:

@@ -30,7 +30,7 @@ def take(path, choices_path, folder, program):
     rows = rows_taken(path, columns)
     own = own_lines(rows, columns)
     need_ranges([row for _, row in own], [column for column in columns if column.kind in SECRET], [place for place, _ in own])
-    write_lines(rows, choices, columns, folder, program, lambda: print(f"{choices[COUNT]}: count, how many people a line stands for, as {path} says"))
+    write_lines(rows, choices, columns, folder, program, lambda: print(f"{choices[COUNT]}: count, how many people a row stands for, as {path} says"))
     say_readers(path)
     say_next(folder, choices)
 
@@ -46,12 +46,12 @@ def rows_taken(path, columns):
         if row.get("wave", 1) != 1:
             raise Fault(f"{path}, line {place:,}: it is of wave {row['wave']}, and a first table has wave 1 alone")
         if not 1 <= row[count] <= MOST_SIZE:
-            raise Fault(f"{path}, line {place:,}: {count} is {row[count]:,}, and a line stands for 1 to {MOST_SIZE:,} people")
+            raise Fault(f"{path}, line {place:,}: {count} is {row[count]:,}, and a row stands for 1 to {MOST_SIZE:,} people")
         beyond = next((column.name for column in columns if column.kind != "text" and abs(row[column.name]) > MOST_SIZE), None)
         if beyond:
             raise Fault(f"{path}, line {place:,}: {beyond} is beyond {MOST_SIZE:,}: keep fewer decimals, or larger units")
         seen[cells] = place
         rows.append(row)
     if not rows:
-        raise Fault(f"{path} has a header and no line")
+        raise Fault(f"{path} has a header and no row")
     return sorted(rows, key=lambda row: [row[name] for name in names])

@@ -125,5 +125,5 @@ def str_of(cell):
 def say_next():
     """What the table is for."""
     print("Whoever is alone in her public cells can be found by them, though not her secret numbers.")
-    print(f"With count=people each combination is a line, and a table has at most {MOST_ROWS:,}.")
+    print(f"With count=people each combination is a row, and a table has at most {MOST_ROWS:,}.")
     print("Try choices together as further arguments, as prepare.py lines FILE CHOICES age.bands=10; prepare.py choose writes them down.")

@@ -185,7 +185,7 @@ def complaint_words(folder, status, said):
     if "only" in schema and status == 3:
         return '. This auditor may be older than the key "only", which keeps questions to those who are there: take a newer one'
     if any(column["is"] == COUNT for column in schema["columns"]) and status == 3:
-        return ". This auditor may be older than lines that stand for several people: choose count=none, or take a newer one"
+        return ". This auditor may be older than rows that stand for several people: choose count=none, or take a newer one"
     newer = [("protected totals", "protect=none")] * bool(groups) + [(f"a {key}", f"{key}=none") for key in LIMITS if key in schema]
     if newer and status == 3:
         what, instead = (" or ".join(words) for words in zip(*newer))

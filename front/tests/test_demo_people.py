@@ -1,4 +1,4 @@
-"""The table of the demo whose lines stand for people. AUDITOR=.. /usr/bin/python3 -m unittest test_demo_people"""
+"""The table of the demo whose rows stand for people. AUDITOR=.. /usr/bin/python3 -m unittest test_demo_people"""
 
 import collections
 import csv
@@ -18,7 +18,7 @@ class DemoPeople(LinesTest):
             lines = list(csv.DictReader(file))
         self.assertEqual({(line["region"], line["sector"], int(line["age_from"])): int(line["people"]) for line in lines}, due)
         self.assertEqual(sum(int(line["wage"]) for line in lines), sum(row[3] for row in everyone))
-        self.assertRegex(said, r"^20,000 people in \d+ lines: \d+ of one person")
+        self.assertRegex(said, r"^20,000 people in \d+ rows: \d+ of one person")
         self.assertIn(1, due.values())
 
     def test_all_of_them_fit_and_some_are_alone(self):

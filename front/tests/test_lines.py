@@ -72,9 +72,9 @@ class Making(LinesTest):
         for where in (self.out, self.out / "public"):
             self.assertEqual(json.loads((where / "schema.json").read_text()), {"columns": due})
         self.assertEqual(stat.S_IMODE((self.out / "table.csv").stat().st_mode), 0o600)
-        self.assertIn("6 people in 3 lines: 1 of one person, 1 of two, 1 of three or more\n", said)
-        self.assertIn("'best': secret max, of each line the greatest", said)
-        self.assertIn("people: count, how many people a line stands for", said)
+        self.assertIn("6 people in 3 rows: 1 of one person, 1 of two, 1 of three or more\n", said)
+        self.assertIn("'best': secret max, of each row the greatest", said)
+        self.assertIn("people: count, how many people a row stands for", said)
 
     def test_drawn_people_are_counted_as_in_another_way(self):
         for seed in range(5):
@@ -143,7 +143,7 @@ class Making(LinesTest):
     def test_splitting_is_for_what_condensing_cant_do(self):
         rows = drawn(6000, values=(4, 8, 60))
         said = self.not_condensed(text_of(rows), *DRAWN_KINDS)
-        self.assertIn(f"there are {len(plain_lines(rows)) - 1:,} lines, and a table has at most 1,024: prepare.py lines shows", said)
+        self.assertIn(f"there are {len(plain_lines(rows)) - 1:,} rows, and a table has at most 1,024: prepare.py lines shows", said)
         self.choose("split by=region")
         self.assertEqual(self.make()[0], 0)
         parts = [self.out / f"r{number}" for number in range(4)]
@@ -175,7 +175,7 @@ class Making(LinesTest):
     def test_what_is_pointed_out_is_of_lines_of_one_person(self):
         rows = [[f"d{k // 2}", 50_000 + k] for k in range(0, 40)] + [[f"one{k}", k + 1] for k in range(3)]
         said = self.condensed(text_of([["dept", "pay"], *rows]), "dept=text", "pay=sum")
-        self.assertIn("Of the 3 lines of one person, counted in table.csv with its header as row 1:", said)
+        self.assertIn("Of the 3 rows of one person, counted in table.csv with its header as row 1:", said)
         self.assertIn("CAREFUL: pay is always one of 1, 2, 3", said)
         self.assertNotIn("50,00", said)
 
@@ -188,7 +188,7 @@ class Making(LinesTest):
         with mock.patch.dict(os.environ, {"AUDITOR": str(program), "PATH": os.defpath}):
             status, said = self.make()
         self.assertEqual((status, self.names()), (1, before))
-        self.assertIn("older than lines that stand for several people: choose count=none", said)
+        self.assertIn("older than rows that stand for several people: choose count=none", said)
 
 
 class Refused(LinesTest):
@@ -252,7 +252,7 @@ class Refused(LinesTest):
         self.chosen_for(STAFF.replace("dept,", "id,dept,").replace("\nQ", "\n1,Q").replace("\nD", "\n2,D"), "id=leave out", *KINDS)
         status, said = self.prepare("make", self.file, self.choices, self.out, "key=id")
         self.assertEqual((status, self.out.exists()), (1, False))
-        self.assertIn("a table whose lines stand for several people has no key", said)
+        self.assertIn("a table whose rows stand for several people has no key", said)
 
     def test_a_total_by_how_many_people_there_are_isnt_protected(self):
         self.chosen_for(STAFF, *KINDS)
@@ -349,7 +349,7 @@ class Looking(LinesTest):
 
     def test_it_says_what_can_be_done_with_so_many(self):
         said = self.streamed(text_of(drawn(2000)))[1]
-        self.assertIn("With count=people a line stands for all people with the same public cells", said)
+        self.assertIn("With count=people a row stands for all people with the same public cells", said)
         self.assertNotIn("split by=", said)
 
     def test_what_isnt_a_table_is_named_by_its_row(self):
@@ -385,9 +385,9 @@ class Adding(LinesTest):
         self.assertEqual((self.longer / "table.csv").read_text(), before + "OPS,30,1,1,2,3,2\nQA,41,2,13,9,7,2\n")
         self.assertEqual((self.longer / "public/table.csv").read_text(), (self.out / "public/table.csv").read_text() + "OPS,30,1,2\nQA,41,2,2\n")
         self.assertEqual((self.longer / "schema.json").read_bytes(), (self.out / "schema.json").read_bytes())
-        self.assertIn("1 line of newcomers: the public cells are those of an old line, which goes on standing for whom it stood for", said)
+        self.assertIn("1 row of newcomers: the public cells are those of an old row, which goes on standing for whom it stood for", said)
         self.assertIn("added: 2 rows after 3 rows, of wave 2", said)
-        self.assertIn("9 people in 5 lines: 2 of one person, 2 of two, 1 of three or more", said)
+        self.assertIn("9 people in 5 rows: 2 of one person, 2 of two, 1 of three or more", said)
 
     def test_again_and_again(self):
         self.add(self.MORE)
@@ -404,7 +404,7 @@ class Adding(LinesTest):
     def test_what_doesnt_fit_is_refused_and_leaves_nothing(self):
         before = self.names()
         many = "dept,age,pay,best,least\n" + "".join(f"d{k},30,{k * k},{k % 5},{k % 7}\n" for k in range(1022))
-        for text, due in ((self.MORE.replace("QA,41,5", "QA,41,x"), "isn't a number"), (many, "there would be 1,025 lines, 1,022 of them of newcomers"),
+        for text, due in ((self.MORE.replace("QA,41,5", "QA,41,x"), "isn't a number"), (many, "there would be 1,025 rows, 1,022 of them of newcomers"),
                           (self.MORE.replace("dept", "team"), "aren't those that the choices were made for"),
                           ("dept,age,pay,best,least\n", "the file has a header and no row")):
             with self.subTest(due):
@@ -439,15 +439,15 @@ class Checking(LinesTest):
             with self.subTest(text):
                 status, said = self.check(text)
                 self.assertEqual(status, 0, said)
-                self.assertIn("3 lines: 1 of one person, 1 of two, 1 of three or more: they are those of the 6 people of", said)
+                self.assertIn("3 rows: 1 of one person, 1 of two, 1 of three or more: they are those of the 6 people of", said)
 
     def test_each_difference_is_named(self):
         for old, new, due in (
             ("QA,30,3,", "QA,30,4,", "line 3, dept 'QA', age 30: people is 4, and should be 3"),
             ("QA,41,1,205", "QA,41,1,206", "line 4, dept 'QA', age 41: pay is 206, and should be 205"),
             (",9,-8", ",8,-8", "line 3, dept 'QA', age 30: best is 8, and should be 9"),
-            ("DEV,30", "DEV,31", "line 2: nobody has dept 'DEV', age 31\nno line has dept 'DEV', age 30, and 2 people should be in it"),
-            ("QA,41,1,205,8,5\n", "", "no line has dept 'QA', age 41, and 1 person should be in it"),
+            ("DEV,30", "DEV,31", "line 2: nobody has dept 'DEV', age 31\nno row has dept 'DEV', age 30, and 2 people should be in it"),
+            ("QA,41,1,205,8,5\n", "", "no row has dept 'QA', age 41, and 1 person should be in it"),
             ("QA,41,1,205,8,5\n", "QA,41,1,205,8,5\nQA,41,1,205,8,5\n", "lines 4 and 5 have the same public cells: dept 'QA', age 41"),
             ("QA,30,3,300,9,-8\n", "QA,30,2,150,7,-3\nQA,30,1,150,9,-8\n", "lines 3 and 4 have the same public cells"),
             ("QA,30", "qa,30", "nobody has dept 'qa', age 30"),
@@ -514,7 +514,7 @@ class Taking(LinesTest):
                 shutil.rmtree(self.taken, ignore_errors=True)
                 status, said = self.take(text)
                 self.assertEqual(status, 0, said)
-                self.assertIn("6 people in 3 lines: 1 of one person", said)
+                self.assertIn("6 people in 3 rows: 1 of one person", said)
                 for path in self.out.rglob("*.*"):
                     self.assertEqual((self.taken / path.relative_to(self.out)).read_bytes(), path.read_bytes())
 
@@ -522,13 +522,13 @@ class Taking(LinesTest):
         self.choose("pay.range=0 to none")
         for old, new, due in (
             ("QA,41,1,205,8,5\n", "QA,41,1,205,8,5\nQA,41,1,205,8,5\n", "lines 4 and 5 have the same public cells: dept 'QA', age 41"),
-            ("QA,41,1", "QA,41,0", "line 4: people is 0, and a line stands for 1 to 1,000,000,000,000 people"),
+            ("QA,41,1", "QA,41,0", "line 4: people is 0, and a row stands for 1 to 1,000,000,000,000 people"),
             ("QA,41,1", "QA,41,-1", "people is -1"),
             ("QA,41,1", "QA,41,1000000000001", "people is 1,000,000,000,001"),
             ("QA,41,1,205", "QA,41,1,1000000000001", "line 4: pay is beyond 1,000,000,000,000"),
             ("QA,41,1,205", "QA,41,1,-205", "pay: row 4 has a number that isn't in the range '0 to none'"),
             ("QA,41,1,205", "QA,41,1,20.5", "pay is '20.5', and should be a whole number"),
-            (LINES[LINES.index("\n") + 1:], "", "has a header and no line"),
+            (LINES[LINES.index("\n") + 1:], "", "has a header and no row"),
         ):
             with self.subTest(due):
                 status, said = self.take(LINES.replace(old, new))
@@ -569,7 +569,7 @@ class Trying(LinesTest):
                 self.choose(*words)
                 self.out = self.folder / words[0]
                 made = self.make()[1]
-                self.assertIn(f"900 people in {tried[0]} lines: {tried[1]} of one person, {tried[2]} of two, {tried[3]} of three or more", made)
+                self.assertIn(f"900 people in {tried[0]} rows: {tried[1]} of one person, {tried[2]} of two, {tried[3]} of three or more", made)
                 self.choose("region=text", "sector=text", "age.bands=none", "region.join=none")
 
     def test_values_are_joined_by_how_many_people_have_them(self):
@@ -592,7 +592,7 @@ class Trying(LinesTest):
         tried = self.of(said, "h_x10.bands=10")
         self.assertEqual(tried[:4], ["3", "0", "0", "3"])
         self.choose("h_x10.bands=10")
-        self.assertIn("300 people in 3 lines", self.make()[1])
+        self.assertIn("300 people in 3 rows", self.make()[1])
 
     def test_what_is_open_is_named_but_for_ranges_and_totals(self):
         self.look(STAFF)
