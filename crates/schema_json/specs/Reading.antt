@@ -27,7 +27,7 @@ key_count d = unwrap_or (option_map members_len (as_object d)) 0
 
 -- the role that a word names
 abbrev pub role_of : List ℕ → Option Role
-role_of word = if bytes_eq word (codes "text") then Some role.Text else (if bytes_eq word (codes "number") then Some role.Number else (if bytes_eq word (codes "sum") then Some role.Sum else (if bytes_eq word (codes "max") then Some role.Max else (if bytes_eq word (codes "min") then Some role.Min else None))))
+role_of word = if bytes_eq word (codes "text") then Some role.Text else (if bytes_eq word (codes "number") then Some role.Number else (if bytes_eq word (codes "count") then Some role.Count else (if bytes_eq word (codes "sum") then Some role.Sum else (if bytes_eq word (codes "max") then Some role.Max else (if bytes_eq word (codes "min") then Some role.Min else None)))))
 
 -- what is made of two parts, if both are there
 abbrev pub made_of : {X Y Z : Type 0} → (X → Y → Z) → Option X → Option Y → Option Z
