@@ -121,7 +121,7 @@ function sayHolds(where, outcome) {
   if (outcome.state === "answered") {
     if (where.trim() === "all") rowsAsked = outcome.numerator;
     const whole = isWhole() ? rowsInAll() : rowsAsked;
-    byId("holds").textContent = `holds for ${showCount(outcome.numerator)}${whole === null ? "" : ` of ${showCount(whole)}`} rows`;
+    byId("holds").textContent = `holds for ${showCount(outcome.numerator)}${whole === null ? "" : ` of ${showCount(whole)}`} ${rowsWord()}`;
   } else if (outcome.reason === "where") byId("holds").replaceChildren(...marked(where, outcome.at));
   else byId("holds").replaceChildren(element("span", outcome.sentence, {class: "bad"}));
 }

@@ -127,6 +127,6 @@ function textOf(question, outcome) {
 }
 
 function say(question) {
-  const what = KINDS[question.ask] + (question.ask === "count" ? "" : " of " + titleOf(question.column));
+  const what = kindWords(question.ask) + (question.ask === "count" ? "" : " of " + titleOf(question.column));
   return what + (question.where.trim() === "all" ? ", all rows" : " where " + question.where);
 }

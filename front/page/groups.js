@@ -13,11 +13,15 @@ function groupsOf(name) {
 
 // Five ranges with round ends and about as many rows in each.
 function rangesOf(name) {
-  const sorted = [...valuesOf(name)].flatMap(([value, rows]) => Array(rows).fill(Number(value))).sort((one, other) => one - other);
+  const sizes = valuesOf(name), sorted = numbersOf(name), all = [...sizes.values()].reduce((sum, rows) => sum + rows, 0);
+  const fifthOf = fifth => {
+    let before = Math.floor(fifth * all / 5);
+    return sorted.find(number => (before -= sizes.get(String(number))) < 0);
+  };
   const step = 10 ** Math.max(0, Math.floor(Math.log10((sorted.at(-1) - sorted[0]) / 5)));
-  const cuts = new Set([1, 2, 3, 4].map(fifth => Math.round(sorted[Math.floor(fifth * sorted.length / 5)] / step) * step));
+  const cuts = new Set([1, 2, 3, 4].map(fifth => Math.round(fifthOf(fifth) / step) * step));
   const inside = [...cuts].filter(cut => cut > sorted[0] && cut <= sorted.at(-1));
-  const ends = inside.length ? inside : [sorted.find(number => number > sorted[0])];
+  const ends = inside.length ? inside : [sorted[1]];
   const shown = number => inUnits(BigInt(number), placesOf(name));
   const ranges = ends.slice(1).map((high, place) =>
     ({label: `${shown(ends[place])} to ${shown(high - 1)}`, part: `${name} >= ${ends[place]} and ${name} < ${high}`}));

@@ -30,17 +30,25 @@ async function showReport() {
   for (const column of secrets()) byId("free").append(freeOf(column, lines.filter(line => line.column === column.name)));
 }
 
-// The rows of a column that the report shows to be free. The squares are made when they are wanted.
+// The rows of a column that the report shows to be free, of those of one person. The squares are made when they are wanted.
 function freeOf(column, lines) {
   const ways = new Map(), box = element("details"), rows = chosen[0].rows.length;
+  const single = [...chosen[0].rows.keys()].filter(row => peopleIn(row) === 1);
   for (const line of lines) {
     const [bounds, step] = "low" in line ? [line.low, 1n] : [line.high, -1n];
-    if (Array.isArray(bounds)) bounds.forEach((bound, row) => ways.set(row, moved(column, bound, step)));
+    if (Array.isArray(bounds)) for (const row of single.filter(row => row < bounds.length)) ways.set(row, moved(column, bounds[row], step));
     else if ("row" in line) ways.set(line.row, changed(line.direction));
   }
-  box.append(element("summary", `${titleOf(column.name)}: ${showCount(ways.size)} of ${showCount(rows)} numbers are free`));
+  box.append(element("summary", `${titleOf(column.name)}: ${showCount(ways.size)} of ${showCount(single.length)} numbers${isOfPeople() ? " of one person" : ""} are free`));
   box.ontoggle = () => { if (box.children.length === 1) box.append(...squaresOf(ways, rows)); };
   return box;
+}
+
+const peopleIn = row => chosen[0].peopleOf(chosen[0].rows[row]);
+
+function nothingOn(row) {
+  return peopleIn(row) === 1 ? "The report has nothing on this number."
+    : `It stands for ${showCount(peopleIn(row))} people: what they have together may be told, and nobody's own number follows from that.`;
 }
 
 function moved(column, bound, step) {
@@ -67,7 +75,7 @@ function squaresOf(ways, rows) {
       "aria-label": describeRow(row), title: describeRow(row), "aria-pressed": "false"});
     square.onclick = () => {
       for (const other of squares.children) other.setAttribute("aria-pressed", String(other === square));
-      said.textContent = `${describeRow(row)}. ${ways.get(row) || "The report has nothing on this number."}`;
+      said.textContent = `${describeRow(row)}. ${ways.get(row) || nothingOn(row)}`;
     };
     squares.append(square);
   }

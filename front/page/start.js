@@ -33,7 +33,7 @@ function fillKinds() {
     const label = element("label"), radio = element("input", "", {type: "radio", name: "kind", value: kind});
     radio.checked = kind === (can.includes("sum") ? "sum" : can.at(-1));
     radio.onchange = fillColumns;
-    label.append(radio, KINDS[kind]);
+    label.append(radio, kindWords(kind));
     return label;
   }));
   fillColumns();
@@ -48,9 +48,9 @@ function fillColumns() {
 }
 
 function fillChart() {
-  const choice = (kind, name) => option(`${KINDS[kind]} of ${titleOf(name)}`, `${kind} ${name}`);
+  const choice = (kind, name) => option(`${kindWords(kind)} of ${titleOf(name)}`, `${kind} ${name}`);
   const choices = secrets().flatMap(column => ASKS[column.is].map(kind => choice(kind, column.name)));
-  byId("chart-kind").replaceChildren(...choices, option(KINDS.count, "count"));
+  byId("chart-kind").replaceChildren(...choices, option(kindWords("count"), "count"));
   byId("by").replaceChildren(...publics().map(column => option(titleOf(column.name), column.name)));
   fillSecond();
 }
@@ -78,6 +78,7 @@ function holdsOf(column) {
   if (column.is === "sum") return totalsOf(column.name);
   if (column.is === "max") return "the greatest number";
   if (column.is === "min") return "the least number";
+  if (column.is === "count") return "how many people each row stands for";
   if (column.is === "number") {
     const numbers = numbersOf(column.name);
     return `${showValue(numbers[0], column.name)} to ${showValue(numbers.at(-1), column.name)}`;
@@ -137,7 +138,8 @@ function choose() {
   chosen = byId("table").value ? tables.filter(table => table.name === byId("table").value) : tables;
   const title = chosen[0].notes.title;
   byId("title").textContent = document.title = typeof title === "string" && title ? title : "Ask the table";
-  byId("size").textContent = `${showCount(rowsInAll())} rows, ${publics().length} public and ${secrets().length} secret columns`;
+  const behind = isOfPeople() ? ` in ${showCount(chosen.reduce((sum, table) => sum + table.rows.length, 0))} rows` : "";
+  byId("size").textContent = `${showCount(rowsInAll())} ${rowsWord()}${behind}, ${publics().length} public and ${secrets().length} secret columns`;
   byId("free").replaceChildren();
   rowsAsked = null;
   for (const fill of [fillKinds, fillChart, listColumns, showLimits, listFiles, showState]) fill();

@@ -70,6 +70,10 @@ const publics = () => chosen[0].publics;
 const secrets = () => chosen[0].secrets;
 const columnOf = name => chosen[0].columns.find(column => column.name === name);
 const rowsInAll = () => chosen.reduce((sum, table) => table.rows.reduce((all, row) => all + table.peopleOf(row), sum), 0);
+// What a count counts: people, if a column says how many each row stands for.
+const isOfPeople = () => chosen.some(table => table.seen.some(column => column.is === "count"));
+const rowsWord = () => isOfPeople() ? "people" : "rows";
+const kindWords = kind => kind === "count" ? `Number of ${rowsWord()}` : KINDS[kind];
 const isWhole = () => chosen.every(table => !table.only);       // whether questions are over all rows of the chosen tables
 
 function noteOf(name) {

@@ -70,7 +70,7 @@ def take(path, make, height):
         while not serving(address):
             time.sleep(0.1)
         browser.screen(1200, height)
-        browser.open(address)
+        browser.open(f"{address}/office/")
         make(browser)
         browser.run("window.scrollTo(0, 0)")
         browser.driver.save_screenshot(str(path))

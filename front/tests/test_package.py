@@ -84,7 +84,7 @@ class Packages(unittest.TestCase):
         try:
             self.assertEqual(json.loads(asked(f"http://127.0.0.1:{port}/health"))["state"], "serving")
             self.assertIn(b"<title>", asked(f"http://127.0.0.1:{port}/"))
-            said = subprocess.run([self.tree / "bin/auditor-ask", f"http://127.0.0.1:{port}", "count where all"], env=WITHOUT_US,
+            said = subprocess.run([self.tree / "bin/auditor-ask", "--table", "office", f"http://127.0.0.1:{port}", "count where all"], env=WITHOUT_US,
                                   capture_output=True, text=True, timeout=PATIENCE)
             self.assertEqual((said.stdout.strip(), said.returncode), ("240", 0))
         finally:
