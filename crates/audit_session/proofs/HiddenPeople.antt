@@ -31,7 +31,8 @@ some_there : (counts : List ℕ) (row : ℕ) → row < length counts → counts 
 some_there counts row below none = let empty : length counts ≡ 0 = ap length none in absurd (omega arith)
 
 -- behind each row are so many people as it counts
-module _ (people : List (List ℤ)) (counts : List ℕ) (counted : map length people ≡ counts) (row person : ℕ) (there : person < length (slice_index_or people row [])) where
+module _ (people : List (List ℤ)) (counts : List ℕ) (counted : map length people ≡ counts) (row person : ℕ)
+    (there : person < length (slice_index_or people row [])) where
   row_below : row < length people
   row_below = elim (cases_lt row (length people)) [
     | inl below ↦ below
