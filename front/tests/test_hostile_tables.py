@@ -271,7 +271,7 @@ class Hostile(TableTest):
         schema = json.loads((self.out / "schema.json").read_text())["columns"]
         table, public = self.table(), self.table("public")
         self.assertEqual(table[0], [column["name"] for column in schema])
-        self.assertEqual(public[0], [column["name"] for column in schema if column["is"] in ("text", "number")])
+        self.assertEqual(public[0], [column["name"] for column in schema if column["is"] in ("text", "number", "count")])
         self.assertEqual(len(table), len(public))
         self.assertTrue(2 <= len(table) <= 1025)
         self.assertEqual(sorted(path.name for path in self.folder.iterdir()), ["out", "t.choices.json", "t.csv"])

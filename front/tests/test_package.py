@@ -82,7 +82,7 @@ class Packages(unittest.TestCase):
         run = subprocess.Popen([self.tree / "share/auditor/front/demo.sh", self.tree / "bin/auditor", str(port)], env=WITHOUT_US,
                                stdout=subprocess.DEVNULL, stderr=subprocess.DEVNULL, start_new_session=True)
         try:
-            self.assertEqual(json.loads(asked(f"http://127.0.0.1:{port}/health"))["state"], "serving")
+            self.assertEqual(json.loads(asked(f"http://127.0.0.1:{port}/office/health"))["state"], "serving")
             self.assertIn(b"<title>", asked(f"http://127.0.0.1:{port}/"))
             said = subprocess.run([self.tree / "bin/auditor-ask", "--table", "office", f"http://127.0.0.1:{port}", "count where all"], env=WITHOUT_US,
                                   capture_output=True, text=True, timeout=PATIENCE)
