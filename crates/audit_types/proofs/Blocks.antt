@@ -2,11 +2,12 @@
 use Rattle.std.proofs.Common.{◌≡◌, ◌≢◌, ℕ, ◌+◌, ◌-◌, ◌*◌, ◌/◌, ◌%◌, ◌^◌, ◌<◌, ◌≤◌, Bool, true, false, ◌&&◌, ◌||◌, not, List, ◌==◌, refl, sym, ap, ◌∙◌, arith, length, get_or, set, inl, inr, pow_mono, get_or-set_same, get_or-set_other, length-set}
 use Rattle.std.specs.Prelude.{bit_or}
 use Rattle.std.specs.Int.{bit_at}
+use Rattle.std.proofs.Math.Bool.{or-false}
 use Rattle.std.proofs.lemmas.Bool.{cases_lt, cases_eq, eq-eqb, ne_eqb, eqb-true}
 use Rattle.std.proofs.lemmas.Nat.{or_lt, mul-le, pow_pos}
 use Rattle.std.proofs.lemmas.Nat.Bits.{bit_at-lt, bit_at_or, bit_at-zero, bit_at_above, bit_at_cat_low, bit_at_cat_high, bit_at_ones, same_from_bits_below}
 use Rattle.audit_types.specs.Words.{has_bit, rows_of_set, AreWords, IsSetOfWords}
-use Rattle.audit_types.specs.WordLaws.{same_place, has-view, or_false, max_test}
+use Rattle.audit_types.specs.WordLaws.{same_place, has-view, max_test}
 use Rattle.audit_types.specs.Rows.{Rows, has_row}
 use Rattle.audit_types.specs.declared.rows.RowSet.TheInside.{Inside}
 
@@ -63,7 +64,7 @@ has_bit-byte words at byte r l small = elim (cases_eq (r / 64) (at / 8)) [
       ∙ ap (λ k. (bit_at (get_or words k 0) (r % 64) == 1) || ((r / 8 == at) && (bit_at byte (r % 8) == 1))) (sym word)
   | inr word ↦
       ap (λ x. bit_at x (r % 64) == 1) (get_or-set_other words (at / 8) (r / 64) _ 0 word)
-      ∙ sym (ap (λ b. has_bit words r || b) (not_in_byte at byte r word) ∙ or_false (has_bit words r))
+      ∙ sym (ap (λ b. has_bit words r || b) (not_in_byte at byte r word) ∙ or-false (has_bit words r))
 ]
 
 -- a byte without bits of rows past the last leaves a set of rows

@@ -2,21 +2,22 @@
 --
 -- What is told of people over lines is what the lines tell. So people and lines agree with the same answers; and people can be found for all
 -- numbers of lines. A line of one person tells her number; of a line with more the number of one may always be another.
-use Rattle.std.proofs.Common.{◌≡◌, ◌≢◌, ℕ, ◌<◌, ◌≤◌, false, ℤ, pos, List, [], ◌∷◌, map, length, refl, sym, ap, ◌∙◌, subst, arith, inl, inr}
-use Rattle.std.specs.Prelude.{nat_lt, slice_set}
+use Rattle.std.proofs.Common.{◌≡◌, ◌≢◌, ℕ, ◌<◌, ℤ, pos, List, [], ◌∷◌, map, length, refl, sym, ap, ◌∙◌, subst, arith, inl, inr}
+use Rattle.std.specs.Prelude.{slice_set}
 use Rattle.std.specs.List.{AllByRecursion, range_with_len}
-use Rattle.std.proofs.lemmas.Bool.{cases_lt, ltb-false}
+use Rattle.std.proofs.lemmas.Bool.{cases_lt}
 use Rattle.std.proofs.lemmas.List.{get_or-map, get_or-set_same, length-map, ext_get_or}
 use Rattle.std.proofs.lemmas.List.FromFn.{length-map-range_with_len, get_or-map-range_with_len}
 use Rattle.std.proofs.Math.Seq.{map-set_same}
 use Rattle.audit_types.specs.declared.shapes.Kind.{Kind}
-use Rattle.audit_types.specs.Rows.{AreRows, has_row}
-use Rattle.audit_types.specs.RowLaws.{has-rows_that}
+use Rattle.audit_types.specs.Rows.{AreRows}
 use Rattle.audit_types.specs.FilteredRows.{rows_within}
 use Rattle.audit_types.specs.Truth.{number_at, truth}
 use Rattle.audit_types.specs.ListLaws.{all-get_or}
-use Rattle.audit_types.specs.Column.{Answer, AreSameAt, GivesSameAnswers, IsDangerous, IsGuarded, number, total}
-use Rattle.audit_types.specs.People.{People, of_line, of_lines, told, count_at, shared_of}
+use Rattle.audit_types.specs.Column.{Answer, AreSameAt, GivesSameAnswers, IsDangerous, IsGuarded, number, greatest, total}
+use Rattle.audit_types.specs.Headcount.{AreFew, count_at}
+use Rattle.audit_types.specs.People.{People, of_line, of_lines, told}
+use Rattle.audit_types.specs.OutsiderLaws.{nobody}
 use Rattle.audit_types.specs.PeopleLaws.{DangerIsThatOfPeople, known_over, AgreeOver, EndangersSomebody}
 use Rattle.audit_types.proofs.PeopleBehind.{truth_is_over_people, spread, told-spread, length-spread, single, other_told}
 
@@ -24,11 +25,6 @@ use Rattle.audit_types.proofs.PeopleBehind.{truth_is_over_people, spread, told-s
 somebody : (people : People) → AllByRecursion (λ count. 0 < count) (map length people) → AllByRecursion (λ numbers. numbers ≢ []) people
 somebody [] some = tt
 somebody (numbers ∷ people) some = ((λ none. let short = ap length none in let more = some.0 in absurd (omega arith)), somebody people some.1)
-
--- who may know no number knows none
-none_own : (own : List ℕ) → length own ≤ 0 → own ≡ []
-none_own [] few = refl
-none_own (q ∷ own) few = absurd (omega arith)
 
 module _ (kind : Kind) (counts : List ℕ) (some : AllByRecursion (λ count. 0 < count) counts) where
   -- the lines tell what is told of the people
@@ -86,20 +82,24 @@ module _ (kind : Kind) (counts : List ℕ) (some : AllByRecursion (λ count. 0 <
   module _ (answers : List Answer) (rows : List ℕ) (answer_rows : AllByRecursion (λ a. AreRows (length counts) a.rows) answers)
       (are : AreRows (length counts) rows) where
     -- from lines to people
-    shared_test : (line : ℕ) → line < length counts → has_row (shared_of counts) line ≡ nat_lt 1 (count_at counts line)
-    shared_test line below = has-rows_that (λ k. nat_lt 1 (count_at counts k)) (length counts) line below
-
     guarded_line : {value : List ℤ → ℤ} → IsGuarded (known_over kind counts answers) [] value →
         (line : ℕ) × (line < length counts) × (count_at counts line ≡ 1) × ((w : List ℤ) → value w ≡ number_at w line)
-    guarded_line (number line below other own) =
-        let most = ltb-false 1 (count_at counts line) (sym (shared_test line below) ∙ own) in
+    guarded_line (number line below other few) =
         let least = all-get_or (λ count. 0 < count) counts line 1 some below in
-        (line, below, omega arith, λ w. refl)
+        (line, below, omega (arith, few, least), λ w. refl)
+    guarded_line (greatest [] maxima are more others few) = absurd (more refl)
+    guarded_line (greatest (line ∷ []) maxima are more others few) =
+        let least = all-get_or (λ count. 0 < count) counts line 1 some are.1 in
+        (line, are.1, omega (arith, few, least), λ w. refl)
+    guarded_line (greatest (line ∷ next ∷ lines) maxima are more others few) =
+        let first = all-get_or (λ count. 0 < count) counts line 1 some are.1 in
+        let second = all-get_or (λ count. 0 < count) counts next 1 some are.2.1 in
+        absurd (omega (arith, few, first, second))
     guarded_line (total group row one inside other) = let k = one.1 in absurd (omega arith)
 
     to_people : IsDangerous (known_over kind counts answers) rows → EndangersSomebody kind counts answers rows
     to_people danger =
-        let nobody = none_own danger.own danger.are_own.1 in
+        let nobody = nobody danger.own danger.are_own.1 in
         let found = guarded_line (subst (λ own. IsGuarded (known_over kind counts answers) own danger.value) nobody danger.guarded) in
         let people = behind danger.w danger.agrees.one_each in
         let counted = behind_counted danger.w danger.agrees.one_each in
@@ -164,8 +164,8 @@ module _ (kind : Kind) (counts : List ℕ) (some : AllByRecursion (λ count. 0 <
         | inr most ↦ let least = all-get_or (λ count. 0 < count) counts danger.line 1 some danger.line_below in omega arith
       ]
 
-      not_shared : has_row (shared_of counts) danger.line ≡ false
-      not_shared = shared_test danger.line danger.line_below ∙ ap (λ c. nat_lt 1 c) one
+      few : AreFew (record { counts = counts; fewest = 2; own = 0 }) [] (danger.line ∷ [])
+      few = let alone_there = one in omega (arith, alone_there)
 
       first : danger.person ≡ 0
       first = let below = danger.person_below in let single_there = one in omega arith
@@ -177,7 +177,7 @@ module _ (kind : Kind) (counts : List ℕ) (some : AllByRecursion (λ count. 0 <
         own = [];
         are_own = (tt, omega arith, tt);
         value = λ v. number_at v danger.line;
-        guarded = number danger.line danger.line_below refl not_shared;
+        guarded = number danger.line danger.line_below refl few;
         disclosed = λ v gives also.
             let others = behind v gives.agrees.one_each in
             let counted = behind_counted v gives.agrees.one_each in

@@ -3,7 +3,7 @@
 -- Of a line with several people the number of one may be another while the line tells the same: in a sum somebody else makes up for it, and of
 -- numbers of which only the greatest is told, somebody else may have that. A line of one person is guarded: if another number there gives the
 -- same answers, it is this person's.
-use Rattle.std.proofs.Common.{◌≡◌, ◌≢◌, ℕ, zero, suc, ◌<◌, Bool, true, false, ℤ, pos, List, [], ◌∷◌, ◌++◌, map, length, replicate, refl, sym, ap, ◌∙◌, subst, arith, ◌⊎◌, inl, inr, length-append}
+use Rattle.std.proofs.Common.{◌≡◌, ◌≢◌, ℕ, zero, suc, ◌<◌, ℤ, pos, List, [], ◌∷◌, ◌++◌, map, length, replicate, refl, sym, ap, ◌∙◌, subst, arith, ◌⊎◌, inl, inr, length-append}
 use Rattle.std.specs.Prelude.{◌+ℤ◌, ◌-ℤ◌, ◌≤ℤ◌, slice_set}
 use Rattle.std.specs.List.{AllByRecursion, fold, range_with_len}
 use Rattle.std.specs.Int.{int_max}
@@ -16,14 +16,14 @@ use Rattle.std.proofs.Math.Seq.{map-set_same}
 use Rattle.audit_types.specs.declared.shapes.Kind.{Kind}
 use Rattle.audit_types.specs.declared.shapes.Kind.TheVariants.{Sum, Max}
 use Rattle.audit_types.specs.declared.shapes.Shape.{Shape}
-use Rattle.audit_types.specs.Rows.{has_row}
 use Rattle.audit_types.specs.Shapes.{columns, kind_at}
 use Rattle.audit_types.specs.Truth.{number_at, sum_over, greatest_over}
 use Rattle.audit_types.specs.Numbers.{zero_or_not}
 use Rattle.audit_types.specs.ListLaws.{all-get_or}
 use Rattle.audit_types.specs.Column.{number}
 use Rattle.audit_types.specs.History.{Secrets, AreSecrets, AgreeWithHistory, list_of}
-use Rattle.audit_types.specs.People.{People, of_line, of_lines, told, people_in, AreBehind, count_at}
+use Rattle.audit_types.specs.People.{People, of_line, of_lines, told, people_in, AreBehind}
+use Rattle.audit_types.specs.Headcount.{count_at, AreFew}
 use Rattle.audit_types.specs.PeopleLaws.{TruthIsOverPeople, PeopleAreCounted, HasOtherPeople, HasOthersBehind, PeopleMayDiffer, UndisclosedHidesPeople}
 
 -- ---- answers over lines
@@ -357,7 +357,7 @@ people_may_differ shape counts secrets other everyone column line person behind 
     of_one shape counts secrets everyone column line person behind rows some column_below line_below person_below other all one.0 one.1
 
 pub undisclosed_hides_people : UndisclosedHidesPeople
-undisclosed_hides_people table history counts secrets agree rows some several undisclosed everyone column line person behind column_below line_below
+undisclosed_hides_people table history counts secrets agree rows some counted fewest undisclosed everyone column line person behind column_below line_below
     person_below =
     elim (cases_lt 1 (count_at counts line)) [
       | inl more ↦ of_others table.secrets secrets agree (inl (more, refl))
@@ -376,13 +376,11 @@ undisclosed_hides_people table history counts secrets agree rows some several un
         person_below which in
         record { others = found.others; told_of = other; are_secrets = all; behind = found.behind; still = agrees; differs = found.differs }
 
-    not_shared : count_at counts line ≡ 1 → (b : Bool) → has_row table.setting.protected.shared line ≡ b →
-        has_row table.setting.protected.shared line ≡ false
-    not_shared one true there = let more = several line there in absurd (omega arith)
-    not_shared one false there = there
+    few : count_at counts line ≡ 1 → AreFew table.setting.protected.people [] (line ∷ [])
+    few one = let here : count_at table.setting.protected.people.counts line ≡ 1 = ap (λ c. count_at c line) counted ∙ one in omega (arith, here, fewest)
 
     alone : count_at counts line ≡ 1 → HasOtherPeople shape (AgreeWithHistory table.setting history) counts everyone column line person
     alone one =
         let twin = undisclosed column [] (λ w. number_at w line) column_below (tt, omega arith, tt)
-        (number line (omega (arith, rows)) refl (not_shared one (has_row table.setting.protected.shared line) refl)) in
+        (number line (omega (arith, rows)) refl (few one)) in
         of_others twin.twin twin.are_secrets twin.agree (inr (one, twin.differs))

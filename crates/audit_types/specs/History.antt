@@ -1,5 +1,5 @@
 -- Records, histories, what a history tells of one column, and which histories are legal and disclose nothing that is guarded.
-use Rattle.std.specs.Prelude.{◌≡◌, ◌≢◌, ℕ, ◌<◌, ◌≤◌, ℤ, ◌==◌, false, List, [], ◌∷◌, map, length, take, slice_get, Some, All}
+use Rattle.std.specs.Prelude.{◌≡◌, ◌≢◌, ℕ, ◌<◌, ◌≤◌, ℤ, ◌==◌, List, [], ◌∷◌, map, length, take, slice_get, Some, All}
 use Rattle.audit_types.specs.Limits.{most_rows, most_records, most_groups, most_width}
 use Rattle.std.specs.List.{filter, slice_index_or, AllByRecursion}
 use Rattle.audit_types.specs.declared.shapes.Kind.TheVariants.{Sum}
@@ -8,7 +8,8 @@ use Rattle.audit_types.specs.declared.records.Answered.{Answered}
 use Rattle.audit_types.specs.declared.records.Protected.{Protected}
 use Rattle.audit_types.specs.declared.records.Verdict.{Verdict}
 use Rattle.audit_types.specs.declared.records.Verdict.TheVariants.{Released}
-use Rattle.audit_types.specs.Rows.{Rows, AreRows, has_row}
+use Rattle.audit_types.specs.Rows.{Rows, AreRows}
+use Rattle.audit_types.specs.Headcount.{Headcount, CountPeople}
 use Rattle.audit_types.specs.Shapes.{columns, kind_at}
 use Rattle.audit_types.specs.Truth.{truth}
 use Rattle.audit_types.specs.Column.{Known, Answer, Agrees, AreOwn, AreSameAt, IsGuarded}
@@ -38,19 +39,13 @@ entry_of column place n (row ∷ rows) = record { column = column; place = place
 abbrev pub groups_of : ℕ → List Protected → List (List ℕ)
 groups_of column protected = map (λ p. p.rows.list) (filter (λ p. p.column == column) protected)
 
--- what is guarded, and how: the protected groups, the rows that need no guard, those that stand for several people, of how many rows one
--- asker may know the numbers, how wide a reduced form may be, and of how many rows a change that leaves every sum may have to be
+-- what is guarded, and how: the protected groups, the people behind the rows, how wide a reduced form may be, and of how many rows a change
+-- that leaves every sum may have to be
 pub record Protection : Type 0 where
   pub groups : List Protected
-  pub shared : List ℕ
-  pub several : List ℕ
-  pub own : ℕ
+  pub people : Headcount
   pub width : ℕ
   pub reach : ℕ
-
--- what is guarded if no asker is in the table
-abbrev pub against_outsiders : List Protected → List ℕ → ℕ → ℕ → Protection
-against_outsiders groups shared width reach = record { groups = groups; shared = shared; several = shared; own = 0; width = width; reach = reach }
 
 -- what a decision may read of a table, beside what was answered
 pub record Setting : Type 0 where
@@ -65,21 +60,12 @@ setting_of shape protected = record { shape = shape; protected = protected }
 abbrev pub IsProtected : Shape → Protected → Type 0
 IsProtected shape p = FitsShape shape p.column p.rows × (kind_at shape p.column ≡ Sum)
 
--- protection that fits: at most 64 groups, an asker knows at most one number, her own, a row of one person is guarded, a width from 1 to
--- 2 ^ 56, a reach from 2 to the most rows of a table, and shared rows of the table
+-- protection that fits: at most 64 groups, people behind the rows of the table, a width from 1 to 2 ^ 56, and a reach from 2 to the most rows
+-- of a table
 abbrev pub AreProtected : Shape → Protection → Type 0
 AreProtected shape protected =
-    All (IsProtected shape) protected.groups × (length protected.groups ≤ most_groups) × (protected.own ≤ 1)
-    × ((row : ℕ) → has_row protected.several row ≡ false → has_row protected.shared row ≡ false) × (0 < protected.width) × (protected.width ≤ most_width)
-    × (1 < protected.reach) × (protected.reach ≤ most_rows) × AreRows shape.rows protected.shared
-
--- protection that fits a table of this shape, if no asker is in the table
-abbrev pub IsGuardFor : Shape → Protection → Type 0
-IsGuardFor shape protected = AreProtected shape protected × (protected ≡ against_outsiders protected.groups protected.shared protected.width protected.reach)
-
--- what is guarded if no asker is in the table
-abbrev pub IsAgainstOutsiders : Protection → Type 0
-IsAgainstOutsiders protected = protected ≡ against_outsiders protected.groups protected.shared protected.width protected.reach
+    All (IsProtected shape) protected.groups × (length protected.groups ≤ most_groups) × CountPeople shape.rows protected.people
+    × (0 < protected.width) × (protected.width ≤ most_width) × (1 < protected.reach) × (protected.reach ≤ most_rows)
 
 -- what a history tells of a column
 abbrev pub known_of : Setting → List Answered → ℕ → Known
@@ -88,9 +74,7 @@ known_of setting history column = record {
   n = setting.shape.rows;
   answers = answers_of column history;
   groups = groups_of column setting.protected.groups;
-  shared = setting.protected.shared;
-  several = setting.protected.several;
-  own = setting.protected.own;
+  people = setting.protected.people;
   width = setting.protected.width;
   reach = setting.protected.reach;
 }

@@ -1,5 +1,5 @@
 -- What shows the definitions right: laws that the functions of `laws` state.
-use Rattle.std.specs.Prelude.{◌≡◌, ◌≢◌, ◌↔◌, ℕ, ◌<◌, ℤ, ◌≤ℤ◌, true, false, List, [], ◌∷◌, ◌++◌}
+use Rattle.std.specs.Prelude.{◌≡◌, ◌≢◌, ◌↔◌, ℕ, ◌<◌, ℤ, ◌≤ℤ◌, true, List, [], ◌∷◌, ◌++◌}
 use Rattle.audit_types.specs.declared.shapes.Kind.{Kind}
 use Rattle.audit_types.specs.declared.records.Answered.{Answered}
 use Rattle.audit_types.specs.declared.records.Verdict.{Verdict}
@@ -8,6 +8,7 @@ use Rattle.audit_types.specs.Rows.{Rows, AreRows, has_row, with_row}
 use Rattle.audit_types.specs.Form.{Reduced}
 use Rattle.audit_types.specs.Direction.{IsCanonicalDirection}
 use Rattle.audit_types.specs.Shapes.{kind_at}
+use Rattle.audit_types.specs.Headcount.{AreFew}
 use Rattle.audit_types.specs.Truth.{number_at, greatest_over, truth}
 use Rattle.audit_types.specs.Column.{Known, IsPossible, IsDangerous}
 use Rattle.audit_types.specs.History.{Setting, Secrets, Table, AreSecrets, AgreeWithHistory, IsPossibleHistory, IsLegal, known_of, list_of, answers_of, IsDecisionAfter}
@@ -56,7 +57,7 @@ LegalIsPossible =
 
 -- a question on one person's row is dangerous after every possible history
 abbrev pub OneRowIsDangerous : Type 0
-OneRowIsDangerous = (known : Known) (row : ℕ) → row < known.n → has_row known.shared row ≡ false → IsPossible known → IsDangerous known (row ∷ [])
+OneRowIsDangerous = (known : Known) (row : ℕ) → row < known.n → AreFew known.people [] (row ∷ []) → IsPossible known → IsDangerous known (row ∷ [])
 
 -- a record of another column tells nothing of this one
 abbrev pub OtherColumnsTellNothing : Type 0

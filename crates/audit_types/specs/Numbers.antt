@@ -1,7 +1,8 @@
 -- Facts on whole numbers: which are 0, how large they are, and how they read as natural ones.
-use Rattle.std.proofs.Common.{◌≡◌, ◌≢◌, ℕ, zero, suc, ◌<◌, true, false, ℤ, pos, negsuc, refl, sym, ap, ◌∙◌, arith, inl, inr, ◌⊎◌}
-use Rattle.std.specs.Prelude.{◌-ℤ◌, neg_ℤ, ◌<ℤ◌, unsigned_abs}
-use Rattle.std.proofs.lemmas.Int.{ints}
+use Rattle.std.proofs.Common.{◌≡◌, ◌≢◌, ℕ, zero, suc, ◌+◌, ◌^◌, ◌<◌, ◌≤◌, true, false, ℤ, pos, negsuc, refl, sym, ap, ◌∙◌, arith, inl, inr, ◌⊎◌}
+use Rattle.std.specs.Prelude.{◌+ℤ◌, ◌*ℤ◌, ◌-ℤ◌, neg_ℤ, ◌<ℤ◌, unsigned_abs}
+use Rattle.std.proofs.lemmas.Int.{ints, unsigned_abs-mul}
+use Rattle.std.proofs.Math.Nat.{mul-le-mul}
 use Rattle.std.proofs.lemmas.Bool.{true≢false}
 use Rattle.audit_types.specs.Truth.{is_zero}
 
@@ -58,3 +59,11 @@ zero_less z = omega (arith, ints)
 pub positive_is : (z : ℤ) → pos 0 <ℤ z → (m : ℕ) × (z ≡ pos m) × (0 < m)
 positive_is (pos m) h = (m, refl, omega (arith, ints))
 positive_is (negsuc m) h = absurd (omega (arith, ints))
+
+-- a sum is no larger than its parts together
+pub size_of_sum : (a b : ℤ) (x y : ℕ) → unsigned_abs a ≤ x → unsigned_abs b ≤ y → unsigned_abs (a +ℤ b) ≤ x + y
+size_of_sum a b x y p q = omega (arith, ints)
+
+-- products of small numbers
+pub product_small : (x y : ℤ) → unsigned_abs x ≤ 2 ^ 56 → unsigned_abs y ≤ 2 ^ 56 → unsigned_abs (x *ℤ y) ≤ 2 ^ 112
+product_small x y p q = rw (unsigned_abs-mul x y) (mul-le-mul {n₂ = 2 ^ 56} {m₂ = 2 ^ 56} p q)

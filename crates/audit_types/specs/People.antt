@@ -1,12 +1,11 @@
 -- People, and the lines of a table that stand for them: a line has the public cells that its people have in common, how many they are, and of
 -- each secret column what is told of them together.
-use Rattle.std.specs.Prelude.{◌≡◌, ℕ, ◌<◌, nat_lt, ℤ, pos, ◌+ℤ◌, List, [], ◌∷◌, ◌++◌, map, length}
+use Rattle.std.specs.Prelude.{◌≡◌, ℕ, ◌<◌, ℤ, pos, ◌+ℤ◌, List, [], ◌∷◌, ◌++◌, map, length}
 use Rattle.std.specs.List.{fold, slice_index_or}
 use Rattle.std.specs.Int.{int_max}
 use Rattle.audit_types.specs.declared.shapes.Kind.{Kind}
 use Rattle.audit_types.specs.declared.shapes.Kind.TheVariants.{Sum, Max}
 use Rattle.audit_types.specs.declared.shapes.Shape.{Shape}
-use Rattle.audit_types.specs.Rows.{rows_that}
 use Rattle.audit_types.specs.Shapes.{columns, kind_at}
 use Rattle.audit_types.specs.History.{Secrets, list_of}
 
@@ -37,11 +36,3 @@ people_in everyone column = slice_index_or everyone column []
 pub record AreBehind (shape : Shape) (counts : List ℕ) (secrets : Secrets) (everyone : List (List (List ℤ))) : Type 0 where
   pub counted : (column : ℕ) → column < columns shape → map length (people_in everyone column) ≡ counts
   pub told_is : (column : ℕ) → column < columns shape → map (told (kind_at shape column)) (people_in everyone column) ≡ list_of secrets column
-
--- how many people are behind a line
-abbrev pub count_at : List ℕ → ℕ → ℕ
-count_at counts line = slice_index_or counts line 1
-
--- the lines that several people are behind
-abbrev pub shared_of : List ℕ → List ℕ
-shared_of counts = rows_that (λ line. nat_lt 1 (count_at counts line)) (length counts)

@@ -1,27 +1,24 @@
 -- What shows the definitions of people right: laws that the functions of `laws` state.
-use Rattle.std.specs.Prelude.{◌≡◌, ◌≢◌, ◌↔◌, ◌⊎◌, ℕ, ◌+◌, ◌<◌, List, [], ◌∷◌, map, length, true}
+use Rattle.std.specs.Prelude.{ℤ, ◌+ℤ◌, ◌-ℤ◌, ◌≤ℤ◌, slice_set, ◌≡◌, ◌≢◌, ◌↔◌, ◌⊎◌, ℕ, ◌<◌, List, [], map, length}
 use Rattle.std.specs.List.{AllByRecursion}
 use Rattle.audit_types.specs.declared.shapes.Kind.{Kind}
+use Rattle.audit_types.specs.declared.shapes.Kind.TheVariants.{Sum, Max}
 use Rattle.audit_types.specs.declared.shapes.Shape.{Shape}
 use Rattle.audit_types.specs.Shapes.{columns}
 use Rattle.audit_types.specs.declared.records.Answered.{Answered}
 use Rattle.audit_types.specs.Limits.{most_width, most_rows}
-use Rattle.audit_types.specs.Rows.{AreRows, has_row}
+use Rattle.audit_types.specs.Rows.{AreRows}
 use Rattle.audit_types.specs.Truth.{number_at, truth}
 use Rattle.audit_types.specs.Column.{Known, Answer, IsDangerous}
 use Rattle.audit_types.specs.History.{Secrets, Table, AreSecrets, AgreeWithHistory, IsUndisclosed, list_of}
-use Rattle.audit_types.specs.People.{People, AreBehind, people_in, told, of_line, of_lines, count_at, shared_of}
+use Rattle.audit_types.specs.People.{People, AreBehind, people_in, told, of_line, of_lines}
+use Rattle.audit_types.specs.Headcount.{count_at, people_behind}
 
 -- the true answer over some lines is what is told of all their people together
 abbrev pub TruthIsOverPeople : Type 0
 TruthIsOverPeople =
     (kind : Kind) (people : People) (lines : List ℕ) → AllByRecursion (λ numbers. numbers ≢ []) people → AllByRecursion (λ line. line < length people) lines →
     truth kind (map (told kind) people) lines ≡ told kind (of_lines people lines)
-
--- how many people are behind some lines
-abbrev pub people_behind : List ℕ → List ℕ → ℕ
-people_behind counts [] = 0
-people_behind counts (line ∷ lines) = count_at counts line + people_behind counts lines
 
 -- they are as many as the people of the lines
 abbrev pub PeopleAreCounted : Type 0
@@ -58,13 +55,13 @@ PeopleMayDiffer =
     ((1 < count_at counts line) × (other ≡ secrets)) ⊎ ((count_at counts line ≡ 1) × (number_at (list_of other column) line ≢ number_at (list_of secrets column) line)) →
     HasOthersBehind shape counts other everyone column line person
 
--- if behind each line is somebody, and behind each shared one somebody else too, then no person's number can be worked out from what
--- discloses nothing that is guarded of the lines
+-- if behind each line is somebody, as the protection has it, then no person's number can be worked out from what discloses nothing that is
+-- guarded of the lines
 abbrev pub UndisclosedHidesPeople : Type 0
 UndisclosedHidesPeople =
     (table : Table) (history : List Answered) (counts : List ℕ) → AreSecrets table.setting.shape table.secrets → AgreeWithHistory table.setting history table.secrets →
     length counts ≡ table.setting.shape.rows → AllByRecursion (λ count. 0 < count) counts →
-    ((line : ℕ) → has_row table.setting.protected.shared line ≡ true → 1 < count_at counts line) → IsUndisclosed table history →
+    table.setting.protected.people.counts ≡ counts → 1 < table.setting.protected.people.fewest → IsUndisclosed table history →
     HidesPeople table.setting.shape table.secrets (AgreeWithHistory table.setting history) counts
 
 -- what is known of a column over lines with so many people, of which no group is protected
@@ -75,9 +72,7 @@ known_over kind counts answers =
       n = length counts;
       answers = answers;
       groups = [];
-      shared = shared_of counts;
-      several = shared_of counts;
-      own = 0;
+      people = record { counts = counts; fewest = 2; own = 0 };
       width = most_width;
       reach = most_rows;
     }
@@ -104,3 +99,11 @@ DangerIsThatOfPeople =
     (kind : Kind) (counts : List ℕ) (answers : List Answer) (rows : List ℕ) → AllByRecursion (λ count. 0 < count) counts →
     AllByRecursion (λ a. AreRows (length counts) a.rows) answers → AreRows (length counts) rows →
     IsDangerous (known_over kind counts answers) rows ↔ EndangersSomebody kind counts answers rows
+
+-- of several people behind a row one may have any amount more in a column of sums if another has as much less, and in one of maxima any number up
+-- to what the row tells if another has that: the row tells the same
+pub record AnotherMakesUp : Type 0 where
+  pub sums : (numbers : List ℤ) (person another : ℕ) (amount : ℤ) → person ≢ another → person < length numbers → another < length numbers →
+      told Sum (slice_set (slice_set numbers person (number_at numbers person +ℤ amount)) another (number_at numbers another -ℤ amount)) ≡ told Sum numbers
+  pub maxima : (numbers : List ℤ) (person another : ℕ) (number : ℤ) → person ≢ another → person < length numbers → another < length numbers →
+      number_at numbers another ≡ told Max numbers → number ≤ℤ told Max numbers → told Max (slice_set numbers person number) ≡ told Max numbers

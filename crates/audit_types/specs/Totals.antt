@@ -1,5 +1,5 @@
 -- Facts on totals of the values of a function below n, and on the products of a row with numbers.
-use Rattle.std.proofs.Common.{◌≡◌, ◌≢◌, ℕ, zero, suc, ◌+◌, ◌<◌, Bool, true, false, cond, ◌||◌, ◌==◌, ℤ, pos, ◌+ℤ◌, ◌*ℤ◌, List, [], ◌∷◌, map, refl, sym, ap, ◌∙◌, arith, inl, inr}
+use Rattle.std.proofs.Common.{◌≡◌, ◌≢◌, ℕ, zero, suc, ◌+◌, ◌<◌, Bool, true, false, cond, ◌||◌, ◌==◌, ℤ, pos, ◌+ℤ◌, ◌*ℤ◌, List, [], ◌∷◌, ◌++◌, length, map, refl, sym, ap, ◌∙◌, arith, inl, inr}
 use Rattle.std.specs.List.{AllByRecursion}
 use Rattle.std.proofs.lemmas.Int.{ints}
 use Rattle.std.proofs.lemmas.Bool.{cases_eq, eq-eqb, ne_eqb, eqb-true}
@@ -156,3 +156,17 @@ pub sums_from_products : (n : ℕ) (d : List ℤ) (sets : List (List ℕ)) → A
     AllByRecursion (λ s. sum_over d s ≡ pos 0) sets
 sums_from_products n d [] are zeros = tt
 sums_from_products n d (s ∷ sets) are zeros = (sym (product-set_row d n s are.0) ∙ zeros.0, sums_from_products n d sets are.1 zeros.1)
+
+-- ---- combinations of rows
+
+-- of no rows
+pub combined-none : (a : List ℤ) (j : ℕ) → combined a [] j ≡ pos 0
+combined-none [] j = refl
+combined-none (c ∷ a) j = refl
+
+-- of one row more
+pub combined-push : (a : List ℤ) (rows : List (List ℤ)) (row : List ℤ) (j : ℕ) → combined a (rows ++ row ∷ []) j
+    ≡ combined a rows j +ℤ number_at a (length rows) *ℤ number_at row j
+combined-push [] rows row j = let none = zero-*ℤ (number_at row j) in omega (arith, ints)
+combined-push (c ∷ a) [] row j = let none = combined-none a j in omega (arith, ints)
+combined-push (c ∷ a) (r ∷ rows) row j = let rest = combined-push a rows row j in omega (arith, ints)

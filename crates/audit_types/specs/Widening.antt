@@ -23,13 +23,9 @@ abbrev pub groups_among : ℕ → List Protected → List Protected
 groups_among n [] = []
 groups_among n (p ∷ protected) = entry_of p.column p.place n (rows_that (has_row p.rows.list) n) ++ groups_among n protected
 
--- what is protected among the first n rows: an asker may be one of these, or a later one
+-- what is guarded among the first n rows: an asker may be one of these, or a later one
 abbrev pub protection_among : ℕ → Protection → Protection
-protection_among n protected = record protected {
-  groups = groups_among n protected.groups;
-  shared = rows_that (has_row protected.shared) n;
-  several = rows_that (has_row protected.several) n;
-}
+protection_among n protected = record protected { groups = groups_among n protected.groups; people = record protected.people { counts = take n protected.people.counts } }
 
 -- the first n rows of a table
 abbrev pub first_rows : ℕ → Table → Table

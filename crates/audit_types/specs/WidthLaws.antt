@@ -1,5 +1,5 @@
 -- Facts on the width and the reach: what is dangerous is so whatever they are, and no verdict on a maximum goes by them.
-use Rattle.std.proofs.Common.{◌≡◌, ℕ, ◌≤◌, ℤ, List, [], refl, sym, subst, arith}
+use Rattle.std.proofs.Common.{◌≡◌, ℕ, ◌≤◌, ℤ, List, [], ◌∷◌, refl, sym, ◌∙◌, subst, arith}
 use Rattle.std.specs.Prelude.{unsigned_abs}
 use Rattle.std.specs.List.{AllByRecursion}
 use Rattle.audit_types.specs.declared.shapes.Kind.{Kind}
@@ -9,15 +9,19 @@ use Rattle.audit_types.specs.Reach.{Changes}
 use Rattle.audit_types.specs.declared.shapes.Kind.TheVariants.{Sum, Max}
 use Rattle.audit_types.specs.declared.records.Verdict.{Verdict}
 use Rattle.audit_types.specs.declared.records.Verdict.TheVariants.{Released, DeniedUnsafe, DeniedWide}
-use Rattle.audit_types.specs.Column.{Known, IsGuarded, number, total, IsDangerous, with_bounds}
+use Rattle.audit_types.specs.Rows.{AreRows}
+use Rattle.audit_types.specs.Headcount.{AreFew}
+use Rattle.audit_types.specs.Column.{Known, IsGuarded, number, greatest, total, IsDangerous, with_bounds}
 use Rattle.audit_types.specs.Judgement.{IsWideFor, IsWithinWidth, IsWithinWidthFor, IsUnsafeFor, sets_with, IsJudgement, IsDecision}
 
 -- what is guarded is so whatever was answered, and whatever the bounds
-pub guarded_alike : (known other : Known) → known.n ≡ other.n → known.groups ≡ other.groups → known.shared ≡ other.shared → known.several ≡ other.several →
+pub guarded_alike : (known other : Known) → known.kind ≡ other.kind → known.n ≡ other.n → known.groups ≡ other.groups → known.people ≡ other.people →
     (own : List ℕ) {value : List ℤ → ℤ} → IsGuarded known own value → IsGuarded other own value
-guarded_alike known other n groups shared several own (number row below out alone) =
-    number row (rw (sym n) below) out (rw (sym shared) (rw (sym several) alone))
-guarded_alike known other n groups shared several own (total group row one inside out) = total group row (rw (sym groups) one) inside out
+guarded_alike known other kind n groups people own (number row below out few) =
+    number row (rw (sym n) below) out (subst (λ p. AreFew p own (row ∷ [])) people few)
+guarded_alike known other kind n groups people own (greatest rows maxima are some others few) =
+    greatest rows (sym kind ∙ maxima) (subst (λ k. AreRows k rows) n are) some others (subst (λ p. AreFew p own rows) people few)
+guarded_alike known other kind n groups people own (total group row one inside out) = total group row (rw (sym groups) one) inside out
 
 -- what is dangerous is so at any bounds
 pub dangerous_at : (known : Known) (width reach : ℕ) (rows : List ℕ) → IsDangerous known rows → IsDangerous (with_bounds known width reach) rows

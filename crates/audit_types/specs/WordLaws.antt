@@ -1,5 +1,6 @@
 -- The words of a set of rows are fixed by its rows.
 use Rattle.std.proofs.Common.{◌≡◌, ℕ, zero, suc, ◌+◌, ◌-◌, ◌*◌, ◌/◌, ◌%◌, ◌^◌, ◌<◌, ◌≤◌, Bool, true, false, cond, List, [], ◌==◌, refl, sym, ap, ◌∙◌, arith, length, get_or, set, inl, inr, one-add, pow_mono, replicate, ◌||◌, get_or-set_same, get_or-set_other, length-set, ◌&&◌, min, max, not}
+use Rattle.std.proofs.Math.Bool.{or-false}
 use Rattle.std.proofs.lemmas.List.{get_or_past}
 use Rattle.std.specs.Int.Bits.{or_zero_l}
 use Rattle.std.specs.Prelude.{bit_or, bit_and, nat_lt}
@@ -131,11 +132,6 @@ no_bit k r = rw (zero_at k (r / 64), bit_at-zero (r % 64)) refl
 pub AreWords-none : (n : ℕ) → 0 < n → n ≤ 1024 → AreWords n (replicate 16 0)
 AreWords-none n s h = record { some = s; at_most = h; sixteen = refl; ranges = λ k. omega (arith, zero_at 16 k); none_above = λ r l. no_bit 16 r }
 
--- a test or none
-pub or_false : (b : Bool) → (b || false) ≡ b
-or_false true = refl
-or_false false = refl
-
 -- a bit is set
 pub has_bit-set : (words : List ℕ) (row r : ℕ) → row / 64 < length words →
     has_bit (set words (row / 64) (bit_or (get_or words (row / 64) 0) (1 * 2 ^ (row % 64) % 2 ^ 64))) r ≡ (has_bit words r || (r == row))
@@ -154,11 +150,11 @@ has_bit-set words row r l =
                 let kept : bit_at (bit_or (get_or words (row / 64) 0) (1 * 2 ^ (row % 64) % 2 ^ 64)) (r % 64) ≡ bit_at (get_or words (row / 64) 0) (r % 64) =
                 bit_at_set_other w64 (get_or words (row / 64) 0) (row % 64) (omega arith) (r % 64) bit in
                 let other : (r == row) ≡ false = ne_eqb r row (λ e. bit (ap (λ m. m % 64) e)) in
-                ap (λ x. bit_at x (r % 64) == 1) read ∙ ap (λ x. x == 1) kept ∙ ap (λ m. bit_at (get_or words m 0) (r % 64) == 1) (sym word) ∙ sym (ap (λ b. has_bit words r || b) other ∙ or_false (has_bit words r))
+                ap (λ x. bit_at x (r % 64) == 1) read ∙ ap (λ x. x == 1) kept ∙ ap (λ m. bit_at (get_or words m 0) (r % 64) == 1) (sym word) ∙ sym (ap (λ b. has_bit words r || b) other ∙ or-false (has_bit words r))
           ]
       | inr word ↦
           let other : (r == row) ≡ false = ne_eqb r row (λ e. word (ap (λ m. m / 64) e)) in
-          ap (λ x. bit_at x (r % 64) == 1) (get_or-set_other words (row / 64) (r / 64) _ 0 word) ∙ sym (ap (λ b. has_bit words r || b) other ∙ or_false (has_bit words r))
+          ap (λ x. bit_at x (r % 64) == 1) (get_or-set_other words (row / 64) (r / 64) _ 0 word) ∙ sym (ap (λ b. has_bit words r || b) other ∙ or-false (has_bit words r))
     ]
 
 -- sixteen words of 64 bits, by the code's facts on them

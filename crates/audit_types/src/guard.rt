@@ -1,40 +1,39 @@
 //! What is guarded of a table.
-ghost use Rattle.std.specs.Prelude.{◌≡◌, IfOk};
-ghost use Rattle.audit_types.specs.History.{IsAgainstOutsiders, against_outsiders};
+ghost use Rattle.std.specs.Prelude.{◌≡◌, ◌≤◌, ◌<◌, IfOk};
+ghost use Rattle.audit_types.specs.Headcount.{CountPeople};
 
 use crate::NoMemory;
+use crate::counted_rows::CountedRows;
 use crate::records::Protected;
-use crate::rows::RowSet;
 use std::alloc::Global;
 use std::marker::Model;
 
-/// What is guarded of a table: the number of each row that stands for one person, and the totals of the protected groups; how wide a
+/// What is guarded of a table: what so few people have that stand behind its rows, and the totals of the protected groups; how wide a
 /// reduced form may be, and of how many rows a change that leaves every sum may have to be.
 #[derive(Drop)]
 pub struct Guard {
     groups: Vec<Protected>,
-    // The rows that stand for several people.
-    shared: RowSet,
+    rows: CountedRows,
     width: u64,
     reach: u16,
 }
 
 impl Model for Guard {
-    ghost use Rattle.audit_types.specs.History.{Protection, against_outsiders};
+    ghost use Rattle.audit_types.specs.History.{Protection};
 
     ghost Value = { Protection };
 
-    ghost view = { λ g. against_outsiders g.groups.items g.shared.list g.width g.reach };
+    ghost view = { λ g. record { groups = g.groups.items; people = g.rows.people; width = g.width; reach = g.reach } };
 }
 
 impl Guard {
-    /// The guard of each row that isn't shared and of these groups, by forms of at most this width and this reach.
-    pub fn new(groups: Vec<Protected>, shared: RowSet, width: u64, reach: u16) -> Guard
-        ensures { result ≡ against_outsiders groups.items shared.list width reach }
+    /// The guard of these rows and these groups, by forms of at most this width and this reach.
+    pub fn new(groups: Vec<Protected>, rows: CountedRows, width: u64, reach: u16) -> Guard
+        ensures { result ≡ record { groups = groups.items; people = rows.people; width = width; reach = reach } }
     {
         Guard {
             groups,
-            shared,
+            rows,
             width,
             reach,
         }
@@ -42,32 +41,28 @@ impl Guard {
 
     /// The groups whose totals are protected, in order.
     pub fn groups(&self) -> &[Protected]
-        ensures is { result.now ≡ self.now.groups }
-        ensures outsiders { IsAgainstOutsiders self.now }
+        ensures { result.now ≡ self.now.groups }
     {
         &self.groups
     }
 
-    /// The rows that stand for several people: their numbers need no guard.
-    pub fn shared(&self) -> &RowSet
-        ensures is { result.now.list ≡ self.now.shared }
-        ensures outsiders { IsAgainstOutsiders self.now }
+    /// How many people stand behind the rows, and who asks.
+    pub fn rows(&self) -> &CountedRows
+        ensures { result.now.people ≡ self.now.people }
     {
-        &self.shared
+        &self.rows
     }
 
     /// How large an entry of a reduced form may be, and the least common multiple of its pivot entries.
     pub fn width(&self) -> u64
-        ensures is { result ≡ self.now.width }
-        ensures outsiders { IsAgainstOutsiders self.now }
+        ensures { result ≡ self.now.width }
     {
         self.width
     }
 
     /// How many rows a change may need that leaves every sum as it is, and along which something guarded changes.
     pub fn reach(&self) -> u16
-        ensures is { result ≡ self.now.reach }
-        ensures outsiders { IsAgainstOutsiders self.now }
+        ensures { result ≡ self.now.reach }
     {
         self.reach
     }
@@ -76,9 +71,11 @@ impl Guard {
     pub fn copy(&self, alloc: Global) -> Result<Guard, NoMemory>
         ensures { IfOk result (λ guard. guard ≡ self.now) }
     {
+        // Counted rows say of themselves that the people stand behind so many rows.
+        let n = self.rows.n();
         Ok(Guard {
             groups: self.groups.to_vec(alloc)?,
-            shared: self.shared,
+            rows: self.rows.over(alloc, n)?,
             width: self.width,
             reach: self.reach,
         })

@@ -2,7 +2,7 @@
 ghost use Rattle.audit_types.specs.Laws.{SameSetInAnyOrder, SameTruthInAnyOrder, GreatestIsBoundAndReached};
 ghost use Rattle.audit_types.specs.Minima.{LeastByGreatest, LeastIsBoundAndReached, TwinsNegated};
 ghost use Rattle.audit_types.specs.Laws.{TrueAnswersKeepAgreement, SomeAnswerStaysPossible, LegalIsPossible};
-ghost use Rattle.audit_types.specs.PeopleLaws.{TruthIsOverPeople, PeopleAreCounted, PeopleMayDiffer, UndisclosedHidesPeople, DangerIsThatOfPeople};
+ghost use Rattle.audit_types.specs.PeopleLaws.{TruthIsOverPeople, PeopleAreCounted, PeopleMayDiffer, UndisclosedHidesPeople, DangerIsThatOfPeople, AnotherMakesUp};
 ghost use Rattle.audit_types.specs.Laws.{OneRowIsDangerous, OtherColumnsTellNothing, OwnAnswersDecide, OneCanonicalDirection};
 
 /// The order in which the rows of a set were added changes neither the set nor the truth over it.
@@ -58,4 +58,10 @@ pub fn people_behind_lines()
     ensures differ { PeopleMayDiffer }
     ensures hidden { UndisclosedHidesPeople }
     ensures dangerous { DangerIsThatOfPeople }
+{}
+
+/// Within a range another one of several people behind a row makes up for a change of one's number: she has as much less as it is more, and so both
+/// may change as far as they lie inside; or she has the greatest number, and so one may have any that isn't above it.
+pub fn people_behind_one_row()
+    ensures { AnotherMakesUp }
 {}

@@ -1,4 +1,4 @@
-use Rattle.audit_types.proofs.Greatest.{bound_and_reached}
+use Rattle.audit_types.specs.GreatestLaws.{bound_and_reached}
 use Rattle.audit_types.proofs.laws.greatest.Goals as goal
 
 pub returns : goal.returns
