@@ -13,7 +13,8 @@ use Rattle.audit_types.specs.Rows.{has_row}
 use Rattle.audit_types.specs.Column.{Answer, known_max, guarding}
 use Rattle.audit_types.specs.Extremes.{least_of, upper_bound, is_bound, extremes}
 use Rattle.audit_types.specs.ListLaws.{all-push, all-front}
-use Rattle.max_audit.specs.Laws.{LeavesLoneRow}
+use Rattle.audit_types.specs.Headcount.{Headcount, AreFew}
+use Rattle.max_audit.specs.Laws.{LeavesFewPeople}
 use Rattle.max_bounds.specs.AnswerLaws.{all_at, all_from, one_of_front, one_of_last, front_or_last}
 
 -- a number is below both of two numbers, equal to both, or above both
@@ -121,10 +122,10 @@ module _ (x y : ℤ) where
       new_extremes : extremes (answers ++ asked_x ∷ []) asked_x ≡ extremes (answers ++ asked_y ∷ []) asked_y
       new_extremes = filters_agree _ _ (λ r. new_test _ _ (alike_bounds answers all r)) rows
 
-      -- so what leaves a lone row with x does so with y
-      pub moved : (n : ℕ) (shared : List ℕ) → LeavesLoneRow (guarding (known_max n answers) shared []) rows x →
-          LeavesLoneRow (guarding (known_max n answers) shared []) rows y
-      moved n shared leaves =
+      -- so what leaves few people with x does so with y
+      pub moved : (n : ℕ) (people : Headcount) → LeavesFewPeople (guarding (known_max n answers) people []) rows x →
+          LeavesFewPeople (guarding (known_max n answers) people []) rows y
+      moved n people leaves =
           let some = all-front (λ a. 0 < length (extremes (answers ++ asked_x ∷ []) a)) answers asked_x leaves.possible in
           record {
             possible = all-push (λ a. 0 < length (extremes (answers ++ asked_y ∷ []) a)) answers asked_y
@@ -132,14 +133,16 @@ module _ (x y : ℤ) where
                 subst (λ l. 0 < length l) (old_extremes a (all_at (λ b. LiesAlike x y b.value) answers a all one))
                 (all_at (λ b. 0 < length (extremes (answers ++ asked_x ∷ []) b)) answers a some.0 one)))
                 (subst (λ l. 0 < length l) new_extremes some.1);
-            row = leaves.row;
-            own = leaves.own;
-            lone = elim (front_or_last answers asked_x leaves.lone.0 leaves.lone.1) [
+            few = elim (front_or_last answers asked_x leaves.few.0 leaves.few.1) [
               | inl one ↦ (
-                leaves.lone.0,
-                one_of_front answers asked_y leaves.lone.0 one,
-                sym (old_extremes leaves.lone.0 (all_at (λ b. LiesAlike x y b.value) answers leaves.lone.0 all one)) ∙ leaves.lone.2,
+                leaves.few.0,
+                one_of_front answers asked_y leaves.few.0 one,
+                subst (AreFew people []) (old_extremes leaves.few.0 (all_at (λ b. LiesAlike x y b.value) answers leaves.few.0 all one)) leaves.few.2,
               )
-              | inr last ↦ (asked_y, one_of_last answers asked_y, sym new_extremes ∙ ap (extremes (answers ++ asked_x ∷ [])) last ∙ leaves.lone.2)
+              | inr last ↦ (
+                asked_y,
+                one_of_last answers asked_y,
+                subst (AreFew people []) (ap (extremes (answers ++ asked_x ∷ [])) (sym last) ∙ new_extremes) leaves.few.2,
+              )
             ];
           }

@@ -1,11 +1,11 @@
 -- The laws of answered maxima: when they are possible, which rows they fix, and when a question is dangerous.
-use Rattle.std.specs.Prelude.{◌≡◌, ◌≢◌, ◌↔◌, ◌⊎◌, ℕ, ◌<◌, ℤ, ◌≤ℤ◌, true, false, List, [], Option}
-use Rattle.std.specs.List.{AllByRecursion}
-use Rattle.audit_types.specs.Rows.{AreRows, IsLeast, has_row}
+use Rattle.std.specs.Prelude.{◌≡◌, ◌≢◌, ◌↔◌, ◌⊎◌, ℕ, ◌<◌, ℤ, List, [], Option}
+use Rattle.audit_types.specs.Rows.{AreRows, IsLeast}
 use Rattle.audit_types.specs.Truth.{number_at}
 use Rattle.audit_types.specs.Column.{Known, Answer, Agrees, IsWellFormed, IsPossible, IsDangerous, known_max, guarding, with_answer}
 use Rattle.audit_types.specs.Extremes.{IsConsistent, IsLone, IsCandidate}
-use Rattle.max_bounds.specs.Outside.{IsDangerousByExtremes}
+use Rattle.audit_types.specs.Headcount.{Headcount}
+use Rattle.max_bounds.specs.Few.{HasFewPeople, IsFewByExtremes}
 use Rattle.max_audit.specs.Witnesses.{highest, lowered_at}
 
 -- answered maxima are possible exactly if each has an extreme row
@@ -41,33 +41,28 @@ abbrev pub LoneOrFree : Type 0
 LoneOrFree = (n : ℕ) (answers : List Answer) (i : ℕ) → IsWellFormed (known_max n answers) → IsConsistent answers → i < n →
     IsLone answers i ⊎ ((w : List ℤ) × (v : List ℤ) × Agrees (known_max n answers) w × Agrees (known_max n answers) v × (number_at v i ≢ number_at w i))
 
--- a row is lone, or it may have any number up to a high end, which no number is above, and to each answer over a set with it: in some list that
--- agrees, and at the other rows has no less than this one and nothing above the high end
-abbrev pub LoneOrAny : Type 0
-LoneOrAny = (n : ℕ) (answers : List Answer) (w : List ℤ) (i : ℕ) (high x : ℤ) → IsWellFormed (known_max n answers) → Agrees (known_max n answers) w → i < n →
-    ((r : ℕ) → r < n → number_at w r ≤ℤ high) → x ≤ℤ high → AllByRecursion (λ a. has_row a.rows i ≡ true → x ≤ℤ a.value) answers →
-    IsLone answers i ⊎ ((v : List ℤ) × Agrees (known_max n answers) v × (number_at v i ≡ x)
-    × ((r : ℕ) → r < n → r ≢ i → (number_at w r ≤ℤ number_at v r) × (number_at v r ≤ℤ high)))
-
--- to the question on these rows this answer is possible, and it would leave a lone row that isn't shared
-pub record LeavesLoneRow (known : Known) (rows : List ℕ) (answer : ℤ) : Type 0 where
+-- to the question on these rows this answer is possible, and few people would stand behind the extreme rows of some answer
+pub record LeavesFewPeople (known : Known) (rows : List ℕ) (answer : ℤ) : Type 0 where
   pub possible : IsConsistent (with_answer known rows answer).answers
-  pub row : ℕ
-  pub lone : IsLone (with_answer known rows answer).answers row
-  pub own : has_row known.shared row ≡ false
+  pub few : HasFewPeople known.people (with_answer known rows answer).answers
 
--- a candidate that leaves a lone row
+-- a maximum is dangerous exactly if some answer to it leaves few people behind the extreme rows of some answer
+abbrev pub DangerousByFewPeople : Type 0
+DangerousByFewPeople = (n : ℕ) (answers : List Answer) (people : Headcount) (rows : List ℕ) → IsWellFormed (known_max n answers) → AreRows n rows → rows ≢ [] →
+    IsDangerous (guarding (known_max n answers) people []) rows ↔ ((x : ℤ) × LeavesFewPeople (guarding (known_max n answers) people []) rows x)
+
+-- a candidate that leaves few
 pub record HasBadCandidate (known : Known) (rows : List ℕ) : Type 0 where
   pub answer : ℤ
   pub candidate : IsCandidate known.answers answer
-  pub leaves : LeavesLoneRow known rows answer
+  pub leaves : LeavesFewPeople known rows answer
 
 -- a maximum is dangerous exactly if one of finitely many candidates is bad
 abbrev pub DangerousByCandidates : Type 0
-DangerousByCandidates = (n : ℕ) (answers : List Answer) (shared rows : List ℕ) → IsWellFormed (known_max n answers) → AreRows n rows → rows ≢ [] →
-    IsDangerous (guarding (known_max n answers) shared []) rows ↔ HasBadCandidate (guarding (known_max n answers) shared []) rows
+DangerousByCandidates = (n : ℕ) (answers : List Answer) (people : Headcount) (rows : List ℕ) → IsWellFormed (known_max n answers) → AreRows n rows → rows ≢ [] →
+    IsDangerous (guarding (known_max n answers) people []) rows ↔ HasBadCandidate (guarding (known_max n answers) people []) rows
 
 -- a maximum is dangerous exactly if the extreme rows of the answers before it tell so, with no number beyond these answers
 abbrev pub DangerousByExtremes : Type 0
-DangerousByExtremes = (n : ℕ) (answers : List Answer) (shared rows : List ℕ) → IsWellFormed (known_max n answers) → AreRows n rows → rows ≢ [] →
-    IsDangerous (guarding (known_max n answers) shared []) rows ↔ IsDangerousByExtremes shared answers rows
+DangerousByExtremes = (n : ℕ) (answers : List Answer) (people : Headcount) (rows : List ℕ) → IsWellFormed (known_max n answers) → AreRows n rows → rows ≢ [] →
+    IsDangerous (guarding (known_max n answers) people []) rows ↔ IsFewByExtremes people answers rows

@@ -2,7 +2,8 @@
 ghost use Rattle.std.specs.Prelude.{◌≡◌, ◌≢◌, ◌<◌, ◌≤◌, [], IfOk, OnOk, OnErr};
 ghost use Rattle.audit_types.specs.Limits.{most_rows};
 ghost use Rattle.std.specs.List.{All};
-ghost use Rattle.audit_types.specs.Column.{known_max, guarding, with_answer, with_askers, IsPossible, IsWellFormed};
+ghost use Rattle.audit_types.specs.Column.{known_max, guarding, with_answer, IsPossible, IsWellFormed};
+ghost use Rattle.audit_types.specs.Headcount.{one_person_each};
 ghost use Rattle.audit_types.specs.Extremes.{IsConsistent, IsLeastLone};
 ghost use Rattle.audit_types.specs.Judgement.{IsJudgement, IsDecision, IsWithinWidth};
 ghost use Rattle.audit_types.specs.declared.shapes.Kind.TheVariants.{Max};
@@ -11,7 +12,7 @@ ghost use Rattle.max_audit.specs.Laws.{IsLeastFixed};
 ghost use Rattle.max_audit.specs.Candidates.{AreCandidates, IsNearRange};
 
 use crate::candidates::candidates_of;
-use audit_types::{ColumnAudit, NoMemory, RowSet, Verdict};
+use audit_types::{Askers, ColumnAudit, CountedRows, NoMemory, RowSet, Verdict};
 use max_bounds::Bounds;
 use std::alloc::Global;
 use std::marker::Model;
@@ -61,40 +62,24 @@ impl MaxColumn {
         self.bounds.lone_extreme()
     }
 
-    /// The verdict on a question if the numbers of these rows are shared by several people. `probe` is the case of no shared rows.
-    pub fn probe_sharing(&self, rows: &RowSet, shared: &RowSet) -> Result<Verdict, NoMemory>
+    /// The verdict on a question if these people stand behind the rows. `probe` is the case of one person behind each, and of nobody who knows a number.
+    pub fn probe_among(&self, rows: &RowSet, people: &CountedRows) -> Result<Verdict, NoMemory>
         requires same_n { rows.now.n ≡ self.now.n }
         requires some { rows.now.list ≢ [] }
-        requires shared { shared.now.n ≡ self.now.n }
-        ensures judged { IfOk result (λ verdict. IsJudgement (guarding self.now shared.now.list []) rows.now.list verdict) }
-        ensures decided { IfOk result (λ verdict. IsPossible self.now → IsDecision (guarding self.now shared.now.list []) rows.now.list verdict) }
+        requires people { people.now.n ≡ self.now.n }
+        ensures judged { IfOk result (λ verdict. IsJudgement (guarding self.now people.now.people []) rows.now.list verdict) }
+        ensures decided { IfOk result (λ verdict. IsPossible self.now → IsDecision (guarding self.now people.now.people []) rows.now.list verdict) }
         ensures never_wide { IfOk result (λ verdict. verdict ≢ DeniedWide) }
 
-        // What is true of every column of maxima: it knows of no shared row and of no group itself.
-        ensures plain { guarding self.now [] [] ≡ self.now }
+        // What is true of every column of maxima: by itself it knows of one person behind each row, and of no group.
+        ensures plain { guarding self.now one_person_each [] ≡ self.now }
     {
         // A set says of itself that its rows are rows of the table.
         let _ = rows.n();
-        if self.bounds.is_dangerous(rows, shared) {
+        if self.bounds.leaves_few(rows, people) {
             Ok(Verdict::DeniedUnsafe)
         } else {
             Ok(Verdict::Released)
-        }
-    }
-
-    /// The verdict on a question if the askers are in the table, so that each may know a number of the column.
-    pub fn probe_inside(&self, rows: &RowSet) -> Verdict
-        requires same_n { rows.now.n ≡ self.now.n }
-        requires some { rows.now.list ≢ [] }
-        ensures judged { IsJudgement (with_askers self.now [] 1) rows.now.list result }
-        ensures decided { IsDecision (with_askers self.now [] 1) rows.now.list result }
-    {
-        // A set says of itself that its rows are rows of the table.
-        let _ = rows.n();
-        if self.bounds.leaves_few(rows, 2) {
-            Verdict::DeniedUnsafe
-        } else {
-            Verdict::Released
         }
     }
 
@@ -118,8 +103,8 @@ impl ColumnAudit for MaxColumn {
         ensures decided { IfOk result (λ verdict. IsPossible self.now → IsDecision self.now rows.now.list verdict) }
         ensures never_wide { IfOk result (λ verdict. verdict ≢ DeniedWide) }
     {
-        let none = RowSet::new(rows.n());
-        self.probe_sharing(rows, &none)
+        let people = CountedRows::new(rows.n(), Vec::new(self.alloc), 2, Askers::Outside);
+        self.probe_among(rows, &people)
     }
 
     fn accept(&mut self, rows: &RowSet, answer: i64) -> Result<(), NoMemory> {

@@ -1,16 +1,19 @@
 -- The rows with high bounds stand for all if one of them counts.
-use Rattle.std.proofs.Common.{◌≡◌, ◌⊎◌, ℕ, zero, suc, ◌<◌, ℤ, Bool, true, false, cond, not, ◌&&◌, List, [], ◌∷◌, ◌++◌, take, drop, refl, sym, ap, ◌∙◌, arith, inl, inr, Option, Some, None}
+use Rattle.std.proofs.Common.{◌≡◌, ℕ, zero, suc, ◌<◌, ◌≤◌, ℤ, Bool, true, false, cond, not, ◌&&◌, List, [], ◌∷◌, ◌++◌, take, drop, refl, sym, ap, ◌∙◌, subst, arith, inl, inr, Option, Some, None}
 use Rattle.std.specs.Prelude.{◌↔◌, ◌<ℤ◌, ◌≤ℤ◌, int_lt}
 use Rattle.std.specs.Int.{int_min}
 use Rattle.std.specs.List.{filter, AllByRecursion}
 use Rattle.std.proofs.lemmas.Int.{ints, clamps}
-use Rattle.std.proofs.lemmas.Bool.{true≢false, cases_lt, cases_eq, and_parts, and_from}
+use Rattle.std.proofs.lemmas.Bool.{true≢false, cases_lt, cases_Bool, and_parts, and_from}
 use Rattle.audit_types.specs.Rows.{has_row, AreRows, intersection, complement}
 use Rattle.audit_types.specs.Extremes.{least_of}
 use Rattle.audit_types.specs.RowLaws.{ascending_same, AreRows-rows_that, has-rows_that, has-rows_that_above}
-use Rattle.max_bounds.specs.Outside.{IsBelowBound, HasOwnHighest}
+use Rattle.audit_types.specs.Headcount.{Headcount, AreFew, people_behind}
+use Rattle.audit_types.specs.WalkLaws.{row_within}
+use Rattle.max_bounds.specs.Few.{is_below_bound, not_below, HasFewHighest}
+use Rattle.max_bounds.specs.PeopleAmong.{people_grow}
 use Rattle.max_bounds.specs.Kept.{is_at_least, is_above, rows_at_least, rows_above, IsHigh, AreLow}
-use Rattle.max_bounds.specs.RowListLaws.{filter-has, has-filter, filter-ascends, row_below}
+use Rattle.max_bounds.specs.RowListLaws.{filter-has, has-filter, filter-ascends}
 use Rattle.max_bounds.specs.declared.high_rows.HighRows.{HighRows}
 use Rattle.max_bounds.proofs.LoweredSets.{same_test}
 
@@ -46,7 +49,7 @@ of_both n rows high r there = elim (cases_lt r n) [
 
 in_both : (n : ℕ) (rows high : List ℕ) (r : ℕ) → AreRows n rows → has_row rows r ≡ true → has_row high r ≡ true → has_row (intersection n rows high) r ≡ true
 in_both n rows high r are there here =
-    has-rows_that (λ q. has_row rows q && has_row high q) n r (row_below n rows r are there) ∙ and_from (has_row rows r) (has_row high r) there here
+    has-rows_that (λ q. has_row rows q && has_row high q) n r (row_within n rows r are there) ∙ and_from (has_row rows r) (has_row high r) there here
 
 -- a test that only high rows pass passes the same rows among them
 narrow : (n : ℕ) (test : ℕ → Bool) (rows high : List ℕ) → AreRows n rows → ((r : ℕ) → r < n → test r ≡ true → has_row high r ≡ true) →
@@ -56,7 +59,7 @@ narrow n test rows high are covers = ascending_same 0 n n (filter test (intersec
     (λ r. same_test (has_row (filter test (intersection n rows high)) r) (has_row (filter test rows) r)
     (λ there. let found = filter-has test (intersection n rows high) r there in has-filter test rows r (of_both n rows high r found.0) found.1)
     (λ there. let found = filter-has test rows r there in
-    has-filter test (intersection n rows high) r (in_both n rows high r are found.0 (covers r (row_below n rows r are found.0) found.1)) found.1))
+    has-filter test (intersection n rows high) r (in_both n rows high r are found.0 (covers r (row_within n rows r are found.0) found.1)) found.1))
 
 module _ (n : ℕ) (bound : ℕ → Option ℤ) (high : HighRows) (is : IsHigh n bound high) (rows : List ℕ) (are : AreRows n rows) where
   -- if an answer isn't below the cut, what it does to the high rows is all
@@ -70,63 +73,63 @@ module _ (n : ℕ) (bound : ℕ → Option ℤ) (high : HighRows) (is : IsHigh n
       narrow n (λ r. is_above answer (bound r)) rows high.rows.list are
       (λ r below passes. is.covers r below (above_at_least (bound r) high.cut answer low passes))
 
-  -- a bound below the cut is below each that is not
-  below_cut : (o p : Option ℤ) → is_at_least high.cut o ≡ false → is_at_least high.cut p ≡ true → IsBelowBound o p
-  below_cut None p less more = absurd (true≢false less)
-  below_cut (Some b) None less more = tt
-  below_cut (Some b) (Some c) less more = let most = from_at_least c high.cut more in
-      elim (int_lt b high.cut) as (λ t. int_lt b high.cut ≡ t → not t ≡ false → b <ℤ c) [
+  -- what isn't below a bound that is at least the cut is at least the cut
+  not_below_cut : (o p : Option ℤ) → is_at_least high.cut p ≡ true → not (is_below_bound o p) ≡ true → is_at_least high.cut o ≡ true
+  not_below_cut None p more passes = refl
+  not_below_cut (Some b) None more passes = absurd (true≢false (sym passes))
+  not_below_cut (Some b) (Some c) more passes =
+      let most = from_at_least c high.cut more in let low = from_at_least b c passes in to_at_least b high.cut (omega (arith, ints))
+
+  -- and not below a bound that is below the cut
+  not_below_low : (o p : Option ℤ) → is_at_least high.cut o ≡ true → is_at_least high.cut p ≡ false → not (is_below_bound o p) ≡ true
+  not_below_low None p more less = refl
+  not_below_low (Some b) None more less = absurd (true≢false less)
+  not_below_low (Some b) (Some c) more less =
+      let most = from_at_least b high.cut more in
+      to_at_least b c (elim (int_lt c high.cut) as (λ t. int_lt c high.cut ≡ t → not t ≡ false → c ≤ℤ b) [
         | true ↦ λ e k. omega (arith, ints)
         | false ↦ λ e k. absurd (true≢false k)
-      ] refl less
+      ] refl less)
 
-  -- what is above a bound that is at least the cut is too
-  above_cut : (o p : Option ℤ) → is_at_least high.cut o ≡ true → IsBelowBound o p → is_at_least high.cut p ≡ true
-  above_cut None p more less = absurd less
-  above_cut (Some b) None more less = refl
-  above_cut (Some b) (Some c) more less = let most = from_at_least b high.cut more in to_at_least c high.cut (omega (arith, ints))
+  -- the rows that aren't below a row that reaches the cut are all high
+  same_not_below : (r : ℕ) → is_at_least high.cut (bound r) ≡ true → not_below bound (intersection n rows high.rows.list) r ≡ not_below bound rows r
+  same_not_below r reaches = narrow n (λ q. not (is_below_bound (bound q) (bound r))) rows high.rows.list are
+      (λ q below passes. is.covers q below (not_below_cut (bound q) (bound r) reaches passes))
 
-  -- a row of the set is high, or its bound is below the cut
-  high_or_below : (q : ℕ) → has_row rows q ≡ true → (has_row (intersection n rows high.rows.list) q ≡ true) ⊎ (is_at_least high.cut (bound q) ≡ false)
-  high_or_below q there = elim (is_at_least high.cut (bound q)) as
-      (λ t. is_at_least high.cut (bound q) ≡ t → (has_row (intersection n rows high.rows.list) q ≡ true) ⊎ (t ≡ false)) [
-        | true ↦ λ e. inl (in_both n rows high.rows.list q are there (is.covers q (row_below n rows q are there) e))
-        | false ↦ λ e. inr refl
-      ] refl
+  -- and behind them there are no more people than behind those not below a row that doesn't reach it
+  fewer_above : (counts l : List ℕ) (t r : ℕ) → is_at_least high.cut (bound t) ≡ true → is_at_least high.cut (bound r) ≡ false →
+      people_behind counts (not_below bound l t) ≤ people_behind counts (not_below bound l r)
+  fewer_above counts l t r reaches low = people_grow counts (λ q. not (is_below_bound (bound q) (bound t))) (λ q. not (is_below_bound (bound q) (bound r))) l
+      (λ q there passes. not_below_low (bound q) (bound r) (not_below_cut (bound q) (bound t) reaches passes) low)
 
-  -- if one of the high rows reaches the cut, they tell whether one row is highest, and isn't shared
-  pub same_highest : (shared : List ℕ) (q : ℕ) → has_row (intersection n rows high.rows.list) q ≡ true → is_at_least high.cut (bound q) ≡ true →
-      HasOwnHighest shared bound (intersection n rows high.rows.list) ↔ HasOwnHighest shared bound rows
-  same_highest shared q there reaches = (
-    (λ own. let one = own.0 in
-        let r = one.0 in
-        let top : is_at_least high.cut (bound r) ≡ true = elim (cases_eq q r) [
-          | inl same ↦ ap (λ p. is_at_least high.cut (bound p)) (sym same) ∙ reaches
-          | inr apart ↦ above_cut (bound q) (bound r) reaches (one.2 q there apart)
-        ] in (
-          (
-            r,
-            of_both n rows high.rows.list r one.1,
-            λ p here apart. elim (high_or_below p here) [
-              | inl in_high ↦ one.2 p in_high apart
-              | inr less ↦ below_cut (bound p) (bound r) less top
-            ],
-          ),
-          own.1,
-        )),
-    (λ own. let one = own.0 in
-        let r = one.0 in
-        let top : is_at_least high.cut (bound r) ≡ true = elim (cases_eq q r) [
-          | inl same ↦ ap (λ p. is_at_least high.cut (bound p)) (sym same) ∙ reaches
-          | inr apart ↦ above_cut (bound q) (bound r) reaches (one.2 q (of_both n rows high.rows.list q there) apart)
-        ] in (
-          (
-            r,
-            in_both n rows high.rows.list r are one.1 (is.covers r (row_below n rows r are one.1) top),
-            λ p here apart. one.2 p (of_both n rows high.rows.list p here) apart,
-          ),
-          own.1,
-        )),
+  -- if one of the high rows reaches the cut, they tell whether few people stand behind the highest rows
+  pub same_highest : (people : Headcount) (t : ℕ) → has_row (intersection n rows high.rows.list) t ≡ true → is_at_least high.cut (bound t) ≡ true →
+      HasFewHighest people bound (intersection n rows high.rows.list) ↔ HasFewHighest people bound rows
+  same_highest people t there reaches = (
+    (λ (r, here, few). elim (cases_Bool (is_at_least high.cut (bound r))) [
+      | inl high_one ↦ (r, of_both n rows high.rows.list r here, subst (AreFew people []) (same_not_below r high_one) few)
+      | inr low ↦ (
+        t,
+        of_both n rows high.rows.list t there,
+        (let fewer = fewer_above people.counts (intersection n rows high.rows.list) t r reaches low in
+            let same = ap (people_behind people.counts) (same_not_below t reaches) in
+            omega (arith, fewer, same, few)),
+      )
+    ]),
+    (λ (r, here, few). elim (cases_Bool (is_at_least high.cut (bound r))) [
+      | inl high_one ↦ (
+        r,
+        in_both n rows high.rows.list r are here (is.covers r (row_within n rows r are here) high_one),
+        subst (AreFew people []) (sym (same_not_below r high_one)) few,
+      )
+      | inr low ↦ (
+        t,
+        there,
+        (let fewer = fewer_above people.counts rows t r reaches low in
+            let same = ap (people_behind people.counts) (same_not_below t reaches) in
+            omega (arith, fewer, same, few)),
+      )
+    ]),
   )
 
 -- a number that a row gets for its bound is not above the one before

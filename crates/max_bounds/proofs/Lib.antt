@@ -3,7 +3,6 @@ pub mod Surveys
 pub mod Walks
 pub mod HighestBounds
 pub mod HighRows
-pub mod LostSets
 pub mod ReachedRows
 pub mod Ranges
 pub mod FallingCounts
@@ -15,5 +14,6 @@ pub mod DangerCases
 pub mod FailedCalls
 pub mod HeldExtremes
 pub mod WithinSets
+pub mod MissingPeople
+pub mod HighestPeople
 pub mod NearlyHeld
-pub mod HighestCounts

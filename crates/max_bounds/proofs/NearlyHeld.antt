@@ -1,10 +1,11 @@
--- Sets with descending answers: the answer of one of which few rows are left, while none is held whole.
-use Rattle.std.proofs.Common.{◌≡◌, ◌≢◌, ℕ, ◌<◌, ◌≤◌, ℤ, List, [], ◌∷◌, ◌++◌, length, refl, sym, ap, ◌∙◌, subst, arith, inl, inr, ◌⊎◌, Option, Some, None}
+-- Sets with descending answers: the answer of one of which few people are left, while none is held whole.
+use Rattle.std.proofs.Common.{◌≡◌, ◌≢◌, ℕ, ℤ, List, [], ◌∷◌, ◌++◌, refl, sym, ap, ◌∙◌, subst, arith, inl, inr, ◌⊎◌, Option, Some, None}
 use Rattle.std.specs.Prelude.{◌≤ℤ◌}
 use Rattle.std.specs.List.{AllByRecursion}
 use Rattle.std.proofs.lemmas.Int.{ints, by_lt_z}
 use Rattle.audit_types.specs.Column.{Answer, IsOneOf}
 use Rattle.max_bounds.specs.Kept.{left_of}
+use Rattle.audit_types.specs.Headcount.{Headcount, AreFew}
 use Rattle.max_bounds.specs.Few.{HasNearlyHeld, IsPast}
 use Rattle.max_bounds.specs.AnswerLaws.{all_at, one_of_front, one_of_last, front_or_last}
 
@@ -24,56 +25,54 @@ of_second [] ys a one = one
 of_second (x ∷ xs) ys a one = inr (of_second xs ys a one)
 
 -- of the sets so far, none has few rows left, or one has and no other such one a higher answer
-abbrev pub FewSoFar : ℕ → List Answer → List ℕ → Option ℤ → Type 0
-FewSoFar most seen rows None = (b : Answer) → IsOneOf b seen → most < length (left_of rows b)
-FewSoFar most seen rows (Some v) =
-    ((a : Answer) × IsOneOf a seen × (length (left_of rows a) ≤ most) × (a.value ≡ v)) ×
-    ((b : Answer) → IsOneOf b seen → length (left_of rows b) ≤ most → b.value ≤ℤ v)
+abbrev pub FewSoFar : Headcount → List Answer → List ℕ → Option ℤ → Type 0
+FewSoFar people seen rows None = (b : Answer) → IsOneOf b seen → ¬ (AreFew people [] (left_of rows b))
+FewSoFar people seen rows (Some v) =
+    ((a : Answer) × IsOneOf a seen × (AreFew people [] (left_of rows a)) × (a.value ≡ v)) ×
+    ((b : Answer) → IsOneOf b seen → AreFew people [] (left_of rows b) → b.value ≤ℤ v)
 
 -- and none is held whole
-pub record AreSeen (most : ℕ) (seen : List Answer) (rows : List ℕ) (few : Option ℤ) : Type 0 where
+pub record AreSeen (people : Headcount) (seen : List Answer) (rows : List ℕ) (few : Option ℤ) : Type 0 where
   pub some : (b : Answer) → IsOneOf b seen → left_of rows b ≢ []
-  pub told : FewSoFar most seen rows few
+  pub told : FewSoFar people seen rows few
 
-pub none_seen : (most : ℕ) (rows : List ℕ) → AreSeen most [] rows None
-none_seen most rows = record { some = λ b one. absurd one; told = λ b one. absurd one }
+pub none_seen : (people : Headcount) (rows : List ℕ) → AreSeen people [] rows None
+none_seen people rows = record { some = λ b one. absurd one; told = λ b one. absurd one }
 
-no_length : (rows : List ℕ) → rows ≡ [] → length rows ≡ 0
-no_length rows e = ap length e
-
-module _ (most : ℕ) (seen : List Answer) (rows : List ℕ) (x : Answer) where
+module _ (people : Headcount) (seen : List Answer) (rows : List ℕ) (x : Answer) where
   -- an answer that isn't past what is noted is at least that
-  few_below : (few : Option ℤ) → FewSoFar most seen rows few → (IsPast few x.value → ⊥) → (b : Answer) → IsOneOf b seen → length (left_of rows b) ≤ most →
+  few_below : (few : Option ℤ) → FewSoFar people seen rows few → (IsPast few x.value → ⊥) → (b : Answer) → IsOneOf b seen → AreFew people [] (left_of rows b) →
       b.value ≤ℤ x.value
-  few_below None told not b one few = let more = told b one in absurd (omega arith)
+  few_below None told not b one few = absurd (told b one few)
   few_below (Some v) told not b one few = let low = told.1 b one few in by_lt_z x.value v (λ less. absurd (not less)) (λ late. omega (arith, ints))
 
   -- a set of which many are left
-  pub seen_more : (few : Option ℤ) → AreSeen most seen rows few → most < length (left_of rows x) → AreSeen most (seen ++ x ∷ []) rows few
-  seen_more few h more = record {
+  pub seen_more : (few : Option ℤ) → AreSeen people seen rows few → left_of rows x ≢ [] → (AreFew people [] (left_of rows x) → ⊥) →
+      AreSeen people (seen ++ x ∷ []) rows few
+  seen_more few h some more = record {
     some = λ b one. elim (front_or_last seen x b one) [
       | inl front ↦ h.some b front
-      | inr last ↦ λ none. let short = no_length (left_of rows x) (ap (left_of rows) last ∙ none) in absurd (omega arith)
+      | inr last ↦ λ none. some (ap (left_of rows) last ∙ none)
     ];
     told = told few h.told;
   }
     where
-      told : (few : Option ℤ) → FewSoFar most seen rows few → FewSoFar most (seen ++ x ∷ []) rows few
+      told : (few : Option ℤ) → FewSoFar people seen rows few → FewSoFar people (seen ++ x ∷ []) rows few
       told None h = λ b one. elim (front_or_last seen x b one) [
         | inl front ↦ h b front
-        | inr last ↦ subst (λ (y : Answer). most < length (left_of rows y)) last more
+        | inr last ↦ λ few. more (subst (λ (y : Answer). AreFew people [] (left_of rows y)) (sym last) few)
       ]
       told (Some v) h = (
         (h.0.0, one_of_front seen x h.0.0 h.0.1, h.0.2, h.0.3),
         λ b one few. elim (front_or_last seen x b one) [
           | inl front ↦ h.1 b front few
-          | inr last ↦ let same : length (left_of rows x) ≡ length (left_of rows b) = ap (λ (y : Answer). length (left_of rows y)) last in absurd (omega arith)
+          | inr last ↦ absurd (more (subst (λ (y : Answer). AreFew people [] (left_of rows y)) (sym last) few))
         ],
       )
 
   -- a set of which few are left
-  pub seen_few : (few : Option ℤ) → AreSeen most seen rows few → left_of rows x ≢ [] → length (left_of rows x) ≤ most → (IsPast few x.value → ⊥) →
-      AreSeen most (seen ++ x ∷ []) rows (Some x.value)
+  pub seen_few : (few : Option ℤ) → AreSeen people seen rows few → left_of rows x ≢ [] → AreFew people [] (left_of rows x) → (IsPast few x.value → ⊥) →
+      AreSeen people (seen ++ x ∷ []) rows (Some x.value)
   seen_few few h some short not = record {
     some = λ b one. elim (front_or_last seen x b one) [
       | inl front ↦ h.some b front
@@ -90,7 +89,7 @@ module _ (most : ℕ) (seen : List Answer) (rows : List ℕ) (x : Answer) where
 
   module _ (rest : List Answer) (low : AllByRecursion (λ b. b.value ≤ℤ x.value) rest) where
     -- once an answer is past what is noted, that set is nearly held
-    pub held_by_now : (few : Option ℤ) → AreSeen most seen rows few → IsPast few x.value → HasNearlyHeld most (λ a. a.rows) (seen ++ x ∷ rest) rows
+    pub held_by_now : (few : Option ℤ) → AreSeen people seen rows few → IsPast few x.value → HasNearlyHeld people (λ a. a.rows) (seen ++ x ∷ rest) rows
     held_by_now None h past = absurd past
     held_by_now (Some v) h past =
         let a = h.told.0.0 in
@@ -111,8 +110,8 @@ module _ (most : ℕ) (seen : List Answer) (rows : List ℕ) (x : Answer) where
         )
 
     -- once a set is held whole, none is
-    pub held_never : (few : Option ℤ) → AreSeen most seen rows few → (IsPast few x.value → ⊥) → left_of rows x ≡ [] →
-        HasNearlyHeld most (λ a. a.rows) (seen ++ x ∷ rest) rows → ⊥
+    pub held_never : (few : Option ℤ) → AreSeen people seen rows few → (IsPast few x.value → ⊥) → left_of rows x ≡ [] →
+        HasNearlyHeld people (λ a. a.rows) (seen ++ x ∷ rest) rows → ⊥
     held_never few h not whole (a, held) =
         let above = held.lower x (of_second seen (x ∷ rest) x (inl refl)) whole in
         elim (of_either seen (x ∷ rest) a held.one) [
@@ -124,8 +123,9 @@ module _ (most : ℕ) (seen : List Answer) (rows : List ℕ) (x : Answer) where
         ]
 
 -- at the end what is noted is nearly held
-pub held_at_end : (most : ℕ) (seen : List Answer) (rows : List ℕ) (v : ℤ) → AreSeen most seen rows (Some v) → HasNearlyHeld most (λ a. a.rows) seen rows
-held_at_end most seen rows v h = (
+pub held_at_end : (people : Headcount) (seen : List Answer) (rows : List ℕ) (v : ℤ) → AreSeen people seen rows (Some v) →
+    HasNearlyHeld people (λ a. a.rows) seen rows
+held_at_end people seen rows v h = (
   h.told.0.0,
   record {
     one = h.told.0.1;
@@ -135,5 +135,6 @@ held_at_end most seen rows v h = (
   },
 )
 
-pub not_held_at_end : (most : ℕ) (seen : List Answer) (rows : List ℕ) → AreSeen most seen rows None → HasNearlyHeld most (λ a. a.rows) seen rows → ⊥
-not_held_at_end most seen rows h (a, held) = let more = h.told a held.one in let few = held.few_left in absurd (omega arith)
+pub not_held_at_end : (people : Headcount) (seen : List Answer) (rows : List ℕ) → AreSeen people seen rows None →
+    HasNearlyHeld people (λ a. a.rows) seen rows → ⊥
+not_held_at_end people seen rows h (a, held) = let more = h.told a held.one in let few = held.few_left in absurd (omega arith)

@@ -5,13 +5,20 @@ use Rattle.std.specs.List.{AllByRecursion}
 use Rattle.std.proofs.lemmas.Int.{ints}
 use Rattle.std.proofs.lemmas.List.{map_more, take_all, length-drop}
 use Rattle.audit_types.specs.Column.{Answer, IsOneOf}
-use Rattle.max_bounds.specs.Outside.{HasWithin}
+use Rattle.max_bounds.specs.Outside.{IsWithin, HasWithin}
 use Rattle.max_bounds.specs.Maxima.{answer_of, answers_of}
 use Rattle.max_bounds.specs.Kept.{Descend}
-use Rattle.max_bounds.specs.AnswerLaws.{all_at}
+use Rattle.max_bounds.specs.AnswerLaws.{all_at, front_or_last}
 use Rattle.max_bounds.specs.declared.answered.AnsweredMax.{AnsweredMax}
 use Rattle.max_bounds.proofs.Descending.{answers_split, descends_after}
-use Rattle.max_bounds.proofs.LostSets.{within-push}
+
+-- no set lies within if neither one before nor the last does
+pub within-push : (seen : List Answer) (x : Answer) (rows : List ℕ) (value : ℤ) → (HasWithin seen rows value → ⊥) → (IsWithin rows value x → ⊥) →
+    HasWithin (seen ++ x ∷ []) rows value → ⊥
+within-push seen x rows value before last (a, one, is) = elim (front_or_last seen x a one) [
+  | inl front ↦ before (a, front, is)
+  | inr same ↦ last (subst (IsWithin rows value) (sym same) is)
+]
 
 -- the sets from a place on
 pub from_place : (k : ℕ) (least : List AnsweredMax) → take (length least - k) (drop k least) ≡ drop k least

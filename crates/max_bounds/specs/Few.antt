@@ -1,14 +1,17 @@
--- When some answer to a question would leave few extreme rows, told from the extreme rows of the answers before it.
-use Rattle.std.specs.Prelude.{◌≡◌, ◌≢◌, ◌⊎◌, ℕ, ◌≤◌, ℤ, ◌<ℤ◌, Bool, true, false, not, int_lt, List, [], length, Option, Some, None}
+-- When some answer to a question would leave few people behind the extreme rows of some answer, told from the extreme rows of the answers before it.
+use Rattle.std.specs.Prelude.{◌≡◌, ◌≢◌, ◌⊎◌, ℕ, ℤ, ◌<ℤ◌, Bool, true, false, not, int_lt, List, [], Option, Some, None}
 use Rattle.std.specs.List.{filter}
+use Rattle.audit_types.specs.Headcount.{Headcount, AreFew}
 use Rattle.audit_types.specs.Rows.{has_row}
 use Rattle.audit_types.specs.Column.{Answer, IsOneOf}
 use Rattle.audit_types.specs.Extremes.{upper_bound, extremes, IsConsistent}
 use Rattle.max_bounds.specs.Outside.{outside}
+use Rattle.max_bounds.specs.declared.few.Left.{Left}
+use Rattle.max_bounds.specs.declared.few.Left.TheVariants.{Nothing, Few, Enough}
 
--- some answer has at most so many extreme rows
-abbrev pub HasFewExtremes : ℕ → List Answer → Type 0
-HasFewExtremes most answers = (a : Answer) × IsOneOf a answers × (length (extremes answers a) ≤ most)
+-- few people stand behind the extreme rows of some answer
+abbrev pub HasFewPeople : Headcount → List Answer → Type 0
+HasFewPeople people answers = (a : Answer) × IsOneOf a answers × AreFew people [] (extremes answers a)
 
 -- whether a bound is below another; a row without a bound stands above all
 abbrev pub is_below_bound : Option ℤ → Option ℤ → Bool
@@ -20,28 +23,34 @@ is_below_bound (Some b) (Some c) = int_lt b c
 abbrev pub not_below : (ℕ → Option ℤ) → List ℕ → ℕ → List ℕ
 not_below bound rows r = filter (λ q. not (is_below_bound (bound q) (bound r))) rows
 
--- at most so many rows of the set, one of its rows among them, have bounds not below that row's
-abbrev pub HasFewHighest : ℕ → (ℕ → Option ℤ) → List ℕ → Type 0
-HasFewHighest most bound rows = (r : ℕ) × (has_row rows r ≡ true) × (length (not_below bound rows r) ≤ most)
+-- few people stand behind those rows of the set, one of its rows among them, whose bounds aren't below that row's
+abbrev pub HasFewHighest : Headcount → (ℕ → Option ℤ) → List ℕ → Type 0
+HasFewHighest people bound rows = (r : ℕ) × (has_row rows r ≡ true) × AreFew people [] (not_below bound rows r)
 
--- of sets with their answers: of one set at most so many rows, and some, are outside the question's, and each that lies there whole has a lower answer
-pub record IsNearlyHeld (most : ℕ) (extreme_rows : Answer → List ℕ) (answers : List Answer) (rows : List ℕ) (a : Answer) : Type 0 where
+-- of sets with their answers: of one set rows, of few people, are outside the question's, and each set that lies there whole has a lower answer
+pub record IsNearlyHeld (people : Headcount) (extreme_rows : Answer → List ℕ) (answers : List Answer) (rows : List ℕ) (a : Answer) : Type 0 where
   pub one : IsOneOf a answers
   pub some_left : outside rows (extreme_rows a) ≢ []
-  pub few_left : length (outside rows (extreme_rows a)) ≤ most
+  pub few_left : AreFew people [] (outside rows (extreme_rows a))
   pub lower : (b : Answer) → IsOneOf b answers → outside rows (extreme_rows b) ≡ [] → b.value <ℤ a.value
 
 -- some set is
-abbrev pub HasNearlyHeld : ℕ → (Answer → List ℕ) → List Answer → List ℕ → Type 0
-HasNearlyHeld most extreme_rows answers rows = (a : Answer) × IsNearlyHeld most extreme_rows answers rows a
+abbrev pub HasNearlyHeld : Headcount → (Answer → List ℕ) → List Answer → List ℕ → Type 0
+HasNearlyHeld people extreme_rows answers rows = (a : Answer) × IsNearlyHeld people extreme_rows answers rows a
 
--- an answer is below the one that is noted
+-- each answer has an extreme row; and few people stand behind those of some answer, or behind the highest rows of the set, or behind those that the set
+-- leaves of some answer while each answer that loses all is lower
+pub record IsFewByExtremes (people : Headcount) (answers : List Answer) (rows : List ℕ) : Type 0 where
+  pub consistent : IsConsistent answers
+  pub cause : HasFewPeople people answers ⊎ (HasFewHighest people (upper_bound answers) rows ⊎ HasNearlyHeld people (extremes answers) answers rows)
+
+-- what is left of a set: no row, rows of few people, or others
+abbrev pub IsLeft : Headcount → List ℕ → Left → Type 0
+IsLeft people rows Nothing = rows ≡ []
+IsLeft people rows Few = (rows ≢ []) × AreFew people [] rows
+IsLeft people rows Enough = (rows ≢ []) × ¬ (AreFew people [] rows)
+
+-- an answer is below that of a set of which few are left
 abbrev pub IsPast : Option ℤ → ℤ → Type 0
 IsPast None answer = ⊥
 IsPast (Some highest) answer = answer <ℤ highest
-
--- each answer has an extreme row; and some has few, or few rows of the set are highest, or the set leaves few of some answer while each answer that
--- loses all is lower
-pub record IsFewByExtremes (most : ℕ) (answers : List Answer) (rows : List ℕ) : Type 0 where
-  pub consistent : IsConsistent answers
-  pub cause : HasFewExtremes most answers ⊎ (HasFewHighest most (upper_bound answers) rows ⊎ HasNearlyHeld most (extremes answers) answers rows)

@@ -1,5 +1,5 @@
 -- What is kept of answered maxima beside the answers.
-use Rattle.std.specs.Prelude.{◌≡◌, ◌⊎◌, ℕ, ◌<◌, ◌≤◌, ℤ, ◌<ℤ◌, ◌≤ℤ◌, Bool, true, false, not, ◌&&◌, int_lt, List, [], ◌∷◌, map, length, take, drop, Option, Some, None, min, cond}
+use Rattle.std.specs.Prelude.{◌≡◌, ℕ, ◌<◌, ◌≤◌, ℤ, ◌<ℤ◌, ◌≤ℤ◌, Bool, true, false, not, ◌&&◌, int_lt, List, [], ◌∷◌, map, length, take, drop, Option, Some, None, min, cond}
 use Rattle.audit_types.specs.Limits.{most_rows}
 use Rattle.std.specs.List.{filter, AllByRecursion}
 use Rattle.audit_types.specs.Rows.{AreRows, has_row}
@@ -7,15 +7,11 @@ use Rattle.audit_types.specs.Column.{Answer, IsOneOf}
 use Rattle.audit_types.specs.Extremes.{upper_bound, is_bound, extremes}
 use Rattle.max_bounds.specs.Maxima.{answers_of}
 use Rattle.max_bounds.specs.Reaching.{bound_at, reaching}
-use Rattle.max_bounds.specs.Outside.{outside, IsOwn, IsStranded}
+use Rattle.max_bounds.specs.Outside.{outside}
 use Rattle.max_bounds.specs.declared.answered.AnsweredMax.{AnsweredMax}
 use Rattle.max_bounds.specs.declared.bounds.Bounds.TheInside.{Inside}
 use Rattle.max_bounds.specs.declared.counts.Range.{Range}
 use Rattle.max_bounds.specs.declared.high_rows.HighRows.{HighRows}
-use Rattle.max_bounds.specs.declared.stranding.Left.{Left}
-use Rattle.max_bounds.specs.declared.stranding.Left.TheVariants.{Nothing, One, More}
-use Rattle.max_bounds.specs.declared.stranding.Lost.{Lost}
-use Rattle.max_bounds.specs.declared.stranding.Lost.TheVariants.{Neither, AllButOne, Whole}
 
 -- how many extreme rows each answer has
 abbrev pub extreme_counts : List Answer → List ℕ
@@ -79,35 +75,9 @@ pub record Widens (before : Range) (bound : Option ℤ) (after : Range) : Type 0
 abbrev pub lowered_set : ℤ → List ℕ → Answer → Answer
 lowered_set answer rows a = cond (int_lt answer a.value) (record { rows = outside rows a.rows; value = a.value }) a
 
--- rows are none, or one that isn't shared
-abbrev pub AreFew : List ℕ → List ℕ → Type 0
-AreFew shared rows = (rows ≡ []) ⊎ IsOwn shared rows
-
--- whether rows are none, one that isn't shared, or others
-abbrev pub IsLeft : List ℕ → List ℕ → Left → Type 0
-IsLeft shared rows Nothing = rows ≡ []
-IsLeft shared rows One = IsOwn shared rows
-IsLeft shared rows More = ¬ (AreFew shared rows)
-
--- whether a set with this answer can still change what is known to be lost
-abbrev pub Matters : Lost → ℤ → Type 0
-Matters Neither answer = Unit {0}
-Matters (AllButOne highest) answer = highest ≤ℤ answer
-Matters (Whole highest) answer = highest <ℤ answer
-
 -- of a set a question leaves the rows that are outside its own
 abbrev pub left_of : List ℕ → Answer → List ℕ
 left_of rows a = outside rows a.rows
-
--- a set of which no row is left, or one that isn't shared, has an answer at most this
-abbrev pub IsMost : List ℕ → List Answer → List ℕ → ℤ → Type 0
-IsMost shared sets rows v = (b : Answer) → IsOneOf b sets → AreFew shared (left_of rows b) → b.value ≤ℤ v
-
--- what is lost of sets: of which no row is left, or one that isn't shared, the greatest answer, and whether a set with it is held whole
-abbrev pub IsLost : List ℕ → List Answer → List ℕ → Lost → Type 0
-IsLost shared sets rows Neither = (b : Answer) → IsOneOf b sets → ¬ (AreFew shared (left_of rows b))
-IsLost shared sets rows (AllButOne v) = ((a : Answer) × IsStranded shared (λ b. b.rows) sets rows a × (a.value ≡ v)) × IsMost shared sets rows v
-IsLost shared sets rows (Whole v) = ((a : Answer) × IsOneOf a sets × (left_of rows a ≡ []) × (a.value ≡ v)) × IsMost shared sets rows v
 
 -- answers that descend: none is above an earlier one
 abbrev pub Descend : List Answer → Type 0

@@ -8,3 +8,4 @@ pub mod RowListLaws
 pub mod BoundLaws
 pub mod OneMoreLaws
 pub mod Few
+pub mod PeopleAmong

@@ -5,18 +5,19 @@ ghost use Rattle.audit_types.specs.Column.{Answer};
 ghost use Rattle.audit_types.specs.Extremes.{upper_bound, extremes, IsConsistent, IsLeastLone};
 ghost use Rattle.std.specs.List.{AllByRecursion};
 ghost use Rattle.max_bounds.specs.Maxima.{Maxima, answers_of, and_answer};
-ghost use Rattle.max_bounds.specs.Outside.{HasExtremesWithin, HasOwnLone, IsLeastOwnLone, IsDangerousByExtremes};
-ghost use Rattle.max_bounds.specs.Few.{IsFewByExtremes};
+ghost use Rattle.max_bounds.specs.Few.{HasFewPeople, IsFewByExtremes};
+ghost use Rattle.max_bounds.specs.Outside.{HasExtremesWithin, IsLeastOwnLone};
 ghost use Rattle.max_bounds.specs.Kept.{extreme_counts};
 
 use crate::answered::AnsweredMax;
-use crate::few::{few_highest, nearly_holds};
-use crate::high_rows::{HighRows, one_highest_of, reach_high, renew_high};
+use crate::few::nearly_holds;
+use crate::high_rows::{HighRows, few_highest_of, reach_high, renew_high};
 use crate::kept::{fall, insert};
+use crate::people::enough;
 use crate::reach::settle;
-use crate::stranding::{has_within, strands};
 use crate::survey::{Trial, survey, survey_with};
-use audit_types::{NoMemory, RowSet};
+use crate::within::has_within;
+use audit_types::{CountedRows, NoMemory, RowSet};
 use std::alloc::Global;
 use std::marker::Model;
 
@@ -199,49 +200,37 @@ impl Bounds {
         has_within(&self.least, rows, answer)
     }
 
-    // Whether some row that isn't shared is the only extreme row of some answer, if each answer has one.
-    fn has_own_lone(&self, shared: &RowSet) -> bool
-        requires shared { shared.now.n ≡ self.now.n }
+    // Whether few people stand behind the extreme rows of some answer, if each answer has one.
+    fn has_few(&self, people: &CountedRows) -> bool
+        requires people { people.now.n ≡ self.now.n }
         requires consistent { IsConsistent self.now.answers }
-        ensures { IsTrue result ↔ HasOwnLone shared.now.list self.now.answers }
+        ensures { IsTrue result ↔ HasFewPeople people.now.people self.now.answers }
     {
-        if self.fewest > 1 {
-            // Each answer has two extreme rows or more.
+        // The people say of themselves that somebody stands behind each row.
+        let n = people.n();
+        if enough(people) <= self.fewest as u64 {
             return false;
         }
         // All rows of a set are left by a question on no row.
-        let none = RowSet::new(shared.n());
-        strands(&self.least, &none, shared)
+        let none = RowSet::new(n);
+        nearly_holds(&self.least, &none, people)
     }
 
-    /// Whether some answer to a question on these rows would be possible and leave a lone row that isn't shared, told from the extreme
-    /// rows of the answers before it. It takes no memory.
-    pub fn is_dangerous(&self, rows: &RowSet, shared: &RowSet) -> bool
+    /// Whether some answer to a question on these rows would be possible and leave few people behind the extreme rows of some answer, told from
+    /// the extreme rows of the answers before it. It takes no memory.
+    pub fn leaves_few(&self, rows: &RowSet, people: &CountedRows) -> bool
         requires same_n { rows.now.n ≡ self.now.n }
-        requires shared { shared.now.n ≡ self.now.n }
-        ensures { IsTrue result ↔ IsDangerousByExtremes shared.now.list self.now.answers rows.now.list }
+        requires people { people.now.n ≡ self.now.n }
+        ensures { IsTrue result ↔ IsFewByExtremes people.now.people self.now.answers rows.now.list }
     {
         if self.fewest == 0 {
             // Some answer has no extreme row: no table gives them all.
             return false;
         }
-        if self.has_own_lone(shared) {
+        if self.has_few(people) {
             return true;
         }
-        one_highest_of(&self.high, &self.upper, rows, shared) || strands(&self.least, rows, shared)
-    }
-
-    /// Whether some answer to a question on these rows would be possible and leave some answer at most so many extreme rows, told from
-    /// the extreme rows of the answers before it. For 1 it is `is_dangerous`. It takes no memory.
-    pub fn leaves_few(&self, rows: &RowSet, most: u16) -> bool
-        requires same_n { rows.now.n ≡ self.now.n }
-        requires most { most ≤ most_rows }
-        ensures { IsTrue result ↔ IsFewByExtremes most self.now.answers rows.now.list }
-    {
-        if self.fewest <= most {
-            // Some answer has few extreme rows, or none.
-            return self.fewest > 0;
-        }
-        few_highest(&self.upper, rows, most) || nearly_holds(&self.least, rows, most)
+        few_highest_of(&self.high, &self.upper, rows, people)
+            || nearly_holds(&self.least, rows, people)
     }
 }

@@ -5,12 +5,12 @@ ghost use Rattle.std.specs.List.{AllByRecursion};
 ghost use Rattle.audit_types.specs.Limits.{most_rows};
 ghost use Rattle.audit_types.specs.Rows.{has_row, complement};
 ghost use Rattle.max_bounds.specs.Reaching.{bound_at};
-ghost use Rattle.max_bounds.specs.Outside.{HasOwnHighest};
+ghost use Rattle.max_bounds.specs.Few.{HasFewHighest};
 ghost use Rattle.max_bounds.specs.Kept.{is_at_least, rows_at_least, rows_above, AreSettled, IsHigh, AreLow};
 
-use crate::highest::one_highest;
+use crate::highest::few_highest;
 use crate::reach::{Affected, is_at_least, reach};
-use audit_types::RowSet;
+use audit_types::{CountedRows, RowSet};
 
 // How many cuts there are at most.
 const MOST_CUTS: usize = 128;
@@ -67,12 +67,16 @@ impl HighRows {
         reach(upper, &high, answer)
     }
 
-    // Whether one row of the set is above the others, and isn't shared, if the set has one of the high rows.
-    fn one_highest(&self, upper: &[Option<i64>], rows: &RowSet, shared: &RowSet) -> Option<bool>
+    // Whether few people stand behind the highest rows of the set, if the set has one of the high rows.
+    fn few_highest(
+        &self,
+        upper: &[Option<i64>],
+        rows: &RowSet,
+        people: &CountedRows,
+    ) -> Option<bool>
         requires within { rows.now.n ≤ length upper.now }
-        requires shared { shared.now.n ≡ rows.now.n }
         requires high { IsHigh rows.now.n (bound_at upper.now) self.now }
-        ensures { IfSome result (λ one. IsTrue one ↔ HasOwnHighest shared.now.list (bound_at upper.now) rows.now.list) }
+        ensures { IfSome result (λ few. IsTrue few ↔ HasFewHighest people.now.people (bound_at upper.now) rows.now.list) }
     {
         // A set says of its n that no row is past it.
         let _ = rows.n();
@@ -81,7 +85,7 @@ impl HighRows {
         if high.is_empty() || !has_at_least(upper, &high, self.cut) {
             return None;
         }
-        Some(one_highest(upper, &high, shared))
+        Some(few_highest(upper, &high, people))
     }
 }
 
@@ -108,25 +112,23 @@ pub(crate) fn reach_high(
     reach(upper, rows, answer)
 }
 
-/// Whether the bound of one row of the set is above those of its other rows, and this row isn't shared; a row without a bound stands
-/// above all.
-pub(crate) fn one_highest_of(
+/// Whether few people stand behind the rows of the set with its highest bound; a row without a bound stands above all.
+pub(crate) fn few_highest_of(
     high: &[HighRows],
     upper: &[Option<i64>],
     rows: &RowSet,
-    shared: &RowSet,
+    people: &CountedRows,
 ) -> bool
     requires within { rows.now.n ≤ length upper.now }
-    requires shared { shared.now.n ≡ rows.now.n }
     requires high { AllByRecursion (IsHigh rows.now.n (bound_at upper.now)) high.now }
-    ensures { IsTrue result ↔ HasOwnHighest shared.now.list (bound_at upper.now) rows.now.list }
+    ensures { IsTrue result ↔ HasFewHighest people.now.people (bound_at upper.now) rows.now.list }
 {
     for kept in high {
-        if let Some(one) = kept.one_highest(upper, rows, shared) {
-            return one;
+        if let Some(few) = kept.few_highest(upper, rows, people) {
+            return few;
         }
     }
-    one_highest(upper, rows, shared)
+    few_highest(upper, rows, people)
 }
 
 // Takes the rows of an answer from the high rows of a cut above it. The others are the rows that the answer's set lacks.

@@ -1,9 +1,11 @@
-//! Whether one row of a set has the highest bound.
+//! Whether few people stand behind the rows of a set that have its highest bound.
 ghost use Rattle.std.specs.Prelude.{◌≡◌, ◌↔◌, ◌≤◌, IsTrue, length};
 ghost use Rattle.max_bounds.specs.Reaching.{bound_at};
-ghost use Rattle.max_bounds.specs.Outside.{IsBelowBound, HasOwnHighest};
+ghost use Rattle.max_bounds.specs.Outside.{IsBelowBound};
+ghost use Rattle.max_bounds.specs.Few.{HasFewHighest};
 
-use audit_types::RowSet;
+use crate::people::{enough, less_row};
+use audit_types::{CountedRows, RowSet};
 
 /// Whether a bound is higher than another. No bound is above every number.
 pub(crate) fn is_higher(bound: Option<i64>, other: Option<i64>) -> bool
@@ -16,37 +18,32 @@ pub(crate) fn is_higher(bound: Option<i64>, other: Option<i64>) -> bool
     }
 }
 
-/// Whether the bound of one row of the set is above those of its other rows, and this row isn't shared; a row without a bound stands
-/// above all.
-pub(crate) fn one_highest(upper: &[Option<i64>], rows: &RowSet, shared: &RowSet) -> bool
+/// Whether few people stand behind the rows of the set with its highest bound; a row without a bound stands above all.
+pub(crate) fn few_highest(upper: &[Option<i64>], rows: &RowSet, people: &CountedRows) -> bool
     requires within { rows.now.n ≤ length upper.now }
-    requires shared { shared.now.n ≡ rows.now.n }
-    ensures { IsTrue result ↔ HasOwnHighest shared.now.list (bound_at upper.now) rows.now.list }
+    ensures { IsTrue result ↔ HasFewHighest people.now.people (bound_at upper.now) rows.now.list }
 {
     // A set says of its n that no row is past it.
     let _ = rows.n();
+    let counts = people.counts();
+    let enough = enough(people);
     let mut left = rows.iter();
     let Some(first) = left.next() else {
         return false;
     };
-    let mut at = first;
     let mut highest = upper[first as usize];
-    let mut alone = true;
+    let mut missing = less_row(enough, counts, first);
     for row in left {
+        if highest.is_none() && missing == 0 {
+            return false;
+        }
         let bound = upper[row as usize];
         if bound == highest {
-            if bound.is_none() {
-                return false;
-            }
-            alone = false;
+            missing = less_row(missing, counts, row);
         } else if is_higher(bound, highest) {
-            at = row;
             highest = bound;
-            alone = true;
+            missing = less_row(enough, counts, row);
         }
     }
-    if !alone {
-        return false;
-    }
-    !shared.has(at)
+    missing > 0
 }

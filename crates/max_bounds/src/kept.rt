@@ -10,7 +10,7 @@ ghost use Rattle.max_bounds.specs.Kept.{rows_above, AreLeast, Descend, TellsExtr
 use crate::answered::AnsweredMax;
 use crate::counts::{fewest, lower_counts};
 use crate::sets::{lower_sets, place_of};
-use crate::stranding::has_within;
+use crate::within::has_within;
 use audit_types::RowSet;
 
 /// Takes the falling rows of a new answer from the counts and the sets of the answers before it. The result is the least count.

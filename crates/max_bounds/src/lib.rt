@@ -1,6 +1,6 @@
 //! Upper bounds and extreme rows of answered maxima.
 //!
-//! Start with `Bounds`: it keeps the answers of a column of maxima. `Bounds::is_dangerous` says whether a question is
+//! Start with `Bounds`: it keeps the answers of a column of maxima. `Bounds::leaves_few` says whether a question is
 //! dangerous after them, and `Bounds::trial` what one answer more would do.
 #![tactic(auto)]
 
@@ -13,12 +13,14 @@ mod high_rows;
 mod highest;
 mod kept;
 pub mod laws;
+mod people;
 mod reach;
 mod sets;
-mod stranding;
 mod survey;
 mod upper_bounds;
+mod within;
 
 pub use answered::AnsweredMax;
 pub use bounds::Bounds;
+pub use people::are_few;
 pub use survey::Trial;

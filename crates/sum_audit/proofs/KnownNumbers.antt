@@ -2,32 +2,39 @@
 --
 -- To know the number of q is to have it answered as a sum over q alone. So the row is spanned by the sets and the unit row of q, and what is
 -- left of it when that is taken off is a row of the span that is 0 but at the two; or a direction of the sets that is 0 at q isn't 0 there.
-use Rattle.std.proofs.Common.{Bool, true, ◌≡◌, ◌≢◌, ℕ, ◌<◌, ◌≤◌, false, cond, ◌||◌, ℤ, pos, List, [], ◌∷◌, ◌++◌, map, length, refl, sym, ap, ◌∙◌, subst, arith, inl, inr, ◌⊎◌, suc, ◌==◌}
-use Rattle.std.specs.Prelude.{◌↔◌, ◌+ℤ◌, ◌*ℤ◌, neg_ℤ}
+use Rattle.std.proofs.Common.{Bool, true, ◌≡◌, ◌≢◌, ℕ, ◌<◌, ◌≤◌, false, cond, ◌||◌, ℤ, pos, List, [], ◌∷◌, ◌++◌, map, length, refl, sym, ap, ◌∙◌, subst, arith, inl, inr, ◌⊎◌, suc, ◌==◌, append-nil}
+use Rattle.std.specs.Prelude.{◌↔◌, ◌+ℤ◌, ◌*ℤ◌, neg_ℤ, All, Contains}
+use Rattle.std.proofs.lemmas.List.Elements.{All-contains}
 use Rattle.std.specs.List.{AllByRecursion}
 use Rattle.std.proofs.lemmas.Int.{ints}
 use Rattle.std.proofs.lemmas.Bool.{cases_lt, ne_eqb, eq-eqb, true≢false}
 use Rattle.std.proofs.lemmas.List.{get_or_past, map-append}
+use Rattle.std.proofs.Math.Bool.{or-false}
 use Rattle.std.proofs.Math.IntN.{+ℤ_idr, *ℤ-zero, zero-*ℤ, *ℤ_comm}
 use Rattle.audit_types.specs.Rows.{AreRows, has_row}
 use Rattle.audit_types.specs.Truth.{number_at, sum_over}
 use Rattle.audit_types.specs.Form.{set_row, combined, InSpan, Reduced}
 use Rattle.audit_types.specs.Direction.{IsDirection, IsPinned, IsPinnedFor}
-use Rattle.audit_types.specs.Column.{Known, Answer, AreOwn, known_sum, guarding, unguarded, with_bounds, with_askers}
-use Rattle.audit_types.specs.Judgement.{PinSomeNumber}
+use Rattle.audit_types.specs.Headcount.{Headcount, CountPeople, AreFew, count_at, shared_in, beside_in, several_in}
+use Rattle.audit_types.specs.HeadcountLaws.{few_by_rows, one_by_rows}
+use Rattle.audit_types.specs.OutsiderLaws.{some_row}
+use Rattle.audit_types.specs.Column.{Known, Answer, AreOwn, known_sum, guarding, with_bounds}
+use Rattle.audit_types.specs.Judgement.{PinSomeNumber, SpanSomeGroup}
 use Rattle.audit_types.specs.ListLaws.{all-push, all-front}
 use Rattle.audit_types.specs.Products.{one-times, neg-times, zero_product, zero_factor}
 use Rattle.audit_types.specs.RowNumbers.{number_at-set_row, length-set_row}
-use Rattle.audit_types.specs.Totals.{total-single, product-span, products_from_sums}
+use Rattle.audit_types.specs.Totals.{total-single, product-span, products_from_sums, combined-push}
 use Rattle.audit_types.specs.FormRows.{lengths_of_form}
-use Rattle.sum_basis.specs.Spans.{span_trans, combined_zero}
+use Rattle.sum_basis.specs.Spans.{span_trans, span_trans_all, combined_zero}
+use Rattle.sum_basis.specs.Spans as spans
 use Rattle.sum_basis.specs.Combination.{combine}
 use Rattle.sum_basis.specs.CombinedRows.{number_at-combine}
-use Rattle.sum_basis.specs.Basis.{unit_row}
-use Rattle.sum_basis.specs.Growth.{HasOwnUnit}
-use Rattle.sum_basis.specs.Ties.{Ties, TieSome, ShowsTie, TiesByForm, TieSomeBut, ShowsTieBut, TiesByFormBut}
+use Rattle.sum_basis.specs.Basis.{Echelon, unit_row}
+use Rattle.sum_basis.specs.Growth.{HasOwnUnit, SpansOneOf}
+use Rattle.sum_basis.specs.Asking.{SpansOneBeside}
+use Rattle.sum_basis.specs.Ties.{Ties, ShowsTie, TiesByForm, TieSomeBut}
 use Rattle.sum_audit.specs.DotLaws.{dot_two}
-use Rattle.sum_audit.specs.Knowing.{IsStillFor, StillByTies, TiedOrOpen, TiesTell, OpenByForm, PinsByTies, PinsByTiesBut}
+use Rattle.sum_audit.specs.Knowing.{IsStillFor, StillByTies, TiedOrOpen, TiesTell, OpenByForm, PinsByForm, GroupsByForm}
 use Rattle.sum_audit.specs.Sets.{sets_of}
 use Rattle.sum_audit.specs.Shifts.{moved_by, difference, number_at-moved_by, length-moved_by, number_at-difference, length-difference, moved_gives, zero_between}
 use Rattle.sum_audit.proofs.PinnedRows.{pinned_by_form}
@@ -43,18 +50,6 @@ unit_elsewhere n i j apart = elim (cases_lt j n) [
   | inl below ↦ number_at-set_row n (i ∷ []) j below ∙ ap (λ b. cond (b || false) (pos 1) (pos 0)) (ne_eqb i j apart)
   | inr past ↦ get_or_past (unit_row n i) j (pos 0) (let all = length-set_row n (i ∷ []) in omega arith)
 ]
-
--- ---- one more row, at the end
-
-combined-none : (a : List ℤ) (j : ℕ) → combined a [] j ≡ pos 0
-combined-none [] j = refl
-combined-none (c ∷ a) j = refl
-
-combined-push : (a : List ℤ) (rows : List (List ℤ)) (row : List ℤ) (j : ℕ) → combined a (rows ++ row ∷ []) j
-    ≡ combined a rows j +ℤ number_at a (length rows) *ℤ number_at row j
-combined-push [] rows row j = let none = zero-*ℤ (number_at row j) in omega (arith, ints)
-combined-push (c ∷ a) [] row j = let none = combined-none a j in omega (arith, ints)
-combined-push (c ∷ a) (r ∷ rows) row j = let rest = combined-push a rows row j in omega (arith, ints)
 
 -- ---- a row that is spanned with the unit row of q is tied to q
 
@@ -215,10 +210,6 @@ open_by_form law n answers form w q i are reduced none agrees below apart = elim
 
 -- ---- what the form shows
 
-or_false : (b : Bool) → (b || false) ≡ b
-or_false true = refl
-or_false false = refl
-
 -- rows of n entries span nothing past them
 nothing_past : (n j : ℕ) → n ≤ j → (rows : List (List ℤ)) → AllByRecursion (λ r. length r ≡ n) rows → AllByRecursion (λ r. number_at r j ≡ pos 0) rows
 nothing_past n j past [] h = tt
@@ -234,133 +225,203 @@ tied_below n rows p q lengths tied = elim (cases_lt p n) [
       (*ℤ_comm (number_at tied.row p) (pos tied.spanned.multiple) ∙ tied.spanned.is p ∙ none) (omega (arith, ints))))
 ]
 
-module _ (law : TiesByForm) (n width reach : ℕ) (answers : List Answer) (sets : List (List ℕ)) (form : List (List ℤ)) (are : AllByRecursion (AreRows n) sets)
-    (reduced : Reduced n sets form) where
-  shown_by : (i q : ℕ) → i < n → q ≢ i → IsStillFor n sets q i → ShowsTie form
-  shown_by i q below apart fixed =
-      (law n form reduced.primitive reduced.echelon).0 (i, q, apart, tied_in_form n sets form i q reduced (tied_by_still n sets q i are below apart fixed))
+-- ---- what a form tells of numbers and of groups
 
-  -- an asker knows one number at most
-  pinned_shows : (own : List ℕ) → length own ≤ 1 → (i : ℕ) → IsPinnedFor n sets own i → ShowsTie form
-  pinned_shows [] few i pin = shown_by i (suc i) pin.below (λ e. absurd (omega arith)) (λ d direction zero_there. pin.still d direction tt)
-  pinned_shows (q ∷ []) few i pin =
-      shown_by i q pin.below (λ e. true≢false (sym (eq-eqb q i e) ∙ sym (or_false (q == i)) ∙ pin.other))
-      (λ d direction zero_there. pin.still d direction (zero_there, tt))
-  pinned_shows (q ∷ r ∷ own) few i pin = absurd (omega arith)
+-- what the sets span with the single row of an asker, and what their form spans with it
+module _ (n : ℕ) (sets : List (List ℕ)) (form : List (List ℤ)) (reduced : Reduced n sets form) (q : ℕ) (row : List ℤ) where
+  abbrev in_form : List (List ℤ)
+  in_form = form ++ unit_row n q ∷ []
 
-  -- a tie pins its column
-  tie_pins : TieSome form → PinSomeNumber (with_bounds (with_askers (known_sum n answers) [] 1) width reach) sets
-  tie_pins (p, q, apart, tied) =
-      let below = tied_below n form p q (lengths_of_form n form reduced.primitive) tied in
-      let back : Ties (map (set_row n) sets) p q = record {
-        row = tied.row;
-        spanned = span_trans (map (set_row n) sets) form tied.row reduced.within tied.spanned;
-        there = tied.there;
-        only = tied.only;
-      } in
-      let fixed = still n sets q p are below apart back in
-      elim (cases_lt q n) [
-        | inl inside ↦ record {
-          own = q ∷ [];
-          are_own = ((omega arith, inside, tt), omega arith, (refl, tt));
-          row = p;
-          guarded = refl;
-          pinned = record { below = below; other = ap (λ b. b || false) (ne_eqb q p apart); still = λ d direction zeros. fixed d direction zeros.0 };
-        }
-        | inr past ↦ record {
-          own = [];
-          are_own = (tt, omega arith, tt);
-          row = p;
-          guarded = refl;
-          pinned = record {
-            below = below;
-            other = refl;
-            still = λ d direction zeros. fixed d direction (get_or_past d q (pos 0) (let all = direction.one_each in omega arith));
-          };
-        }
-      ]
+  abbrev in_sets : List (List ℤ)
+  in_sets = map (set_row n) sets ++ unit_row n q ∷ []
 
-  pins_by_ties_here : PinSomeNumber (with_bounds (with_askers (known_sum n answers) [] 1) width reach) sets ↔ ShowsTie form
-  pins_by_ties_here = (
-    (λ found. pinned_shows found.own found.are_own.1 found.row found.pinned),
-    (λ shows. tie_pins ((law n form reduced.primitive reduced.echelon).1 shows)),
-  )
+  is_with : map (set_row n) (sets ++ (q ∷ []) ∷ []) ≡ in_sets
+  is_with = map-append (set_row n) sets ((q ∷ []) ∷ [])
 
-pub pins_by_ties : TiesByForm → PinsByTies
-pins_by_ties law n width reach answers sets form are reduced = pins_by_ties_here law n width reach answers sets form are reduced
+  own_parts : (rows : List (List ℤ)) → AllByRecursion (InSpan (rows ++ unit_row n q ∷ [])) rows × InSpan (rows ++ unit_row n q ∷ []) (unit_row n q)
+  own_parts rows = all-front (InSpan (rows ++ unit_row n q ∷ [])) rows (unit_row n q) (spans.own (rows ++ unit_row n q ∷ []))
 
--- ---- lines of several people
+  -- rows that others span, and one more, are spanned by these and that
+  both_with : (rows others : List (List ℤ)) → AllByRecursion (InSpan rows) others →
+      AllByRecursion (InSpan (rows ++ unit_row n q ∷ [])) (others ++ unit_row n q ∷ [])
+  both_with rows others within =
+      all-push (InSpan (rows ++ unit_row n q ∷ [])) others (unit_row n q)
+      (span_trans_all (rows ++ unit_row n q ∷ []) rows others (own_parts rows).0 within) (own_parts rows).1
 
--- a direction of the sets is one of their span's rows: what is pinned for one who knows nothing is pinned
+  pub with_one_to_form : InSpan (map (set_row n) (sets ++ (q ∷ []) ∷ [])) row → InSpan in_form row
+  with_one_to_form span =
+      span_trans in_form in_sets row (both_with form (map (set_row n) sets) reduced.spans) (subst (λ l. InSpan l row) is_with span)
+
+  pub with_one_from_form : InSpan in_form row → InSpan (map (set_row n) (sets ++ (q ∷ []) ∷ [])) row
+  with_one_from_form span =
+      subst (λ l. InSpan l row) (sym is_with) (span_trans in_sets in_form row (both_with (map (set_row n) sets) form reduced.within) span)
+
+-- what is pinned for one who knows nothing is pinned
 pinned_alone : (n : ℕ) (sets : List (List ℕ)) (i : ℕ) → IsPinnedFor n sets [] i → IsPinned n sets i
 pinned_alone n sets i pin = record { below = pin.below; still = λ d direction. pin.still d direction tt }
 
-module _ (law : TiesByFormBut) (n width reach : ℕ) (answers : List Answer) (shared several : List ℕ) (groups : List (List ℕ)) (sets : List (List ℕ))
-    (form : List (List ℤ))
-    (one_alone : (r : ℕ) → has_row several r ≡ false → has_row shared r ≡ false) (are : AllByRecursion (AreRows n) sets) (reduced : Reduced n sets form) where
+module _ (n width reach : ℕ) (answers : List Answer) (people : Headcount) (groups : List (List ℕ)) (sets : List (List ℕ)) (form : List (List ℤ))
+    (count : CountPeople n people) (reduced : Reduced n sets form) where
   abbrev known : Known
-  known = with_bounds (with_askers (guarding (known_sum n answers) shared groups) several 1) width reach
+  known = with_bounds (guarding (known_sum n answers) people groups) width reach
 
-  unit_from : (i : ℕ) → IsPinned n sets i → has_row shared i ≡ false → HasOwnUnit (record { n = n; width = width; rows = form }) shared
-  unit_from i pin alone = (i, (pin.below, (pinned_by_form n sets form i are reduced pin.below).0 pin), alone)
+  abbrev echelon : Echelon
+  echelon = record { n = n; width = width; rows = form }
 
-  shows_by : (own : List ℕ) → AreOwn known own → (i : ℕ) → has_row (unguarded shared several own) i ≡ false → IsPinnedFor n sets own i →
-      HasOwnUnit (record { n = n; width = width; rows = form }) shared ⊎ ShowsTieBut several form
-  shows_by [] are_own i guarded pin = inl (unit_from i (pinned_alone n sets i pin) guarded)
-  shows_by (q ∷ []) are_own i guarded pin =
-      let apart : q ≢ i = λ e. true≢false (sym (eq-eqb q i e) ∙ sym (or_false (q == i)) ∙ pin.other) in
-      let fixed = tied_by_still n sets q i are pin.below apart (λ d direction zero_there. pin.still d direction (zero_there, tt)) in
-      inr ((law n several form reduced.primitive reduced.echelon).0 (i, q, apart, tied_in_form n sets form i q reduced fixed, guarded, are_own.2.0))
-  shows_by (q ∷ r ∷ own) are_own i guarded pin = let few = are_own.1 in absurd (omega arith)
+  abbrev beside : List ℕ
+  beside = beside_in people
 
-  by_unit : HasOwnUnit (record { n = n; width = width; rows = form }) shared → PinSomeNumber known sets
-  by_unit (i, spans, alone) =
-      let pin = (pinned_by_form n sets form i are reduced spans.0).1 spans.1 in
+  abbrev several : List ℕ
+  several = several_in people
+
+  -- an asker's own row is one of one person
+  own_alone : (q : ℕ) → count_at people.counts q ≤ 1 → has_row several q ≡ false
+  own_alone q one = (one_by_rows n people count q).0 one
+
+  -- she knows one number if she is in the table
+  are_own_one : (q : ℕ) → q < n → 0 < people.own → has_row several q ≡ false → AreOwn known (q ∷ [])
+  are_own_one q below inside single = ((omega arith, below, tt), omega (arith, inside), ((one_by_rows n people count q).1 single, tt))
+
+  are_own_none : AreOwn known []
+  are_own_none = (tt, omega arith, tt)
+
+  module _ (are : AllByRecursion (AreRows n) sets) where
+    shows_by : (own : List ℕ) → AreOwn known own → (i : ℕ) → AreFew people own (i ∷ []) → IsPinnedFor n sets own i →
+        HasOwnUnit echelon (shared_in people) ⊎ ((0 < people.own) × TieSomeBut beside several form)
+    shows_by [] are_own i few pin =
+        let alone = pinned_alone n sets i pin in
+        inl (i, (pin.below, (pinned_by_form n sets form i are reduced pin.below).0 alone), (few_by_rows n people count [] i are_own.1).0 few)
+    shows_by (q ∷ []) are_own i few pin =
+        let apart : q ≢ i = λ e. true≢false (sym (eq-eqb q i e) ∙ sym (or-false (q == i)) ∙ pin.other) in
+        let fixed = tied_by_still n sets q i are pin.below apart (λ d direction zero_there. pin.still d direction (zero_there, tt)) in
+        let inside = are_own.1 in
+        inr (
+          omega (arith, inside),
+          (
+            i,
+            q,
+            apart,
+            tied_in_form n sets form i q reduced fixed,
+            (few_by_rows n people count (q ∷ []) i are_own.1).0 few,
+            own_alone q are_own.2.0,
+          ),
+        )
+    shows_by (q ∷ r ∷ own) are_own i few pin = let most = are_own.1 in let one = count.own in absurd (omega (arith, most, one))
+
+    by_unit : HasOwnUnit echelon (shared_in people) → PinSomeNumber known sets
+    by_unit (i, spans, alone) =
+        let pin = (pinned_by_form n sets form i are reduced spans.0).1 spans.1 in
+        record {
+          own = [];
+          are_own = are_own_none;
+          row = i;
+          guarded = (few_by_rows n people count [] i (omega arith)).1 alone;
+          pinned = record { below = pin.below; other = refl; still = λ d direction zeros. pin.still d direction };
+        }
+
+    by_tie : 0 < people.own → TieSomeBut beside several form → PinSomeNumber known sets
+    by_tie inside (p, q, apart, tied, p_out, q_out) =
+        let below = tied_below n form p q (lengths_of_form n form reduced.primitive) tied in
+        let back : Ties (map (set_row n) sets) p q = record {
+          row = tied.row;
+          spanned = span_trans (map (set_row n) sets) form tied.row reduced.within tied.spanned;
+          there = tied.there;
+          only = tied.only;
+        } in
+        let fixed = still n sets q p are below apart back in
+        let few_beside : AreFew people (q ∷ []) (p ∷ []) = (few_by_rows n people count (q ∷ []) p (omega (arith, inside))).1 p_out in
+        elim (cases_lt q n) [
+          | inl there ↦ record {
+            own = q ∷ [];
+            are_own = are_own_one q there inside q_out;
+            row = p;
+            guarded = few_beside;
+            pinned = record { below = below; other = ap (λ b. b || false) (ne_eqb q p apart); still = λ d direction zeros. fixed d direction zeros.0 };
+          }
+          | inr past ↦ record {
+            own = [];
+            are_own = are_own_none;
+            row = p;
+            guarded = omega (arith, few_beside);
+            pinned = record {
+              below = below;
+              other = refl;
+              still = λ d direction zeros. fixed d direction (get_or_past d q (pos 0) (let all = direction.one_each in omega arith));
+            };
+          }
+        ]
+
+    pins_here : PinSomeNumber known sets ↔ (HasOwnUnit echelon (shared_in people) ⊎ ((0 < people.own) × TieSomeBut beside several form))
+    pins_here = (
+      (λ found. shows_by found.own found.are_own found.row found.guarded found.pinned),
+      (λ shows. elim shows [ inl unit ↦ by_unit unit | inr tie ↦ by_tie tie.0 tie.1 ]),
+    )
+
+  -- ---- groups
+
+  group_by : (own : List ℕ) → AreOwn known own → (group : List ℕ) → Contains groups group → (row : ℕ) → has_row group row ≡ true →
+      has_row own row ≡ false → InSpan (map (set_row n) (sets ++ map (λ q. q ∷ []) own)) (set_row n group) →
+      SpansOneOf echelon groups ⊎ ((0 < people.own) × SpansOneBeside echelon several groups)
+  group_by [] are_own group one row inside other span = inl (
+    group,
+    one,
+    span_trans form (map (set_row n) sets) (set_row n group) reduced.spans (subst (λ l. InSpan (map (set_row n) l) (set_row n group)) (append-nil sets) span),
+  )
+  group_by (q ∷ []) are_own group one row inside other span =
+      let some = are_own.1 in
+      inr (
+        omega (arith, some),
+        (
+          group,
+          one,
+          record {
+            own = q;
+            below = are_own.0.1;
+            single = own_alone q are_own.2.0;
+            row = row;
+            inside = inside;
+            other = λ e. true≢false (sym (eq-eqb q row (sym e)) ∙ sym (or-false (q == row)) ∙ other);
+            spanned = with_one_to_form n sets form reduced q (set_row n group) span;
+          },
+        ),
+      )
+  group_by (q ∷ r ∷ own) are_own group one row inside other span = let most = are_own.1 in let few = count.own in absurd (omega (arith, most, few))
+
+  by_alone : All (λ g. g ≢ []) groups → SpansOneOf echelon groups → SpanSomeGroup known sets
+  by_alone some (group, one, span) =
+      let hit = some_row group (All-contains (λ g. g ≢ []) groups group some one) in
       record {
         own = [];
-        are_own = (tt, omega arith, tt);
-        row = i;
-        guarded = alone;
-        pinned = record { below = pin.below; other = refl; still = λ d direction zeros. pin.still d direction };
+        are_own = are_own_none;
+        group = group;
+        one = one;
+        row = hit.0;
+        inside = hit.1;
+        other = refl;
+        spanned = subst (λ l. InSpan (map (set_row n) l) (set_row n group)) (sym (append-nil sets))
+            (span_trans (map (set_row n) sets) form (set_row n group) reduced.within span);
       }
 
-  by_tie : TieSomeBut several form → PinSomeNumber known sets
-  by_tie (p, q, apart, tied, p_out, q_out) =
-      let below = tied_below n form p q (lengths_of_form n form reduced.primitive) tied in
-      let back : Ties (map (set_row n) sets) p q = record {
-        row = tied.row;
-        spanned = span_trans (map (set_row n) sets) form tied.row reduced.within tied.spanned;
-        there = tied.there;
-        only = tied.only;
-      } in
-      let fixed = still n sets q p are below apart back in
-      elim (cases_lt q n) [
-        | inl inside ↦ record {
-          own = q ∷ [];
-          are_own = ((omega arith, inside, tt), omega arith, (q_out, tt));
-          row = p;
-          guarded = p_out;
-          pinned = record { below = below; other = ap (λ b. b || false) (ne_eqb q p apart); still = λ d direction zeros. fixed d direction zeros.0 };
-        }
-        | inr past ↦ record {
-          own = [];
-          are_own = (tt, omega arith, tt);
-          row = p;
-          guarded = one_alone p p_out;
-          pinned = record {
-            below = below;
-            other = refl;
-            still = λ d direction zeros. fixed d direction (get_or_past d q (pos 0) (let all = direction.one_each in omega arith));
-          };
-        }
-      ]
+  by_one : 0 < people.own → SpansOneBeside echelon several groups → SpanSomeGroup known sets
+  by_one inside (group, one, found) = record {
+    own = found.own ∷ [];
+    are_own = are_own_one found.own found.below inside found.single;
+    group = group;
+    one = one;
+    row = found.row;
+    inside = found.inside;
+    other = ap (λ b. b || false) (ne_eqb found.own found.row (λ e. found.other (sym e)));
+    spanned = with_one_from_form n sets form reduced found.own (set_row n group) found.spanned;
+  }
 
-  pins_but_here : PinSomeNumber known sets ↔ (HasOwnUnit (record { n = n; width = width; rows = form }) shared ⊎ ShowsTieBut several form)
-  pins_but_here = (
-    (λ found. shows_by found.own found.are_own found.row found.guarded found.pinned),
-    (λ shows. elim shows [ inl unit ↦ by_unit unit | inr tie ↦ by_tie ((law n several form reduced.primitive reduced.echelon).1 tie) ]),
+  groups_here : All (λ g. g ≢ []) groups → SpanSomeGroup known sets ↔ (SpansOneOf echelon groups ⊎ ((0 < people.own) × SpansOneBeside echelon several groups))
+  groups_here some = (
+    (λ found. group_by found.own found.are_own found.group found.one found.row found.inside found.other found.spanned),
+    (λ spans. elim spans [ inl alone ↦ by_alone some alone | inr with ↦ by_one with.0 with.1 ]),
   )
 
-pub pins_by_ties_but : TiesByFormBut → PinsByTiesBut
-pins_by_ties_but law n width reach answers shared several groups sets form one_alone are reduced =
-    pins_but_here law n width reach answers shared several groups sets form one_alone are reduced
+pub pins_by_form : PinsByForm
+pins_by_form n width reach answers people groups sets form count are reduced = pins_here n width reach answers people groups sets form count reduced are
+
+pub groups_by_form : GroupsByForm
+groups_by_form n width reach answers people groups sets form count some reduced = groups_here n width reach answers people groups sets form count reduced some

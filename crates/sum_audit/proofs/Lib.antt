@@ -3,8 +3,7 @@ pub mod SpannedOrMoved
 pub mod PinnedRows
 pub mod Reached
 pub mod SmallDirections
+pub mod SmallBeside
 pub mod DangerousByPins
 pub mod Verdicts
 pub mod KnownNumbers
-pub mod Inside
-pub mod InsideLines

@@ -2,15 +2,20 @@
 --
 -- A direction of the sets is one of the form's rows. If it is 0 at all free columns but one, and changes a number or a total, it isn't 0 at
 -- that column, and the column is free: otherwise it would be 0 everywhere.
-use Rattle.std.proofs.Common.{◌≡◌, ◌≢◌, ℕ, Bool, true, false, ℤ, pos, List, [], map, refl, sym, ap, ◌∙◌, arith, inl, inr}
-use Rattle.std.specs.Prelude.{All}
+use Rattle.std.proofs.Common.{◌≡◌, ◌≢◌, ℕ, Bool, true, false, ℤ, pos, List, [], ◌∷◌, map, refl, sym, ap, ◌∙◌, arith, inl, inr}
+use Rattle.std.specs.Prelude.{◌↔◌, All}
 use Rattle.std.specs.List.{AllByRecursion}
 use Rattle.std.proofs.lemmas.Bool.{cases_eq, cases_lt, true≢false}
 use Rattle.std.proofs.lemmas.List.{get_or_past}
 use Rattle.std.proofs.lemmas.List.Elements.{All-contains}
-use Rattle.audit_types.specs.Rows.{AreRows}
+use Rattle.audit_types.specs.Rows.{AreRows, has_row}
+use Rattle.audit_types.specs.Headcount.{CountPeople, AreFew, shared_in}
+use Rattle.audit_types.specs.HeadcountLaws.{few_by_rows}
+use Rattle.audit_types.specs.declared.shapes.Kind.{Kind}
+use Rattle.audit_types.specs.declared.shapes.Kind.TheVariants.{Sum}
+use Rattle.sum_audit.proofs.DangerousByPins.{sum_not_max}
 use Rattle.audit_types.specs.Truth.{number_at, sum_over}
-use Rattle.audit_types.specs.Column.{Known, IsGuarded, number, total}
+use Rattle.audit_types.specs.Column.{Known, IsGuarded, number, greatest, total}
 use Rattle.audit_types.specs.Form.{set_row, Reduced, IsNarrow}
 use Rattle.audit_types.specs.Direction.{IsDirection, is_pivot}
 use Rattle.audit_types.specs.Extents.{zero_by_free, sum_over_zeros}
@@ -79,23 +84,29 @@ module _ (n : ℕ) (sets : List (List ℕ)) (form : List (List ℤ)) (are : AllB
         changed = c.changed;
       }
 
-module _ (known : Known) (sets : List (List ℕ)) (form : List (List ℤ)) (are : AllByRecursion (AreRows known.n) sets) (reduced : Reduced known.n sets form) where
-  within_reach : ReachesAll known.n known.reach known.shared known.groups form → {value : List ℤ → ℤ} → IsGuarded known [] value →
+module _ (known : Known) (sums : known.kind ≡ Sum) (count : CountPeople known.n known.people) (sets : List (List ℕ)) (form : List (List ℤ))
+    (are : AllByRecursion (AreRows known.n) sets) (reduced : Reduced known.n sets form) where
+  -- a row's number is guarded against one who knows none exactly if the row isn't shared
+  few_alone : (row : ℕ) → AreFew known.people [] (row ∷ []) ↔ (has_row (shared_in known.people) row ≡ false)
+  few_alone row = few_by_rows known.n known.people count [] row (omega arith)
+
+  within_reach : ReachesAll known.n known.reach (shared_in known.people) known.groups form → {value : List ℤ → ℤ} → IsGuarded known [] value →
       Changes known.n sets form known.n value → Changes known.n sets form known.reach value
-  within_reach all (number row below other alone) changes =
-      to_sets known.n sets form are reduced known.reach (λ w. number_at w row) (all.numbers row below alone
+  within_reach all (number row below other few) changes =
+      to_sets known.n sets form are reduced known.reach (λ w. number_at w row) (all.numbers row below ((few_alone row).0 few)
       (to_form known.n sets form are reduced known.n (λ w. number_at w row) (λ d none. none row) changes))
+  within_reach all (greatest rows maxima is some others few) changes = absurd (sum_not_max (sym sums ∙ maxima))
   within_reach all (total group row one inside other) changes =
       to_sets known.n sets form are reduced known.reach (λ w. sum_over w group) (all.totals group one
       (to_form known.n sets form are reduced known.n (λ w. sum_over w group) (λ d none. sum_over_zeros d group none) changes))
 
   reaches_all : All (λ g. g ≢ []) known.groups →
       ((value : List ℤ → ℤ) → IsGuarded known [] value → Changes known.n sets form known.n value → Changes known.n sets form known.reach value) →
-      ReachesAll known.n known.reach known.shared known.groups form
+      ReachesAll known.n known.reach (shared_in known.people) known.groups form
   reaches_all some near = record {
     numbers = λ i below alone changes.
         to_form known.n sets form are reduced known.reach (λ w. number_at w i) (λ d none. none i)
-        (near (λ w. number_at w i) (number i below refl alone) (to_sets known.n sets form are reduced known.n (λ w. number_at w i) changes));
+        (near (λ w. number_at w i) (number i below refl ((few_alone i).1 alone)) (to_sets known.n sets form are reduced known.n (λ w. number_at w i) changes));
     totals = λ set one changes.
         let row = some_row set (All-contains (λ g. g ≢ []) known.groups set some one) in
         to_form known.n sets form are reduced known.reach (λ w. sum_over w set) (λ d none. sum_over_zeros d set none)
@@ -103,8 +114,9 @@ module _ (known : Known) (sets : List (List ℕ)) (form : List (List ℤ)) (are 
   }
 
   -- a narrow form is within the bounds exactly if all that is guarded is within reach of it
-  pub within_bounds : IsNarrow known.width form → ReachesAll known.n known.reach known.shared known.groups form → IsWithinBounds known sets form
+  pub within_bounds : IsNarrow known.width form → ReachesAll known.n known.reach (shared_in known.people) known.groups form → IsWithinBounds known sets form
   within_bounds narrow all = record { narrow = narrow; near = λ value guarded changes. within_reach all guarded changes }
 
-  pub out_of_bounds : All (λ g. g ≢ []) known.groups → ¬ (ReachesAll known.n known.reach known.shared known.groups form) → ¬ (IsWithinBounds known sets form)
+  pub out_of_bounds : All (λ g. g ≢ []) known.groups → ¬ (ReachesAll known.n known.reach (shared_in known.people) known.groups form) →
+      ¬ (IsWithinBounds known sets form)
   out_of_bounds some far within = far (reaches_all some within.near)

@@ -34,12 +34,12 @@ use Rattle.sum_audit.proofs.PinnedRows.{pinned_by_unit_row}
 use Rattle.sum_audit.proofs.SpannedOrMoved.{columns}
 
 -- a choice is what both of its cases are
-by_test : (b : Bool) (x y z : ℤ) → (b ≡ true → x ≡ z) → (b ≡ false → y ≡ z) → cond b x y ≡ z
+pub by_test : (b : Bool) (x y z : ℤ) → (b ≡ true → x ≡ z) → (b ≡ false → y ≡ z) → cond b x y ≡ z
 by_test true x y z h k = h refl
 by_test false x y z h k = k refl
 
 -- what is small is so at each place
-at_number : {width : ℕ} (xs : List ℤ) → AllByRecursion (λ x. unsigned_abs x ≤ width) xs → (j : ℕ) → unsigned_abs (number_at xs j) ≤ width
+pub at_number : {width : ℕ} (xs : List ℤ) → AllByRecursion (λ x. unsigned_abs x ≤ width) xs → (j : ℕ) → unsigned_abs (number_at xs j) ≤ width
 at_number [] h j = omega arith
 at_number (x ∷ xs) h zero = h.0
 at_number (x ∷ xs) h (suc j) = at_number xs h.1 j
@@ -51,27 +51,27 @@ equal_if_no_difference a x b y e = let minus = neg-times b y in omega (arith, in
 
 module _ (m : ℕ) (q : List ℤ → ℤ) where
   -- the common multiple at column j, and at the pivot of each row what makes up for it, if q says how often its pivot entry goes into the multiple
-  abbrev entry_of : List (List ℤ) → ℕ → ℕ → ℤ
+  abbrev pub entry_of : List (List ℤ) → ℕ → ℕ → ℤ
   entry_of [] j r = cond (r == j) (pos m) (pos 0)
   entry_of (row ∷ rows) j r = cond (r == pivot row) (neg_ℤ (number_at row j *ℤ q row)) (entry_of rows j r)
 
   -- how often each row is taken, so that they have at their pivots the multiple of what u has
-  abbrev taken : (ℕ → ℤ) → List (List ℤ) → List ℤ
+  abbrev pub taken : (ℕ → ℤ) → List (List ℤ) → List ℤ
   taken u rows = map (λ row. u (pivot row) *ℤ q row) rows
 
   -- q says that for each row
-  abbrev Goes : List (List ℤ) → Type 0
+  abbrev pub Goes : List (List ℤ) → Type 0
   Goes rows = AllByRecursion (λ row. q row *ℤ pivot_entry row ≡ pos m) rows
 
   -- away from column j and from the pivots it is 0
-  entry_elsewhere : (rows : List (List ℤ)) (j r : ℕ) → r ≢ j → AllByRecursion (λ row. r ≢ pivot row) rows → entry_of rows j r ≡ pos 0
+  pub entry_elsewhere : (rows : List (List ℤ)) (j r : ℕ) → r ≢ j → AllByRecursion (λ row. r ≢ pivot row) rows → entry_of rows j r ≡ pos 0
   entry_elsewhere [] j r other apart = by_test (r == j) (pos m) (pos 0) (pos 0) (λ e. absurd (other (eqb-true r j e))) (λ e. refl)
   entry_elsewhere (row ∷ rows) j r other apart =
       by_test (r == pivot row) (neg_ℤ (number_at row j *ℤ q row)) (entry_of rows j r) (pos 0) (λ e. absurd (apart.0 (eqb-true r (pivot row) e)))
       (λ e. entry_elsewhere rows j r other apart.1)
 
   -- at column j, which is no pivot, it is the multiple
-  entry_there : (rows : List (List ℤ)) (j : ℕ) → AllByRecursion (λ row. j ≢ pivot row) rows → entry_of rows j j ≡ pos m
+  pub entry_there : (rows : List (List ℤ)) (j : ℕ) → AllByRecursion (λ row. j ≢ pivot row) rows → entry_of rows j j ≡ pos m
   entry_there [] j apart = ap (λ b. cond b (pos m) (pos 0)) (eq-eqb j j refl)
   entry_there (row ∷ rows) j apart =
       by_test (j == pivot row) (neg_ℤ (number_at row j *ℤ q row)) (entry_of rows j j) (pos m) (λ e. absurd (apart.0 (eqb-true j (pivot row) e)))
@@ -95,7 +95,7 @@ module _ (m : ℕ) (q : List ℤ → ℤ) where
     turned a x y =
         *ℤ_comm a (neg_ℤ (x *ℤ y)) ∙ neg-times (x *ℤ y) a ∙ ap neg_ℤ (*ℤ_comm (x *ℤ y) a ∙ ap (λ z. a *ℤ z) (*ℤ_comm x y) ∙ sym (times_assoc a y x))
 
-    product_of_entries : (rows : List (List ℤ)) → IsEchelon rows → AllByRecursion (λ row. pivot row < n) rows → AllByRecursion (λ row. j ≢ pivot row) rows →
+    pub product_of_entries : (rows : List (List ℤ)) → IsEchelon rows → AllByRecursion (λ row. pivot row < n) rows → AllByRecursion (λ row. j ≢ pivot row) rows →
         total (λ r. u r *ℤ entry_of rows j r) n +ℤ combined (taken u rows) rows j ≡ pos m *ℤ u j
     product_of_entries [] echelon within apart =
         let one = total-single (λ r. u r *ℤ cond (r == j) (pos m) (pos 0)) n j below
@@ -151,7 +151,7 @@ module _ (m : ℕ) (q : List ℤ → ℤ) where
       )
 
   -- at the pivots the rows that are taken have the multiple of u
-  at_pivots : (u : ℕ → ℤ) (rows : List (List ℤ)) → IsEchelon rows → Goes rows →
+  pub at_pivots : (u : ℕ → ℤ) (rows : List (List ℤ)) → IsEchelon rows → Goes rows →
       AllByRecursion (λ row. combined (taken u rows) rows (pivot row) ≡ pos m *ℤ u (pivot row)) rows
   at_pivots u [] echelon goes = tt
   at_pivots u (row ∷ rows) echelon goes = (
@@ -193,7 +193,7 @@ module _ (m : ℕ) (q : List ℤ → ℤ) where
 
 -- ---- how often the pivot entries go into their common multiple
 
-abbrev quotient : ℕ → List ℤ → ℤ
+abbrev pub quotient : ℕ → List ℤ → ℤ
 quotient m row = pos (m / unsigned_abs (pivot_entry row))
 
 quotient_is : (m : ℕ) (p : ℤ) → pos 0 <ℤ p → unsigned_abs p ∣ m → pos (m / unsigned_abs p) *ℤ p ≡ pos m
@@ -236,20 +236,20 @@ module _ (width n : ℕ) (sets : List (List ℕ)) (are : AllByRecursion (AreRows
   abbrev m : ℕ
   m = narrow.common
 
-  positive : 0 < m
+  pub positive : 0 < m
   positive = common_positive n m form reduced.primitive narrow.common_is
 
-  goes : Goes m (quotient m) form
+  pub goes : Goes m (quotient m) form
   goes = quotients n m form reduced.primitive narrow.common_is.multiple
 
   -- the direction of a column
-  abbrev along : ℕ → List ℤ
+  abbrev pub along : ℕ → List ℤ
   along j = map (entry_of m (quotient m) form j) (range_with_len 0 n)
 
-  number_along : (j r : ℕ) → r < n → number_at (along j) r ≡ entry_of m (quotient m) form j r
+  pub number_along : (j r : ℕ) → r < n → number_at (along j) r ≡ entry_of m (quotient m) form j r
   number_along j r l = get_or-map-range_with_len (entry_of m (quotient m) form j) 0 n r r (pos 0) l (omega arith)
 
-  small : (j r : ℕ) → unsigned_abs (number_at (along j) r) ≤ width * width
+  pub small : (j r : ℕ) → unsigned_abs (number_at (along j) r) ≤ width * width
   small j r = elim (cases_lt r n) [
     | inl l ↦ subst (λ z. unsigned_abs z ≤ width * width) (sym (number_along j r l))
         (size_of_entry m (quotient m) width narrow.common_small positive form j narrow.entries (small_quotients m width form narrow.common_small) r)
@@ -280,7 +280,7 @@ module _ (width n : ℕ) (sets : List (List ℕ)) (are : AllByRecursion (AreRows
     orthogonal [] own = tt
     orthogonal (row ∷ rows) own = ((let whole = product_along row in let here = own.0 in omega (arith, ints)), orthogonal rows own.1)
 
-    is_direction : IsDirection n sets (along j)
+    pub is_direction : IsDirection n sets (along j)
     is_direction = record {
       one_each = length-map-range_with_len (entry_of m (quotient m) form j) 0 n;
       zero_sums =

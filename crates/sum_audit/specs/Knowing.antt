@@ -1,14 +1,16 @@
 -- What one who knows a number of the column, as her own, can work out of answered sums.
-use Rattle.std.specs.Prelude.{◌≡◌, ◌≢◌, ◌↔◌, ◌⊎◌, ℕ, ◌<◌, false, ℤ, pos, List, [], map}
+use Rattle.std.specs.Prelude.{◌≡◌, ◌≢◌, ◌↔◌, ◌⊎◌, ℕ, ◌<◌, ℤ, pos, List, [], map, All}
 use Rattle.std.specs.List.{AllByRecursion}
-use Rattle.audit_types.specs.Rows.{AreRows, has_row}
+use Rattle.audit_types.specs.Rows.{AreRows}
+use Rattle.audit_types.specs.Headcount.{Headcount, CountPeople, shared_in, beside_in, several_in}
 use Rattle.audit_types.specs.Truth.{number_at}
-use Rattle.audit_types.specs.Column.{Answer, Agrees, known_sum, guarding, with_bounds, with_askers}
+use Rattle.audit_types.specs.Column.{Answer, Agrees, known_sum, guarding, with_bounds}
 use Rattle.audit_types.specs.Form.{set_row, Reduced}
 use Rattle.audit_types.specs.Direction.{IsDirection}
-use Rattle.audit_types.specs.Judgement.{PinSomeNumber}
-use Rattle.sum_basis.specs.Growth.{HasOwnUnit}
-use Rattle.sum_basis.specs.Ties.{Ties, ShowsTie, ShowsTieBut}
+use Rattle.audit_types.specs.Judgement.{PinSomeNumber, SpanSomeGroup}
+use Rattle.sum_basis.specs.Growth.{HasOwnUnit, SpansOneOf}
+use Rattle.sum_basis.specs.Asking.{SpansOneBeside}
+use Rattle.sum_basis.specs.Ties.{Ties, ShowsTie, TieSomeBut}
 use Rattle.sum_audit.specs.Sets.{sets_of}
 
 -- whoever knows the number of row q knows that of row i: each direction that is 0 at q is 0 at i. A q past the table knows nothing
@@ -47,17 +49,22 @@ OpenByForm =
     (n : ℕ) (answers : List Answer) (form : List (List ℤ)) (w : List ℤ) (q i : ℕ) → AllByRecursion (AreRows n) (sets_of answers) →
     Reduced n (sets_of answers) form → ¬ (ShowsTie form) → Agrees (known_sum n answers) w → i < n → q ≢ i → IsOpenFor n answers w q i
 
--- if each row stands for one person, the sets pin some row for an asker who knows one number, or none, exactly if their form shows a tie
-abbrev pub PinsByTies : Type 0
-PinsByTies =
-    (n width reach : ℕ) (answers : List Answer) (sets : List (List ℕ)) (form : List (List ℤ)) → AllByRecursion (AreRows n) sets → Reduced n sets form →
-    PinSomeNumber (with_bounds (with_askers (known_sum n answers) [] 1) width reach) sets ↔ ShowsTie form
+-- the sets pin a number that is guarded from some asker exactly if the unit row of a row that isn't shared lies in the span of their form, or, if
+-- people in the table ask, it ties a row beside which something is guarded to another one of one person
+abbrev pub PinsByForm : Type 0
+PinsByForm =
+    (n width reach : ℕ) (answers : List Answer) (people : Headcount) (groups : List (List ℕ)) (sets : List (List ℕ)) (form : List (List ℤ)) →
+    CountPeople n people → AllByRecursion (AreRows n) sets → Reduced n sets form →
+    PinSomeNumber (with_bounds (guarding (known_sum n answers) people groups) width reach) sets
+    ↔ (HasOwnUnit (record { n = n; width = width; rows = form }) (shared_in people)
+    ⊎ ((0 < people.own) × TieSomeBut (beside_in people) (several_in people) form))
 
--- over lines they pin a number that is guarded from some asker exactly if the unit row of a row that isn't shared lies in the span of their
--- form, or the form shows a tie of two rows of one person each
-abbrev pub PinsByTiesBut : Type 0
-PinsByTiesBut =
-    (n width reach : ℕ) (answers : List Answer) (shared several : List ℕ) (groups : List (List ℕ)) (sets : List (List ℕ)) (form : List (List ℤ)) →
-    ((r : ℕ) → has_row several r ≡ false → has_row shared r ≡ false) → AllByRecursion (AreRows n) sets → Reduced n sets form →
-    PinSomeNumber (with_bounds (with_askers (guarding (known_sum n answers) shared groups) several 1) width reach) sets
-    ↔ (HasOwnUnit (record { n = n; width = width; rows = form }) shared ⊎ ShowsTieBut several form)
+-- they span a group with the numbers of some asker exactly if its row lies in the span of their form, or, if people in the table ask, in that with
+-- the unit row of a row of one person, and the group has another row
+abbrev pub GroupsByForm : Type 0
+GroupsByForm =
+    (n width reach : ℕ) (answers : List Answer) (people : Headcount) (groups : List (List ℕ)) (sets : List (List ℕ)) (form : List (List ℤ)) →
+    CountPeople n people → All (λ g. g ≢ []) groups → Reduced n sets form →
+    SpanSomeGroup (with_bounds (guarding (known_sum n answers) people groups) width reach) sets
+    ↔ (SpansOneOf (record { n = n; width = width; rows = form }) groups
+    ⊎ ((0 < people.own) × SpansOneBeside (record { n = n; width = width; rows = form }) (several_in people) groups))

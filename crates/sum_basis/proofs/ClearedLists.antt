@@ -19,10 +19,10 @@ use Rattle.sum_basis.specs.Elimination.{IsSmall, IsCleared}
 use Rattle.sum_basis.specs.Sparse.{entry_at, row_of, IsListed, entries_of, IsKept, IsNew, IsOverContent}
 use Rattle.sum_basis.specs.CombinedRows.{number_at-combine, length-combine}
 use Rattle.audit_types.specs.Products.{times-add, neg-times}
-use Rattle.audit_types.specs.Numbers.{positive_not_zero}
+use Rattle.audit_types.specs.Numbers.{positive_not_zero, product_small}
 use Rattle.audit_types.specs.ListLaws.{all-unmap}
 use Rattle.sum_basis.proofs.Clearing.{cleared_from}
-use Rattle.sum_basis.proofs.Sizes.{small_at, product_small}
+use Rattle.sum_basis.proofs.Sizes.{small_at}
 use Rattle.sum_basis.proofs.SparseRows.{elsewhere, zero_below, number_at-row_of, length-row_of, pivot-row_of, pivot_entry-row_of, first_value, listed_to, small_values}
 use Rattle.sum_basis.proofs.ListContents.{values, none, entry_at-scaled, listed_scaled}
 use Rattle.int_rows.specs.ContentLaws.{all-ones}

@@ -9,7 +9,7 @@ use Rattle.std.proofs.lemmas.Bool.{cases_eq}
 use Rattle.std.proofs.Math.IntN.{*ℤ-zero}
 use Rattle.audit_types.specs.Truth.{is_zero}
 use Rattle.audit_types.specs.Products.{times-add, product_not_zero}
-use Rattle.audit_types.specs.Numbers.{zero_or_not, test_of_not_zero, size_negated}
+use Rattle.audit_types.specs.Numbers.{zero_or_not, test_of_not_zero, size_negated, product_small}
 use Rattle.audit_types.specs.ListLaws.{all-unmap}
 use Rattle.sum_basis.specs.declared.sparse.FreeEntry.{FreeEntry}
 use Rattle.sum_basis.specs.Sparse.{entry_at, IsListed}
@@ -17,7 +17,6 @@ use Rattle.sum_basis.specs.Merging.{first_value}
 use Rattle.sum_basis.proofs.ListContents.{none}
 use Rattle.sum_basis.proofs.ClearedLists.{values_from}
 use Rattle.sum_basis.proofs.SparseRows.{here, elsewhere, listed_from, listed_length, take_entry, front_zero}
-use Rattle.sum_basis.proofs.Sizes.{product_small}
 use Rattle.sum_basis.proofs.Merges.{neg_not_zero}
 use Rattle.std.proofs.lemmas.List.{take_all}
 

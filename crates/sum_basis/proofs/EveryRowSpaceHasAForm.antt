@@ -6,8 +6,8 @@ use Rattle.audit_types.specs.Truth.{number_at, is_zero}
 use Rattle.audit_types.specs.Form.{InSpan, IsPrimitive, IsEchelon, pivot_entry}
 use Rattle.audit_types.specs.RowNumbers.{all_zeros_at}
 use Rattle.audit_types.specs.FormRows.{lengths_of_form}
-use Rattle.sum_basis.specs.Spans.{in_span_from, spans_same, spans_zero, span_trans_all}
-use Rattle.sum_basis.proofs.FormsAreUnique.{own, one_more_all, first_own, leads_from}
+use Rattle.sum_basis.specs.Spans.{in_span_from, spans_same, spans_zero, span_trans_all, own, one_more_all, first_own}
+use Rattle.sum_basis.proofs.FormsAreUnique.{leads_from}
 use Rattle.sum_basis.proofs.Reduction.{span_line, reduced_by, length-reduced, reduced_zeros, span_reduced, span_unreduced, primitive_exists}
 use Rattle.sum_basis.specs.Laws.{EveryRowSpaceHasAForm}
 use Rattle.sum_basis.proofs.Clearing.{cleared_all, still_echelon, still_zero, primitives, zeros_there, spans_there, spans_back, span_times, still_zero_at}

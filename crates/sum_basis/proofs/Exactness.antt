@@ -11,8 +11,8 @@ use Rattle.sum_basis.specs.Elimination.{IsSmallForm}
 use Rattle.sum_basis.specs.Growth.{Grows, GrowsFor, GrowsForRows, GrowsWide, StaysNarrow}
 use Rattle.sum_basis.specs.declared.Grown.{Grown}
 use Rattle.sum_basis.specs.declared.Grown.TheVariants.{Same, Added, Wide}
-use Rattle.sum_basis.specs.Spans.{span_trans, span_trans_all}
-use Rattle.sum_basis.proofs.FormsAreUnique.{own, forms_are_unique}
+use Rattle.sum_basis.specs.Spans.{span_trans, span_trans_all, own}
+use Rattle.sum_basis.proofs.FormsAreUnique.{forms_are_unique}
 use Rattle.sum_basis.proofs.NarrowOrWide.{narrow_or_wide}
 use Rattle.sum_basis.proofs.SpanKeepsForm.{span_keeps_form}
 

@@ -4,7 +4,8 @@ use Rattle.audit_types.specs.Form.{InSpan, pivot, pivot_entry}
 use Rattle.sum_basis.specs.Basis.{Echelon}
 use Rattle.sum_basis.specs.Elimination.{IsSmallForm, IsRemainder}
 use Rattle.sum_basis.specs.Growth.{GrowsTo, GrowsWide, IsNewRow}
-use Rattle.sum_basis.proofs.FormsAreUnique.{own, leads_from}
+use Rattle.sum_basis.specs.Spans.{own}
+use Rattle.sum_basis.proofs.FormsAreUnique.{leads_from}
 use Rattle.sum_basis.proofs.Clearing.{line_zero, span_times, still_zero_at}
 use Rattle.sum_basis.proofs.Reduction.{span_line}
 use Rattle.sum_basis.proofs.Remainders.{in_span, nothing_left, span_to_left, span_from_left, IsLine}

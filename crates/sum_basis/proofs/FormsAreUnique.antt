@@ -15,7 +15,7 @@ use Rattle.audit_types.specs.Numbers.{zero_or_not, zero_from_test, test_of_not_z
 use Rattle.audit_types.specs.FormRows.{later_zero}
 use Rattle.sum_basis.specs.Laws.{FormsAreUnique}
 use Rattle.sum_basis.specs.Ties.{IsRowOf}
-use Rattle.sum_basis.specs.Spans.{spans_from, spans_times, spans_add, span_zero, span_trans_all, combined_zero, ZeroAtPivots}
+use Rattle.sum_basis.specs.Spans.{own, spans_from, spans_times, spans_add, span_zero, span_trans_all, combined_zero, ZeroAtPivots}
 
 -- the pivot entries are positive
 abbrev Leads : List (List ℤ) → Type 0
@@ -132,29 +132,6 @@ pub in_span_at : (rows others : List (List ℤ)) (g : List ℤ) → AllByRecursi
 in_span_at rows [] g h among = absurd among
 in_span_at rows (r ∷ others) g h (inl e) = subst (InSpan rows) e h.0
 in_span_at rows (r ∷ others) g h (inr among) = in_span_at rows others g h.1 among
-
--- the first row lies in the span of the rows
-pub first_own : (row : List ℤ) (rows : List (List ℤ)) → InSpan (row ∷ rows) row
-first_own row rows = record { multiple = 1; positive = omega arith; coefficients = pos 1 ∷ []; is = λ j. sym (+ℤ_idr (pos 1 *ℤ number_at row j)) }
-
--- a span with one row more has what the span had
-pub one_more : (row : List ℤ) (rows : List (List ℤ)) (other : List ℤ) → InSpan rows other → InSpan (row ∷ rows) other
-one_more row rows other h = record {
-  multiple = h.multiple;
-  positive = h.positive;
-  coefficients = pos 0 ∷ h.coefficients;
-  is = λ j. h.is j ∙ sym (ap (λ z. z +ℤ combined h.coefficients rows j) (zero-*ℤ (number_at row j)) ∙ +ℤ_idl (combined h.coefficients rows j));
-}
-
--- of all rows too
-pub one_more_all : (row : List ℤ) (rows others : List (List ℤ)) → AllByRecursion (InSpan rows) others → AllByRecursion (InSpan (row ∷ rows)) others
-one_more_all row rows [] h = tt
-one_more_all row rows (other ∷ others) h = (one_more row rows other h.0, one_more_all row rows others h.1)
-
--- rows lie in their own span
-pub own : (rows : List (List ℤ)) → AllByRecursion (InSpan rows) rows
-own [] = tt
-own (row ∷ rows) = (first_own row rows, one_more_all row rows rows (own rows))
 
 -- two forms, each in the span of the other
 record AreAlike (rows others : List (List ℤ)) : Type 0 where

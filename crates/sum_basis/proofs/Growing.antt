@@ -8,7 +8,8 @@ use Rattle.audit_types.specs.Form.{InSpan, IsPrimitive, IsEchelon, StandsBefore,
 use Rattle.audit_types.specs.ListLaws.{all-push, all-front}
 use Rattle.audit_types.specs.Numbers.{positive_not_zero}
 use Rattle.sum_basis.specs.Elimination.{IsZeroAtPivots, AreCleared}
-use Rattle.sum_basis.proofs.FormsAreUnique.{leads_from, own}
+use Rattle.sum_basis.specs.Spans.{own}
+use Rattle.sum_basis.proofs.FormsAreUnique.{leads_from}
 use Rattle.sum_basis.proofs.Clearing.{still_echelon, still_zero, primitives, zeros_there, spans_there, spans_back}
 use Rattle.sum_basis.proofs.Placing.{placed, all_placed, parts_placed, placed_echelon}
 

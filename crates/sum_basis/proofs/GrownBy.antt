@@ -11,7 +11,8 @@ use Rattle.sum_basis.specs.Reach.{IsGrownBy, IsReached, ReachesAll}
 use Rattle.sum_basis.specs.Sparse.{row_of, IsNew}
 use Rattle.sum_basis.specs.declared.sparse.FreeEntry.{FreeEntry}
 use Rattle.sum_basis.proofs.Exactness.{other_row}
-use Rattle.sum_basis.proofs.FormsAreUnique.{forms_are_unique, own}
+use Rattle.sum_basis.specs.Spans.{own}
+use Rattle.sum_basis.proofs.FormsAreUnique.{forms_are_unique}
 use Rattle.sum_basis.proofs.SpanKeepsForm.{span_keeps_form}
 
 module _ (form : Echelon) (v : List ℤ) (new : Echelon) (grows : GrowsTo form v new) where

@@ -12,7 +12,8 @@ use Rattle.sum_basis.specs.Basis.{Echelon, IsForm, IsWidth}
 use Rattle.sum_basis.specs.Elimination.{IsSmall, IsSmallForm, IsFormWithin, IsZeroAtPivots}
 use Rattle.sum_basis.specs.Growth.{Foresees, GrowsTo, GrowsWide, IsNewRow, IsAsItIs, LeavesNoList}
 use Rattle.sum_basis.specs.Sparse.{row_of, rows_of, IsListed, IsKept, IsNew}
-use Rattle.sum_basis.proofs.FormsAreUnique.{own, forms_are_unique}
+use Rattle.sum_basis.specs.Spans.{own}
+use Rattle.sum_basis.proofs.FormsAreUnique.{forms_are_unique}
 use Rattle.sum_basis.proofs.NarrowOrWide.{narrow_or_not}
 use Rattle.sum_basis.proofs.SpanKeepsForm.{span_keeps_form}
 use Rattle.sum_basis.proofs.Sizes.{small_form}

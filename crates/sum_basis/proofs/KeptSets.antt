@@ -12,7 +12,7 @@ use Rattle.audit_types.specs.Rows.{Rows}
 use Rattle.audit_types.specs.ListLaws.{all-push, all-front}
 use Rattle.audit_types.specs.Numbers.{positive_not_zero}
 use Rattle.audit_types.specs.Products.{zero_product}
-use Rattle.sum_basis.specs.Spans.{span_trans}
+use Rattle.sum_basis.specs.Spans.{span_trans, own}
 use Rattle.sum_basis.specs.Basis.{Echelon}
 use Rattle.sum_basis.specs.Elimination.{IsSmallForm}
 use Rattle.sum_basis.specs.Growth.{IsLeft, IsLeftOver, SpansAfter}
@@ -20,7 +20,7 @@ use Rattle.sum_basis.specs.Sparse.{row_of}
 use Rattle.sum_basis.specs.declared.form.Left.TheVariants.{Entries}
 use Rattle.sum_basis.specs.declared.keeping.KeptSet.{KeptSet}
 use Rattle.sum_basis.specs.declared.sparse.FreeEntry.{FreeEntry}
-use Rattle.sum_basis.proofs.FormsAreUnique.{own, leads_from}
+use Rattle.sum_basis.proofs.FormsAreUnique.{leads_from}
 use Rattle.sum_basis.proofs.Parallels.{same_listed}
 use Rattle.sum_basis.proofs.SparseRows.{number_at-row_of}
 use Rattle.sum_basis.proofs.SpansWithOneMore.{IsOnLine, alone, on_line, one_of_line}

@@ -15,7 +15,8 @@ use Rattle.audit_types.specs.FormRows.{pivot_below}
 use Rattle.sum_basis.specs.Basis.{Echelon, HasUnitRow}
 use Rattle.sum_basis.specs.Elimination.{IsWithin, IsFormWithin, IsZeroAtPivots, IsCleared, AreCleared, IsLone}
 use Rattle.sum_basis.specs.Growth.{ClearsFirst, GrowsTo, GrowsWide}
-use Rattle.sum_basis.proofs.FormsAreUnique.{own, leads_from}
+use Rattle.sum_basis.specs.Spans.{own}
+use Rattle.sum_basis.proofs.FormsAreUnique.{leads_from}
 use Rattle.sum_basis.proofs.LeastMultiples.{least-push, least_positive, least_exists, least_unique, entries_positive, pivot_entries-push}
 use Rattle.sum_basis.proofs.Placing.{placed, all_placed, parts_placed}
 use Rattle.sum_basis.proofs.Growing.{placed_is_reduced}

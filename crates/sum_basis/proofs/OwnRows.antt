@@ -21,10 +21,10 @@ use Rattle.sum_basis.specs.CombinedRows.{number_at-combine}
 use Rattle.sum_basis.specs.Elimination.{IsLone, IsSmallForm, IsZeroAtPivots}
 use Rattle.sum_basis.specs.Growth.{IsLeftOver, SpansAfter}
 use Rattle.sum_basis.specs.Sparse.{row_of}
-use Rattle.sum_basis.specs.Spans.{spans_from, in_span_from, spans_same, spans_times, spans_add, span_zero}
+use Rattle.sum_basis.specs.Spans.{spans_from, in_span_from, spans_same, spans_times, spans_add, span_zero, own}
 use Rattle.sum_basis.specs.declared.sparse.FreeEntry.{FreeEntry}
 use Rattle.sum_basis.specs.Ties.{IsRowOf}
-use Rattle.sum_basis.proofs.FormsAreUnique.{zeros_walk, zero_at_others, in_span_at, own, leads_from}
+use Rattle.sum_basis.proofs.FormsAreUnique.{zeros_walk, zero_at_others, in_span_at, leads_from}
 use Rattle.sum_basis.proofs.KeptForms.{row_among}
 use Rattle.sum_basis.proofs.SparseRows.{first_value}
 use Rattle.sum_basis.proofs.SpansWithOneMore.{alone, on_line, same_pivot}
@@ -137,7 +137,7 @@ pivot_or_none (r ∷ form) i = elim (cases_eq (pivot r) i) [
 ]
 
 -- the unit row of a number that is no pivot is 0 at all pivots
-unit_zeros : (n i : ℕ) (form : List (List ℤ)) → AllByRecursion (λ other. pivot other ≢ i) form → IsZeroAtPivots form (unit_row n i)
+pub unit_zeros : (n i : ℕ) (form : List (List ℤ)) → AllByRecursion (λ other. pivot other ≢ i) form → IsZeroAtPivots form (unit_row n i)
 unit_zeros n i [] none = tt
 unit_zeros n i (r ∷ form) none = (unit_elsewhere n i (pivot r) none.0, unit_zeros n i form none.1)
 

@@ -9,7 +9,8 @@ use Rattle.std.proofs.lemmas.Bool.{cases_eq, cases_lt}
 use Rattle.sum_basis.specs.Basis.{Echelon, SpansUnit, unit_row, IsFreeList}
 use Rattle.sum_basis.specs.Elimination.{IsLone, IsSmallForm}
 use Rattle.sum_basis.specs.declared.sparse.FreeEntry.{FreeEntry}
-use Rattle.sum_basis.proofs.FormsAreUnique.{stands_before, zero_at_others, own}
+use Rattle.sum_basis.specs.Spans.{own}
+use Rattle.sum_basis.proofs.FormsAreUnique.{stands_before, zero_at_others}
 use Rattle.sum_basis.proofs.KeptForms.{row_among}
 use Rattle.sum_basis.proofs.OwnRows.{pivot_or_none, not_in_form}
 use Rattle.sum_basis.proofs.UnitRowsInSpan.{unit_in_span}

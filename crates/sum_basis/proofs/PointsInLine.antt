@@ -25,9 +25,9 @@ use Rattle.audit_types.specs.RowNumbers.{all_by_number, some_entry}
 use Rattle.audit_types.specs.Totals.{total, total-agree, total-add, total-times, total-zero, total-single, product}
 use Rattle.int_rows.specs.Exact.{exact}
 use Rattle.sum_basis.specs.Points.{IsMultiple, IsDirectionModulo, AreInLine, TiesAreInLine}
-use Rattle.sum_basis.specs.Spans.{Spans, ZeroAtPivots, spans_from, in_span_from, spans_same, spans_times, spans_add, spans_combined, span_zero, combined_zero}
+use Rattle.sum_basis.specs.Spans.{Spans, ZeroAtPivots, spans_from, in_span_from, spans_same, spans_times, spans_add, spans_combined, span_zero, combined_zero, own}
 use Rattle.sum_basis.specs.Ties.{Ties}
-use Rattle.sum_basis.proofs.FormsAreUnique.{own, leads_from}
+use Rattle.sum_basis.proofs.FormsAreUnique.{leads_from}
 use Rattle.sum_basis.proofs.Reduction.{primitive_exists, span_line}
 
 -- ---- multiples

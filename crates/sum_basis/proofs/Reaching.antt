@@ -18,7 +18,7 @@ use Rattle.sum_basis.specs.Elimination.{IsRemainder}
 use Rattle.sum_basis.specs.Sparse.{entry_at, IsListed}
 use Rattle.sum_basis.specs.declared.sparse.FreeEntry.{FreeEntry}
 use Rattle.sum_basis.proofs.Along.{extent_is, column_below}
-use Rattle.sum_basis.proofs.FormsAreUnique.{own}
+use Rattle.sum_basis.specs.Spans.{own}
 use Rattle.sum_basis.proofs.Remainders.{span_from_left, span_to_left}
 use Rattle.sum_basis.proofs.SparseRows.{zero_past}
 use Rattle.sum_basis.proofs.NearColumns.{Tells, reached_if_near, near_if_reached}

@@ -10,7 +10,8 @@ use Rattle.audit_types.specs.Truth.{number_at}
 use Rattle.audit_types.specs.Form.{combined, IsEchelon, StandsBefore, pivot}
 use Rattle.audit_types.specs.ListLaws.{all-push}
 use Rattle.sum_basis.specs.Elimination.{IsSmall, IsZeroAtPivots, IsLessMultiple}
-use Rattle.sum_basis.proofs.Sizes.{small_at, product_small}
+use Rattle.audit_types.specs.Numbers.{product_small}
+use Rattle.sum_basis.proofs.Sizes.{small_at}
 
 -- what is left of the row when multiples of the first k rows are taken
 pub record IsPartRemainder (form : List (List ℤ)) (old new : List ℤ) (k : ℕ) : Type 0 where

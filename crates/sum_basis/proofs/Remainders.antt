@@ -8,8 +8,7 @@ use Rattle.audit_types.specs.Form.{combined, InSpan, IsPrimitive, IsEchelon, piv
 use Rattle.audit_types.specs.PrimitiveLines.{number_at-times, times}
 use Rattle.sum_basis.specs.Elimination.{IsRemainder}
 use Rattle.audit_types.specs.Products.{neg-times, one-times}
-use Rattle.sum_basis.specs.Spans.{spans_from, in_span_from, spans_same, spans_times, spans_add, spans_down, spans_combined, span_zero}
-use Rattle.sum_basis.proofs.FormsAreUnique.{own}
+use Rattle.sum_basis.specs.Spans.{spans_from, in_span_from, spans_same, spans_times, spans_add, spans_down, spans_combined, span_zero, own}
 
 module _ (form : List (List ℤ)) (v left : List ℤ) (m : ℕ) (above : 0 < m) (r : IsRemainder form (times (pos m) v) left) where
   -- the row of the set, a multiple of it taken apart

@@ -1,8 +1,6 @@
 -- How large the entries of rows become.
 use Rattle.std.proofs.Common.{ℕ, zero, suc, ◌≤◌, ◌^◌, ℤ, List, [], ◌∷◌, arith}
-use Rattle.std.specs.Prelude.{◌*ℤ◌, unsigned_abs}
-use Rattle.std.proofs.lemmas.Int.{unsigned_abs-mul}
-use Rattle.std.proofs.Math.Nat.{mul-le-mul}
+use Rattle.std.specs.Prelude.{unsigned_abs}
 use Rattle.audit_types.specs.Truth.{number_at}
 use Rattle.audit_types.specs.ListLaws.{all-weaker}
 use Rattle.sum_basis.specs.Elimination.{IsWithin, IsSmall, IsFormWithin, IsSmallForm}
@@ -16,10 +14,6 @@ within_at width (x ∷ row) (suc j) h = within_at width row j h.1
 -- of a row of small entries
 pub small_at : (row : List ℤ) (j : ℕ) → IsSmall row → unsigned_abs (number_at row j) ≤ 2 ^ 56
 small_at row j h = within_at (2 ^ 56) row j h
-
--- products of small numbers
-pub product_small : (x y : ℤ) → unsigned_abs x ≤ 2 ^ 56 → unsigned_abs y ≤ 2 ^ 56 → unsigned_abs (x *ℤ y) ≤ 2 ^ 112
-product_small x y p q = rw (unsigned_abs-mul x y) (mul-le-mul {n₂ = 2 ^ 56} {m₂ = 2 ^ 56} p q)
 
 -- what is within a width is within any greater one
 pub within_more : (width more : ℕ) (row : List ℤ) → width ≤ more → IsWithin width row → IsWithin more row

@@ -3,8 +3,7 @@ use Rattle.std.proofs.Common.{[], ◌∷◌, ◌++◌}
 use Rattle.audit_types.specs.Form.{InSpan}
 use Rattle.audit_types.specs.ListLaws.{all-push, all-front}
 use Rattle.sum_basis.specs.Laws.{SpanKeepsForm}
-use Rattle.sum_basis.specs.Spans.{span_trans, span_trans_all}
-use Rattle.sum_basis.proofs.FormsAreUnique.{own}
+use Rattle.sum_basis.specs.Spans.{span_trans, span_trans_all, own}
 
 -- the rows with one row of their span have the same form
 pub span_keeps_form : SpanKeepsForm

@@ -7,7 +7,7 @@ use Rattle.audit_types.specs.Truth.{number_at}
 use Rattle.audit_types.specs.Form.{set_row, InSpan, IsPrimitive, IsReducedForm, pivot, pivot_entry}
 use Rattle.audit_types.specs.ListLaws.{all-push, all-front}
 use Rattle.audit_types.specs.Numbers.{positive_not_zero}
-use Rattle.sum_basis.specs.Spans.{span_trans, span_trans_all, span_zero, spans_from}
+use Rattle.sum_basis.specs.Spans.{span_trans, span_trans_all, span_zero, spans_from, own}
 use Rattle.sum_basis.specs.Basis.{Echelon}
 use Rattle.sum_basis.specs.Elimination.{IsSmallForm, IsZeroAtPivots}
 use Rattle.sum_basis.specs.Growth.{IsLeft, IsNewRow}
@@ -17,7 +17,7 @@ use Rattle.sum_basis.specs.declared.form.Left.TheVariants.{Entries}
 use Rattle.sum_basis.specs.declared.keeping.KeptSet.{KeptSet}
 use Rattle.sum_basis.specs.declared.sparse.FreeEntry.{FreeEntry}
 use Rattle.sum_basis.proofs.Clearing.{cleared_all, zeros_stay}
-use Rattle.sum_basis.proofs.FormsAreUnique.{own, leads_from, forms_are_unique}
+use Rattle.sum_basis.proofs.FormsAreUnique.{leads_from, forms_are_unique}
 use Rattle.sum_basis.proofs.Growing.{placed_is_reduced}
 use Rattle.sum_basis.proofs.Placing.{placed, all_placed}
 use Rattle.sum_basis.proofs.SparseRows.{number_at-row_of}

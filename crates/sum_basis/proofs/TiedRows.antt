@@ -10,7 +10,7 @@ use Rattle.audit_types.specs.Form.{IsEchelon, StandsBefore, pivot}
 use Rattle.audit_types.specs.Products.{times_assoc, times-add, neg-times, zero_product, product_not_zero}
 use Rattle.sum_basis.specs.Elimination.{IsSmall}
 use Rattle.sum_basis.proofs.Sizes.{small_at}
-use Rattle.sum_basis.specs.Ties.{IsRowOf, IsShort, AreParallel, ShowsTie, AreLikeLists, HasLikeList}
+use Rattle.sum_basis.specs.Ties.{IsRowOf, IsShort, AreParallel, AreLikeLists}
 use Rattle.sum_basis.specs.Sparse.{entry_at, row_of, rows_of, entries_of, scaled, IsListed, IsKept}
 use Rattle.sum_basis.specs.declared.sparse.FreeEntry.{FreeEntry}
 use Rattle.sum_basis.specs.declared.sparse.SparseRow.{SparseRow}
@@ -278,57 +278,6 @@ module _ (n : ℕ) (r : SparseRow) (kept : IsKept n r) where
               ∙ ap (λ z. p.y *ℤ z) (free_at n r kept j second)
         ]
       ]
-
-  -- a row of the front part with a like list shows a tie
-  pub like_shows : (front : List SparseRow) → AllByRecursion (IsKept n) front → AllByRecursion (λ s. StandsBefore (line_of n s) (line_of n r)) front →
-      HasLikeList front r →
-      (row : List ℤ) × IsRowOf row (rows_of n front) × AreParallel row (line_of n r)
-  like_shows [] all stand h = absurd h
-  like_shows (s ∷ front) all stand (inl like) = (line_of n s, inl refl, parallel_from s all.0 stand.0 like)
-  like_shows (s ∷ front) all stand (inr rest) = let (row, among, p) = like_shows front all.1 stand.1 rest in (row, inr among, p)
-
-  -- and one that is parallel has one
-  has_like : (front : List SparseRow) → AllByRecursion (IsKept n) front → AllByRecursion (λ s. StandsBefore (line_of n s) (line_of n r)) front →
-      0 < length r.free.items →
-      (row : List ℤ) → IsRowOf row (rows_of n front) → AreParallel row (line_of n r) → HasLikeList front r
-  has_like [] all stand some row h p = absurd h
-  has_like (s ∷ front) all stand some row (inl is) p = inl (parallel_to s all.0 stand.0 some (subst (λ z. AreParallel z (line_of n r)) (sym is) p))
-  has_like (s ∷ front) all stand some row (inr h) p = inr (has_like front all.1 stand.1 some row h p)
-
-  -- where the front part shows no tie, and the row's list is long and like none, there is none with the row
-  pub none_with : (front : List SparseRow) → AllByRecursion (IsKept n) front → AllByRecursion (λ s. StandsBefore (line_of n s) (line_of n r)) front →
-      (ShowsTie (rows_of n front) → ⊥) → 1 < length r.free.items → (HasLikeList front r → ⊥) → ShowsTie (rows_of n (front ++ r ∷ [])) → ⊥
-  none_with front all stand none long unlike (inl (row, among, short)) = elim (one_more n front r row among) [
-    | inl before ↦ none (inl (row, before, short))
-    | inr last ↦ absurd (let few = short_to n r kept (subst IsShort (sym last) short) in omega arith)
-  ]
-  none_with front all stand none long unlike (inr (row, other, among, others, p)) = elim (one_more n front r row among) [
-    | inl before ↦ elim (one_more n front r other others) [
-      | inl too ↦ none (inr (row, other, before, too, p))
-      | inr last ↦ unlike (has_like front all stand (omega arith) row before (subst (AreParallel row) (sym last) p))
-    ]
-    | inr last ↦ elim (one_more n front r other others) [
-      | inl too ↦ unlike (has_like front all stand (omega arith) other too (subst (AreParallel other) (sym last) (turned row other p)))
-      | inr both ↦ p.apart (ap pivot (sym last ∙ both))
-    ]
-  ]
-
--- ---- like lists one by one
-
--- the list at k is like the row's
-pub like_there : (front : List SparseRow) (row : SparseRow) (k : ℕ) (r : SparseRow) → k < length front → r ≡ slice_index_or front k r →
-    AreLikeLists r.free.items row.free.items → HasLikeList front row
-like_there [] row k r h is like = absurd (omega arith)
-like_there (s ∷ front) row zero r h is like = inl (subst (λ q. AreLikeLists q.free.items row.free.items) is like)
-like_there (s ∷ front) row (suc k) r h is like = inr (like_there front row k r (omega arith) is like)
-
--- where none was, and the one more isn't, none is
-pub none_like : (front : List SparseRow) (row r : SparseRow) → (HasLikeList front row → ⊥) → (AreLikeLists r.free.items row.free.items → ⊥) →
-    HasLikeList (front ++ r ∷ []) row → ⊥
-none_like [] row r none not (inl like) = not like
-none_like [] row r none not (inr h) = absurd h
-none_like (s ∷ front) row r none not (inl like) = none (inl like)
-none_like (s ∷ front) row r none not (inr h) = none_like front row r (λ q. none (inr q)) not h
 
 -- the first k + 1
 pub taken_next : (l : List SparseRow) (k : ℕ) (r : SparseRow) → k < length l → r ≡ slice_index_or l k r → take (suc k) l ≡ take k l ++ r ∷ []

@@ -14,11 +14,11 @@ use Rattle.audit_types.specs.Truth.{number_at}
 use Rattle.audit_types.specs.Form.{IsPrimitive, IsEchelon, pivot, pivot_entry}
 use Rattle.audit_types.specs.Numbers.{zero_or_not, positive_not_zero}
 use Rattle.audit_types.specs.Products.{neg-times, times_assoc, zero_product, product_not_zero}
-use Rattle.sum_basis.specs.Spans.{Spans, spans_from, spans_times, spans_add, span_zero}
+use Rattle.sum_basis.specs.Spans.{Spans, spans_from, spans_times, spans_add, span_zero, own}
 use Rattle.sum_basis.specs.Combination.{combine}
 use Rattle.sum_basis.specs.CombinedRows.{number_at-combine}
-use Rattle.sum_basis.specs.Ties.{IsRowOf, Ties, TieSome, IsShort, AreParallel, TiesByForm, TieSomeBut, IsShortBut, AreParallelBut, ShowsTieBut, TiesByFormBut}
-use Rattle.sum_basis.proofs.FormsAreUnique.{in_span_at, own, primitive_at, leads_from, zeros_walk, zero_at_others}
+use Rattle.sum_basis.specs.Ties.{IsRowOf, Ties, TieSome, IsShort, AreParallel, TiesByForm, MayTell, TieSomeBut, IsShortBut, AreParallelBut, ShowsTieBut, TiesByFormBut}
+use Rattle.sum_basis.proofs.FormsAreUnique.{in_span_at, primitive_at, leads_from, zeros_walk, zero_at_others}
 use Rattle.sum_basis.proofs.Reduction.{span_combine}
 
 -- a column is the pivot of one of the rows, or of none
@@ -97,7 +97,7 @@ module _ (n : ℕ) (form : List (List ℤ)) (primitive : AllByRecursion (IsPrimi
   abbrev ShowsAt : ℕ → ℕ → Type 0
   ShowsAt p q =
       ((row : List ℤ) × IsRowOf row form × (k : ℕ) × ((j : ℕ) → j ≢ pivot row → j ≢ k → number_at row j ≡ pos 0) ×
-      (((pivot row ≡ p) × (k ≡ q)) ⊎ ((pivot row ≡ q) × (k ≡ p))))
+      (((pivot row ≡ p) × (k ≡ q)) ⊎ ((pivot row ≡ q) × (k ≡ p) × (number_at row k ≢ pos 0))))
       ⊎ ((row : List ℤ) × (other : List ℤ) × IsRowOf row form × IsRowOf other form × AreParallel row other × (pivot row ≡ p) × (pivot other ≡ q))
 
   module _ (p q : ℕ) (apart : q ≢ p) (tied : Ties form p q) where
@@ -142,7 +142,8 @@ module _ (n : ℕ) (form : List (List ℤ)) (primitive : AllByRecursion (IsPrimi
             | inr differs ↦ other_pivot g also differs (gone g also differs)
           ]))
 
-      short_by : (k : ℕ) → (((pivot row ≡ p) × (k ≡ q)) ⊎ ((pivot row ≡ q) × (k ≡ p))) → (f (pivot row) ≢ pos 0) → ((j : ℕ) → less_one j ≡ pos 0) →
+      short_by : (k : ℕ) → (((pivot row ≡ p) × (k ≡ q)) ⊎ ((pivot row ≡ q) × (k ≡ p) × (number_at row k ≢ pos 0))) → (f (pivot row) ≢ pos 0) →
+          ((j : ℕ) → less_one j ≡ pos 0) →
           ((j : ℕ) → j ≢ pivot row → j ≢ k → f j ≡ pos 0) → ShowsAt p q
       short_by k side some line gone = inl (
         row,
@@ -165,10 +166,17 @@ module _ (n : ℕ) (form : List (List ℤ)) (primitive : AllByRecursion (IsPrimi
 
     -- the pivot is q
     at_second : (row : List ℤ) → IsRowOf row form → pivot row ≡ q → ((g : List ℤ) → IsRowOf g form → pivot g ≢ p) → ShowsAt p q
-    at_second row among is none = short_by row among p (inr (is, refl)) some line (λ j differs other. tied.only j other (λ e. differs (e ∙ sym is)))
+    at_second row among is none = short_by row among p (inr (is, refl, there)) some line (λ j differs other. tied.only j other (λ e. differs (e ∙ sym is)))
       where
         line : (j : ℕ) → less_one row among j ≡ pos 0
         line = one_line row among (λ g also differs. tied.only (pivot g) (none g also) (λ e. differs (e ∙ sym is)))
+
+        there : number_at row p ≢ pos 0
+        there e =
+            let here = line p in
+            let gone = ap (λ z. neg_ℤ (f (pivot row)) *ℤ z) e ∙ *ℤ-zero (neg_ℤ (f (pivot row))) in
+            let product : pivot_entry row *ℤ f p ≡ pos 0 = omega (arith, ints) in
+            tied.there (zero_product (pivot_entry row) (f p) product (leads_at row among))
 
         some : f (pivot row) ≢ pos 0
         some e =
@@ -285,70 +293,128 @@ ties_by_form n form primitive echelon = (
 -- ---- columns that are left out
 
 -- a number that a list lacks, past another
-abbrev above : List ℕ → ℕ
+abbrev pub above : List ℕ → ℕ
 above [] = 0
 above (x ∷ l) = x + 1 + above l
 
-lacks : (l : List ℕ) (r : ℕ) → above l ≤ r → has_row l r ≡ false
+pub lacks : (l : List ℕ) (r : ℕ) → above l ≤ r → has_row l r ≡ false
 lacks [] r past = refl
 lacks (x ∷ l) r past = ap (λ b. b || has_row l r) (ne_eqb x r (λ e. absurd (omega arith))) ∙ lacks l r (omega arith)
 
-module _ (n : ℕ) (several : List ℕ) (form : List (List ℤ)) (primitive : AllByRecursion (IsPrimitive n) form) (echelon : IsEchelon form) where
-  out : (x y : ℕ) → x ≡ y → has_row several y ≡ false → has_row several x ≡ false
-  out x y same is = ap (has_row several) same ∙ is
+module _ (n : ℕ) (beside several : List ℕ) (form : List (List ℤ)) (primitive : AllByRecursion (IsPrimitive n) form) (echelon : IsEchelon form) where
+  out : (l : List ℕ) (x y : ℕ) → x ≡ y → has_row l y ≡ false → has_row l x ≡ false
+  out l x y same is = ap (has_row l) same ∙ is
 
-  shown_but : TieSomeBut several form → ShowsTieBut several form
+  shown_but : TieSomeBut beside several form → ShowsTieBut beside several form
   shown_but (p, q, apart, tied, p_out, q_out) = elim (shown n form primitive echelon p q apart tied) [
     | inl (row, among, k, zeros, side) ↦ elim side [
-      | inl (is, other_is) ↦ inl (row, among, record { pivot_out = out (pivot row) p is p_out; free = k; free_out = out k q other_is q_out; zeros = zeros })
-      | inr (is, other_is) ↦ inl (row, among, record { pivot_out = out (pivot row) q is q_out; free = k; free_out = out k p other_is p_out; zeros = zeros })
+      | inl (is, other_is) ↦
+          let pivot_out = out beside (pivot row) p is p_out in
+          inl (row, among, record { free = k; tells = inl (pivot_out, out several k q other_is q_out); some = inl pivot_out; zeros = zeros })
+      | inr (is, other_is, there) ↦
+          let tells = inr (out several (pivot row) q is q_out, out beside k p other_is p_out) in
+          inl (row, among, record { free = k; tells = tells; some = inr there; zeros = zeros })
     ]
-    | inr (row, other, among, too, alike, is, other_is) ↦
-        inr (row, other, among, too, record { pivot_out = out (pivot row) p is p_out; other_out = out (pivot other) q other_is q_out; parallel = alike })
-  ]
-
-  -- a short row ties its pivot to its other column, or else to each
-  from_short_but : (row : List ℤ) → IsRowOf row form → IsShortBut several row → TieSomeBut several form
-  from_short_but row among short = elim (cases_eq short.free (pivot row)) [
-    | inl e ↦
-        let far = pivot row + 1 + above several in (
-          pivot row,
-          far,
-          (λ same. absurd (omega arith)),
-          record {
-            row = row;
-            spanned = in_span_at form form row (own form) among;
-            there = leads_at n form primitive echelon row among;
-            only = λ j apart other. short.zeros j apart (λ same. apart (same ∙ e));
-          },
-          short.pivot_out,
-          lacks several far (omega arith),
-        )
-    | inr differs ↦ (
-      pivot row,
-      short.free,
-      differs,
-      record {
-        row = row;
-        spanned = in_span_at form form row (own form) among;
-        there = leads_at n form primitive echelon row among;
-        only = short.zeros;
-      },
-      short.pivot_out,
-      short.free_out,
+    | inr (row, other, among, too, alike, is, other_is) ↦ inr (
+      row,
+      other,
+      among,
+      too,
+      record { tells = inl (out beside (pivot row) p is p_out, out several (pivot other) q other_is q_out); parallel = alike },
     )
   ]
 
-  from_parallel_but : (row other : List ℤ) → IsRowOf row form → IsRowOf other form → AreParallelBut several row other → TieSomeBut several form
-  from_parallel_but row other among too alike =
-      let at = from_parallel_at n form primitive echelon row other among too alike.parallel in
-      (pivot row, pivot other, at.0, at.1, alike.pivot_out, alike.other_out)
+  -- a row with its pivot alone ties it to each column
+  from_alone : (row : List ℤ) → IsRowOf row form → has_row beside (pivot row) ≡ false → ((j : ℕ) → j ≢ pivot row → number_at row j ≡ pos 0) →
+      TieSomeBut beside several form
+  from_alone row among pivot_out zeros =
+      let far = pivot row + 1 + above several in (
+        pivot row,
+        far,
+        (λ same. absurd (omega arith)),
+        record {
+          row = row;
+          spanned = in_span_at form form row (own form) among;
+          there = leads_at n form primitive echelon row among;
+          only = λ j apart other. zeros j apart;
+        },
+        pivot_out,
+        lacks several far (omega arith),
+      )
+
+  -- a row with another entry, or whose pivot isn't among the first
+  from_short_but : (row : List ℤ) → IsRowOf row form → IsShortBut beside several row → TieSomeBut beside several form
+  from_short_but row among short = elim (cases_eq short.free (pivot row)) [
+    | inl e ↦ from_alone row among (pivot_out short.tells e) (λ j apart. short.zeros j apart (λ same. apart (same ∙ e)))
+    | inr differs ↦ elim short.tells [
+      | inl (pivot_out, free_out) ↦ (
+        pivot row,
+        short.free,
+        differs,
+        record {
+          row = row;
+          spanned = in_span_at form form row (own form) among;
+          there = leads_at n form primitive echelon row among;
+          only = short.zeros;
+        },
+        pivot_out,
+        free_out,
+      )
+      | inr (pivot_single, free_out) ↦ elim (zero_or_not (number_at row short.free)) [
+        | inl none ↦ from_alone row among (unless short.some none) (λ j apart. elim (cases_eq j short.free) [
+          | inl same ↦ ap (number_at row) same ∙ none
+          | inr other ↦ short.zeros j apart other
+        ])
+        | inr some ↦ (
+          short.free,
+          pivot row,
+          (λ same. differs (sym same)),
+          record {
+            row = row;
+            spanned = in_span_at form form row (own form) among;
+            there = some;
+            only = λ j first second. short.zeros j second first;
+          },
+          free_out,
+          pivot_single,
+        )
+      ]
+    ]
+  ]
+    where
+      pivot_out : MayTell beside several (pivot row) short.free → short.free ≡ pivot row → has_row beside (pivot row) ≡ false
+      pivot_out (inl (first, second)) e = first
+      pivot_out (inr (first, second)) e = ap (has_row beside) (sym e) ∙ second
+
+      unless : (has_row beside (pivot row) ≡ false) ⊎ (number_at row short.free ≢ pos 0) → number_at row short.free ≡ pos 0 → has_row beside (pivot row) ≡ false
+      unless (inl out) none = out
+      unless (inr some) none = absurd (some none)
+
+  turned_round : (row other : List ℤ) → AreParallel row other → AreParallel other row
+  turned_round row other p = record {
+    apart = λ same. p.apart (sym same);
+    x = p.y;
+    y = p.x;
+    x_some = p.y_some;
+    y_some = p.x_some;
+    is = λ j first second. sym (p.is j second first);
+  }
+
+  from_parallel_but : (row other : List ℤ) → IsRowOf row form → IsRowOf other form → AreParallelBut beside several row other → TieSomeBut beside several form
+  from_parallel_but row other among too alike = elim alike.tells [
+    | inl (row_out, other_out) ↦
+        let at = from_parallel_at n form primitive echelon row other among too alike.parallel in
+        (pivot row, pivot other, at.0, at.1, row_out, other_out)
+    | inr (row_out, other_out) ↦
+        let at = from_parallel_at n form primitive echelon other row too among (turned_round row other alike.parallel) in
+        (pivot other, pivot row, at.0, at.1, other_out, row_out)
+  ]
 
 pub ties_by_form_but : TiesByFormBut
-ties_by_form_but n several form primitive echelon = (
-  shown_but n several form primitive echelon,
+ties_by_form_but n beside several form primitive echelon = (
+  shown_but n beside several form primitive echelon,
   (λ shows. elim shows [
-    | inl short ↦ from_short_but n several form primitive echelon short.0 short.1 short.2
-    | inr two ↦ from_parallel_but n several form primitive echelon two.0 two.1 two.2 two.3 two.4
+    | inl short ↦ from_short_but n beside several form primitive echelon short.0 short.1 short.2
+    | inr two ↦ from_parallel_but n beside several form primitive echelon two.0 two.1 two.2 two.3 two.4
   ]),
 )

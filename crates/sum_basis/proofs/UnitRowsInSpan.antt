@@ -16,9 +16,9 @@ use Rattle.audit_types.specs.ListLaws.{all-push}
 use Rattle.audit_types.specs.Numbers.{positive_is}
 use Rattle.audit_types.specs.RowNumbers.{number_at-set_row, length-set_row}
 use Rattle.audit_types.specs.FormRows.{pivot_below}
-use Rattle.sum_basis.specs.Spans.{spans_from, in_span_from, spans_same, spans_times, spans_add, spans_down, span_zero}
+use Rattle.sum_basis.specs.Spans.{spans_from, in_span_from, spans_same, spans_times, spans_add, spans_down, span_zero, own}
 use Rattle.sum_basis.specs.Ties.{IsRowOf}
-use Rattle.sum_basis.proofs.FormsAreUnique.{stands_before, pivot_is, pivot_among, zeros_walk, zero_at_others, in_span_at, own, leads_from}
+use Rattle.sum_basis.proofs.FormsAreUnique.{stands_before, pivot_is, pivot_among, zeros_walk, zero_at_others, in_span_at, leads_from}
 
 -- a unit row has 1 at its place
 pub unit_here : (n i : ℕ) → i < n → number_at (unit_row n i) i ≡ pos 1

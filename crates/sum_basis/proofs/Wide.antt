@@ -4,7 +4,7 @@ use Rattle.std.specs.Prelude.{◌-ℤ◌, ◌*ℤ◌, unsigned_abs, FitsSigned}
 use Rattle.std.specs.Int.{w128}
 use mir.Val.{to_z, of_z}
 use Rattle.std.proofs.lemmas.Int.{ints, to_z-of_z, fits_signed_from_abs}
-use Rattle.sum_basis.proofs.Sizes.{product_small}
+use Rattle.audit_types.specs.Numbers.{product_small}
 
 -- a product as the code has it
 pub product_of : (p x y : ℤ) → FitsSigned w128 p → FitsSigned w128 x → FitsSigned w128 y → p ≡ to_z w128 (of_z w128 x) *ℤ to_z w128 (of_z w128 y) →

@@ -24,7 +24,7 @@ use Rattle.sum_basis.specs.Sparse.{entry_at, row_of, IsListed}
 use Rattle.sum_basis.specs.Ties.{IsRowOf}
 use Rattle.sum_basis.specs.declared.sparse.FreeEntry.{FreeEntry}
 use Rattle.sum_basis.proofs.Along.{own_pivots, product_only, zero_there, zero_back}
-use Rattle.sum_basis.proofs.FormsAreUnique.{own}
+use Rattle.sum_basis.specs.Spans.{own}
 use Rattle.sum_basis.proofs.GrownForms.{of_own, crossed, grown_is, count_crossed}
 use Rattle.sum_basis.proofs.KeptForms.{row_among}
 use Rattle.sum_basis.proofs.NearColumns.{Tells}

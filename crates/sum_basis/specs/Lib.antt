@@ -9,5 +9,6 @@ pub mod Sparse
 pub mod Merging
 pub mod Holding
 pub mod Ties
+pub mod Asking
 pub mod Points
 pub mod Reach

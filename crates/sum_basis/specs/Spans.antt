@@ -151,3 +151,26 @@ pub span_zero : (rows : List (List ℤ)) (f : ℕ → ℤ) → IsEchelon rows �
 span_zero rows f echelon leading span zeros j =
     let none = combination_zero span.coefficients rows echelon leading (zeros_of (pos span.multiple) f (combined span.coefficients rows) rows span.is zeros) j in
     zero_factor (f j) (pos span.multiple) (*ℤ_comm (f j) (pos span.multiple) ∙ span.is j ∙ none) (let some = span.positive in omega (arith, ints))
+
+-- the first row lies in the span of the rows
+pub first_own : (row : List ℤ) (rows : List (List ℤ)) → InSpan (row ∷ rows) row
+first_own row rows = record { multiple = 1; positive = omega arith; coefficients = pos 1 ∷ []; is = λ j. sym (+ℤ_idr (pos 1 *ℤ number_at row j)) }
+
+-- a span with one row more has what the span had
+pub one_more : (row : List ℤ) (rows : List (List ℤ)) (other : List ℤ) → InSpan rows other → InSpan (row ∷ rows) other
+one_more row rows other h = record {
+  multiple = h.multiple;
+  positive = h.positive;
+  coefficients = pos 0 ∷ h.coefficients;
+  is = λ j. h.is j ∙ sym (ap (λ z. z +ℤ combined h.coefficients rows j) (zero-*ℤ (number_at row j)) ∙ +ℤ_idl (combined h.coefficients rows j));
+}
+
+-- of all rows too
+pub one_more_all : (row : List ℤ) (rows others : List (List ℤ)) → AllByRecursion (InSpan rows) others → AllByRecursion (InSpan (row ∷ rows)) others
+one_more_all row rows [] h = tt
+one_more_all row rows (other ∷ others) h = (one_more row rows other h.0, one_more_all row rows others h.1)
+
+-- rows lie in their own span
+pub own : (rows : List (List ℤ)) → AllByRecursion (InSpan rows) rows
+own [] = tt
+own (row ∷ rows) = (first_own row rows, one_more_all row rows rows (own rows))

@@ -49,33 +49,37 @@ TiesByForm = (n : ℕ) (form : List (List ℤ)) → AllByRecursion (IsPrimitive 
 
 -- ---- columns that are left out
 
--- some column is tied to another one, and neither is among these
-abbrev pub TieSomeBut : List ℕ → List (List ℤ) → Type 0
-TieSomeBut several rows = (p : ℕ) × (q : ℕ) × (q ≢ p) × Ties rows p q × (has_row several p ≡ false) × (has_row several q ≡ false)
+-- one of the two columns isn't among the first, and the other not among the second
+abbrev pub MayTell : List ℕ → List ℕ → ℕ → ℕ → Type 0
+MayTell beside several p q = ((has_row beside p ≡ false) × (has_row several q ≡ false)) ⊎ ((has_row several p ≡ false) × (has_row beside q ≡ false))
 
--- but for its pivot and one more column at most, neither of them among these, the row is 0
-pub record IsShortBut (several : List ℕ) (row : List ℤ) : Type 0 where
-  pub pivot_out : has_row several (pivot row) ≡ false
+-- some column that isn't among the first is tied to another one that isn't among the second
+abbrev pub TieSomeBut : List ℕ → List ℕ → List (List ℤ) → Type 0
+TieSomeBut beside several rows = (p : ℕ) × (q : ℕ) × (q ≢ p) × Ties rows p q × (has_row beside p ≡ false) × (has_row several q ≡ false)
+
+-- but for its pivot and one more column at most the row is 0, and the number at one of the two may tell that at the other. What is 0 tells nothing
+pub record IsShortBut (beside several : List ℕ) (row : List ℤ) : Type 0 where
   pub free : ℕ
-  pub free_out : has_row several free ≡ false
+  pub tells : MayTell beside several (pivot row) free
+  pub some : (has_row beside (pivot row) ≡ false) ⊎ (number_at row free ≢ pos 0)
   pub zeros : (j : ℕ) → j ≢ pivot row → j ≢ free → number_at row j ≡ pos 0
 
--- the two rows are parallel, and neither pivot is among these
-pub record AreParallelBut (several : List ℕ) (row other : List ℤ) : Type 0 where
-  pub pivot_out : has_row several (pivot row) ≡ false
-  pub other_out : has_row several (pivot other) ≡ false
+-- the two rows are parallel, and the number at one of their pivots may tell that at the other
+pub record AreParallelBut (beside several : List ℕ) (row other : List ℤ) : Type 0 where
+  pub tells : MayTell beside several (pivot row) (pivot other)
   pub parallel : AreParallel row other
 
--- what shows in a form of the columns that aren't among these
-abbrev pub ShowsTieBut : List ℕ → List (List ℤ) → Type 0
-ShowsTieBut several form =
-    ((row : List ℤ) × IsRowOf row form × IsShortBut several row)
-    ⊎ ((row : List ℤ) × (other : List ℤ) × IsRowOf row form × IsRowOf other form × AreParallelBut several row other)
+-- what shows in a form of these columns
+abbrev pub ShowsTieBut : List ℕ → List ℕ → List (List ℤ) → Type 0
+ShowsTieBut beside several form =
+    ((row : List ℤ) × IsRowOf row form × IsShortBut beside several row)
+    ⊎ ((row : List ℤ) × (other : List ℤ) × IsRowOf row form × IsRowOf other form × AreParallelBut beside several row other)
 
--- the span of a form ties two of them exactly if the form shows it
+-- the span of a form ties two such columns exactly if the form shows it
 abbrev pub TiesByFormBut : Type 0
 TiesByFormBut =
-    (n : ℕ) (several : List ℕ) (form : List (List ℤ)) → AllByRecursion (IsPrimitive n) form → IsEchelon form → TieSomeBut several form ↔ ShowsTieBut several form
+    (n : ℕ) (beside several : List ℕ) (form : List (List ℤ)) → AllByRecursion (IsPrimitive n) form → IsEchelon form →
+    TieSomeBut beside several form ↔ ShowsTieBut beside several form
 
 -- ---- kept rows
 
@@ -85,12 +89,8 @@ AreLikeLists [] ys = ⊥
 AreLikeLists (x ∷ xs) [] = ⊥
 AreLikeLists (x ∷ xs) (y ∷ ys) = map (scaled y.value) (x ∷ xs) ≡ map (scaled x.value) (y ∷ ys)
 
--- the list of one of these rows is a multiple of the row's
-abbrev pub HasLikeList : List SparseRow → SparseRow → Type 0
-HasLikeList [] row = ⊥
-HasLikeList (r ∷ rows) row = AreLikeLists r.free.items row.free.items ⊎ HasLikeList rows row
-
--- that of one whose pivot isn't among these
-abbrev pub HasLikeListBut : List ℕ → List SparseRow → SparseRow → Type 0
-HasLikeListBut several [] row = ⊥
-HasLikeListBut several (r ∷ rows) row = ((has_row several r.pivot ≡ false) × AreLikeLists r.free.items row.free.items) ⊎ HasLikeListBut several rows row
+-- the list of one of these rows is a multiple of the row's, and the number at one of the two pivots may tell that at the other
+abbrev pub HasLikeListBut : List ℕ → List ℕ → List SparseRow → SparseRow → Type 0
+HasLikeListBut beside several [] row = ⊥
+HasLikeListBut beside several (r ∷ rows) row =
+    (MayTell beside several r.pivot row.pivot × AreLikeLists r.free.items row.free.items) ⊎ HasLikeListBut beside several rows row

@@ -9,10 +9,10 @@ ghost use Rattle.audit_types.specs.PrimitiveLines.{times};
 ghost use Rattle.sum_basis.specs.Elimination.{IsSmallForm, IsRemainder, IsZeroAtPivots};
 ghost use Rattle.std.specs.Vec.{vec_capacity};
 ghost use Rattle.sum_basis.specs.Sparse.{row_of, IsNew};
-ghost use Rattle.sum_basis.specs.Growth.{Grows, GrowsForRows, GrowsWide, Foresees, IsLeft, IsLeftWithin, IsAsItIs, LeavesNoList};
-ghost use Rattle.sum_basis.specs.Ties.{ShowsTie, ShowsTieBut};
+ghost use Rattle.sum_basis.specs.Growth.{Grows, GrowsForRows, GrowsWide, Foresees, IsLeft, IsLeftWithin, LeavesLarge, IsAsItIs, LeavesNoList};
+ghost use Rattle.sum_basis.specs.Ties.{ShowsTieBut};
 ghost use Rattle.sum_basis.specs.declared.Grown.TheVariants.{Same, Wide};
-ghost use Rattle.sum_basis.specs.declared.form.Left.TheVariants.{Entries};
+ghost use Rattle.sum_basis.specs.declared.form.Left.TheVariants.{Large, Entries};
 
 use crate::cleared_list::value_at;
 use crate::elimination::{scale, write_bits};
@@ -20,7 +20,7 @@ use crate::growth::{common_multiple, greatest_bound, grow_rows};
 use crate::looking::look_ahead;
 use crate::primitive_list::{are_within, make_primitive};
 use crate::sparse::{FreeEntry, SparseRow, copy_list, copy_rows, list_of, reduce};
-use crate::ties::{ties_some, ties_some_but};
+use crate::ties::ties_some_but;
 use crate::{Grown, Prospect};
 use audit_types::{NoMemory, RowSet};
 use std::alloc::Global;
@@ -110,6 +110,7 @@ impl Form {
         requires limit { (self.now.width ≤ limit) × (limit ≤ most_width) }
         ensures left { IfOk result (λ left. IsLeft self.now row.old left) }
         ensures within { IfOk result (λ left. IsLeftWithin self.now.n limit left) }
+        ensures large { IfOk result (λ left. left ≡ Large → LeavesLarge self.now row.old limit) }
 
         // What is true of every form.
         ensures form { IsSmallForm self.now.n self.now.rows }
@@ -273,19 +274,14 @@ impl Form {
         None
     }
 
-    /// Whether the span ties some column to another one: whoever knows the number at one of them then knows the number at the other.
-    pub fn shows_tie(&self) -> bool
-        ensures { IsTrue result ↔ ShowsTie self.now.rows }
+    /// Whether the span ties a column that isn't in the first set to another one that isn't in the second: whoever knows the number at the one
+    /// then knows that at the other.
+    pub fn shows_tie_but(&self, beside: &RowSet, several: &RowSet) -> bool
+        requires beside { beside.now.n ≡ self.now.n }
+        requires several { several.now.n ≡ self.now.n }
+        ensures { IsTrue result ↔ ShowsTieBut beside.now.list several.now.list self.now.rows }
     {
-        ties_some(&self.rows, self.columns)
-    }
-
-    /// The same of two columns that aren't in the set.
-    pub fn shows_tie_but(&self, several: &RowSet) -> bool
-        requires { several.now.n ≡ self.now.n }
-        ensures { IsTrue result ↔ ShowsTieBut several.now.list self.now.rows }
-    {
-        ties_some_but(&self.rows, several)
+        ties_some_but(&self.rows, beside, several)
     }
 
     /// How wide the form may be.

@@ -40,7 +40,7 @@ pub fn ties()
     ensures { TiesByForm }
 {}
 
-/// The same of two columns that aren't among some.
+/// The same of a column that isn't among some, and of another one that isn't among others.
 pub fn ties_but()
     ensures { TiesByFormBut }
 {}

@@ -4,7 +4,7 @@ ghost use Rattle.std.specs.List.{AllByRecursion};
 ghost use Rattle.sum_basis.specs.Elimination.{IsSmallForm};
 ghost use Rattle.sum_basis.specs.Sparse.{row_of, rows_of, entries_of, scaled, IsKept};
 ghost use Rattle.audit_types.specs.Rows.{has_row};
-ghost use Rattle.sum_basis.specs.Ties.{ShowsTie, AreLikeLists, HasLikeList, IsShortBut, HasLikeListBut, ShowsTieBut};
+ghost use Rattle.sum_basis.specs.Ties.{AreLikeLists, MayTell, IsShortBut, HasLikeListBut, ShowsTieBut};
 
 use crate::parallel::are_parallel;
 use crate::sparse::SparseRow;
@@ -27,59 +27,45 @@ fn are_like_lists(row: &SparseRow, other: &SparseRow) -> bool
     )
 }
 
-// Whether the list of one of these rows is a multiple of the row's.
-fn has_like_list(front: &[SparseRow], row: &SparseRow) -> bool
-    requires front { AllByRecursion (λ r. AllByRecursion (λ e. unsigned_abs e.value ≤ 2 ^ 56) r.free.items) front.now }
-    requires row { AllByRecursion (λ e. unsigned_abs e.value ≤ 2 ^ 56) row.now.free.items }
-    ensures { IsTrue result ↔ HasLikeList front.now row.now }
+// Whether the number at one of the two columns may tell that at the other.
+fn may_tell(p: u16, q: u16, beside: &RowSet, several: &RowSet) -> bool
+    requires same_n { beside.now.n ≡ several.now.n }
+    requires p { p < several.now.n }
+    requires q { q < several.now.n }
+    ensures { IsTrue result ↔ MayTell beside.now.list several.now.list p q }
 {
-    for other in front {
-        if are_like_lists(other, row) {
-            return true;
-        }
-    }
-    false
+    (!beside.has(p) && !several.has(q)) || (!several.has(p) && !beside.has(q))
 }
 
-/// Whether the span of a form with these rows holds a row, not 0, with at most two entries. It compares each two rows.
-pub(crate) fn ties_some(rows: &[SparseRow], columns: u16) -> bool
-    requires kept { AllByRecursion (IsKept columns) rows.now }
-    requires form { IsSmallForm columns (rows_of columns rows.now) }
-    ensures { IsTrue result ↔ ShowsTie (rows_of columns rows.now) }
-{
-    for (k, row) in rows.iter().enumerate() {
-        if row.free.len() <= 1 || has_like_list(&rows[..k], row) {
-            return true;
-        }
-    }
-    false
-}
-
-// Whether the row is 0 but at its pivot and one more column at most, and neither is in the set.
-fn is_short_but(row: &SparseRow, several: &RowSet) -> bool
+// Whether the row is 0 but at its pivot and one more column at most, and the number at one of the two may tell that at the other.
+fn is_short_but(row: &SparseRow, beside: &RowSet, several: &RowSet) -> bool
+    requires same_n { beside.now.n ≡ several.now.n }
     requires kept { IsKept several.now.n row.now }
-    ensures { IsTrue result ↔ IsShortBut several.now.list (row_of several.now.n (entries_of row.now)) }
+    ensures { IsTrue result ↔ IsShortBut beside.now.list several.now.list (row_of several.now.n (entries_of row.now)) }
 {
-    if several.has(row.pivot) {
-        false
-    } else {
-        match row.free.len() {
-            0 => true,
-            1 => !several.has(row.free[0].place),
-            _ => false,
-        }
+    match row.free.len() {
+        0 => !beside.has(row.pivot),
+        1 => may_tell(row.pivot, row.free[0].place, beside, several),
+        _ => false,
     }
 }
 
-// Whether the list of one of these rows, whose pivot isn't in the set, is a multiple of the row's.
-fn has_like_list_but(front: &[SparseRow], row: &SparseRow, several: &RowSet) -> bool
+// Whether the list of one of these rows is a multiple of the row's, and the number at one of the two pivots may tell that at the other.
+fn has_like_list_but(
+    front: &[SparseRow],
+    row: &SparseRow,
+    beside: &RowSet,
+    several: &RowSet,
+) -> bool
+    requires same_n { beside.now.n ≡ several.now.n }
+    requires pivot { row.now.pivot < several.now.n }
     requires below { AllByRecursion (λ r. r.pivot < several.now.n) front.now }
     requires front { AllByRecursion (λ r. AllByRecursion (λ e. unsigned_abs e.value ≤ 2 ^ 56) r.free.items) front.now }
     requires row { AllByRecursion (λ e. unsigned_abs e.value ≤ 2 ^ 56) row.now.free.items }
-    ensures { IsTrue result ↔ HasLikeListBut several.now.list front.now row.now }
+    ensures { IsTrue result ↔ HasLikeListBut beside.now.list several.now.list front.now row.now }
 {
     for other in front {
-        if several.has(other.pivot) {
+        if !may_tell(other.pivot, row.pivot, beside, several) {
             continue;
         }
         if are_like_lists(other, row) {
@@ -89,20 +75,18 @@ fn has_like_list_but(front: &[SparseRow], row: &SparseRow, several: &RowSet) -> 
     false
 }
 
-/// The same of the columns that aren't in the set.
-pub(crate) fn ties_some_but(rows: &[SparseRow], several: &RowSet) -> bool
+/// Whether the span of a form with these rows ties a column that isn't in the first set to one that isn't in the second.
+pub(crate) fn ties_some_but(rows: &[SparseRow], beside: &RowSet, several: &RowSet) -> bool
+    requires same_n { beside.now.n ≡ several.now.n }
     requires kept { AllByRecursion (IsKept several.now.n) rows.now }
     requires form { IsSmallForm several.now.n (rows_of several.now.n rows.now) }
-    ensures { IsTrue result ↔ ShowsTieBut several.now.list (rows_of several.now.n rows.now) }
+    ensures { IsTrue result ↔ ShowsTieBut beside.now.list several.now.list (rows_of several.now.n rows.now) }
 {
     for (k, row) in rows.iter().enumerate() {
-        if is_short_but(row, several) {
+        if is_short_but(row, beside, several) {
             return true;
         }
-        if several.has(row.pivot) {
-            continue;
-        }
-        if has_like_list_but(&rows[..k], row, several) {
+        if has_like_list_but(&rows[..k], row, beside, several) {
             return true;
         }
     }

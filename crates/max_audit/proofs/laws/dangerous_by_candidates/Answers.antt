@@ -1,4 +1,4 @@
-use Rattle.max_audit.proofs.DangerousByCandidates.{dangerous_by_candidates}
+use Rattle.max_audit.proofs.DangerousByFewPeople.{dangerous_by_candidates}
 use Rattle.max_audit.proofs.laws.dangerous_by_candidates.Goals as goal
 
 pub returns : goal.returns

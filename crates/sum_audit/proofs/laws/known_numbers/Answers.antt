@@ -1,4 +1,4 @@
-use Rattle.sum_audit.proofs.KnownNumbers.{still_by_ties, tied_or_open, ties_tell, open_by_form, pins_by_ties}
+use Rattle.sum_audit.proofs.KnownNumbers.{still_by_ties, tied_or_open, ties_tell, open_by_form}
 use Rattle.sum_audit.proofs.laws.known_numbers.Goals as goal
 
 pub returns-clause-still : goal.returns-clause-still
@@ -12,6 +12,3 @@ returns-clause-told c = ties_tell
 
 pub returns-clause-by_form : goal.returns-clause-by_form
 returns-clause-by_form c = open_by_form c.ties.ensures
-
-pub returns-clause-pins : goal.returns-clause-pins
-returns-clause-pins c = pins_by_ties c.ties.ensures

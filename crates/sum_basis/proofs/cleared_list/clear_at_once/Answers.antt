@@ -6,7 +6,7 @@ use mir.Val.{to_z, of_z}
 use Rattle.std.proofs.lemmas.Int.{to_z-of_z}
 use Rattle.sum_basis.specs.declared.sparse.FreeEntry.{FreeEntry}
 use Rattle.sum_basis.specs.Sparse.{entry_at, entries_of, IsNew}
-use Rattle.sum_basis.proofs.Sizes.{product_small}
+use Rattle.audit_types.specs.Numbers.{product_small}
 use Rattle.sum_basis.proofs.SparseRows.{small_values, listed_from, listed_to}
 use Rattle.sum_basis.proofs.ListContents.{none}
 use Rattle.sum_basis.proofs.ClearedLists.{is_led, entry_small, head_small, positive_times}

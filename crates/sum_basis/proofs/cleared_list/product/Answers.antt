@@ -4,7 +4,7 @@ use Rattle.std.specs.Int.{w64, w128}
 use mir.Val.{to_z, of_z}
 use Rattle.std.proofs.lemmas.Int.{to_z-of_z, fits_signed_from_abs}
 use Rattle.int_rows.specs.PrimitiveLaws.{short_is}
-use Rattle.sum_basis.proofs.Sizes.{product_small}
+use Rattle.audit_types.specs.Numbers.{product_small}
 use Rattle.sum_basis.proofs.cleared_list.product.Goals as goal
 
 -- a number within the limit, as one of 64 bits

@@ -3,7 +3,7 @@ use Rattle.std.specs.Prelude.{FitsSigned, ◌*ℤ◌, unsigned_abs}
 use Rattle.std.specs.Int.{w64, w128}
 use mir.Val.{to_z, of_z}
 use Rattle.std.proofs.lemmas.Int.{to_z-of_z, fits_signed_from_abs}
-use Rattle.sum_basis.proofs.Sizes.{product_small}
+use Rattle.audit_types.specs.Numbers.{product_small}
 use Rattle.sum_basis.proofs.cleared_list.short_product.Goals as goal
 
 -- a number of 64 bits, as one of 128

@@ -7,7 +7,7 @@ use Rattle.sum_basis.specs.declared.sparse.FreeEntry.{FreeEntry}
 use Rattle.sum_basis.specs.Sparse.{entry_at, IsListed}
 use Rattle.sum_basis.proofs.ListContents.{none, value_small}
 use Rattle.sum_basis.proofs.SparseRows.{stands_within}
-use Rattle.sum_basis.proofs.Sizes.{product_small}
+use Rattle.audit_types.specs.Numbers.{product_small}
 use Rattle.sum_basis.proofs.BoundedRows.{bounded_at}
 use Rattle.sum_basis.proofs.Edits.{IsTakenNumber, taken_number, none_taken_yet, as_before, one_more_entry_taken, bounded_with, all_bounded, all_taken}
 use Rattle.sum_basis.proofs.editing.take_entries.Goals as goal

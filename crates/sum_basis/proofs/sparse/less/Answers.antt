@@ -4,7 +4,7 @@ use Rattle.std.specs.Int.{w128}
 use mir.Val.{to_z, of_z}
 use Rattle.audit_types.specs.Products.{one-times}
 use Rattle.std.proofs.lemmas.Int.{ints, to_z-of_z, fits_signed_from_abs}
-use Rattle.sum_basis.proofs.Sizes.{product_small}
+use Rattle.audit_types.specs.Numbers.{product_small}
 use Rattle.sum_basis.proofs.Wide.{product_of}
 use Rattle.sum_basis.proofs.sparse.less.Goals as goal
 

@@ -4,4 +4,4 @@ use Rattle.sum_basis.specs.Ties.{ShowsTieBut}
 use Rattle.sum_basis.proofs.ties.ties_some_but.Given as goal
 
 abbrev pub invariant-loop-k : goal.invariant-loop-k
-invariant-loop-k l = ShowsTieBut l.several.list (rows_of l.several.n (take l.k l.rows)) → ⊥
+invariant-loop-k l = ShowsTieBut l.beside.list l.several.list (rows_of l.several.n (take l.k l.rows)) → ⊥

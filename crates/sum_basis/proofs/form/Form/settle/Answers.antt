@@ -71,6 +71,22 @@ returns-then-not-are_within-clause-left c =
           (sym c.deref.ensures.value) (values_within c.args.limit n c.make_primitive.new.entries.items listed within))) ∙ c.if-not-are_within.true))),
     )
 
+pub returns-then-not-are_within-clause-large : goal.returns-then-not-are_within-clause-large
+returns-then-not-are_within-clause-large c = λ large.
+    let n = c.args.self.now.n in
+    let line = made_line n c.remainder.new.row c.in_ok-list.list.items c.make_primitive.new.entries.items c.remainder.ensures.length c.in_ok-list.ensures.listed
+    c.in_ok-list.ensures.is (not_empty c.in_ok-list.list.len c.in_ok-list.list.items c.is_empty.result c.in_ok-list.list.ok.0 c.is_empty.ensures
+    c.if-is_empty.false) c.make_primitive.ensures.made in
+    let listed = made_listed n c.remainder.new.row c.in_ok-list.list.items c.make_primitive.new.entries.items c.remainder.ensures.length
+    c.in_ok-list.ensures.listed c.in_ok-list.ensures.is (not_empty c.in_ok-list.list.len c.in_ok-list.list.items c.is_empty.result c.in_ok-list.list.ok.0
+    c.is_empty.ensures c.if-is_empty.false) c.make_primitive.ensures.made in
+    let row = new_row c.args.self.now c.args.row.now c.remainder.new.row c.remainder.ensures.form c.remainder.ensures.remainder _ line in (
+      _,
+      row,
+      (λ within. true≢false (sym (c.are_within.ensures.1 (subst (AllByRecursion (λ (e : FreeEntry). unsigned_abs e.value ≤ c.args.limit))
+          (sym c.deref.ensures.value) (values_within c.args.limit n c.make_primitive.new.entries.items listed within))) ∙ c.if-not-are_within.true)),
+    )
+
 pub returns-clause-left : goal.returns-clause-left
 returns-clause-left c =
     let n = c.args.self.now.n in

@@ -8,9 +8,10 @@ use Rattle.sum_basis.proofs.form.Form.shows_tie_but.Goals as goal
 
 pub returns : goal.returns
 returns c =
+    let beside = c.args.beside.now.list in
     let several = c.args.several.now.list in
-    subst (λ (e : Echelon). IsTrue c.ties_some_but.result ↔ ShowsTieBut several e.rows) c.self.view_is
-    (subst (λ (k : ℕ). IsTrue c.ties_some_but.result ↔ ShowsTieBut several (rows_of k c.self.inside.rows.items))
-    (c.requires ∙ sym (ap (λ (e : Echelon). e.n) c.self.view_is))
-    (subst (λ (l : List SparseRow). IsTrue c.ties_some_but.result ↔ ShowsTieBut several (rows_of c.args.several.now.n l)) c.deref.ensures.value
+    subst (λ (e : Echelon). IsTrue c.ties_some_but.result ↔ ShowsTieBut beside several e.rows) c.self.view_is
+    (subst (λ (k : ℕ). IsTrue c.ties_some_but.result ↔ ShowsTieBut beside several (rows_of k c.self.inside.rows.items))
+    (c.requires.several ∙ sym (ap (λ (e : Echelon). e.n) c.self.view_is))
+    (subst (λ (l : List SparseRow). IsTrue c.ties_some_but.result ↔ ShowsTieBut beside several (rows_of c.args.several.now.n l)) c.deref.ensures.value
     c.ties_some_but.ensures))
