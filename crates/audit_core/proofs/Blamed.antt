@@ -13,16 +13,17 @@ use Rattle.audit_types.specs.declared.records.Verdict.TheVariants.{Released}
 use Rattle.audit_types.specs.declared.shapes.Kind.{Kind}
 use Rattle.audit_types.specs.declared.shapes.Kind.TheVariants.{Sum, Max}
 use Rattle.audit_types.specs.Shapes.{columns}
-use Rattle.audit_types.specs.Column.{Known, Agrees, AreOwn, Discloses, IsGuarded, number, total, IsDangerous, IsPossible, with_groups}
+use Rattle.audit_types.specs.Column.{Known, Agrees, AreOwn, Discloses, IsGuarded, number, greatest, total, IsDangerous, IsPossible, with_groups}
 use Rattle.audit_types.specs.Form.{Reduced}
 use Rattle.audit_types.specs.Judgement.{IsWithinWidthFor, IsDecision, IsJudgement, IsUnsafeFor, sets_with}
 use Rattle.audit_types.specs.Reach.{Changes, IsWithinBounds}
 use Rattle.audit_types.specs.History.{Setting, IsPossibleHistory, IsJudgementAfter, known_of, groups_of, list_of}
 use Rattle.sum_basis.specs.Laws.{SetsHaveOneForm}
 use Rattle.audit_core.specs.Audited.{Audited}
-use Rattle.audit_types.specs.Truth.{number_at, sum_over}
+use Rattle.audit_types.specs.Truth.{number_at, sum_over, greatest_over}
 use Rattle.audit_core.specs.GroupEntries.{entry_of_group}
 use Rattle.audit_core.specs.Blame.{IsReleasedWith, IsJudgedReleasedWith}
+use Rattle.audit_core.proofs.ProtectedGroups.{sum_or_max}
 use Rattle.audit_core.specs.OneDecision.{one_decision, one_judgement}
 
 -- what holds of a group that is there holds of the list of it
@@ -115,6 +116,7 @@ module _ (setting : Setting) (history : List Answered) (asked : Asked) where
         {value : List ℤ → ℤ} → IsGuarded known [] value → Changes known.n sets form known.n value → Changes known.n sets form known.reach value
     near_with_all form reduced within sums (number row below other guarded) changes =
         within.near (λ w. number_at w row) (number row below other guarded) changes
+    near_with_all form reduced within sums (greatest rows maxima are some others few) changes = absurd (sum_or_max known.kind sums maxima)
     near_with_all form reduced within sums (total group row among inside other) changes =
         let found = group_alone group among in
         let bounds = subst (λ kind. IsWithinWidthFor kind (with_groups known (alone found.0)) asked.rows.list) sums (each found.1 found.0 found.2) in
@@ -136,6 +138,8 @@ module _ (setting : Setting) (history : List Answered) (asked : Asked) where
         Discloses known own asked.rows.list w value → ⊥
     not_disclosed w agrees own are_own (number row below other guarded) disclosed =
         none (danger_with [] w agrees own are_own (λ v. number_at v row) (number row below other guarded) disclosed)
+    not_disclosed w agrees own are_own (greatest rows maxima are some others few) disclosed =
+        none (danger_with [] w agrees own are_own (λ v. greatest_over v rows) (greatest rows maxima are some others few) disclosed)
     not_disclosed w agrees own are_own (total group row among inside other) disclosed =
         let found = group_alone group among in
         each found.1 found.0 found.2

@@ -1,8 +1,8 @@
 -- The total over a group changes if the number of one of its rows does.
-use Rattle.std.proofs.Common.{◌≡◌, ℕ, ◌+◌, ◌<◌, Bool, true, false, ◌==◌, ◌||◌, ℤ, pos, List, [], ◌∷◌, length, refl, sym, ap, ◌∙◌, arith, inl, inr}
+use Rattle.std.proofs.Common.{◌≡◌, ℕ, ◌+◌, ◌<◌, true, false, ◌==◌, ◌||◌, ℤ, pos, List, [], ◌∷◌, length, refl, sym, ap, ◌∙◌, arith, inl, inr}
 use Rattle.std.specs.Prelude.{◌+ℤ◌, slice_set}
 use Rattle.std.proofs.lemmas.Int.{ints}
-use Rattle.std.proofs.lemmas.Bool.{cases_eq, eq-eqb, or_cases, eqb-true, true≢false}
+use Rattle.std.proofs.lemmas.Bool.{cases_eq, eq-eqb, or_cases, or_parts, eqb-true, true≢false}
 use Rattle.std.proofs.lemmas.List.{get_or-set_same, get_or-set_other}
 use Rattle.audit_types.specs.Rows.{AscendsFrom, has_row}
 use Rattle.audit_types.specs.RowLaws.{ascends_more}
@@ -16,13 +16,9 @@ sum_without w i low n (r ∷ rows) are none = elim (cases_eq r i) [
   | inl same ↦ absurd (true≢false (sym (ap (λ b. b || has_row rows i) (eq-eqb r i same)) ∙ none))
   | inr apart ↦
       let here = get_or-set_other w i r (number_at w i +ℤ pos 1) (pos 0) apart in
-      let rest = sum_without w i (r + 1) n rows are.2 (or_right (r == i) (has_row rows i) none) in
+      let rest = sum_without w i (r + 1) n rows are.2 (or_parts (r == i) (has_row rows i) none).1 in
       ap (λ z. z +ℤ sum_over (slice_set w i (number_at w i +ℤ pos 1)) rows) here ∙ ap (λ z. number_at w r +ℤ z) rest
 ]
-  where
-    or_right : (a b : Bool) → (a || b) ≡ false → b ≡ false
-    or_right true b e = absurd (true≢false e)
-    or_right false b e = e
 
 -- and over rows with it a sum greater by 1
 pub sum_with : (w : List ℤ) (i low n : ℕ) (rows : List ℕ) → i < length w → AscendsFrom low n rows → has_row rows i ≡ true →

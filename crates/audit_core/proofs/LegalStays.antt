@@ -5,7 +5,8 @@ use Rattle.std.specs.List.{AllByRecursion}
 use Rattle.std.proofs.lemmas.List.{get_or-take}
 use Rattle.audit_types.specs.declared.records.Answered.{Answered}
 use Rattle.audit_types.specs.declared.records.Verdict.TheVariants.{Released}
-use Rattle.audit_types.specs.Rows.{AreRows, has_row, rows_that}
+use Rattle.audit_types.specs.GreatestLaws.{same_truth}
+use Rattle.audit_types.specs.Rows.{AreRows}
 use Rattle.audit_types.specs.Truth.{truth}
 use Rattle.audit_types.specs.Column.{Known}
 use Rattle.audit_types.specs.Shapes.{kind_at}
@@ -13,14 +14,15 @@ use Rattle.audit_types.specs.Judgement.{IsDecision}
 use Rattle.audit_types.specs.History.{Table, IsProtected, IsLegal, IsLegalRecord, answers_of, groups_of, known_of, setting_of, list_of}
 use Rattle.audit_types.specs.ListLaws.{all_by_place, all-take}
 use Rattle.sum_basis.specs.Laws.{SetsHaveOneForm}
-use Rattle.audit_types.specs.RowLaws.{AscendsFrom-wider, has-rows_that}
+use Rattle.audit_types.specs.RowLaws.{AscendsFrom-wider}
 use Rattle.audit_types.specs.Widening.{over, wider, widened, protection_among, first_rows}
 use Rattle.audit_types.specs.WideningLaws.{length-widened, record_of_widened, take-widened, answers_of-widened}
+use Rattle.audit_core.specs.KindColumns.{known_in_setting}
 use Rattle.audit_core.specs.WideningLaws.{LegalStays}
 use Rattle.audit_core.proofs.OwnAnswers.{all_answers}
-use Rattle.audit_core.proofs.MoreRows.{same_truth, grown, IsOldOrNew}
+use Rattle.audit_core.proofs.MoreRows.{grown, CountAlike, IsGrown}
 use Rattle.audit_core.proofs.DecisionsStay.{released_stays}
-use Rattle.audit_core.proofs.FirstGroups.{old_or_new}
+use Rattle.audit_core.proofs.FirstGroups.{first_part}
 
 -- ---- the first rows of a table
 
@@ -31,7 +33,7 @@ list_of-first m (w ∷ lists) zero = refl
 list_of-first m (w ∷ lists) (suc column) = list_of-first m lists column
 
 module _ (law : SetsHaveOneForm) (longer : Table) (fit : All (IsProtected longer.setting.shape) longer.setting.protected.groups)
-    (outside : longer.setting.protected.own ≡ 0) (reach : 0 < longer.setting.protected.reach) (m : ℕ) (le : m ≤ longer.setting.shape.rows)
+    (reach : 0 < longer.setting.protected.reach) (m : ℕ) (le : m ≤ longer.setting.shape.rows)
     (history : List Answered) (legal : IsLegal (first_rows m longer) history) where
   -- what the first records tell of a column over the first rows
   abbrev known_before : ℕ → ℕ → Known
@@ -45,30 +47,22 @@ module _ (law : SetsHaveOneForm) (longer : Table) (fit : All (IsProtected longer
       all_answers (λ a. AreRows m a.rows) column (take i history)
       (all-take (λ r. AreRows m r.rows.list) i history (all_by_place (λ r. AreRows m r.rows.list) history fitting))
 
-  -- a group of the longer table is one of the first rows, or has a new row
+  -- the rows of a group of the longer table that are among the first are a group of these
   groups_before : (i column : ℕ) (group : List ℕ) → Contains (groups_of column longer.setting.protected.groups) group →
-      IsOldOrNew (known_before i column) longer.setting.shape.rows group
-  groups_before i column group there = old_or_new longer.setting.shape m column longer.setting.protected.groups fit group there
+      IsGrown (known_before i column) longer.setting.shape.rows group
+  groups_before i column group there =
+      let is = first_part longer.setting.shape m column longer.setting.protected.groups fit group there in record { are = is.are; first = is.first }
 
-  -- a row of the first ones is shared among them exactly if it is
-  share_alike : (row : ℕ) → row < m → has_row (rows_that (has_row longer.setting.protected.shared) m) row ≡ has_row longer.setting.protected.shared row
-  share_alike row below = has-rows_that (has_row longer.setting.protected.shared) m row below
+  -- the same people stand behind the first rows
+  count_alike : (i column : ℕ) → CountAlike (known_before i column) longer.setting.protected.people
+  count_alike i column =
+      record { counts = λ row lt. sym (get_or-take m longer.setting.protected.people.counts row 1 lt); fewest = refl; own = refl }
 
   same_known : (i column : ℕ) → known_of longer.setting (widened longer.setting.shape.rows (take i history)) column
-      ≡ grown longer.setting.shape.rows longer.setting.protected.shared longer.setting.protected.several (groups_of column longer.setting.protected.groups)
-      (known_before i column)
+      ≡ grown longer.setting.shape.rows longer.setting.protected.people (groups_of column longer.setting.protected.groups) (known_before i column)
   same_known i column =
-      ap (λ answers. record {
-        kind = kind_at longer.setting.shape column;
-        n = longer.setting.shape.rows;
-        answers = answers;
-        groups = groups_of column longer.setting.protected.groups;
-        shared = longer.setting.protected.shared;
-        several = longer.setting.protected.several;
-        own = longer.setting.protected.own;
-        width = longer.setting.protected.width;
-        reach = longer.setting.protected.reach;
-      }) (answers_of-widened longer.setting.shape.rows column (take i history))
+      ap (λ answers. known_in_setting longer.setting answers (kind_at longer.setting.shape column) (groups_of column longer.setting.protected.groups))
+      (answers_of-widened longer.setting.shape.rows column (take i history))
 
   legal_record : (i : ℕ) (r : Answered) → slice_get history i ≡ Some r →
       IsLegalRecord longer (widened longer.setting.shape.rows (take i history)) (wider longer.setting.shape.rows r)
@@ -88,8 +82,7 @@ module _ (law : SetsHaveOneForm) (longer : Table) (fit : All (IsProtected longer
             (λ q lt. get_or-take m (list_of longer.secrets r.column) q _ lt) (kind_at longer.setting.shape r.column) r.rows.list are;
         released = subst (λ known. IsDecision known r.rows.list Released) (sym (same_known i r.column))
             (released_stays law (known_before i r.column) r.rows.list longer.setting.shape.rows (sets_before i r.column, are) le reach
-            longer.setting.protected.shared longer.setting.protected.several (groups_of r.column longer.setting.protected.groups) share_alike
-            (groups_before i r.column) outside
+            longer.setting.protected.people (groups_of r.column longer.setting.protected.groups) (count_alike i r.column) (groups_before i r.column)
             old.released);
       }
 
@@ -104,6 +97,6 @@ module _ (law : SetsHaveOneForm) (longer : Table) (fit : All (IsProtected longer
   }
 
 pub legal_stays : SetsHaveOneForm → LegalStays
-legal_stays law table longer history fit outside extends legal =
-    legal_over_all law longer fit.0 outside (omega (arith, fit.6)) table.setting.shape.rows (omega (arith, extends.0)) history
+legal_stays law table longer history fit extends legal =
+    legal_over_all law longer fit.0 (omega (arith, fit.5)) table.setting.shape.rows (omega (arith, extends.0)) history
     (subst (λ (t : Table). IsLegal t history) extends.1 legal)

@@ -13,7 +13,6 @@ use Rattle.audit_types.specs.Extents.{places_from, at_places}
 use Rattle.audit_types.specs.Products.{neg-times}
 use Rattle.audit_types.specs.PrimitiveLines.{times, number_at-times}
 use Rattle.audit_types.specs.ListLaws.{all-get_or}
-use Rattle.sum_audit.specs.Laws.{IsSmallFor}
 use Rattle.sum_audit.specs.Shifts.{moved_by, number_at-moved_by, sum_over-moved_by, sum_over-times}
 use Rattle.audit_core.specs.Ranges.{AreInside, AreNear}
 
@@ -60,7 +59,7 @@ stays : (low high x change : ℤ) (far : ℕ) → unsigned_abs change ≤ far �
     ((low +ℤ pos 0) ≤ℤ (x +ℤ change)) × (((x +ℤ change) +ℤ pos 0) ≤ℤ high)
 stays low high x change far size inside = let first = inside.0 in let last = inside.1 in (omega (arith, ints), omega (arith, ints))
 
-module _ (n width reach k : ℕ) (w d : List ℤ) (often : ℤ) (small : IsSmallFor width reach d) (size : unsigned_abs often ≡ k) where
+module _ (n most k : ℕ) (w d : List ℤ) (often : ℤ) (small : (r : ℕ) → unsigned_abs (number_at d r) ≤ most) (size : unsigned_abs often ≡ k) where
   abbrev pub moved : List ℤ
   moved = moved_by (times often d) w
 
@@ -70,16 +69,16 @@ module _ (n width reach k : ℕ) (w d : List ℤ) (often : ℤ) (small : IsSmall
   size_of_change : (r : ℕ) → unsigned_abs (often *ℤ number_at d r) ≡ k * unsigned_abs (number_at d r)
   size_of_change r = unsigned_abs-mul often (number_at d r) ∙ ap (λ s. s * unsigned_abs (number_at d r)) size
 
-  module _ (low high : ℕ → ℤ) (inside : AreInside low high 0 w (range_with_len 0 n)) (far : AreInside low high (k * (width * width)) w (places_from 0 d)) where
+  module _ (low high : ℕ → ℤ) (inside : AreInside low high 0 w (range_with_len 0 n)) (far : AreInside low high (k * most) w (places_from 0 d)) where
     stays_at : (r : ℕ) → r < n → (b : Bool) → is_zero (number_at d r) ≡ b →
         ((low r +ℤ pos 0) ≤ℤ (number_at w r +ℤ often *ℤ number_at d r)) × (((number_at w r +ℤ often *ℤ number_at d r) +ℤ pos 0) ≤ℤ high r)
     stays_at r below true none =
         let still = ap (λ z. often *ℤ z) (zero_from_test (number_at d r) none) ∙ *ℤ-zero often in
         stays (low r) (high r) (number_at w r) (often *ℤ number_at d r) 0 (omega (arith, ap unsigned_abs still)) (each_row _ n r inside below)
     stays_at r below false some =
-        stays (low r) (high r) (number_at w r) (often *ℤ number_at d r) (k * (width * width))
-        (let most = mul-le-mul_left k (small.size r) in let is = size_of_change r in omega arith)
-        (let P : ℕ → Type 0 = λ q. ((low q +ℤ pos (k * (width * width))) ≤ℤ number_at w q) × ((number_at w q +ℤ pos (k * (width * width))) ≤ℤ high q) in
+        stays (low r) (high r) (number_at w r) (often *ℤ number_at d r) (k * most)
+        (let least = mul-le-mul_left k (small r) in let is = size_of_change r in omega arith)
+        (let P : ℕ → Type 0 = λ q. ((low q +ℤ pos (k * most)) ≤ℤ number_at w q) × ((number_at w q +ℤ pos (k * most)) ≤ℤ high q) in
         subst P (omega arith) (at_places P 0 d far r (not_zero_from_test (number_at d r) some)))
 
     pub near : AreNear low high k w (range_with_len 0 n) moved

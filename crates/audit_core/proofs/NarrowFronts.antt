@@ -10,14 +10,15 @@ use Rattle.audit_types.specs.declared.records.Answered.{Answered}
 use Rattle.audit_types.specs.Rows.{AreRows}
 use Rattle.audit_types.specs.Shapes.{kind_at}
 use Rattle.audit_types.specs.Form.{Reduced}
-use Rattle.audit_types.specs.Column.{Known, IsGuarded, number, total}
+use Rattle.audit_types.specs.Column.{Known, IsGuarded, number, greatest, total}
 use Rattle.audit_types.specs.Judgement.{IsWithinWidthFor}
 use Rattle.audit_types.specs.History.{Table, AreProtected, IsLegal, known_of}
+use Rattle.audit_types.specs.OutsiderLaws.{some_row}
 use Rattle.audit_types.specs.Reach.{IsWithinBounds}
 use Rattle.audit_types.specs.WidthLaws.{guarded_alike}
 use Rattle.audit_core.specs.Laws.{sets_before, LegalIsNarrow, LegalIsWithinBounds}
 use Rattle.audit_core.specs.FrontLaws.{sets_after_own, sets_after_other}
-use Rattle.audit_core.proofs.MoreRows.{ReadsNew, total_of_new, number_of_new}
+use Rattle.audit_core.proofs.MoreRows.{ReadsNew, total_of_new, number_of_new, greatest_of_new}
 use Rattle.audit_core.proofs.PaddedChanges.{new_changes, zero_of_zeros}
 use Rattle.audit_core.proofs.PaddedForms.{zeros_at}
 use Rattle.audit_core.proofs.ProtectedGroups.{group_rows_of}
@@ -29,10 +30,12 @@ record AreWithin (known : Known) (sets : List (List ℕ)) : Type 0 where
   within : IsWithinBounds known sets form
 
 -- with no sets each row changes alone
-reads_alone : (known : Known) → All (AreRows known.n) known.groups → {value : List ℤ → ℤ} → IsGuarded known [] value → ReadsNew 0 known.n value
-reads_alone known groups (number row below other alone) = number_of_new 0 known.n row (omega arith) below
+reads_alone : (known : Known) → All (AreRows known.n) known.groups → {value : List ℤ → ℤ} → IsGuarded known [] value → ReadsNew 0 known.n [] value
+reads_alone known groups (number row below other alone) = number_of_new 0 known.n [] row (omega arith) below refl
+reads_alone known groups (greatest rows maxima are some others few) =
+    let hit = some_row rows some in greatest_of_new 0 known.n [] rows hit.0 are (omega arith) hit.1 refl
 reads_alone known groups (total group row one inside other) =
-    total_of_new 0 known.n group (record { row = row; new = omega arith; there = inside; are = All-contains (AreRows known.n) known.groups group groups one })
+    total_of_new 0 known.n [] group row (All-contains (AreRows known.n) known.groups group groups one) (omega arith) inside refl
 
 within_at_first : (known : Known) → 0 < known.width → 0 < known.reach → All (AreRows known.n) known.groups → AreWithin known []
 within_at_first known some reach groups = record {
@@ -73,7 +76,7 @@ module _ (table : Table) (history : List Answered) (column : ℕ) (protected : A
   ]
 
   within_so_far : (place : ℕ) → place ≤ length history → AreWithin known (sets_before column history place)
-  within_so_far zero le = within_at_first known protected.4 (omega (arith, protected.6))
+  within_so_far zero le = within_at_first known protected.3 (omega (arith, protected.5))
       (group_rows_of table.setting.shape table.setting.protected column protected)
   within_so_far (suc i) le =
       let rest = within_so_far i (omega arith) in

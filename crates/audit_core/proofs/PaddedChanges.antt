@@ -1,19 +1,20 @@
 -- Over more rows what changed along a direction of a form does so along one of no more rows; and what reads a new row changes along the
 -- direction of that row alone, since no set has it.
 use Rattle.std.proofs.Common.{◌≡◌, ◌≢◌, ℕ, ◌+◌, ◌<◌, ◌≤◌, ◌||◌, ◌==◌, ℤ, pos, List, [], ◌∷◌, map, length, take, replicate, refl, sym, ap, ◌∙◌, arith, inl, inr, length-append, length-take}
-use Rattle.std.specs.Prelude.{◌+ℤ◌, slice_set}
+use Rattle.std.specs.Prelude.{slice_set}
 use Rattle.std.specs.List.{AllByRecursion}
 use Rattle.std.proofs.lemmas.Bool.{cases_lt}
 use Rattle.std.proofs.lemmas.List.{get_or-take, get_or_past, get_or-set_other, length-set, length-replicate}
 use Rattle.audit_types.specs.Rows.{AreRows}
 use Rattle.audit_types.specs.Truth.{number_at, sum_over}
-use Rattle.audit_types.specs.Column.{Known, IsGuarded, number, total}
+use Rattle.audit_types.specs.Column.{Known, IsGuarded, number, greatest, total}
 use Rattle.audit_types.specs.Form.{pivot}
 use Rattle.audit_types.specs.Direction.{IsDirection, is_pivot}
 use Rattle.audit_types.specs.Extents.{extent_less, extent_one, sum_over_zeros}
 use Rattle.audit_types.specs.Reach.{extent, Changes}
 use Rattle.audit_core.proofs.PaddedForms.{padded, number_at-padded, zeros_at, HasPivots, same_pivot}
-use Rattle.audit_core.proofs.MoreRows.{same_sum, ReadsFirst, ReadsNew}
+use Rattle.audit_types.specs.GreatestLaws.{bound_and_reached, same_sum}
+use Rattle.audit_core.proofs.MoreRows.{ReadsFirst, ReadsNew}
 
 -- a column is a pivot of the longer form exactly if it was one
 is_pivot-padded : (k : ℕ) (form : List (List ℤ)) → HasPivots form → (i : ℕ) → is_pivot (map (padded k) form) i ≡ is_pivot form i
@@ -79,16 +80,19 @@ module _ (m k : ℕ) (sets : List (List ℕ)) (are : AllByRecursion (AreRows m) 
 -- of zeros what is guarded is 0
 pub zero_of_zeros : (known : Known) {value : List ℤ → ℤ} → IsGuarded known [] value → (d : List ℤ) → ((i : ℕ) → number_at d i ≡ pos 0) → value d ≡ pos 0
 zero_of_zeros known (number row below other alone) d none = none row
+zero_of_zeros known (greatest rows maxima are some others few) d none =
+    let reached = (bound_and_reached d rows some).1 in sym reached.2 ∙ none reached.0
 zero_of_zeros known (total group row one inside other) d none = sum_over_zeros d group none
 
 -- what reads a new row changes along the direction of that row alone
-pub new_changes : (m n most : ℕ) (sets : List (List ℕ)) (form : List (List ℤ)) (value : List ℤ → ℤ) → AllByRecursion (AreRows m) sets → ReadsNew m n value →
+pub new_changes : (m n most : ℕ) (sets : List (List ℕ)) (form : List (List ℤ)) (value : List ℤ → ℤ) → AllByRecursion (AreRows m) sets → ReadsNew m n [] value →
     value (replicate n (pos 0)) ≡ pos 0 → 0 < most → Changes n sets form most value
 new_changes m n most sets form value are new none some =
     let zeros = replicate n (pos 0) in
-    let one = number_at zeros new.row +ℤ pos 1 in
-    let d = slice_set zeros new.row one in
     let all = length-replicate n (pos 0) in
+    let change = new.changes zeros (omega (arith, all, new.below)) in
+    let one = change.0 in
+    let d = slice_set zeros new.row one in
     let elsewhere : (i : ℕ) → i ≢ new.row → number_at d i ≡ pos 0 = λ i other. get_or-set_other zeros new.row i one (pos 0) other ∙ zeros_at n i in
     record {
       direction = d;
@@ -100,5 +104,5 @@ new_changes m n most sets form value are new none some =
       column = new.row;
       only = λ i free other. elsewhere i other;
       near = let most = extent_one d new.row elsewhere in omega arith;
-      changed = λ e. new.changes zeros (omega (arith, all, new.below)) (e ∙ sym none);
+      changed = λ e. change.1 (e ∙ sym none);
     }

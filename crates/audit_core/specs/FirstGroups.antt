@@ -1,13 +1,14 @@
 -- Facts on the protected groups among the first rows of a table.
-use Rattle.std.proofs.Common.{◌≡◌, ℕ, ◌<◌, ◌≤◌, List, [], ◌∷◌, ◌++◌, length, refl, sym, ap, ◌∙◌, arith, append_assoc, append-nil, length-append, inl, inr}
+use Rattle.std.proofs.Common.{◌≡◌, ℕ, ◌<◌, ◌≤◌, List, [], ◌∷◌, ◌++◌, length, refl, sym, ap, ◌∙◌, arith, append_assoc, append-nil, length-append, take, length-take}
 use Rattle.std.specs.Prelude.{All}
-use Rattle.std.proofs.lemmas.Bool.{cases_lt}
 use Rattle.std.proofs.lemmas.List.Elements.{All-nil, All-cons, All-head, All-tail, All-append}
 use Rattle.audit_types.specs.declared.records.Protected.{Protected}
 use Rattle.audit_types.specs.declared.shapes.Kind.TheVariants.{Sum}
 use Rattle.audit_types.specs.declared.shapes.Shape.{Shape}
 use Rattle.audit_types.specs.Rows.{AreRows, has_row, rows_that}
-use Rattle.audit_types.specs.RowLaws.{rows_that_agree, rows_that_none, has-rows_that, has-rows_that_above, AreRows-rows_that}
+use Rattle.audit_types.specs.RowLaws.{rows_that_agree, rows_that_none, has-rows_that, AreRows-rows_that}
+use Rattle.audit_types.specs.Headcount.{Headcount, CountPeople}
+use Rattle.audit_types.specs.ListLaws.{all-take}
 use Rattle.audit_types.specs.Shapes.{columns, kind_at}
 use Rattle.audit_types.specs.History.{Protection, IsProtected, AreProtected, entry_of}
 use Rattle.audit_types.specs.Widening.{over, groups_among, protection_among}
@@ -73,19 +74,23 @@ no_more_groups m (p ∷ protected) =
     let first = entry_of p.column p.place m (rows_that (has_row p.rows.list) m) in
     omega (arith, length-append first (groups_among m protected), at_most_one p.column p.place m (rows_that (has_row p.rows.list) m), no_more_groups m protected)
 
+-- the people behind the first rows are counted
+first_people : (n m : ℕ) (people : Headcount) → CountPeople n people → CountPeople m (record people { counts = take m people.counts })
+first_people n m people count = record {
+  within = omega (arith, length-take m people.counts);
+  somebody = all-take (λ k. 0 < k) m people.counts count.somebody;
+  fewest = count.fewest;
+  own = count.own;
+}
+
 -- what is protected among the first rows fits these
 pub protection_among-fit : (shape : Shape) (m : ℕ) (protected : Protection) → AreProtected shape protected → AreProtected (over m shape) (protection_among m protected)
 protection_among-fit shape m protected fit = (
   all_fit shape m protected.groups fit.0,
   omega (arith, no_more_groups m protected.groups, fit.1),
-  fit.2,
-  λ row alone. elim (cases_lt row m) [
-    | inl below ↦ has-rows_that (has_row protected.shared) m row below ∙ fit.3 row (sym (has-rows_that (has_row protected.several) m row below) ∙ alone)
-    | inr above ↦ has-rows_that_above (has_row protected.shared) m row above
-  ],
+  first_people shape.rows m protected.people fit.2,
+  fit.3,
   fit.4,
   fit.5,
   fit.6,
-  fit.7,
-  AreRows-rows_that (has_row protected.shared) m,
 )

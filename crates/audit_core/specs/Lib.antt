@@ -1,7 +1,7 @@
 pub mod Audited
 pub mod Columns
 pub mod Laws
-pub mod OutsiderColumns
+pub mod KindColumns
 pub mod FrontLaws
 pub mod Outcomes
 pub mod WideningLaws

@@ -1,5 +1,5 @@
 -- The laws of growing tables: what was decided stays decided.
-use Rattle.std.specs.Prelude.{◌≡◌, ◌↔◌, ℕ, ◌<◌, ◌≤◌, List, All}
+use Rattle.std.specs.Prelude.{◌↔◌, ℕ, ◌<◌, ◌≤◌, List, All}
 use Rattle.std.specs.List.{AllByRecursion}
 use Rattle.audit_types.specs.declared.records.Answered.{Answered}
 use Rattle.audit_types.specs.declared.records.Verdict.{Verdict}
@@ -27,23 +27,22 @@ WidthStays =
     (known : Known) (rows : List ℕ) (n : ℕ) → AreSetsOf known rows → AreGroupsOf known → 0 < known.reach → known.n ≤ n →
     IsWide known rows ↔ IsWide (over_rows n known) rows
 
--- and as dangerous for those outside, since no set and no group tells of a new row
+-- and as dangerous, since no set and no group tells of a new row
 abbrev pub DangerStays : Type 0
 DangerStays =
-    (known : Known) (rows : List ℕ) (n : ℕ) → AreSetsOf known rows → AreGroupsOf known → known.own ≡ 0 → known.n ≤ n →
+    (known : Known) (rows : List ℕ) (n : ℕ) → AreSetsOf known rows → AreGroupsOf known → known.n ≤ n →
     IsDangerous known rows ↔ IsDangerous (over_rows n known) rows
 
 -- so it is decided as before
 abbrev pub DecisionStays : Type 0
 DecisionStays =
-    (known : Known) (rows : List ℕ) (n : ℕ) (verdict : Verdict) → AreSetsOf known rows → AreGroupsOf known → 0 < known.reach → known.own ≡ 0 → known.n ≤ n →
+    (known : Known) (rows : List ℕ) (n : ℕ) (verdict : Verdict) → AreSetsOf known rows → AreGroupsOf known → 0 < known.reach → known.n ≤ n →
     IsDecision known rows verdict ↔ IsDecision (over_rows n known) rows verdict
 
--- and if no asker is in the table, what was legal for it is legal for each that extends it, with groups that fit: a group with a new row has a total that
--- no set tells of, and every other is a group of the table
+-- and what was legal for a table is legal for each that extends it: no set tells of a new row, and a group with new rows tells an asker whose number
+-- each of these is no more than the total over its old ones, which are a protected group of the table
 abbrev pub LegalStays : Type 0
 LegalStays =
-    (table longer : Table) (history : List Answered) → AreProtected longer.setting.shape longer.setting.protected → longer.setting.protected.own ≡ 0 →
-    Extends table longer →
+    (table longer : Table) (history : List Answered) → AreProtected longer.setting.shape longer.setting.protected → Extends table longer →
     IsLegal table history →
     IsLegal longer (widened longer.setting.shape.rows history)

@@ -1,20 +1,19 @@
-//! A column of maxima, with the rows of the table that several people share.
-ghost use Rattle.std.specs.Prelude.{◌≡◌, ◌≢◌, ◌<◌, ◌≤◌, [], IfOk};
+//! A column of maxima, with the people behind the rows of the table.
+ghost use Rattle.std.specs.Prelude.{◌≡◌, ◌≢◌, [], IfOk};
 ghost use Rattle.audit_types.specs.Column.{IsPossible, known_max, guarding, with_groups, with_bounds};
 ghost use Rattle.audit_types.specs.declared.shapes.Kind.TheVariants.{Max};
 ghost use Rattle.audit_types.specs.Judgement.{IsDecision, IsJudgement};
-ghost use Rattle.audit_types.specs.Limits.{most_rows};
 
-use audit_types::{ColumnAudit, NoMemory, RowSet, Verdict};
+use audit_types::{ColumnAudit, CountedRows, NoMemory, RowSet, Verdict};
 use max_audit::MaxColumn;
 use std::alloc::Global;
 use std::marker::Model;
 
-/// The answered maxima of a column, and the shared rows.
+/// The answered maxima of a column, and the people behind its rows.
 #[derive(Drop)]
 pub(crate) struct GuardedMaxima {
     maxima: MaxColumn,
-    shared: RowSet,
+    people: CountedRows,
     // What is known says these two. No verdict on a maximum goes by them.
     width: u64,
     reach: u16,
@@ -26,37 +25,33 @@ impl Model for GuardedMaxima {
 
     ghost Value = { Known };
 
-    ghost view = { λ g. with_bounds (guarding g.maxima g.shared.list []) g.width g.reach };
+    ghost view = { λ g. with_bounds (guarding g.maxima g.people.people []) g.width g.reach };
 
-    ghost invariant = { λ g. g.shared.n ≡ g.maxima.n };
+    ghost invariant = { λ g. g.people.n ≡ g.maxima.n };
 }
 
 impl GuardedMaxima {
-    /// No answers yet, over n rows of a table that is guarded with this width and this reach.
+    /// No answers yet, over the rows of these people, in a table that is guarded with this width and this reach.
     pub(crate) fn new(
         alloc: Global,
-        n: u16,
+        people: CountedRows,
         width: u64,
         reach: u16,
-        shared: RowSet,
     ) -> Result<GuardedMaxima, NoMemory>
-        requires some { 0 < n }
-        requires at_most { n ≤ most_rows }
-        requires shared { shared.n ≡ n }
-        ensures { IfOk result (λ column. column ≡ with_bounds (guarding (known_max n []) shared.list []) width reach) }
+        ensures { IfOk result (λ column. column ≡ with_bounds (guarding (known_max people.n []) people.people []) width reach) }
     {
-        let maxima = MaxColumn::new(alloc, n)?;
+        let maxima = MaxColumn::new(alloc, people.n())?;
         Ok(GuardedMaxima {
             maxima,
-            shared,
+            people,
             width,
             reach,
         })
     }
 
-    /// The answered maxima, of which no row is shared.
+    /// The answered maxima, as if one person stood behind each row.
     pub(crate) fn maxima(&self) -> &MaxColumn
-        ensures { with_bounds (guarding result.now self.now.shared []) self.now.width self.now.reach ≡ self.now }
+        ensures { with_bounds (guarding result.now self.now.people []) self.now.width self.now.reach ≡ self.now }
     {
         &self.maxima
     }
@@ -71,8 +66,7 @@ impl GuardedMaxima {
     {
         // A column of maxima says of itself that it is one.
         let _ = self.maxima.bounds();
-        let shared = &self.shared;
-        self.maxima.probe_sharing(rows, shared)
+        self.maxima.probe_among(rows, &self.people)
     }
 }
 
@@ -82,7 +76,7 @@ impl ColumnAudit for GuardedMaxima {
     fn probe(&self, rows: &RowSet) -> Result<Verdict, NoMemory> {
         // A column of maxima says of itself that it is one.
         let _ = self.maxima.bounds();
-        self.maxima.probe_sharing(rows, &self.shared)
+        self.maxima.probe_among(rows, &self.people)
     }
 
     fn accept(&mut self, rows: &RowSet, answer: i64) -> Result<(), NoMemory> {

@@ -4,6 +4,7 @@ use Rattle.std.specs.Prelude.{Result, Ok, Err, IfOk}
 use Rattle.audit_types.specs.declared.records.Answered.{Answered}
 use Rattle.audit_types.specs.declared.records.Asked.{Asked}
 use Rattle.audit_types.specs.declared.shapes.Kind.TheVariants as kind
+use Rattle.audit_types.specs.Headcount.{Headcount}
 use Rattle.audit_types.specs.Shapes.{kind_at}
 use Rattle.audit_types.specs.History.{Setting, Protection}
 use Rattle.denial_proof.specs.declared.proof_parts.Proof.{Proof}
@@ -27,8 +28,8 @@ module _ (setting : Setting) (history : List Answered) (asked : Asked) (n : ℕ)
     module _ (sums : kind_at setting.shape asked.column ≡ kind.Sum) where
       by_sum : (result : Result Proof ProveFault) → IfOk result (IsSumProof setting.shape.rows history setting.protected asked) →
           IfOk result (IsCanonical setting history asked) × IfOk result (IsProof setting history asked)
-      by_sum (Ok (Sum target times terms own)) is = ((sums, is.0), (sums, is.1))
-      by_sum (Ok (Max answer row place high)) is = absurd is
+      by_sum (Ok (Sum target share times terms count)) is = ((sums, is.0), (sums, is.1))
+      by_sum (Ok (Max answer few place high)) is = absurd is
       by_sum (Err fault) is = (tt, tt)
 
       pub sum_is : (result : Result Proof ProveFault) → IfOk result (IsSumProof n records entries asked) →
@@ -44,17 +45,17 @@ module _ (setting : Setting) (history : List Answered) (asked : Asked) (n : ℕ)
       sum_is_wide wide = (sums, of_table (λ k list groups. IsSumTooWide k list groups asked) wide)
 
   module _ (maxima : kind_at setting.shape asked.column ≡ kind.Max) where
-    by_max : (proof : Proof) → IsMaxProof setting.shape.rows setting.protected.shared history asked proof → IsCanonical setting history asked proof ×
+    by_max : (proof : Proof) → IsMaxProof setting.shape.rows setting.protected.people history asked proof → IsCanonical setting history asked proof ×
         IsProof setting history asked proof
-    by_max (Sum target times terms own) is = absurd is
-    by_max (Max answer row place high) is = ((maxima, is.0), (maxima, is.1))
+    by_max (Sum target share times terms count) is = absurd is
+    by_max (Max answer few place high) is = ((maxima, is.0), (maxima, is.1))
 
-    pub max_is : (shared : List ℕ) → shared ≡ setting.protected.shared → (proof : Proof) → IsMaxProof n shared records asked proof →
+    pub max_is : (people : Headcount) → people ≡ setting.protected.people → (proof : Proof) → IsMaxProof n people records asked proof →
         IsCanonical setting history asked proof × IsProof setting history asked proof
-    max_is shared same_shared proof is =
+    max_is people same_people proof is =
         by_max proof
-        (subst (λ l. IsMaxProof setting.shape.rows l history asked proof) same_shared
-        (subst (λ k. IsMaxProof k shared history asked proof) same_n (subst (λ list. IsMaxProof n shared list asked proof) same is)))
+        (subst (λ p. IsMaxProof setting.shape.rows p history asked proof) same_people
+        (subst (λ k. IsMaxProof k people history asked proof) same_n (subst (λ list. IsMaxProof n people list asked proof) same is)))
 
     -- only sums are too wide
     pub max_is_narrow : ¬ (IsTooWide setting history asked)

@@ -1,6 +1,6 @@
--- The answer that leaves a lone row, and the record for which the row is lone.
-use Rattle.std.proofs.Common.{◌≡◌, ℕ, zero, suc, ◌+◌, ◌-◌, ◌<◌, true, false, ℤ, pos, List, [], ◌∷◌, ◌++◌, length, Some, None, Option, refl, sym, ap, ◌∙◌, subst, arith, inl, inr}
-use Rattle.std.specs.Prelude.{slice_get, ◌<ℤ◌, ◌≤ℤ◌, IfSome, IfNone, slice_index_or}
+-- The answer that leaves few extreme rows, and the record that has them.
+use Rattle.std.proofs.Common.{◌≡◌, ℕ, zero, suc, ◌+◌, ◌-◌, ◌<◌, true, false, ℤ, pos, List, [], ◌∷◌, ◌++◌, length, Some, refl, sym, ap, ◌∙◌, subst, arith, inl, inr}
+use Rattle.std.specs.Prelude.{slice_get, ◌<ℤ◌, ◌≤ℤ◌, slice_index_or}
 use Rattle.std.proofs.lemmas.Int.{ints}
 use Rattle.std.proofs.lemmas.Grind.{common_steps}
 use Rattle.std.proofs.lemmas.Bool.{cases_lt}
@@ -10,25 +10,30 @@ use Rattle.audit_types.specs.Rows.{has_row}
 use Rattle.audit_types.specs.Truth.{number_at}
 use Rattle.audit_types.specs.PrimitiveLines.{same_rows}
 use Rattle.audit_types.specs.Column.{Answer, Known, known_max, guarding}
-use Rattle.audit_types.specs.Extremes.{IsConsistent, least_of, upper_bound}
+use Rattle.audit_types.specs.declared.records.Asked.{Asked}
+use Rattle.audit_types.specs.Headcount.{Headcount}
+use Rattle.audit_types.specs.History.{answer_in}
+use Rattle.audit_types.specs.Extremes.{least_of, upper_bound, extremes}
 use Rattle.max_bounds.specs.BoundLaws.{upper_bound-push}
 use Rattle.max_bounds.specs.Maxima.{and_answer}
-use Rattle.max_bounds.specs.Outside.{IsLeastOwnLone}
 use Rattle.max_audit.specs.Candidates.{AreCandidates}
 use Rattle.max_audit.specs.HighestLaws.{number_at-highest, length-highest}
-use Rattle.max_audit.specs.Laws.{LeavesLoneRow, HasBadCandidate}
+use Rattle.max_audit.specs.Laws.{LeavesFewPeople, HasBadCandidate}
 use Rattle.max_audit.specs.Witnesses.{highest, bound_or_zero}
-use Rattle.denial_proof.specs.Lone.{IsOnly}
-use Rattle.denial_proof.specs.Canonical.{IsFirstAnswer, IsOnlyAt}
+use Rattle.denial_proof.specs.Certificates.{answers_after}
+use Rattle.denial_proof.specs.Canonical.{IsFirstAnswer, IsFewAt}
 
 -- ---- the record
 
-pub not_only : (history : List Answered) (column place : ℕ) (numbers : List ℤ) (row : ℕ) (r : Answered) → slice_get history place ≡ Some r →
-    ¬ ((r.column ≡ column) × IsOnly numbers r.rows.list r.answer row) → ¬ (IsOnlyAt history column numbers row place)
-not_only history column place numbers row r there none (s, own, only) =
+pub not_few_at : (history : List Answered) (asked : Asked) (answer : ℤ) (rows : List ℕ) (place : ℕ) (r : Answered) → slice_get history place ≡ Some r →
+    ¬ ((r.column ≡ asked.column) × (extremes (answers_after history asked answer) (answer_in r) ≡ rows)) → ¬ (IsFewAt history asked answer rows place)
+not_few_at history asked answer rows place r there none (s, own, left) =
     let one : Some s ≡ Some r = sym own.there ∙ there in
     let same : s ≡ r = cc in
-    none (ap (λ (q : Answered). q.column) (sym same) ∙ own.own, subst (λ (q : Answered). IsOnly numbers q.rows.list q.answer row) same only)
+    none (
+      ap (λ (q : Answered). q.column) (sym same) ∙ own.own,
+      subst (λ (q : Answered). extremes (answers_after history asked answer) (answer_in q) ≡ rows) same left,
+    )
 
 -- ---- the heights
 
@@ -77,18 +82,6 @@ heights_push answers row list x far is = record {
 
 -- ---- the answer
 
--- what a trial tells
-pub lone_some : (shared : List ℕ) (answers : List Answer) (lone : Option ℕ) → IsConsistent answers → IsLeastOwnLone shared answers lone →
-    IfSome lone (λ row. IsConsistent answers × IsLeastOwnLone shared answers (Some row))
-lone_some shared answers None consistent least = tt
-lone_some shared answers (Some row) consistent least = (consistent, least)
-
-pub lone_none : (n : ℕ) (shared : List ℕ) (answers : List Answer) (rows : List ℕ) (answer : ℤ) (lone : Option ℕ) → IsLeastOwnLone shared
-    (and_answer answers rows answer) lone →
-    IfNone lone (¬ (LeavesLoneRow (guarding (known_max n answers) shared []) rows answer))
-lone_none n shared answers rows answer None least = λ leaves. least leaves.row (leaves.lone, leaves.own)
-lone_none n shared answers rows answer (Some row) least = tt
-
 -- a later candidate is greater
 greater_later : (list : List ℤ) → ((k : ℕ) → k + 1 < length list → slice_index_or list k (pos 0) <ℤ slice_index_or list (k + 1) (pos 0)) → (i d : ℕ) →
     i + d < length list →
@@ -108,32 +101,31 @@ same_default [] i d e l = absurd (omega arith)
 same_default (y ∷ xs) zero d e l = refl
 same_default (y ∷ xs) (suc i) d e l = same_default xs i d e (omega arith)
 
-module _ (n : ℕ) (shared : List ℕ) (answers : List Answer) (rows : List ℕ) (list : List ℤ) (are : AreCandidates answers list) where
+module _ (n : ℕ) (people : Headcount) (answers : List Answer) (rows : List ℕ) (list : List ℤ) (are : AreCandidates answers list) where
   -- what is known of the column
   abbrev known : Known
-  known = guarding (known_max n answers) shared []
+  known = guarding (known_max n answers) people []
 
-  -- no earlier candidate leaves a lone row
+  -- no earlier candidate leaves few
   abbrev pub NoneBefore : ℕ → Type 0
-  NoneBefore i = (k : ℕ) → k < i → ¬ (LeavesLoneRow (guarding (known_max n answers) shared []) rows (slice_index_or list k (pos 0)))
+  NoneBefore i = (k : ℕ) → k < i → ¬ (LeavesFewPeople (guarding (known_max n answers) people []) rows (slice_index_or list k (pos 0)))
 
   -- what the list has at a place, whatever stands past it
   at_place : (k : ℕ) (x : ℤ) → k < length list → slice_index_or list k x ≡ x → slice_index_or list k (pos 0) ≡ x
   at_place k x below is = same_default list k x (pos 0) below ∙ is
 
   -- so a candidate that does is the least
-  pub first_found : (i : ℕ) (answer : ℤ) (row : ℕ) → i < length list → slice_index_or list i answer ≡ answer → NoneBefore i →
-      IsConsistent (and_answer answers rows answer) →
-      IsLeastOwnLone shared (and_answer answers rows answer) (Some row) → IsFirstAnswer (guarding (known_max n answers) shared []) rows answer
-  first_found i answer row below is none possible least = record {
+  pub first_found : (i : ℕ) (answer : ℤ) → i < length list → slice_index_or list i answer ≡ answer → NoneBefore i →
+      LeavesFewPeople (guarding (known_max n answers) people []) rows answer → IsFirstAnswer (guarding (known_max n answers) people []) rows answer
+  first_found i answer below is none leaves = record {
     candidate = (are.each answer).0 (i, below, is);
-    leaves = record { possible = possible; row = row; lone = least.0.0; own = least.0.1 };
-    least = λ other candidate less leaves.
+    leaves = leaves;
+    least = λ other candidate less others.
         let found = (are.each other).1 candidate in
         let here = at_place i answer below is in
         let there = at_place found.0 other found.1 found.2 in
         elim (cases_lt found.0 i) [
-          | inl earlier ↦ none found.0 earlier (subst (LeavesLoneRow known rows) (sym there) leaves)
+          | inl earlier ↦ none found.0 earlier (subst (LeavesFewPeople known rows) (sym there) others)
           | inr later ↦
               let order = greater_later list are.ascending i (found.0 - i) (omega arith) in
               let same : slice_index_or list (i + (found.0 - i)) (pos 0) ≡ slice_index_or list found.0 (pos 0) =
@@ -143,7 +135,7 @@ module _ (n : ℕ) (shared : List ℕ) (answers : List Answer) (rows : List ℕ)
   }
 
   -- and if none does, none is bad
-  pub none_found : NoneBefore (length list) → ¬ (HasBadCandidate (guarding (known_max n answers) shared []) rows)
+  pub none_found : NoneBefore (length list) → ¬ (HasBadCandidate (guarding (known_max n answers) people []) rows)
   none_found none bad =
       let found = (are.each bad.answer).1 bad.candidate in
-      none found.0 found.1 (subst (LeavesLoneRow known rows) (sym (at_place found.0 bad.answer found.1 found.2)) bad.leaves)
+      none found.0 found.1 (subst (LeavesFewPeople known rows) (sym (at_place found.0 bad.answer found.1 found.2)) bad.leaves)

@@ -1,15 +1,15 @@
 -- There are fewer kept records than rows if some set lies outside their span.
-use Rattle.std.proofs.Common.{◌≡◌, ℕ, ◌+◌, ◌≤◌, ℤ, List, [], ◌∷◌, ◌++◌, map, length, ◌∙◌, arith, length-append}
-use Rattle.std.proofs.lemmas.List.{length-map}
+use Rattle.std.proofs.Common.{◌≡◌, ℕ, ◌+◌, ◌≤◌, ℤ, List, [], ◌∷◌, ◌++◌, map, length, Option, None, Some, ◌∙◌, subst, arith, length-append}
+use Rattle.std.specs.List.{AllByRecursion}
+use Rattle.std.proofs.lemmas.List.{length-map, append_assoc}
 use Rattle.audit_types.specs.declared.records.Answered.{Answered}
 use Rattle.audit_types.specs.FilteredRows.{rows_within}
 use Rattle.audit_types.specs.Truth.{number_at}
 use Rattle.audit_types.specs.Form.{set_row, InSpan}
 use Rattle.sum_basis.specs.Spans.{span_trans}
-use Rattle.denial_proof.specs.Weights.{rows_at}
+use Rattle.denial_proof.specs.Weights.{rows_at, own_rows}
 use Rattle.audit_core.specs.Laws.{sets_before}
-use Rattle.denial_proof.specs.Kept.{AreKept}
-use Rattle.denial_proof.specs.Kept.{AreIndependent}
+use Rattle.denial_proof.specs.Kept.{AreKept, AreIndependent, kept_sets}
 use Rattle.denial_proof.proofs.Independence.{independent_push}
 use Rattle.denial_proof.proofs.KeptIndependent.{kept_independent, spanned_before, all_kept}
 use Rattle.denial_proof.proofs.Dimension.{at_most, as_sum}
@@ -45,3 +45,13 @@ module _ (n column : ℕ) (history : List Answered) (places : List ℕ) (kept : 
       let all = length-append (map (rows_at history) places) (rows ∷ []) in
       let count = length-map places (rows_at history) in
       omega arith
+
+-- with the row of an asker too, if her number doesn't follow from them
+pub independent_beside : (n : ℕ) (history : List Answered) (places rows : List ℕ) (own : Option ℕ) →
+    AreIndependent n (kept_sets history places rows None) →
+    AllByRecursion (λ q. ¬ (InSpan (map (set_row n) (kept_sets history places rows None)) (set_row n (q ∷ [])))) (own_rows own) →
+    AreIndependent n (kept_sets history places rows own)
+independent_beside n history places rows None independent outside = independent
+independent_beside n history places rows (Some q) independent outside =
+    subst (AreIndependent n) (append_assoc (map (rows_at history) places) (rows ∷ []) ((q ∷ []) ∷ []))
+    (independent_push n (kept_sets history places rows None) (q ∷ []) independent outside.0)

@@ -24,7 +24,7 @@ pub mod FirstTargets
 pub mod MultipliersRead
 pub mod FirstPairs
 pub mod HighestShows
-pub mod LonePairs
+pub mod CanonicalMaxima
 pub mod CanonicalSums
 pub mod TargetProofs
 pub mod KeptSpan
@@ -36,4 +36,10 @@ pub mod OneProof
 pub mod UnsafeSums
 pub mod ByKind
 pub mod OutlookWalks
-pub mod LoneOutlook
+pub mod FewOutlook
+pub mod FewNames
+pub mod FewWalks
+pub mod PeopleCounted
+pub mod FewLeft
+pub mod LeastFew
+mod Tests

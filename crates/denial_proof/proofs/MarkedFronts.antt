@@ -1,7 +1,8 @@
 -- Fronts of marked rows.
-use Rattle.std.proofs.Common.{◌≡◌, ℕ, zero, suc, ◌+◌, ◌<◌, ℤ, List, [], ◌∷◌, ◌++◌, map, length, take, get_or, refl, sym, ap, ◌∙◌, subst, arith, add-one, inl, inr, length-append}
-use Rattle.std.proofs.lemmas.Bool.{cases_lt}
-use Rattle.std.proofs.lemmas.List.{length-map, get_or-map, take-append-le, take_all}
+use Rattle.std.proofs.Common.{◌≡◌, ℕ, zero, suc, ◌+◌, ◌<◌, ◌≤◌, Bool, true, false, cond, ℤ, Option, None, Some, List, [], ◌∷◌, ◌++◌, map, length, take, get_or, refl, sym, ap, ◌∙◌, subst, arith, add-one, inl, inr, length-append}
+use Rattle.std.specs.Prelude.{nat_le}
+use Rattle.std.proofs.lemmas.Bool.{cases_lt, leb-true}
+use Rattle.std.proofs.lemmas.List.{length-map, get_or-map, take-append-le, take_all, append_assoc}
 use Rattle.std.proofs.Math.Nat.{one-dvd}
 use Rattle.audit_types.specs.declared.records.Answered.{Answered}
 use Rattle.denial_proof.specs.Weights.{rows_at}
@@ -10,7 +11,7 @@ use Rattle.audit_types.specs.Form.{IsReducedForm, IsNarrow}
 use Rattle.audit_types.specs.Rows.{Rows}
 use Rattle.sum_basis.specs.Basis.{Echelon}
 use Rattle.sum_basis.specs.Laws.{FormsAreUnique}
-use Rattle.denial_proof.specs.Kept.{marked_row, marked_rows, MarksNext, HasWideFormOf, HasWideFront, HasWideMarks, IsMarked, kept_sets}
+use Rattle.denial_proof.specs.Kept.{marked_row, marked_rows, marks_for, MarksNext, HasWideFormOf, HasWideFront, HasWideMarks, IsMarked, kept_sets}
 
 -- one marked row more
 take_from : (n m mark : ℕ) (sets : List (List ℕ)) (k at : ℕ) → at ≡ mark + k → k < length sets →
@@ -40,13 +41,12 @@ set_at history places k r l within is =
     ∙ ap (λ (x : Answered). x.rows.list) (sym is)
 
 -- what holds of a front with the next marked row holds of the next front
-pub front_step : (Q : ℕ → List (List ℤ) → Type 0) (n : ℕ) (history : List Answered) (places : List ℕ) (k : ℕ) (r : Answered) (form : Echelon) →
+pub front_step : (Q : ℕ → List (List ℤ) → Type 0) (n m : ℕ) (history : List Answered) (places : List ℕ) (k : ℕ) (r : Answered) (form : Echelon) →
     k < length places → get_or places k 0 < length history →
-    r ≡ get_or history (get_or places k 0) r → r.rows.n ≡ n → form.n ≡ n + (length places + 1) →
-    IsReducedForm (n + (length places + 1)) (take k (marked_rows n (length places + 1) 0 (map (rows_at history) places))) form.rows →
-    MarksNext form r.rows k (Q form.n) → Q (n + (length places + 1)) (take (k + 1) (marked_rows n (length places + 1) 0 (map (rows_at history) places)))
-front_step Q n history places k r form l within is same_n form_n reduced next =
-    let m = length places + 1 in
+    r ≡ get_or history (get_or places k 0) r → r.rows.n ≡ n → form.n ≡ n + m →
+    IsReducedForm (n + m) (take k (marked_rows n m 0 (map (rows_at history) places))) form.rows →
+    MarksNext form r.rows k (Q form.n) → Q (n + m) (take (k + 1) (marked_rows n m 0 (map (rows_at history) places)))
+front_step Q n m history places k r form l within is same_n form_n reduced next =
     let sets = map (rows_at history) places in
     let front = take k (marked_rows n m 0 sets) in
     let count : length sets ≡ length places = length-map places (rows_at history) in
@@ -104,64 +104,70 @@ pub marked_rows-push : (n m at : ℕ) (sets : List (List ℕ)) (s : List ℕ) �
     ≡ marked_rows n m 0 sets ++ marked_row n m at s ∷ []
 marked_rows-push n m at sets s is = push_from n m 0 at sets s (omega arith)
 
--- with the marked row of the asked set
-pub marked_with_asked : FormsAreUnique → (n : ℕ) (history : List Answered) (places : List ℕ) (rows : Rows) (old new : Echelon) → rows.n ≡ n →
-    IsMarked n (length places + 1) (map (rows_at history) places) old →
-    new.n ≡ old.n → new.width ≡ old.width → IsNarrow most_width new.rows → MarksNext old rows (length places) (λ whole. IsReducedForm old.n whole new.rows) →
-    IsMarked n (length places + 1) (kept_sets history places rows.list) new
-marked_with_asked unique n history places rows old new same_n marked same same_width narrow next =
-    let m = length places + 1 in
-    let sets = map (rows_at history) places in
-    let front = marked_rows n m 0 sets in
-    let count : length places ≡ length sets = sym (length-map places (rows_at history)) in
-    let row = marked_row n m (length places) rows.list in
-    let whole : marked_rows n m 0 (sets ++ rows.list ∷ []) ≡ front ++ row ∷ [] = marked_rows-push n m (length places) sets rows.list count in
-    let over_old : IsReducedForm old.n (front ++ marked_row rows.n m (length places) rows.list ∷ []) new.rows
-    = next m (marked.columns ∙ ap (λ x. x + m) (sym same_n)) front (subst (λ c. IsReducedForm c front old.rows) (sym marked.columns) marked.reduced) in
-    let over_n : IsReducedForm (n + m) (front ++ row ∷ []) new.rows
-    = subst (λ c. IsReducedForm c (front ++ row ∷ []) new.rows) marked.columns
-    (subst (λ x. IsReducedForm old.n (front ++ marked_row x m (length places) rows.list ∷ []) new.rows) same_n over_old) in
-    record {
-      columns = same ∙ marked.columns;
-      width = same_width ∙ marked.width;
-      reduced = subst (λ all. IsReducedForm (n + m) all new.rows) (sym whole) over_n;
-      narrow = subst (λ all. ¬ (HasWideFront (n + m) all)) (sym whole) (narrow_push unique (n + m) front row new.rows marked.narrow over_n narrow);
-    }
+-- ---- one set more
 
--- or without it, if the form isn't narrow
-pub wide_with_asked : (n : ℕ) (history : List Answered) (places : List ℕ) (rows : Rows) (old : Echelon) → rows.n ≡ n →
-    IsMarked n (length places + 1) (map (rows_at history) places) old →
-    MarksNext old rows (length places) (HasWideFormOf old.n) → HasWideFront (n + (length places + 1))
-    (marked_rows n (length places + 1) 0 (kept_sets history places rows.list))
-wide_with_asked n history places rows old same_n marked next =
-    let m = length places + 1 in
-    let sets = map (rows_at history) places in
-    let front = marked_rows n m 0 sets in
-    let count : length places ≡ length sets = sym (length-map places (rows_at history)) in
-    let row = marked_row n m (length places) rows.list in
-    let whole : marked_rows n m 0 (sets ++ rows.list ∷ []) ≡ front ++ row ∷ [] = marked_rows-push n m (length places) sets rows.list count in
-    let over_old : HasWideFormOf old.n (front ++ marked_row rows.n m (length places) rows.list ∷ [])
-    = next m (marked.columns ∙ ap (λ x. x + m) (sym same_n)) front (subst (λ c. IsReducedForm c front old.rows) (sym marked.columns) marked.reduced) in
-    let over_n : HasWideFormOf (n + m) (front ++ row ∷ [])
-    = subst (λ c. HasWideFormOf c (front ++ row ∷ [])) marked.columns
-    (subst (λ x. HasWideFormOf old.n (front ++ marked_row x m (length places) rows.list ∷ [])) same_n over_old) in
-    subst (HasWideFront (n + m)) (sym whole) (wide_front_whole (n + m) (front ++ row ∷ []) over_n)
+module _ (n m mark : ℕ) (sets : List (List ℕ)) (count : mark ≡ length sets) (rows : Rows) (same_n : rows.n ≡ n) where
+  -- the marked rows with that of the set
+  whole : marked_rows n m 0 (sets ++ rows.list ∷ []) ≡ marked_rows n m 0 sets ++ marked_row n m mark rows.list ∷ []
+  whole = marked_rows-push n m mark sets rows.list count
 
--- the marks of the kept sets alone, as a front of all
-pub wide_without_asked : (n : ℕ) (history : List Answered) (places rows : List ℕ) →
-    HasWideFront (n + (length places + 1)) (marked_rows n (length places + 1) 0 (map (rows_at history) places)) →
-    HasWideFront (n + (length places + 1)) (marked_rows n (length places + 1) 0 (kept_sets history places rows))
-wide_without_asked n history places rows wide =
-    let m = length places + 1 in
-    let sets = map (rows_at history) places in
-    let whole = marked_rows-push n m (length places) sets rows (sym (length-map places (rows_at history))) in
-    subst (HasWideFront (n + m)) (sym whole) (wide_front_push (n + m) (marked_rows n m 0 sets) (marked_row n m (length places) rows) wide)
+  -- what holds of the next marked row of a form holds of them all
+  next_of_all : (Q : ℕ → List (List ℤ) → Type 0) (old : Echelon) → IsMarked n m sets old → MarksNext old rows mark (Q old.n) →
+      Q (n + m) (marked_rows n m 0 sets ++ marked_row n m mark rows.list ∷ [])
+  next_of_all Q old marked next =
+      let front = marked_rows n m 0 sets in
+      let over_old : Q old.n (front ++ marked_row rows.n m mark rows.list ∷ [])
+      = next m (marked.columns ∙ ap (λ x. x + m) (sym same_n)) front (subst (λ c. IsReducedForm c front old.rows) (sym marked.columns) marked.reduced) in
+      subst (λ c. Q c (front ++ marked_row n m mark rows.list ∷ [])) marked.columns
+      (subst (λ x. Q old.n (front ++ marked_row x m mark rows.list ∷ [])) same_n over_old)
 
--- as many sets are marked as there are marks
-pub marks_wide : (n : ℕ) (history : List Answered) (places rows : List ℕ) →
-    HasWideFront (n + (length places + 1)) (marked_rows n (length places + 1) 0 (kept_sets history places rows)) →
-    HasWideMarks n (kept_sets history places rows)
-marks_wide n history places rows wide =
-    let count : length places + 1 ≡ length (kept_sets history places rows) =
-    sym (length-append (map (rows_at history) places) (rows ∷ []) ∙ ap (λ k. k + 1) (length-map places (rows_at history))) in
-    subst (λ m. HasWideFront (n + m) (marked_rows n m 0 (kept_sets history places rows))) count wide
+  pub marked_with : FormsAreUnique → (old new : Echelon) → IsMarked n m sets old → new.n ≡ old.n → new.width ≡ old.width → IsNarrow most_width new.rows →
+      MarksNext old rows mark (λ all. IsReducedForm old.n all new.rows) → IsMarked n m (sets ++ rows.list ∷ []) new
+  marked_with unique old new marked same same_width narrow next =
+      let front = marked_rows n m 0 sets in
+      let row = marked_row n m mark rows.list in
+      let over_n = next_of_all (λ c all. IsReducedForm c all new.rows) old marked next in
+      record {
+        columns = same ∙ marked.columns;
+        width = same_width ∙ marked.width;
+        reduced = subst (λ all. IsReducedForm (n + m) all new.rows) (sym whole) over_n;
+        narrow = subst (λ all. ¬ (HasWideFront (n + m) all)) (sym whole) (narrow_push unique (n + m) front row new.rows marked.narrow over_n narrow);
+      }
+
+  -- or without it, if the form isn't narrow
+  pub wide_with : (old : Echelon) → IsMarked n m sets old → MarksNext old rows mark (HasWideFormOf old.n) → HasWideMarks n m (sets ++ rows.list ∷ [])
+  wide_with old marked next =
+      subst (HasWideFront (n + m)) (sym whole)
+      (wide_front_whole (n + m) (marked_rows n m 0 sets ++ marked_row n m mark rows.list ∷ []) (next_of_all HasWideFormOf old marked next))
+
+-- if some front of the marks is wide, it is one with a set more
+pub wide_without : (n m : ℕ) (sets : List (List ℕ)) (rows : List ℕ) → HasWideMarks n m sets → HasWideMarks n m (sets ++ rows ∷ [])
+wide_without n m sets rows wide =
+    subst (HasWideFront (n + m)) (sym (marked_rows-push n m (length sets) sets rows refl))
+    (wide_front_push (n + m) (marked_rows n m 0 sets) (marked_row n m (length sets) rows) wide)
+
+-- with the row of an asker too
+pub wide_beside : (n m : ℕ) (history : List Answered) (places rows : List ℕ) (own : Option ℕ) → HasWideMarks n m (kept_sets history places rows None) →
+    HasWideMarks n m (kept_sets history places rows own)
+wide_beside n m history places rows None wide = wide
+wide_beside n m history places rows (Some q) wide =
+    subst (HasWideMarks n m) (append_assoc (map (rows_at history) places) (rows ∷ []) ((q ∷ []) ∷ []))
+    (wide_without n m (kept_sets history places rows None) (q ∷ []) wide)
+
+-- ---- how many marks there are
+
+-- there are enough of them
+pub enough_marks : (n more sets some : ℕ) → sets + some ≤ n → some ≤ more → sets + some ≤ marks_for n more sets
+enough_marks n more sets some few most = go (nat_le (sets + more) n)
+  where
+    go : (b : Bool) → sets + some ≤ cond b (sets + more) n
+    go true = omega arith
+    go false = few
+
+-- but no more than rows
+pub few_marks : (n more sets : ℕ) → marks_for n more sets ≤ n
+few_marks n more sets = go (nat_le (sets + more) n) refl
+  where
+    go : (b : Bool) → nat_le (sets + more) n ≡ b → cond b (sets + more) n ≤ n
+    go true e = leb-true (sets + more) n e
+    go false e = omega arith

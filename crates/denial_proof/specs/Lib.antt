@@ -1,8 +1,9 @@
 pub mod Weights
+pub mod FewRows
 pub mod Lone
 pub mod Certificates
 pub mod Kept
-pub mod Targets
+pub mod Tellers
 pub mod Numbers
 pub mod Canonical
 pub mod Denied

@@ -1,7 +1,7 @@
--- Numbers that give answers, and when a row is shown to be the only one of its set that can reach the set's answer.
-use Rattle.std.specs.Prelude.{◌≡◌, ◌≢◌, ℕ, ℤ, ◌<ℤ◌, true, List}
+-- Numbers that give answers, and when rows are shown to be the only ones of a set that can reach the set's answer.
+use Rattle.std.specs.Prelude.{◌≡◌, ℕ, ℤ, ◌<ℤ◌, true, false, List}
 use Rattle.audit_types.specs.Rows.{has_row}
-use Rattle.audit_types.specs.Truth.{number_at, greatest_over}
+use Rattle.audit_types.specs.Truth.{greatest_over}
 use Rattle.audit_types.specs.declared.records.Answered.{Answered}
 use Rattle.audit_types.specs.History.{answer_in}
 use Rattle.audit_types.specs.Column.{Answer, IsOneOf, Known, Agrees}
@@ -23,19 +23,9 @@ RecordHoldsBelow column value row r = (r.column ≡ column) × HoldsBelow value 
 abbrev pub IsHeldBelow : List Answer → ℤ → ℕ → Type 0
 IsHeldBelow answers value row = (answer : Answer) × IsOneOf answer answers × HoldsBelow value row answer
 
--- `high` gives all answers, and every row of one answer's set but this one is held below that answer
-pub record ShowsLone (known : Known) (pair : Answer) (row : ℕ) (high : List ℤ) : Type 0 where
+-- `high` gives all answers, and every row of one answer's set but these is held below that answer
+pub record ShowsLone (known : Known) (pair : Answer) (rows : List ℕ) (high : List ℤ) : Type 0 where
   pub agrees : Agrees known high
   pub among : IsOneOf pair known.answers
-  pub holds : has_row pair.rows row ≡ true
-  pub others : (q : ℕ) → has_row pair.rows q ≡ true → q ≢ row → IsHeldBelow known.answers pair.value q
-
--- a row of the set has this number
-pub record IsAt (numbers : List ℤ) (rows : List ℕ) (value : ℤ) (row : ℕ) : Type 0 where
-  pub holds : has_row rows row ≡ true
-  pub has : number_at numbers row ≡ value
-
--- it alone
-pub record IsOnly (numbers : List ℤ) (rows : List ℕ) (value : ℤ) (row : ℕ) : Type 0 where
-  pub at : IsAt numbers rows value row
-  pub others : (q : ℕ) → q ≢ row → ¬ (IsAt numbers rows value q)
+  pub holds : (r : ℕ) → has_row rows r ≡ true → has_row pair.rows r ≡ true
+  pub others : (q : ℕ) → has_row pair.rows q ≡ true → has_row rows q ≡ false → IsHeldBelow known.answers pair.value q

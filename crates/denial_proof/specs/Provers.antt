@@ -1,5 +1,5 @@
 -- What the history alone determines for the proofs of one column.
-use Rattle.std.specs.Prelude.{◌≡◌, ℕ, ◌<◌, List, All}
+use Rattle.std.specs.Prelude.{◌≡◌, ℕ, suc, ◌<◌, List, All}
 use Rattle.audit_types.specs.declared.shapes.Kind.TheVariants as kind
 use Rattle.audit_types.specs.declared.records.Answered.{Answered}
 use Rattle.audit_types.specs.Shapes.{columns, kind_at}
@@ -12,7 +12,7 @@ use Rattle.denial_proof.specs.Kept.{AreMarksOf}
 
 -- the marks of a column of sums, the candidates of one of maxima
 abbrev pub IsPreparationOf : Setting → List Answered → ℕ → Preparation → Type 0
-IsPreparationOf setting history column (Sums marks) = (kind_at setting.shape column ≡ kind.Sum) × AreMarksOf setting.shape.rows column history marks.places.items marks.form
+IsPreparationOf setting history column (Sums marks) = (kind_at setting.shape column ≡ kind.Sum) × AreMarksOf setting.shape.rows column history (suc setting.protected.people.own) marks.places.items marks.form
 IsPreparationOf setting history column (Maxima candidates) = (kind_at setting.shape column ≡ kind.Max) × AreCandidates (answers_of column history) candidates.items × All IsNearRange candidates.items
 
 -- a prover of a column of the table, for questions after this history

@@ -27,9 +27,10 @@ pub fn check_proof(
     match proof {
         Proof::Sum {
             target,
+            share,
             times,
             terms,
-            asked: own,
+            asked: count,
         } => {
             let facts = PublicFacts {
                 n: shape.rows,
@@ -39,23 +40,24 @@ pub fn check_proof(
             };
             let total = Total {
                 target: *target,
+                share: *share,
                 times: *times,
                 terms: &terms.list,
-                own: *own,
+                count: *count,
             };
             shape.kind(asked.column) == Kind::Sum && shows_total(&facts, &total)
         }
         Proof::Max {
             answer,
-            row,
+            few,
             pair,
             high,
         } => {
-            let shared = protected.shared();
+            let people = protected.rows();
             let high = &high.list;
             shape.kind(asked.column) == Kind::Max
                 && shows_row(
-                    shape.rows, shared, history, asked, *answer, *row, *pair, high,
+                    shape.rows, people, history, asked, *answer, few, *pair, high,
                 )
         }
     }

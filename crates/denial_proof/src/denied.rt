@@ -13,9 +13,9 @@ pub(crate) fn denied_sums()
     ensures { DeniedSumsAreUnsafe }
 {
     audit_types::laws::true_answers();
-    audit_core::laws::legal_histories();
     audit_core::laws::free_numbers();
     sum_audit::laws::dangerous_sums();
+    sum_audit::laws::pinned_rows();
 }
 
 /// Some candidate for a denied maximum is possible and leaves a lone row that isn't shared, where none was lone before.

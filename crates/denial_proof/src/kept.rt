@@ -4,7 +4,7 @@ ghost use Rattle.std.specs.List.{AllByRecursion};
 ghost use Rattle.audit_types.specs.Limits.{most_rows, most_width};
 ghost use Rattle.audit_types.specs.Form.{set_row, InSpan, Reduced, IsReducedForm, IsNarrow};
 ghost use Rattle.sum_basis.specs.Growth.{GrowsWide};
-ghost use Rattle.denial_proof.specs.Kept.{AreKept, marked_rows, MarksNext, IsMarked, HasWideFormOf, HasWideFront};
+ghost use Rattle.denial_proof.specs.Kept.{AreKept, MarksNext, IsMarked, HasWideFormOf, HasWideMarks};
 ghost use Rattle.denial_proof.specs.Denied.{AreNarrowSums};
 ghost use Rattle.denial_proof.specs.Weights.{rows_at};
 
@@ -83,11 +83,12 @@ fn mark_next(form: &mut Form, rows: &RowSet, mark: u16) -> Result<bool, NoMemory
     }
 }
 
-/// The form of the marked rows of the sets at these places, with a mark more for the asked set, unless the form of some front of
-/// them isn't narrow, or there are as many of them as rows.
+/// The form of the marked rows of the sets at these places, over so many marks, unless the form of some front of them isn't narrow, or there
+/// is no mark more than sets.
 pub(crate) fn mark_all(
     alloc: Global,
     n: u16,
+    marks: u16,
     history: &[Answered],
     places: &[u32],
 ) -> Result<Option<Form>, NoMemory>
@@ -95,16 +96,15 @@ pub(crate) fn mark_all(
     requires at_most { n ≤ most_rows }
     requires there { AllByRecursion (λ place. place < length history.now) places.now }
     requires same_n { AllByRecursion (λ r. r.rows.n ≡ n) history.now }
-    ensures some { IfOk result (λ marked. IfSome marked (λ form. IsMarked n (length places.now + 1) (map (rows_at history.now) places.now) form)) }
-    ensures none { IfOk result (λ marked. IfNone marked (length places.now < n → HasWideFront (n + (length places.now + 1)) (marked_rows n (length places.now + 1) 0 (map (rows_at history.now) places.now)))) }
+    requires marks { marks ≤ n }
+    ensures some { IfOk result (λ marked. IfSome marked (λ form. IsMarked n marks (map (rows_at history.now) places.now) form)) }
+    ensures none { IfOk result (λ marked. IfNone marked (length places.now < marks → HasWideMarks n marks (map (rows_at history.now) places.now))) }
 {
     forms_are_unique();
-    // The span of so many kept sets holds the asked one.
-    if places.len() >= n as usize {
+    if places.len() >= marks as usize {
         return Ok(None);
     }
-    let columns = n + places.len() as u16 + 1;
-    let mut form = Form::new(alloc, columns, MOST_WIDTH)?;
+    let mut form = Form::new(alloc, n + marks, MOST_WIDTH)?;
     for mark in 0..places.len() {
         if !mark_next(&mut form, &history[places[mark] as usize].rows, mark as u16)? {
             return Ok(None);
@@ -123,6 +123,20 @@ pub(crate) fn mark_asked(form: &Form, rows: &RowSet, mark: u16) -> Result<Option
     let mut with_asked = form.copy()?;
     if mark_next(&mut with_asked, rows, mark)? {
         Ok(Some(with_asked))
+    } else {
+        Ok(None)
+    }
+}
+
+/// The same, of a form that isn't needed any more.
+pub(crate) fn mark_own(mut form: Form, rows: &RowSet, mark: u16) -> Result<Option<Form>, NoMemory>
+    requires mark { rows.now.n + mark < form.n }
+    requires width { form.width ≡ most_width }
+    ensures some { IfOk result (λ marked. IfSome marked (λ new. (new.n ≡ form.n) × (new.width ≡ form.width) × IsNarrow most_width new.rows × MarksNext form rows.now mark (λ whole. IsReducedForm form.n whole new.rows))) }
+    ensures none { IfOk result (λ marked. IfNone marked (MarksNext form rows.now mark (HasWideFormOf form.n))) }
+{
+    if mark_next(&mut form, rows, mark)? {
+        Ok(Some(form))
     } else {
         Ok(None)
     }

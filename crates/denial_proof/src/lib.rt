@@ -8,6 +8,7 @@
 
 mod checking;
 mod denied;
+mod few_rows;
 mod heights;
 mod kept;
 pub mod laws;
@@ -21,12 +22,14 @@ mod proof_parts;
 mod prover;
 mod proving;
 mod public_facts;
+mod reaching;
 mod sums;
 mod targets;
 mod terms;
 mod totals;
 
 pub use checking::check_proof;
-pub use proof_parts::{Heights, Proof, ProveFault, Target, Term, Terms};
+pub use few_rows::FewRows;
+pub use proof_parts::{Heights, OwnShare, Proof, ProveFault, Target, Term, Terms};
 pub use prover::Prover;
 pub use proving::prove;

@@ -1,13 +1,17 @@
 //! The check of a proof for a column of maxima.
-ghost use Rattle.std.specs.Prelude.{◌≡◌, ◌≢◌, ◌↔◌, ℕ, ◌<◌, true, ◌≤◌, [], IsTrue, IfSome, IfNone, length};
+ghost use Rattle.std.specs.Prelude.{◌≡◌, ◌≢◌, ◌↔◌, ℕ, ◌<◌, true, false, [], IsTrue, IfSome, IfNone};
 ghost use Rattle.std.specs.List.{AllByRecursion};
 ghost use Rattle.audit_types.specs.Rows.{has_row};
+ghost use Rattle.audit_types.specs.Headcount.{AreFew};
 ghost use Rattle.audit_types.specs.Column.{Answer, IsOneOf, known_max};
+ghost use Rattle.denial_proof.specs.FewRows.{IsBeside};
 ghost use Rattle.denial_proof.specs.Lone.{HoldsBelow, RecordHoldsBelow, IsHeldBelow, ShowsLone};
 ghost use Rattle.denial_proof.specs.Certificates.{IsPair, answers_after, ShowsRow};
 
+use crate::few_rows::FewRows;
 use crate::heights::gives_all;
-use audit_types::{Answered, Asked, RowSet};
+use audit_types::{Answered, Asked, CountedRows, RowSet};
+use max_bounds::are_few;
 
 // A set of rows and its answer, which may be one beyond 64 bits.
 #[derive(Clone, Copy)]
@@ -56,6 +60,18 @@ pub(crate) fn holds(rows: &RowSet, row: u16) -> bool
     rows.has(row)
 }
 
+// Whether the set holds these rows.
+fn holds_all(set: &RowSet, rows: &RowSet) -> bool
+    ensures { IsTrue result ↔ ((r : ℕ) → has_row rows.now.list r ≡ true → has_row set.now.list r ≡ true) }
+{
+    for row in rows.iter() {
+        if !holds(set, row) {
+            return false;
+        }
+    }
+    true
+}
+
 // Whether an answer is over a set that holds the row, and below the value.
 fn holds_below(rows: &RowSet, answer: i128, value: i128, row: u16) -> bool
     requires within { row < rows.now.n }
@@ -94,41 +110,61 @@ fn is_held_below(
     holds_below(&asked.rows, answer, value, row)
 }
 
-// Whether each row of the set but this one is held below the value.
+// Whether a row of the pair's set is one of these, or held below the pair's answer.
+fn is_among_or_held(
+    n: u16,
+    history: &[Answered],
+    asked: &Asked,
+    answer: i128,
+    pair: &Pair,
+    rows: &RowSet,
+    row: u16,
+) -> bool
+    requires row { row < n }
+    requires same_n { AllByRecursion (λ r. r.rows.n ≡ n) history.now }
+    requires asked { asked.now.rows.n ≡ n }
+    requires pair { pair.now.rows.n ≡ n }
+    requires rows { rows.now.n ≡ n }
+    ensures { IsTrue result ↔ (has_row pair.now.rows.list row ≡ true → has_row rows.now.list row ≡ false → IsHeldBelow (answers_after history.now asked.now answer) pair.now.value row) }
+{
+    !pair.rows.has(row)
+        || rows.has(row)
+        || is_held_below(n, history, asked, answer, pair.value, row)
+}
+
+// Whether each row of the pair's set but these is held below the pair's answer.
 fn others_are_held_below(
     n: u16,
     history: &[Answered],
     asked: &Asked,
     answer: i128,
     pair: &Pair,
-    row: u16,
+    rows: &RowSet,
 ) -> bool
     requires same_n { AllByRecursion (λ r. r.rows.n ≡ n) history.now }
     requires asked { asked.now.rows.n ≡ n }
     requires pair { pair.now.rows.n ≡ n }
-    ensures { IsTrue result ↔ ((q : ℕ) → has_row pair.now.rows.list q ≡ true → q ≢ row → IsHeldBelow (answers_after history.now asked.now answer) pair.now.value q) }
+    requires rows { rows.now.n ≡ n }
+    ensures { IsTrue result ↔ ((q : ℕ) → has_row pair.now.rows.list q ≡ true → has_row rows.now.list q ≡ false → IsHeldBelow (answers_after history.now asked.now answer) pair.now.value q) }
 {
     // A set says of itself that its rows are rows of the table.
     let _ = pair.rows.n();
-    for q in 0..n {
-        if pair.rows.has(q)
-            && q != row
-            && !is_held_below(n, history, asked, answer, pair.value, q)
-        {
+    for row in 0..n {
+        if !is_among_or_held(n, history, asked, answer, pair, rows, row) {
             return false;
         }
     }
     true
 }
 
-// Whether `high` gives all answers and this one, and every row of the pair's set but this row is held below the pair's answer.
+// Whether `high` gives all answers and this one, and the pair's set holds these rows, and every other row of it is held below its answer.
 fn shows_lone(
     n: u16,
     history: &[Answered],
     asked: &Asked,
     answer: i128,
     pair: &Pair,
-    row: u16,
+    rows: &RowSet,
     high: &[i128],
 ) -> bool
     requires same_n { AllByRecursion (λ r. r.rows.n ≡ n) history.now }
@@ -136,25 +172,33 @@ fn shows_lone(
     requires asked { asked.now.rows.n ≡ n }
     requires some_asked { asked.now.rows.list ≢ [] }
     requires pair { pair.now.rows.n ≡ n }
+    requires rows { rows.now.n ≡ n }
     requires among { IsOneOf (record { rows = pair.now.rows.list; value = pair.now.value }) (answers_after history.now asked.now answer) }
-    ensures { IsTrue result ↔ ShowsLone (known_max n (answers_after history.now asked.now answer)) (record { rows = pair.now.rows.list; value = pair.now.value }) row high.now }
+    ensures { IsTrue result ↔ ShowsLone (known_max n (answers_after history.now asked.now answer)) (record { rows = pair.now.rows.list; value = pair.now.value }) rows.now.list high.now }
 {
-    if !holds(&pair.rows, row) {
+    if !holds_all(&pair.rows, rows) {
         return false;
     }
     gives_all(n, history, asked, answer, high)
-        && others_are_held_below(n, history, asked, answer, pair, row)
+        && others_are_held_below(n, history, asked, answer, pair, rows)
 }
 
-/// Whether the row isn't shared, `high` gives all answers and this one, and every row of the pair's set but this row is held below the
+// Whether so few people stand behind these rows, and a row that is named as an asker's own is one that she may know beside them.
+fn are_guarded(people: &CountedRows, few: &FewRows, rows: &RowSet) -> bool
+    ensures { IsTrue result ↔ (AreFew people.now.people [] rows.now.list × IsBeside people.now.people few.now) }
+{
+    are_few(rows, people) && few.is_beside(people)
+}
+
+/// Whether the named rows are of few people, `high` gives all answers and this one, and every other row of the pair's set is held below the
 /// pair's answer.
 pub(crate) fn shows_row(
     n: u16,
-    shared: &RowSet,
+    people: &CountedRows,
     history: &[Answered],
     asked: &Asked,
     answer: i128,
-    row: u16,
+    few: &FewRows,
     place: Option<u32>,
     high: &[i128],
 ) -> bool
@@ -162,13 +206,18 @@ pub(crate) fn shows_row(
     requires some { AllByRecursion (λ r. r.rows.list ≢ []) history.now }
     requires asked { asked.now.rows.n ≡ n }
     requires some_asked { asked.now.rows.list ≢ [] }
-    ensures { IsTrue result ↔ ShowsRow n shared.now.list history.now asked.now answer row place high.now }
+    ensures { IsTrue result ↔ ShowsRow n people.now.people history.now asked.now answer few.now place high.now }
 {
-    if holds(shared, row) {
+    // A set says of itself that its table has rows.
+    let _ = asked.rows.n();
+    let Some(rows) = few.rows(n) else {
+        return false;
+    };
+    if !are_guarded(people, few, &rows) {
         return false;
     }
     match pair_at(n, history, asked, answer, place) {
-        Some(pair) => shows_lone(n, history, asked, answer, &pair, row, high),
+        Some(pair) => shows_lone(n, history, asked, answer, &pair, &rows, high),
         None => false,
     }
 }

@@ -91,7 +91,7 @@ fn read_marks(
     n: u16,
     m: u16,
 ) -> Result<Vec<i128>, NoMemory>
-    requires columns { n + m ≡ form.now.n }
+    requires columns { n + m ≤ form.now.n }
     requires common { unsigned_abs common ≤ 2 ^ 56 }
     requires one_each { length taken.now ≡ length form.now.rows }
     requires small { AllByRecursion IsTakenSmall taken.now }
@@ -126,7 +126,7 @@ pub(crate) fn multipliers(
     target: &RowSet,
     m: u16,
 ) -> Result<Vec<i128>, NoMemory>
-    requires columns { target.now.n + m ≡ form.now.n }
+    requires columns { target.now.n + m ≤ form.now.n }
     requires below { AllByRecursion (λ row. pivot row < target.now.n) form.now.rows }
     ensures are { IfOk result (λ list. AreMultipliers form.now.rows (set_row target.now.n target.now.list) target.now.n m list.items) }
     ensures one_each { IfOk result (λ list. length list.items ≡ m + 1) }

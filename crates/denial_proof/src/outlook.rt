@@ -1,11 +1,16 @@
-//! Which answers to a question could leave a lone row, told from the extreme rows of the answers before it.
-ghost use Rattle.std.specs.Prelude.{◌≡◌, ◌↔◌, ◌<◌, ◌&&◌, not, IsTrue};
-ghost use Rattle.audit_types.specs.Rows.{has_row};
-ghost use Rattle.audit_types.specs.Extremes.{is_bound, upper_bound};
+//! Which answers to a question could leave few extreme rows, told from the extreme rows of the answers before it.
+ghost use Rattle.std.specs.Prelude.{◌≡◌, ◌↔◌, ℕ, List, [], IsTrue};
+ghost use Rattle.audit_types.specs.Rows.{complement};
+ghost use Rattle.audit_types.specs.Column.{IsOneOf};
+ghost use Rattle.audit_types.specs.Headcount.{AreFew};
+ghost use Rattle.audit_types.specs.Extremes.{extremes, upper_bound};
+ghost use Rattle.max_bounds.specs.Kept.{rows_at_least};
 ghost use Rattle.max_bounds.specs.Maxima.{answer_of};
-ghost use Rattle.denial_proof.specs.Outlook.{IsLeftOutside, HoldsAfter, ReachesAfter, ReachesAfterShared, IsHolding, IsReach, IsOutlook, MayLeaveOne, reach_of};
+ghost use Rattle.max_bounds.specs.Outside.{outside};
+ghost use Rattle.denial_proof.specs.Outlook.{IsLeft, HoldsAfter, ReachesAfter, IsHolding, IsReach, IsOutlook, MayLeaveFew, reach_of};
 
-use audit_types::RowSet;
+use crate::reaching::few_reaching;
+use audit_types::{CountedRows, RowSet};
 use max_bounds::{AnsweredMax, Bounds};
 
 // A number above all candidates, and one below them.
@@ -13,42 +18,34 @@ const ABOVE_ALL: i128 = 1 << 64;
 
 const BELOW_ALL: i128 = -(1 << 64);
 
-// How many extreme rows of an answer are outside a set, as far as it matters: a shared one counts as more.
+// What is left of an answer's extreme rows outside a set: no row, rows of few people, or of more.
 #[derive(Clone, Copy)]
 pub(crate) enum Left {
     Nothing,
-    One,
+    Few,
     More,
 }
 
-// Whether a row is extreme for the answer, and outside the set.
-fn is_left(bounds: &Bounds, pair: &AnsweredMax, rows: &RowSet, row: u16) -> bool
-    requires row { row < bounds.now.n }
-    requires same_n { rows.now.n ≡ bounds.now.n }
-    ensures { result ≡ (not (has_row rows.now.list row) && is_bound (upper_bound bounds.now.answers row) pair.now.answer) }
-{
-    !rows.has(row) && bounds.upper(row) == Some(pair.answer)
-}
-
-// How many extreme rows of an answer are outside the set.
-fn left_outside(bounds: &Bounds, pair: &AnsweredMax, rows: &RowSet, shared: &RowSet) -> Left
+// What is left of the extreme rows of an answer outside the asked set. `others` are the rows outside it.
+fn left_outside(bounds: &Bounds, people: &CountedRows, others: &RowSet, pair: &AnsweredMax) -> Left
     requires pair { pair.now.rows.n ≡ bounds.now.n }
-    requires same_n { rows.now.n ≡ bounds.now.n }
-    requires shared { shared.now.n ≡ bounds.now.n }
-    ensures { IsLeftOutside bounds.now.answers shared.now.list rows.now.list (answer_of pair.now) result }
+    requires others { others.now.n ≡ bounds.now.n }
+    ensures { (asked : List ℕ) → others.now.list ≡ complement others.now.n asked → IsOneOf (answer_of pair.now) bounds.now.answers → IsLeft people.now.people (outside asked (extremes bounds.now.answers (answer_of pair.now))) result }
 {
     // A set says of itself that its rows are rows of the table.
     let _ = pair.rows.n();
-    let mut found = false;
-    for row in pair.rows.iter() {
-        if is_left(bounds, pair, rows, row) {
-            if found || shared.has(row) {
-                return Left::More;
+    let mut outside = pair.rows;
+    outside.and_with(others);
+    match few_reaching(bounds, people, &outside, pair.answer as i128) {
+        None => Left::More,
+        Some(few) => {
+            if few.is_empty() {
+                Left::Nothing
+            } else {
+                Left::Few
             }
-            found = true;
         }
     }
-    if found { Left::One } else { Left::Nothing }
 }
 
 // The answers that a set takes extreme rows from.
@@ -56,7 +53,7 @@ fn left_outside(bounds: &Bounds, pair: &AnsweredMax, rows: &RowSet, shared: &Row
 pub(crate) struct Holding {
     // The greatest answer of which no extreme row is outside.
     pub whole: i128,
-    // The greatest of which at most one is, which isn't shared.
+    // The greatest of which rows of few people are.
     pub stranded: i128,
 }
 
@@ -71,7 +68,7 @@ impl Holding {
                 whole: self.whole.max(answer),
                 stranded: self.stranded.max(answer),
             },
-            Left::One => Holding {
+            Left::Few => Holding {
                 whole: self.whole,
                 stranded: self.stranded.max(answer),
             },
@@ -80,18 +77,17 @@ impl Holding {
     }
 }
 
-// What a set takes from all answers.
-fn holding_of(bounds: &Bounds, rows: &RowSet, shared: &RowSet) -> Holding
-    requires same_n { rows.now.n ≡ bounds.now.n }
-    requires shared { shared.now.n ≡ bounds.now.n }
-    ensures { IsHolding bounds.now.answers shared.now.list rows.now.list bounds.now.answers result }
+// What the asked set takes from all answers. `others` are the rows outside it.
+fn holding_of(bounds: &Bounds, people: &CountedRows, others: &RowSet) -> Holding
+    requires others { others.now.n ≡ bounds.now.n }
+    ensures { (asked : List ℕ) → others.now.list ≡ complement others.now.n asked → IsHolding bounds.now.answers people.now.people asked bounds.now.answers result }
 {
     let mut holding = Holding {
         whole: BELOW_ALL,
         stranded: BELOW_ALL,
     };
     for pair in bounds.pairs() {
-        let left = left_outside(bounds, pair, rows, shared);
+        let left = left_outside(bounds, people, others, pair);
         holding = holding.and(left, pair.answer);
     }
     holding
@@ -107,61 +103,54 @@ fn reach_of(bound: Option<i64>) -> i128
     }
 }
 
-// How high a row of a set can be, and how high the next one.
+// How high a row of a set can be, and how high rows of more than few people.
 #[derive(Clone, Copy)]
 pub(crate) struct Reach {
     pub top: i128,
-    pub next: i128,
+    pub many: i128,
 }
 
 impl Reach {
-    // With one row more.
-    fn and(self, reach: i128) -> Reach
-        ensures { ReachesAfter self reach result }
-    {
-        if reach > self.top {
-            Reach {
-                top: reach,
-                next: self.top,
-            }
-        } else {
-            Reach {
-                top: self.top,
-                next: self.next.max(reach),
-            }
-        }
-    }
-
-    // With a shared row more, which counts as two.
-    fn and_shared(self, reach: i128) -> Reach
-        ensures { ReachesAfterShared self reach result }
+    // With one row more, which can be this high, and whether more than few can.
+    fn and(self, height: i128, are_many: bool) -> Reach
+        ensures { ReachesAfter self height are_many result }
     {
         Reach {
-            top: self.top.max(reach),
-            next: self.next.max(reach),
+            top: self.top.max(height),
+            many: if are_many { height } else { self.many },
         }
     }
 }
 
-// How high the rows of a set can be.
-fn reach_in(bounds: &Bounds, rows: &RowSet, shared: &RowSet) -> Reach
+// Whether a height is above that of many so far, and more than few rows of the set can be that high.
+fn are_many(
+    bounds: &Bounds,
+    people: &CountedRows,
+    rows: &RowSet,
+    height: i128,
+    so_far: i128,
+) -> bool
     requires same_n { rows.now.n ≡ bounds.now.n }
-    requires shared { shared.now.n ≡ bounds.now.n }
-    ensures { IsReach bounds.now.answers shared.now.list rows.now.list result }
+    ensures { IsTrue result → ¬ (AreFew people.now.people [] (rows_at_least (upper_bound bounds.now.answers) height rows.now.list)) }
+{
+    height > so_far && few_reaching(bounds, people, rows, height).is_none()
+}
+
+// How high the rows of a set can be.
+fn reach_in(bounds: &Bounds, people: &CountedRows, rows: &RowSet) -> Reach
+    requires same_n { rows.now.n ≡ bounds.now.n }
+    ensures { IsReach bounds.now.answers people.now.people rows.now.list result }
 {
     // A set says of itself that its rows are rows of the table.
     let _ = rows.n();
     let mut reach = Reach {
         top: BELOW_ALL,
-        next: BELOW_ALL,
+        many: BELOW_ALL,
     };
     for row in rows.iter() {
         let height = reach_of(bounds.upper(row));
-        reach = if shared.has(row) {
-            reach.and_shared(height)
-        } else {
-            reach.and(height)
-        };
+        let many = are_many(bounds, people, rows, height, reach.many);
+        reach = reach.and(height, many);
     }
     reach
 }
@@ -174,25 +163,31 @@ pub(crate) struct Outlook {
 }
 
 impl Outlook {
-    /// The outlook of a question on these rows: a step for each row of each set at most.
-    pub(crate) fn new(bounds: &Bounds, rows: &RowSet, shared: &RowSet) -> Outlook
+    /// The outlook of a question on these rows. `others` are the rows outside them.
+    pub(crate) fn new(
+        bounds: &Bounds,
+        people: &CountedRows,
+        rows: &RowSet,
+        others: &RowSet,
+    ) -> Outlook
         requires same_n { rows.now.n ≡ bounds.now.n }
-        requires shared { shared.now.n ≡ bounds.now.n }
-        ensures { IsOutlook bounds.now.answers shared.now.list rows.now.list result }
+        requires others { others.now.n ≡ bounds.now.n }
+        requires complement { others.now.list ≡ complement others.now.n rows.now.list }
+        ensures { IsOutlook bounds.now.answers people.now.people rows.now.list result }
     {
         Outlook {
-            holding: holding_of(bounds, rows, shared),
-            reach: reach_in(bounds, rows, shared),
+            holding: holding_of(bounds, people, others),
+            reach: reach_in(bounds, people, rows),
         }
     }
 
-    /// Whether this answer may be possible and leave a lone row that isn't shared, where none is lone before.
-    pub(crate) fn may_leave_one(&self, answer: i128) -> bool
-        ensures { IsTrue result ↔ MayLeaveOne self.now answer }
+    /// Whether this answer may be possible and leave some answer extreme rows of few people, where no answer has such before.
+    pub(crate) fn may_leave_few(&self, answer: i128) -> bool
+        ensures { IsTrue result ↔ MayLeaveFew self.now answer }
     {
         if answer < self.holding.whole || self.reach.top < answer {
             return false;
         }
-        answer < self.holding.stranded || self.reach.next < answer
+        answer < self.holding.stranded || self.reach.many < answer
     }
 }

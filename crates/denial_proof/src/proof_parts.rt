@@ -2,6 +2,7 @@
 ghost use Rattle.std.specs.Prelude.{◌≡◌};
 ghost use Rattle.denial_proof.specs.declared.proof_parts.ProveFault.TheVariants as fault;
 
+use crate::few_rows::FewRows;
 use audit_types::NoMemory;
 use std::marker::Model;
 
@@ -19,6 +20,13 @@ pub enum Target {
 pub struct Term {
     pub place: u32,
     pub times: i128,
+}
+
+/// The row of one person, whose number the asker knows, and how often it is in what the sets come to.
+#[derive(Clone, Copy, Debug, PartialEq, Eq)]
+pub struct OwnShare {
+    pub own: u16,
+    pub share: i128,
 }
 
 /// Terms, seen as their list.
@@ -54,18 +62,19 @@ impl Model for Heights {
 #[derive(Drop)]
 pub enum Proof {
     /// The records' sets, each as often as its term says, and the asked set, as often as `asked` says, add up to the target,
-    /// `times` times.
+    /// `times` times, and to the row whose number the asker knows, as often as its share says. Without one all would know the target.
     Sum {
         target: Target,
+        share: Option<OwnShare>,
         times: i128,
         terms: Terms,
         asked: i128,
     },
-    /// After this answer the row is the only one of the pair's set that can reach the pair's answer: the record at this place,
-    /// or the asked set if there is none. `high` gives all answers, so the answer is possible.
+    /// After this answer the named rows, of few people, are the only ones of the pair's set that can reach the pair's answer: the record at
+    /// this place, or the asked set if there is none. `high` gives all answers, so the answer is possible.
     Max {
         answer: i128,
-        row: u16,
+        few: FewRows,
         pair: Option<u32>,
         high: Heights,
     },
@@ -74,7 +83,7 @@ pub enum Proof {
 /// Why no proof was given.
 #[derive(Clone, Copy, Debug, PartialEq, Eq)]
 pub enum ProveFault {
-    /// The marked sets aren't narrow, or a number for a group is above 2^112.
+    /// The marked sets aren't narrow, or a number for a group, or for what one asker would know, is above 2^112.
     Wide,
     NoMemory,
 }

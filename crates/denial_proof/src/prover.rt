@@ -45,10 +45,13 @@ impl Prover {
     {
         legal_sums();
         // A core says of what is guarded that it fits the table.
-        let _ = core.protected();
+        let people = core.protected().rows();
         let history = core.history();
         let preparation = match core.column(column) {
-            ColumnRef::Sum(sums) => Preparation::Sums(marks_of(alloc, sums.n(), history, column)?),
+            ColumnRef::Sum(sums) => {
+                let marks = marks_of(alloc, sums.n(), people.askers(), history, column)?;
+                Preparation::Sums(marks)
+            },
             ColumnRef::Max(maxima) => Preparation::Maxima(maxima.candidates()?),
         };
         Ok(Prover {
@@ -94,8 +97,8 @@ impl Prover {
                 prove_sum(self.alloc, sums, marks, &facts)
             }
             (ColumnRef::Max(maxima), Preparation::Maxima(candidates)) => {
-                let shared = protected.shared().over(asked.rows.n());
-                Ok(prove_max(self.alloc, maxima, candidates, history, asked, &shared)?)
+                let people = protected.rows().over(self.alloc, asked.rows.n())?;
+                Ok(prove_max(self.alloc, maxima, candidates, &people, history, asked)?)
             }
             _ => unreachable!(),
         }

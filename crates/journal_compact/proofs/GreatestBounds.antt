@@ -4,15 +4,16 @@ use Rattle.audit_types.specs.declared.shapes.Kind.{Kind}
 use Rattle.audit_types.specs.declared.shapes.Kind.TheVariants.{Sum, Max}
 use Rattle.audit_types.specs.declared.records.Answered.{Answered}
 use Rattle.audit_types.specs.Column.{Known}
+use Rattle.audit_types.specs.Headcount.{one_person_each}
 use Rattle.audit_types.specs.Judgement.{IsWithinWidthFor, sets_with}
 use Rattle.audit_types.specs.Limits.{most_rows, most_width}
 use Rattle.audit_types.specs.WidthLaws.{narrow_by_more, changes_by_more}
 use Rattle.audit_types.specs.History.{Setting, IsPossibleHistory, setting_of}
 use Rattle.journal_compact.specs.Kept.{no_groups}
 
--- what is known of a column, if no group is protected and no row shared, at the greatest bounds
+-- what is known of a column, if one person stands behind each row and no group is protected, at the greatest bounds
 abbrev pub at_greatest : Known → Known
-at_greatest known = record known { groups = []; shared = []; several = []; own = 0; width = most_width; reach = most_rows }
+at_greatest known = record known { groups = []; people = one_person_each; width = most_width; reach = most_rows }
 
 pub within_greatest : (kind : Kind) (known : Known) (rows : List ℕ) → known.n ≤ most_rows → known.width ≤ most_width → IsWithinWidthFor kind known rows →
     IsWithinWidthFor kind (at_greatest known) rows

@@ -10,7 +10,8 @@ use Rattle.audit_types.specs.Column.{Answer}
 use Rattle.audit_types.specs.Extremes.{upper_bound}
 use Rattle.journal_compact.specs.Kept.{IsBounded}
 use Rattle.journal_compact.specs.Follows.{IsHighestBound, higher_of}
-use Rattle.journal_compact.proofs.RowByRow.{bounded_more, next_there}
+use Rattle.audit_types.specs.WalkLaws.{next_of_walk}
+use Rattle.journal_compact.proofs.RowByRow.{bounded_more}
 
 module _ (answers : List Answer) where
   -- the highest bound of the rows so far, if there are any
@@ -34,7 +35,7 @@ module _ (answers : List Answer) where
 
   the_last : (rows : List ℕ) (r : ℕ) (bound value : ℤ) → upper_bound answers r ≡ Some bound → bound ≡ value → HasHighest rows r value
   unfolding HasHighest
-  the_last rows r bound value is same = (r, next_there rows (r ∷ []) [] (rows ++ r ∷ []) r refl refl, is ∙ ap Some same)
+  the_last rows r bound value is same = (r, next_of_walk rows (r ∷ []) [] (rows ++ r ∷ []) r refl refl, is ∙ ap Some same)
 
   an_earlier : (rows : List ℕ) (r : ℕ) (highest value : ℤ) → IsHighestBound answers rows highest → highest ≡ value → HasHighest rows r value
   unfolding HasHighest

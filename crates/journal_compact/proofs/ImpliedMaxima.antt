@@ -19,7 +19,9 @@ use Rattle.audit_types.specs.ListLaws.{all-front}
 use Rattle.max_bounds.specs.Laws.{UpperBoundIsLeast}
 use Rattle.max_bounds.specs.AnswerLaws.{all_at, all_from, one_or_none}
 use Rattle.max_bounds.specs.BoundLaws.{bound_is, exact_bound}
-use Rattle.max_bounds.specs.RowListLaws.{row_below, filter-has, has-filter, has_later, first_or_later, some_row}
+use Rattle.audit_types.specs.WalkLaws.{has_later, first_or_later, row_within}
+use Rattle.audit_types.specs.GreatestLaws.{greatest_is}
+use Rattle.max_bounds.specs.RowListLaws.{filter-has, has-filter, some_row}
 use Rattle.audit_types.specs.RowLaws.{has_first}
 use Rattle.max_audit.specs.Laws.{PossibleByExtremes}
 use Rattle.journal_compact.specs.Kept.{IsImplied, IsForced}
@@ -78,17 +80,6 @@ held_low true least x e = omega (arith, ints, clamps)
 held_low false least x e = refl
 
 module _ (greatest : GreatestIsBoundAndReached) (bounds : UpperBoundIsLeast) where
-  -- a number that is reached, and that none is above, is the greatest
-  greatest_is : (w : List ℤ) (rows : List ℕ) (m : ℤ) (q : ℕ) → rows ≢ [] → ((r : ℕ) → has_row rows r ≡ true → number_at w r ≤ℤ m) →
-      has_row rows q ≡ true → number_at w q ≡ m → greatest_over w rows ≡ m
-  greatest_is w rows m q some all there is =
-      let law = greatest w rows some in
-      let reached = law.1 in
-      let low = all reached.0 reached.1 in
-      let equal = reached.2 in
-      let high = law.0 q there in
-      omega (arith, ints)
-
   module _ (n : ℕ) (answers : List Answer) (well : IsWellFormed (known_max n answers)) where
     -- the rows of an answer are rows of the table, and some
     rows_of : (p : Answer) → IsOneOf p answers → AreRows n p.rows
@@ -127,9 +118,9 @@ module _ (greatest : GreatestIsBoundAndReached) (bounds : UpperBoundIsLeast) whe
           let bound = (bounds answers r).0 p one there in
           let under = low r bound.0 bound.1 in
           let least = bound.2 in
-          let is = number_is f r (row_below n p.rows r (rows_of p one) there) in
+          let is = number_is f r (row_within n p.rows r (rows_of p one) there) in
           omega (arith, ints))
-          at.0 (number_is f hit.0 (row_below n p.rows hit.0 (rows_of p one) at.0) ∙ hit.2));
+          at.0 (number_is f hit.0 (row_within n p.rows hit.0 (rows_of p one) at.0) ∙ hit.2));
     }
       where
         number_is : (f : ℕ → ℤ) (r : ℕ) → r < n → number_at (map f (range_with_len 0 n)) r ≡ f r
@@ -181,7 +172,7 @@ module _ (greatest : GreatestIsBoundAndReached) (bounds : UpperBoundIsLeast) whe
         bounded r there =
             let given = implied (map high (range_with_len 0 n)) (agrees_below high high_low (λ p one. let h = hit p one in (h.0, h.1, high_at p h.0 h.1))) in
             let low = (greatest (map high (range_with_len 0 n)) a.rows some).0 r there in
-            let is = number_in high r (row_below n a.rows r are there) in
+            let is = number_in high r (row_within n a.rows r are there) in
             bound_within (a.value +ℤ pos 1) a.value (upper_bound answers r) (omega (arith, ints)) (omega (arith, ints))
 
         -- an earlier answer of this number with all its extreme rows in the set
@@ -235,7 +226,7 @@ module _ (greatest : GreatestIsBoundAndReached) (bounds : UpperBoundIsLeast) whe
             (λ p one. lowered_hits p one (outside p one)) in
             let given = implied w agrees in
             let reached = (greatest w a.rows some).1 in
-            let is = number_in lowered reached.0 (row_below n a.rows reached.0 are reached.1) in
+            let is = number_in lowered reached.0 (row_within n a.rows reached.0 are reached.1) in
             let low = held_inside (has_row a.rows reached.0) (a.value -ℤ pos 1) (high reached.0) reached.1 in
             let equal = reached.2 in
             omega (arith, ints)

@@ -20,10 +20,11 @@ use Rattle.audit_types.specs.Totals.{products_from_sums, products_in_span, sums_
 use Rattle.audit_types.specs.Truth.{number_at, sum_over}
 use Rattle.audit_types.specs.FormRows.{lengths_of_form}
 use Rattle.audit_types.specs.RowNumbers.{length-set_row, lengths_of_sets}
-use Rattle.audit_types.specs.Column.{Known, Answer, Agrees, IsPossible, IsGuarded, number, total, IsDangerous, known_sum, with_answer}
+use Rattle.audit_types.specs.Column.{Known, Answer, Agrees, IsPossible, IsGuarded, IsDangerous, known_sum, with_answer}
 use Rattle.audit_types.specs.Judgement.{IsWideFor, IsWithinWidthFor, IsDecision}
 use Rattle.audit_types.specs.History.{Protection, Table, AreSecrets, IsLegal, IsDecisionAfter, setting_of, known_of, groups_of, answers_of, answer_in, list_of}
 use Rattle.audit_types.specs.Laws.{LegalIsPossible}
+use Rattle.audit_types.specs.WidthLaws.{guarded_alike}
 use Rattle.audit_types.specs.ListLaws.{all-front, all-push, all-map, all_by_place}
 use Rattle.sum_basis.specs.Laws.{FormsAreUnique, EveryRowSpaceHasAForm, SpanKeepsForm, OneMoreSet}
 use Rattle.audit_core.specs.Laws.{LegalGrows}
@@ -110,9 +111,7 @@ knows n protected groups kind answers = record {
   n = n;
   answers = answers;
   groups = groups;
-  shared = protected.shared;
-  several = protected.several;
-  own = protected.own;
+  people = protected.people;
   width = protected.width;
   reach = protected.reach;
 }
@@ -120,8 +119,7 @@ knows n protected groups kind answers = record {
 module _ (n : ℕ) (protected : Protection) (groups : List (List ℕ)) where
   guarded : (kind : Kind) (answers others : List Answer) (own : List ℕ) {value : List ℤ → ℤ} → IsGuarded (knows n protected groups kind answers) own value →
       IsGuarded (knows n protected groups kind others) own value
-  guarded kind answers others own (number row below other alone) = number row below other alone
-  guarded kind answers others own (total group row one inside other) = total group row one inside other
+  guarded kind answers others own is = guarded_alike (knows n protected groups kind answers) (knows n protected groups kind others) refl refl refl refl own is
 
   -- if the same lists agree, the same questions are dangerous
   dangerous : (kind : Kind) (answers others : List Answer) (rows : List ℕ) →

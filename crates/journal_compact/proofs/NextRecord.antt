@@ -58,7 +58,7 @@ module _ (laws : NextLaws) (shape : Shape) (h : List Answered) (some : IsLegalFo
   abbrev table : Table
   table = some.table
 
-  -- with no group protected and no row shared its setting is the core's
+  -- with no group protected, and one person behind each row, its setting is the core's
   same_setting : setting_of table.setting.shape no_groups ≡ setting
   same_setting = ap (λ s. setting_of s no_groups) some.same_shape ∙ sym setting_is
 
@@ -88,7 +88,7 @@ module _ (laws : NextLaws) (shape : Shape) (h : List Answered) (some : IsLegalFo
       let known = known_of table.setting kept r.column in
       let few : known.n ≤ most_rows = subst (λ (s : Shape). s.rows ≤ most_rows) (sym some.same_shape) some.valid.at_most in
       subst (λ (s : Setting). IsWithinWidth (known_of s kept r.column) r.rows.list) same_setting
-      (within_greatest known.kind known r.rows.list few some.guard.0.5 may_follow.released.0)
+      (within_greatest known.kind known r.rows.list few some.guard.4 may_follow.released.0)
 
   pub possible : IsPossibleHistory setting (kept ++ r ∷ [])
   possible =

@@ -9,6 +9,7 @@ use Rattle.audit_types.specs.Rows.{AreRows}
 use Rattle.audit_types.specs.Shapes.{kind_at}
 use Rattle.audit_types.specs.Truth.{truth}
 use Rattle.audit_types.specs.Form.{set_row, InSpan, Reduced}
+use Rattle.audit_types.specs.Headcount.{one_person_each}
 use Rattle.audit_types.specs.Column.{Known, Answer, Agrees, IsPossible, IsWellFormed, known_max}
 use Rattle.audit_types.specs.History.{FitsShape, IsPossibleHistory, answers_of, answer_in, known_of, list_of}
 use Rattle.audit_types.specs.ListLaws.{all-unmap}
@@ -18,7 +19,6 @@ use Rattle.audit_core.specs.Columns.{HasItsPart}
 use Rattle.journal_compact.specs.Kept.{IsImplied, IsImpliedBy, IsForced}
 use Rattle.journal_compact.specs.Follows.{Follows, FollowsFrom, IsForcedToOne}
 use Rattle.journal_compact.specs.Laws.{ImpliedBySpan, ImpliedByExtremes}
-use Rattle.audit_core.specs.OutsiderColumns.{outsiders_as}
 use Rattle.audit_types.specs.Limits.{most_rows, most_width}
 use Rattle.journal_compact.proofs.Pushes.{own_answers}
 
@@ -68,7 +68,8 @@ module _ (audited : Audited) (r : Answered) (fits : FitsShape audited.setting.sh
 
   -- what is known of a column, apart from protected groups
   abbrev knows : Kind → List Answer → Known
-  knows kind answers = outsiders_as kind size answers [] [] most_width most_rows
+  knows kind answers =
+      record { kind = kind; n = size; answers = answers; groups = []; people = one_person_each; width = most_width; reach = most_rows }
 
   rows_are : AreRows size r.rows.list
   rows_are = subst (λ m. AreRows m r.rows.list) fits.same_n fits.are_rows

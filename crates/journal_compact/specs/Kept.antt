@@ -7,16 +7,17 @@ use Rattle.audit_types.specs.Truth.{truth}
 use Rattle.audit_types.specs.Column.{Known, Answer, Agrees}
 use Rattle.audit_types.specs.Extremes.{upper_bound}
 use Rattle.audit_types.specs.Limits.{most_rows, most_width}
-use Rattle.audit_types.specs.History.{Protection, against_outsiders, answer_in, known_of, setting_of}
+use Rattle.audit_types.specs.Headcount.{one_person_each}
+use Rattle.audit_types.specs.History.{Protection, answer_in, known_of, setting_of}
 use Rattle.max_bounds.specs.Outside.{HasExtremesWithin}
 
 -- every list that gives the answers gives this one too
 abbrev pub IsImplied : Known → Answer → Type 0
 IsImplied known a = (w : List ℤ) → Agrees known w → truth known.kind w a.rows ≡ a.value
 
--- no group is protected and no row shared
+-- one person stands behind each row, none of them asks, and no group is protected
 abbrev pub no_groups : Protection
-no_groups = against_outsiders [] [] most_width most_rows
+no_groups = record { groups = []; people = one_person_each; width = most_width; reach = most_rows }
 
 -- every list that agrees with the records before it, on its column, gives the record's answer. What is guarded doesn't matter
 abbrev pub IsImpliedBy : Shape → List Answered → Answered → Type 0

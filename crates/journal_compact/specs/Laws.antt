@@ -9,7 +9,7 @@ use Rattle.audit_types.specs.Rows.{AreRows}
 use Rattle.audit_types.specs.Shapes.{kind_at, columns, IsShape}
 use Rattle.audit_types.specs.Form.{set_row, InSpan, Reduced}
 use Rattle.audit_types.specs.Column.{Answer, Agrees, IsPossible, IsWellFormed, known_sum, known_max, with_answer}
-use Rattle.audit_types.specs.History.{Setting, Table, AreSecrets, IsGuardFor, IsLegal, IsDecisionAfter, known_of, answers_of}
+use Rattle.audit_types.specs.History.{Setting, Table, AreSecrets, AreProtected, IsLegal, IsDecisionAfter, known_of, answers_of}
 use Rattle.journal_compact.specs.Kept.{IsImplied, IsKeptOf, IsForced}
 
 -- the sets of a column in a history, in order
@@ -64,11 +64,11 @@ KeptIsLegal =
     (table : Table) (history kept : List Answered) → AreSecrets table.setting.shape table.secrets → IsLegal table history → IsKeptOf table.setting.shape history kept →
     IsLegal table kept
 
--- the history is legal for some table of this shape, of which what is guarded is so against outsiders
+-- the history is legal for some table of this shape
 pub record IsLegalForSome (shape : Shape) (history : List Answered) : Type 0 where
   pub valid : IsShape shape
   pub table : Table
   pub same_shape : table.setting.shape ≡ shape
-  pub guard : IsGuardFor table.setting.shape table.setting.protected
+  pub guard : AreProtected table.setting.shape table.setting.protected
   pub are_secrets : AreSecrets table.setting.shape table.secrets
   pub legal : IsLegal table history

@@ -10,7 +10,7 @@ use crate::laws::{implied_maxima, implied_sums, kept_of_legal};
 use audit_core::laws::released_records;
 use audit_core::{ColumnRef, Core};
 use audit_types::laws::true_answers;
-use audit_types::{Answered, Guard, MOST_REACH, MOST_WIDTH, NoMemory, RowSet, Shape};
+use audit_types::{Answered, Askers, CountedRows, Guard, MOST_REACH, MOST_WIDTH, NoMemory, Shape};
 use std::alloc::Global;
 
 // Whether the records of the core imply this one.
@@ -43,9 +43,9 @@ pub fn kept(alloc: Global, shape: &Shape, history: &[Answered]) -> Result<Vec<An
     true_answers();
     released_records();
     kept_of_legal();
-    // What is guarded makes no record implied, so the core knows no group and no shared row.
-    let shared = RowSet::new(shape.rows);
-    let unguarded = Guard::new(Vec::new(alloc), shared, MOST_WIDTH, MOST_REACH);
+    // What is guarded makes no record implied, so the core knows no group, and one person behind each row.
+    let rows = CountedRows::new(shape.rows, Vec::new(alloc), 2, Askers::Outside);
+    let unguarded = Guard::new(Vec::new(alloc), rows, MOST_WIDTH, MOST_REACH);
     let mut core = Core::new(alloc, *shape, unguarded)?;
     for answered in history {
         if !is_implied(&core, answered) {

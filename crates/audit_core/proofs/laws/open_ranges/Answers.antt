@@ -11,11 +11,8 @@ returns c =
       dangerous = c.dangerous_sums.ensures.dangerous;
       maxima = record {
         possible = c.possible_by_extreme_rows.ensures;
-        fixed = c.fixed_by_lone_rows.ensures;
-        free = c.others_are_free.ensures.free;
-        scarce_or_open = c.known_maxima.ensures.scarce_or_open;
-        few = c.dangerous_lines.ensures.scarce;
-        danger = c.dangerous_lines.ensures.danger;
+        few_or_open = c.open_to_askers.ensures.guarded;
+        danger = c.dangerous_by_few_people.ensures;
       };
     })
-    c.small_directions.ensures.spanned_or_moved c.dangerous_sums.ensures.fixed c.any_number_below.ensures
+    c.small_directions.ensures.spanned_or_moved c.small_directions.ensures.beside c.open_to_askers.ensures.range

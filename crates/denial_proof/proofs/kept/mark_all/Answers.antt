@@ -15,7 +15,7 @@ returns-then-not-branch-clause-none c = λ few.
     let r = c.index-history-places.result in
     let place = get_or c.args.places.now k 0 in
     let sets = map (rows_at c.args.history.now) c.args.places.now in
-    let size = length-marked_rows c.args.n (length c.args.places.now + 1) sets in
+    let size = length-marked_rows c.args.n c.args.marks sets in
     let count = length-map c.args.places.now (rows_at c.args.history.now) in
     let within : place < length c.args.history.now = all-get_or (λ p. p < length c.args.history.now) c.args.places.now k 0 c.requires.there
     c.loop-mark-test.true in
@@ -24,7 +24,8 @@ returns-then-not-branch-clause-none c = λ few.
     (all-get_or (λ (x : Answered). x.rows.n ≡ c.args.n) c.args.history.now place r c.requires.same_n within) in (
       k + 1,
       omega arith,
-      front_step HasWideFormOf c.args.n c.args.history.now c.args.places.now k r c.loop-mark.form c.loop-mark-test.true within c.index-history-places.is at
+      front_step HasWideFormOf c.args.n c.args.marks c.args.history.now c.args.places.now k r c.loop-mark.form c.loop-mark-test.true within
+          c.index-history-places.is at
           c.loop-mark.invariant.same_n
           c.loop-mark.invariant.reduced (subst (λ (x : Answered). MarksNext c.loop-mark.form x.rows k (HasWideFormOf c.loop-mark.form.n))
           (sym c.index-history-places.is) (c.in_ok-mark_next.ensures.wide c.if-not-branch.true)),
@@ -32,15 +33,15 @@ returns-then-not-branch-clause-none c = λ few.
 
 pub loop-mark-init : goal.loop-mark-init
 loop-mark-init c =
-    let columns = c.args.n + (length c.args.places.now + 1) in
+    let columns = c.args.n + c.args.marks in
     let is = c.in_ok-form.ensures in
-    let none : columns ≡ c.args.n + length c.args.places.now + 1 = omega arith in
+    let none : columns ≡ c.args.n + c.args.marks = omega arith in
     let first : IsReducedForm columns [] [] = record { primitive = tt; echelon = tt; within = tt; spans = tt } in record {
       same_n = ap (λ (f : Echelon). f.n) is ∙ sym none;
       same_width = ap (λ (f : Echelon). f.width) is;
       reduced = subst (λ rows. IsReducedForm columns [] rows) (sym (ap (λ (f : Echelon). f.rows) is)) first;
       narrow = no_wide_front c.forms_are_unique.ensures columns
-          (marked_rows c.args.n (length c.args.places.now + 1) 0 (map (rows_at c.args.history.now) c.args.places.now));
+          (marked_rows c.args.n c.args.marks 0 (map (rows_at c.args.history.now) c.args.places.now));
     }
 
 pub loop-mark-preserved : goal.loop-mark-preserved
@@ -48,7 +49,7 @@ loop-mark-preserved c =
     let k = c.loop-mark.mark in
     let r = c.index-history-places.result in
     let place = get_or c.args.places.now k 0 in
-    let m = length c.args.places.now + 1 in
+    let m = c.args.marks in
     let sets = map (rows_at c.args.history.now) c.args.places.now in
     let count = length-map c.args.places.now (rows_at c.args.history.now) in
     let within : place < length c.args.history.now = all-get_or (λ p. p < length c.args.history.now) c.args.places.now k 0 c.requires.there
@@ -57,7 +58,8 @@ loop-mark-preserved c =
     = subst (λ (x : Answered). x.rows.n ≡ c.args.n) (sym c.index-history-places.is)
     (all-get_or (λ (x : Answered). x.rows.n ≡ c.args.n) c.args.history.now place r c.requires.same_n within) in
     let IsFormNow : ℕ → List (List ℤ) → Type 0 = λ n rows. IsReducedForm n rows c.mark_next.new.form.rows in
-    let reduced = front_step IsFormNow c.args.n c.args.history.now c.args.places.now k r c.loop-mark.form c.loop-mark-test.true within c.index-history-places.is
+    let reduced = front_step IsFormNow c.args.n c.args.marks c.args.history.now c.args.places.now k r c.loop-mark.form c.loop-mark-test.true within
+    c.index-history-places.is
     at c.loop-mark.invariant.same_n
     c.loop-mark.invariant.reduced (subst (λ (x : Answered). MarksNext c.loop-mark.form x.rows k (IsFormNow c.loop-mark.form.n)) (sym c.index-history-places.is)
     (c.in_ok-mark_next.ensures.added c.if-not-branch.false)) in
@@ -74,7 +76,7 @@ loop-mark-preserved c =
 pub returns-clause-some : goal.returns-clause-some
 returns-clause-some c =
     let sets = map (rows_at c.args.history.now) c.args.places.now in
-    let m = length c.args.places.now + 1 in
+    let m = c.args.marks in
     let size = length-marked_rows c.args.n m sets in
     let count = length-map c.args.places.now (rows_at c.args.history.now) in
     let all = take_all c.loop-mark.mark (marked_rows c.args.n m 0 sets) (omega arith) in record {

@@ -1,4 +1,4 @@
-use Rattle.std.proofs.Common.{◌≡◌, ◌+◌, take, map, length}
+use Rattle.std.proofs.Common.{◌≡◌, ◌+◌, take, map}
 use Rattle.audit_types.specs.Limits.{most_width}
 use Rattle.audit_types.specs.Form.{IsReducedForm}
 use Rattle.denial_proof.specs.Weights.{rows_at}
@@ -7,8 +7,8 @@ use Rattle.denial_proof.proofs.kept.mark_all.Given as goal
 
 abbrev pub invariant-loop-mark : goal.invariant-loop-mark
 invariant-loop-mark l = record {
-  same_n : l.form.n ≡ l.n + (length l.places + 1);
+  same_n : l.form.n ≡ l.n + l.marks;
   same_width : l.form.width ≡ most_width;
-  reduced : IsReducedForm (l.n + (length l.places + 1)) (take l.mark (marked_rows l.n (length l.places + 1) 0 (map (rows_at l.history) l.places))) l.form.rows;
-  narrow : ¬ (HasWideFront (l.n + (length l.places + 1)) (take l.mark (marked_rows l.n (length l.places + 1) 0 (map (rows_at l.history) l.places))));
+  reduced : IsReducedForm (l.n + l.marks) (take l.mark (marked_rows l.n l.marks 0 (map (rows_at l.history) l.places))) l.form.rows;
+  narrow : ¬ (HasWideFront (l.n + l.marks) (take l.mark (marked_rows l.n l.marks 0 (map (rows_at l.history) l.places))));
 }

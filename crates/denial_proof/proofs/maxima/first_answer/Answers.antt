@@ -14,9 +14,10 @@ returns-in-Some-clause-first c =
     let value = to_z-of_z w128 answer fits in
     let told = rw value at c.in-Some.ensures.some in
     rw value
-    (first_found c.args.bounds.now.n c.args.shared.now.list c.args.bounds.now.answers c.args.rows.now.list items c.requires.candidates i answer
-    c.in-Some.row c.loop-answer-test.true
-    (same_default items i (pos 0) answer c.loop-answer-test.true) c.loop-answer.invariant told.0 told.1)
+    (first_found c.args.bounds.now.n c.args.people.now.people c.args.bounds.now.answers c.args.rows.now.list items c.requires.candidates i answer
+    c.loop-answer-test.true
+    (same_default items i (pos 0) answer c.loop-answer-test.true) c.loop-answer.invariant
+    (record { possible = told.0; few = (told.1.answer, told.1.one, told.1.are_few) }))
 
 pub returns-in-Some-clause-least : goal.returns-in-Some-clause-least
 returns-in-Some-clause-least c =
@@ -27,5 +28,5 @@ returns-in-Some-clause-least c =
 
 pub returns-clause-none : goal.returns-clause-none
 returns-clause-none c =
-    none_found c.args.bounds.now.n c.args.shared.now.list c.args.bounds.now.answers c.args.rows.now.list c.args.candidates.now c.requires.candidates
+    none_found c.args.bounds.now.n c.args.people.now.people c.args.bounds.now.answers c.args.rows.now.list c.args.candidates.now c.requires.candidates
     (λ k l. c.loop-answer.invariant k (omega arith))

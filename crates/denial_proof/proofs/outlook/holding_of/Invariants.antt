@@ -1,7 +1,9 @@
-use Rattle.std.proofs.Common.{take}
+use Rattle.std.proofs.Common.{◌≡◌, ℕ, List, take}
+use Rattle.audit_types.specs.Rows.{complement}
 use Rattle.max_bounds.specs.Maxima.{answers_of}
 use Rattle.denial_proof.specs.Outlook.{IsHolding}
 use Rattle.denial_proof.proofs.outlook.holding_of.Given as goal
 
 abbrev pub invariant-loop-pair : goal.invariant-loop-pair
-invariant-loop-pair l = IsHolding l.bounds.answers l.shared.list l.rows.list (answers_of (take l.pair-index l.pair-items)) l.holding
+invariant-loop-pair l = (asked : List ℕ) → l.others.list ≡ complement l.others.n asked →
+    IsHolding l.bounds.answers l.people.people asked (answers_of (take l.pair-index l.pair-items)) l.holding

@@ -1,13 +1,15 @@
-use Rattle.std.proofs.Common.{◌≡◌, ◌∙◌, ◌++◌, ◌∷◌, [], ℕ, List, map, sym, subst, arith}
+use Rattle.std.proofs.Common.{◌≡◌, ◌∙◌, ◌++◌, ◌∷◌, [], ◌<◌, ℕ, List, map, sym, subst, arith}
 use Rattle.std.specs.List.{AllByRecursion}
 use Rattle.audit_types.specs.declared.records.Protected.{Protected}
 use Rattle.audit_types.specs.Column.{Answer}
 use Rattle.audit_types.specs.Form.{HasNarrowForm}
-use Rattle.audit_types.specs.Rows.{AreRows}
-use Rattle.denial_proof.specs.Kept.{AreMarks, AreMarksOf}
-use Rattle.denial_proof.proofs.KeptFew.{independent_with, kept_few}
-use Rattle.denial_proof.proofs.OneCanonicalSum.{none_too_wide}
-use Rattle.denial_proof.proofs.SumParts.{target_parts, target_there}
+use Rattle.audit_types.specs.ListLaws.{all-weaker}
+use Rattle.denial_proof.specs.Weights.{own_rows}
+use Rattle.denial_proof.specs.Certificates.{IsAsker}
+use Rattle.denial_proof.specs.Canonical.{IsFirstTarget, Tells}
+use Rattle.denial_proof.proofs.KeptFew.{kept_few}
+use Rattle.denial_proof.proofs.SumParts.{few_askers, few_sets, first_found, told_by_form, independent_for, room_for, target_spanned}
+use Rattle.denial_proof.proofs.Tests.{some_weaker}
 use Rattle.denial_proof.proofs.sums.prove_sum.Goals as goal
 
 pub basis_with-requires-clause-narrow : goal.basis_with-requires-clause-narrow
@@ -15,82 +17,121 @@ basis_with-requires-clause-narrow c =
     subst (λ (answers : List Answer). HasNarrowForm c.args.sums.now.width c.args.sums.now.n
     (map (λ a. a.rows) answers ++ c.args.facts.now.asked.now.rows.list ∷ [])) (sym c.requires.answers) c.requires.denied.narrow
 
-pub with_asked-requires-clause-few : goal.with_asked-requires-clause-few
-with_asked-requires-clause-few c =
+pub first_target-requires-clause-same_n : goal.first_target-requires-clause-same_n
+first_target-requires-clause-same_n c = subst (λ (k : ℕ). AllByRecursion (λ (p : Protected). p.rows.n ≡ k) c.args.facts.now.protected.now.groups)
+    (c.requires.same_n ∙ sym c.in_ok-basis.ensures.n) c.args.facts.now.entries
+
+pub prove_told-requires-clause-own : goal.prove_told-requires-clause-own
+prove_told-requires-clause-own c =
+    let n = c.args.sums.now.n in
+    let history = c.args.facts.now.history.now in
+    let protected = c.args.facts.now.protected.now in
+    let asked = c.args.facts.now.asked.now in
+    let places = c.args.marks.now.places.items in
+    let target = c.in-Some.told.target in
+    let own = c.in-Some.told.own in
+    let found = subst (λ (k : ℕ). IsFirstTarget k protected asked.column c.in_ok-basis.basis.rows target own) c.requires.same_n
+    (rw c.in-Some.is at c.in_ok-told.ensures.some) in
+    let first = first_found n history protected asked c.args.sums.now.answers c.requires.answers c.in_ok-basis.basis.rows c.in_ok-basis.ensures.form target own
+    found in
+    let below = all-weaker (IsAsker n protected.people) (λ q. q < n) (λ q is. is.below) (own_rows own) first.told.askers in
+    subst (λ (k : ℕ). AllByRecursion (λ q. q < k) (own_rows own)) (sym (c.args.facts.now.same_n ∙ c.requires.same_n)) below
+
+pub prove_told-requires-clause-room : goal.prove_told-requires-clause-room
+prove_told-requires-clause-room c =
+    let n = c.args.sums.now.n in
+    let history = c.args.facts.now.history.now in
+    let protected = c.args.facts.now.protected.now in
+    let asked = c.args.facts.now.asked.now in
+    let places = c.args.marks.now.places.items in
+    let target = c.in-Some.told.target in
+    let own = c.in-Some.told.own in
+    let found = subst (λ (k : ℕ). IsFirstTarget k protected asked.column c.in_ok-basis.basis.rows target own) c.requires.same_n
+    (rw c.in-Some.is at c.in_ok-told.ensures.some) in
+    let first = first_found n history protected asked c.args.sums.now.answers c.requires.answers c.in_ok-basis.basis.rows c.in_ok-basis.ensures.form target own
+    found in
+    let independent = independent_for c.pinned_rows.ensures.spanned_or_moved n history asked c.requires.rows places c.requires.marks.kept protected
+    c.requires.people c.requires.denied.new target own first in
+    rw (c.args.facts.now.same_n, c.requires.same_n)
+    (some_weaker (λ form marked. room_for n protected.people.own places own _ form (few_sets n history places asked.rows.list own independent)
+    (few_askers n protected.people own first.told.askers) marked) c.args.marks.now.form c.requires.marks.marked)
+
+pub prove_told-requires-clause-few : goal.prove_told-requires-clause-few
+prove_told-requires-clause-few c =
     let few = kept_few c.args.sums.now.n c.args.facts.now.asked.now.column c.args.facts.now.history.now c.args.marks.now.places.items c.requires.marks.kept
     c.args.facts.now.asked.now.rows.list c.requires.denied.new in
     let same = c.args.facts.now.same_n ∙ c.requires.same_n in
     omega arith
 
-pub first_target-requires-clause-same_n : goal.first_target-requires-clause-same_n
-first_target-requires-clause-same_n c = subst (λ (k : ℕ). AllByRecursion (λ (p : Protected). p.rows.n ≡ k) c.args.facts.now.protected.now.groups)
-    (c.requires.same_n ∙ sym c.in_ok-basis.ensures.n) c.args.facts.now.entries
-
-pub prove_target-requires-clause-independent : goal.prove_target-requires-clause-independent
-prove_target-requires-clause-independent c =
+pub prove_told-requires-clause-first : goal.prove_told-requires-clause-first
+prove_told-requires-clause-first c =
     let n = c.args.sums.now.n in
-    let own : AreRows n c.args.facts.now.asked.now.rows.list = subst (λ (k : ℕ). AreRows k c.args.facts.now.asked.now.rows.list)
-    (c.args.facts.now.same_n ∙ c.requires.same_n) c.n.ensures.are_rows in
-    rw (c.requires.same_n, c.deref.ensures.value)
-    (target_parts c.directions_of_a_form.ensures.pinned n c.args.facts.now.history.now c.args.facts.now.protected.now c.args.facts.now.asked.now own
-    c.args.sums.now.answers c.requires.answers c.n-2.ensures.are_rows c.in_ok-basis.basis
-    c.in_ok-basis.ensures.n c.in_ok-basis.ensures.form c.pinned_rows.ensures.spanned_or_moved c.requires.rows c.args.marks.now.places.items
-    c.requires.marks.kept c.requires.denied.new c.in-Some.target
-    c.in-Some.ensures.some).independent
+    let history = c.args.facts.now.history.now in
+    let protected = c.args.facts.now.protected.now in
+    let asked = c.args.facts.now.asked.now in
+    let places = c.args.marks.now.places.items in
+    let target = c.in-Some.told.target in
+    let own = c.in-Some.told.own in
+    let found = subst (λ (k : ℕ). IsFirstTarget k protected asked.column c.in_ok-basis.basis.rows target own) c.requires.same_n
+    (rw c.in-Some.is at c.in_ok-told.ensures.some) in
+    let first = first_found n history protected asked c.args.sums.now.answers c.requires.answers c.in_ok-basis.basis.rows c.in_ok-basis.ensures.form target own
+    found in
+    first
 
-pub prove_target-requires-clause-is_target : goal.prove_target-requires-clause-is_target
-prove_target-requires-clause-is_target c =
+pub prove_told-requires-clause-independent : goal.prove_told-requires-clause-independent
+prove_told-requires-clause-independent c =
     let n = c.args.sums.now.n in
-    let own : AreRows n c.args.facts.now.asked.now.rows.list = subst (λ (k : ℕ). AreRows k c.args.facts.now.asked.now.rows.list)
-    (c.args.facts.now.same_n ∙ c.requires.same_n) c.n.ensures.are_rows in
-    rw c.requires.same_n
-    (target_parts c.directions_of_a_form.ensures.pinned n c.args.facts.now.history.now c.args.facts.now.protected.now c.args.facts.now.asked.now own
-    c.args.sums.now.answers c.requires.answers c.n-2.ensures.are_rows c.in_ok-basis.basis
-    c.in_ok-basis.ensures.n c.in_ok-basis.ensures.form c.pinned_rows.ensures.spanned_or_moved c.requires.rows c.args.marks.now.places.items
-    c.requires.marks.kept c.requires.denied.new c.in-Some.target
-    c.in-Some.ensures.some).is_target
+    let history = c.args.facts.now.history.now in
+    let protected = c.args.facts.now.protected.now in
+    let asked = c.args.facts.now.asked.now in
+    let places = c.args.marks.now.places.items in
+    let target = c.in-Some.told.target in
+    let own = c.in-Some.told.own in
+    let found = subst (λ (k : ℕ). IsFirstTarget k protected asked.column c.in_ok-basis.basis.rows target own) c.requires.same_n
+    (rw c.in-Some.is at c.in_ok-told.ensures.some) in
+    let first = first_found n history protected asked c.args.sums.now.answers c.requires.answers c.in_ok-basis.basis.rows c.in_ok-basis.ensures.form target own
+    found in
+    let independent = independent_for c.pinned_rows.ensures.spanned_or_moved n history asked c.requires.rows places c.requires.marks.kept protected
+    c.requires.people c.requires.denied.new target own first in
+    independent
 
-pub prove_target-requires-clause-first : goal.prove_target-requires-clause-first
-prove_target-requires-clause-first c =
+pub prove_told-requires-clause-askers : goal.prove_told-requires-clause-askers
+prove_told-requires-clause-askers c =
     let n = c.args.sums.now.n in
-    let own : AreRows n c.args.facts.now.asked.now.rows.list = subst (λ (k : ℕ). AreRows k c.args.facts.now.asked.now.rows.list)
-    (c.args.facts.now.same_n ∙ c.requires.same_n) c.n.ensures.are_rows in
-    rw c.requires.same_n
-    (target_parts c.directions_of_a_form.ensures.pinned n c.args.facts.now.history.now c.args.facts.now.protected.now c.args.facts.now.asked.now own
-    c.args.sums.now.answers c.requires.answers c.n-2.ensures.are_rows c.in_ok-basis.basis
-    c.in_ok-basis.ensures.n c.in_ok-basis.ensures.form c.pinned_rows.ensures.spanned_or_moved c.requires.rows c.args.marks.now.places.items
-    c.requires.marks.kept c.requires.denied.new c.in-Some.target
-    c.in-Some.ensures.some).first
+    let history = c.args.facts.now.history.now in
+    let protected = c.args.facts.now.protected.now in
+    let asked = c.args.facts.now.asked.now in
+    let places = c.args.marks.now.places.items in
+    let target = c.in-Some.told.target in
+    let own = c.in-Some.told.own in
+    let found = subst (λ (k : ℕ). IsFirstTarget k protected asked.column c.in_ok-basis.basis.rows target own) c.requires.same_n
+    (rw c.in-Some.is at c.in_ok-told.ensures.some) in
+    let first = first_found n history protected asked c.args.sums.now.answers c.requires.answers c.in_ok-basis.basis.rows c.in_ok-basis.ensures.form target own
+    found in
+    few_askers n protected.people own first.told.askers
 
-pub prove_target-requires-clause-spanned : goal.prove_target-requires-clause-spanned
-prove_target-requires-clause-spanned c =
+pub prove_told-requires-clause-spanned : goal.prove_told-requires-clause-spanned
+prove_told-requires-clause-spanned c =
     let n = c.args.sums.now.n in
-    let own : AreRows n c.args.facts.now.asked.now.rows.list = subst (λ (k : ℕ). AreRows k c.args.facts.now.asked.now.rows.list)
-    (c.args.facts.now.same_n ∙ c.requires.same_n) c.n.ensures.are_rows in
-    rw (c.requires.same_n, c.deref.ensures.value)
-    (target_parts c.directions_of_a_form.ensures.pinned n c.args.facts.now.history.now c.args.facts.now.protected.now c.args.facts.now.asked.now own
-    c.args.sums.now.answers c.requires.answers c.n-2.ensures.are_rows c.in_ok-basis.basis
-    c.in_ok-basis.ensures.n c.in_ok-basis.ensures.form c.pinned_rows.ensures.spanned_or_moved c.requires.rows c.args.marks.now.places.items
-    c.requires.marks.kept c.requires.denied.new c.in-Some.target
-    c.in-Some.ensures.some).spanned
+    let history = c.args.facts.now.history.now in
+    let protected = c.args.facts.now.protected.now in
+    let asked = c.args.facts.now.asked.now in
+    let places = c.args.marks.now.places.items in
+    let target = c.in-Some.told.target in
+    let own = c.in-Some.told.own in
+    let found = subst (λ (k : ℕ). IsFirstTarget k protected asked.column c.in_ok-basis.basis.rows target own) c.requires.same_n
+    (rw c.in-Some.is at c.in_ok-told.ensures.some) in
+    let first = first_found n history protected asked c.args.sums.now.answers c.requires.answers c.in_ok-basis.basis.rows c.in_ok-basis.ensures.form target own
+    found in
+    (target_spanned c.pinned_rows.ensures.spanned_or_moved n history asked c.requires.rows places c.requires.marks.kept protected c.requires.people
+    c.requires.denied.new target own first)
 
 pub unreachable-requires : goal.unreachable-requires
 unreachable-requires c =
     let n = c.args.sums.now.n in
-    let own : AreRows n c.args.facts.now.asked.now.rows.list = subst (λ (k : ℕ). AreRows k c.args.facts.now.asked.now.rows.list)
-    (c.args.facts.now.same_n ∙ c.requires.same_n) c.n.ensures.are_rows in
-    target_there c.directions_of_a_form.ensures.pinned n c.args.facts.now.history.now c.args.facts.now.protected.now c.args.facts.now.asked.now own
-    c.args.sums.now.answers c.requires.answers c.n-2.ensures.are_rows c.in_ok-basis.basis
-    c.in_ok-basis.ensures.n c.in_ok-basis.ensures.form c.requires.denied.gives_away c.in-None.ensures.none
-
-pub returns-clause-narrow : goal.returns-clause-narrow
-returns-clause-narrow c =
-    let history = c.args.facts.now.history.now in
+    let protected = c.args.facts.now.protected.now in
     let asked = c.args.facts.now.asked.now in
-    let places = c.args.marks.now.places.items in
-    let same = c.args.facts.now.same_n ∙ c.requires.same_n in
-    let before = subst (λ (k : ℕ). AreMarksOf k asked.column history places c.args.marks.now.form) (sym same) c.requires.marks in
-    let marks = subst (λ (k : ℕ). AreMarks k history asked places c.in_ok-form.form) same (c.in_ok-form.ensures.marks history before) in
-    none_too_wide c.args.sums.now.n history c.args.facts.now.protected.now asked places c.in_ok-form.form marks
-    (independent_with c.args.sums.now.n asked.column history places marks.kept asked.rows.list c.requires.denied.new)
-    c.prove_target.result (rw c.requires.same_n at c.prove_target.ensures.is)
+    let told = told_by_form n c.args.facts.now.history.now protected asked c.args.sums.now.answers c.requires.answers
+    c.in_ok-basis.basis.rows c.in_ok-basis.ensures.form c.requires.denied.target c.requires.denied.own c.requires.denied.told in
+    (rw c.in-None.is at c.in_ok-told.ensures.none) c.requires.denied.target c.requires.denied.own
+    (subst (λ (k : ℕ). Tells k protected asked.column c.in_ok-basis.basis.rows c.requires.denied.own c.requires.denied.target) (sym c.requires.same_n) told)

@@ -1,8 +1,9 @@
-use Rattle.std.proofs.Common.{ℕ, List, ap, ◌∙◌}
-use Rattle.audit_types.specs.Rows.{Rows, has_row}
+use Rattle.denial_proof.proofs.FirstTargets.{row_first}
 use Rattle.denial_proof.proofs.targets.first_target.Goals as goal
 
-pub first_group-requires-clause-no_row : goal.first_group-requires-clause-no_row
-first_group-requires-clause-no_row c = λ has.
-    let same = ap (λ (s : Rows). s.list) c.over-shared.ensures ∙ c.shared.ensures.is in
-    c.in-None.ensures has.0 (has.1, ap (λ (l : List ℕ). has_row l has.0) same ∙ has.2)
+pub returns-in-Some-clause-some : goal.returns-in-Some-clause-some
+returns-in-Some-clause-some c = row_first c.args.n c.args.protected.now c.args.column c.args.basis.now.rows c.in-Some.row
+    (rw c.in-Some.is at c.first_row.ensures)
+
+pub first_but_rows-requires-clause-no_row : goal.first_but_rows-requires-clause-no_row
+first_but_rows-requires-clause-no_row c = rw c.in-None.is at c.first_row.ensures

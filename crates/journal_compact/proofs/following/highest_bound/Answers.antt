@@ -3,7 +3,7 @@ use Rattle.std.specs.Int.{w64}
 use Rattle.std.proofs.lemmas.Int.{to_z-of_z}
 use Rattle.audit_types.specs.RowLaws.{walk_row, walk_more}
 use Rattle.journal_compact.specs.Follows.{IsHighestBound, higher_of}
-use Rattle.journal_compact.proofs.RowByRow.{next_there}
+use Rattle.audit_types.specs.WalkLaws.{next_of_walk}
 use Rattle.journal_compact.proofs.HighestBounds.{highest_more, none_highest}
 use Rattle.journal_compact.proofs.following.highest_bound.Goals as goal
 
@@ -16,7 +16,7 @@ upper-requires c =
 
 pub returns-in_default : goal.returns-in_default
 returns-in_default c = λ value highest.
-    let there = next_there c.loop-row.yielded c.loop-row.row-iterator c.next.new.self c.args.rows.now.list c.in-Some.row c.loop-row.invariant.together
+    let there = next_of_walk c.loop-row.yielded c.loop-row.row-iterator c.next.new.self c.args.rows.now.list c.in-Some.row c.loop-row.invariant.together
     c.in-Some.ensures.steps in
     none_highest c.args.bounds.now.answers c.args.rows.now.list c.in-Some.row value there (sym c.upper.ensures ∙ c.in_default.is) highest
 

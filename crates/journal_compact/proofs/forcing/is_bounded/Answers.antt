@@ -4,7 +4,8 @@ use Rattle.std.proofs.lemmas.Bool.{true≢false}
 use Rattle.std.proofs.lemmas.Int.{to_z-of_z}
 use Rattle.audit_types.specs.RowLaws.{walk_row, walk_more}
 use Rattle.journal_compact.specs.Kept.{IsAtMost}
-use Rattle.journal_compact.proofs.RowByRow.{next_there, bounded_more}
+use Rattle.audit_types.specs.WalkLaws.{next_of_walk}
+use Rattle.journal_compact.proofs.RowByRow.{bounded_more}
 use Rattle.journal_compact.proofs.forcing.is_bounded.Goals as goal
 
 pub upper-requires : goal.upper-requires
@@ -17,7 +18,7 @@ upper-requires c =
 pub returns-then-not-is_within : goal.returns-then-not-is_within
 returns-then-not-is_within c =
     let same : to_z w64 (of_z w64 c.args.answer) ≡ c.args.answer = to_z-of_z w64 c.args.answer c.ranges.answer in
-    let there = next_there c.loop-row.yielded c.loop-row.row-iterator c.next.new.self c.args.rows.now.list c.in-Some.row c.loop-row.invariant.together
+    let there = next_of_walk c.loop-row.yielded c.loop-row.row-iterator c.next.new.self c.args.rows.now.list c.in-Some.row c.loop-row.invariant.together
     c.in-Some.ensures.steps in (
       λ no. absurd (true≢false (sym no)),
       λ all.

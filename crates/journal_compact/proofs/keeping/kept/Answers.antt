@@ -2,7 +2,9 @@ use Rattle.std.proofs.Common.{◌≡◌, ◌+◌, take, [], ◌∷◌, ◌++◌,
 use Rattle.std.proofs.lemmas.Bool.{true≢false}
 use Rattle.audit_types.specs.declared.records.Answered.{Answered}
 use Rattle.audit_types.specs.Limits.{most_rows, most_width}
-use Rattle.audit_types.specs.History.{against_outsiders, setting_of}
+use Rattle.audit_types.specs.Headcount.{Headcount, headcount}
+use Rattle.audit_types.specs.History.{Protection, setting_of}
+use Rattle.audit_types.specs.declared.records.Protected.{Protected}
 use Rattle.audit_core.specs.Audited.{Audited}
 use Rattle.journal_compact.specs.Kept.{IsKeptOf}
 use Rattle.journal_compact.specs.Kept.IsKeptOf.{none}
@@ -10,11 +12,15 @@ use Rattle.journal_compact.proofs.NextRecord.{NextLaws, fits, narrow, possible, 
 use Rattle.journal_compact.proofs.keeping.kept.Goals as goal
 use Rattle.journal_compact.proofs.keeping.kept.Goals.{then-not-is_implied+in_ok-take, else-not-is_implied}
 
+-- these groups and these people, at the greatest bounds
+abbrev guards : List Protected → Headcount → Protection
+guards groups people = record { groups = groups; people = people; width = most_width; reach = most_rows }
+
 pub loop-answered-init : goal.loop-answered-init
 loop-answered-init c = record {
   setting = ap (λ (a : Audited). a.setting) c.in_ok-core.ensures ∙ ap (setting_of c.args.shape.now) c.new-unguarded.ensures
-      ∙ ap (λ groups. setting_of c.args.shape.now (against_outsiders groups c.new-shared.result.list most_width most_rows)) c.new.ensures.items
-      ∙ ap (λ shared. setting_of c.args.shape.now (against_outsiders [] shared most_width most_rows)) c.new-shared.ensures.empty;
+      ∙ ap (λ groups. setting_of c.args.shape.now (guards groups c.new-rows.result.people)) c.new-2.ensures.items
+      ∙ ap (λ people. setting_of c.args.shape.now (guards [] people)) (c.new-rows.ensures.people ∙ ap (λ counts. headcount counts 2 0) c.new.ensures.items);
   kept = subst (λ (l : List Answered). IsKeptOf c.args.shape.now [] l) (sym (ap (λ (a : Audited). a.history) c.in_ok-core.ensures)) none;
 }
 

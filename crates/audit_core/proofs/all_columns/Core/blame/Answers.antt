@@ -12,7 +12,7 @@ loop-group-init c = record { judged = λ i p below here. absurd (omega (arith, b
 pub returns-then-not-branch-2 : goal.returns-then-not-branch-2
 returns-then-not-branch-2 c =
     let group = c.group-item.result in
-    let groups = c.groups-group-items.ensures.is ∙ ap (λ (a : Audited). a.setting.protected.groups) c.self.view_is in
+    let groups = c.groups-group-items.ensures ∙ ap (λ (a : Audited). a.setting.protected.groups) c.self.view_is in
     let at : slice_get c.args.self.now.setting.protected.groups c.loop-group.group-index ≡ Some group =
     subst (λ list. slice_get list c.loop-group.group-index ≡ Some group) groups
     (slice_get_read c.groups-group-items.result.now _ c.loop-group.group-index group refl c.loop-group-test.true c.group-item.is) in
@@ -48,7 +48,7 @@ returns-then-not-branch-2 c =
 pub loop-group-preserved : goal.loop-group-preserved
 loop-group-preserved c =
     let group = c.group-item.result in
-    let groups = c.groups-group-items.ensures.is ∙ ap (λ (a : Audited). a.setting.protected.groups) c.self.view_is in
+    let groups = c.groups-group-items.ensures ∙ ap (λ (a : Audited). a.setting.protected.groups) c.self.view_is in
     let at : slice_get c.args.self.now.setting.protected.groups c.loop-group.group-index ≡ Some group =
     subst (λ list. slice_get list c.loop-group.group-index ≡ Some group) groups
     (slice_get_read c.groups-group-items.result.now _ c.loop-group.group-index group refl c.loop-group-test.true c.group-item.is) in
@@ -65,7 +65,7 @@ loop-group-preserved c =
 pub unreachable-requires : goal.unreachable-requires
 unreachable-requires c =
     let none : IsJudgedReleasedWith c.args.self.now.setting c.args.self.now.history c.args.asked.now [] = search rules in
-    let groups = c.groups-group-items.ensures.is ∙ ap (λ (a : Audited). a.setting.protected.groups) c.self.view_is in
+    let groups = c.groups-group-items.ensures ∙ ap (λ (a : Audited). a.setting.protected.groups) c.self.view_is in
     c.requires.denied (judged_with_all c.args.self.now.setting c.args.self.now.history c.args.asked.now c.sets_have_one_form.ensures none
     (λ i p here. c.loop-group.invariant.judged i p
     (omega (arith, slice_get_within c.args.self.now.setting.protected.groups i p here, ap length groups, c.loop-group-test.false)) here))

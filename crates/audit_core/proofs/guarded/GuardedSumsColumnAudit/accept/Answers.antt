@@ -8,6 +8,6 @@ use Rattle.audit_core.proofs.guarded.GuardedSumsColumnAudit.accept.Goals as goal
 pub add-requires-clause-narrow : goal.add-requires-clause-narrow
 add-requires-clause-narrow c =
     let inside = c.self.inside in
-    let known = guarding inside.sums inside.shared.list (map (λ (s : Rows). s.list) inside.apart.items) in
+    let known = guarding inside.sums inside.people.people (map (λ (s : Rows). s.list) inside.apart.items) in
     narrow_within known c.args.rows.now.list (subst (λ kind. IsWithinWidthFor kind known c.args.rows.now.list) c.n.ensures.sums
     (subst (λ (k : Known). IsWithinWidth k c.args.rows.now.list) (sym c.self.view_is) c.requires.narrow))

@@ -3,12 +3,13 @@ use Rattle.audit_core.proofs.guarded_maxima.GuardedMaximaColumnAudit.probe.Goals
 
 pub returns-clause-judged : goal.returns-clause-judged
 returns-clause-judged c =
-    judged_maximum c.self.inside.maxima c.args.self.now c.self.inside.shared.list c.self.inside.width c.self.inside.reach c.bounds.ensures.maxima c.self.view_is
+    judged_maximum c.self.inside.maxima c.args.self.now c.self.inside.people.people c.self.inside.width c.self.inside.reach c.bounds.ensures.maxima
+    c.self.view_is
     c.args.rows.now.list
-    c.probe_sharing.result c.probe_sharing.ensures.judged
+    c.probe_among.result c.probe_among.ensures.judged
 
 pub returns-clause-decided : goal.returns-clause-decided
 returns-clause-decided c =
-    decided_maximum c.self.inside.maxima c.args.self.now c.self.inside.shared.list c.self.inside.width c.self.inside.reach c.bounds.ensures.maxima
+    decided_maximum c.self.inside.maxima c.args.self.now c.self.inside.people.people c.self.inside.width c.self.inside.reach c.bounds.ensures.maxima
     c.self.view_is c.args.rows.now.list
-    c.probe_sharing.result c.probe_sharing.ensures.decided
+    c.probe_among.result c.probe_among.ensures.decided

@@ -4,11 +4,12 @@ use Rattle.std.specs.List.{AllByRecursion}
 use Rattle.audit_types.specs.declared.records.Answered.{Answered}
 use Rattle.audit_types.specs.declared.records.Protected.{Protected}
 use Rattle.audit_types.specs.Limits.{most_groups}
-use Rattle.audit_types.specs.Rows.{Rows, AreRows, has_row}
-use Rattle.audit_types.specs.Extremes.{IsLone}
+use Rattle.audit_types.specs.Rows.{AreRows}
 use Rattle.audit_types.specs.Column.{Answer, known_max, guarding}
-use Rattle.audit_types.specs.History.{FitsShape, IsProtected, Protection, answers_of}
+use Rattle.audit_types.specs.Headcount.{Counted, CountPeople, Headcount}
 use Rattle.max_audit.specs.Laws.{HasBadCandidate}
+use Rattle.max_bounds.specs.Few.{HasFewPeople}
+use Rattle.audit_types.specs.History.{FitsShape, IsProtected, Protection, answers_of}
 use Rattle.denial_proof.specs.Denied.{IsUnsafeSum}
 use Rattle.denial_proof.proofs.ByKind.{of_column, sum_is, sum_is_narrow, sum_is_wide, max_is, max_is_narrow}
 use Rattle.denial_proof.proofs.UnsafeSums.{records_same_n, records_are_rows, entries_same_n}
@@ -25,7 +26,7 @@ invariant_of-facts-clause-entries c =
     let groups = c.protected-protected.result.now.groups in
     subst (λ (n : ℕ). AllByRecursion (λ (p : Protected). p.rows.n ≡ n) groups) (sym (c.n.ensures.n ∙ c.in-Sum-Sums.ensures.n))
     (entries_same_n shape groups
-    (subst (λ (p : Protection). All (IsProtected shape) p.groups) (sym c.protected-protected.ensures.is) c.protected-protected.ensures.fit.0.0))
+    (subst (λ (p : Protection). All (IsProtected shape) p.groups) (sym c.protected-protected.ensures.is) c.protected-protected.ensures.fit.0))
 
 pub invariant_of-facts-clause-same_n : goal.invariant_of-facts-clause-same_n
 invariant_of-facts-clause-same_n c = c.requires.question.same_n ∙ sym (c.n.ensures.n ∙ c.in-Sum-Sums.ensures.n)
@@ -43,13 +44,13 @@ prove_sum-requires-clause-answers c = c.in-Sum-Sums.ensures.answers ∙ ap (answ
 
 pub prove_sum-requires-clause-few_groups : goal.prove_sum-requires-clause-few_groups
 prove_sum-requires-clause-few_groups c = subst (λ (p : Protection). length p.groups ≤ most_groups)
-    (sym c.protected-protected.ensures.is) c.protected-protected.ensures.fit.0.1
+    (sym c.protected-protected.ensures.is) c.protected-protected.ensures.fit.1
 
-pub prove_sum-requires-clause-shared : goal.prove_sum-requires-clause-shared
-prove_sum-requires-clause-shared c =
-    subst (λ (n : ℕ). AreRows n c.protected-protected.result.now.shared) (sym c.in-Sum-Sums.ensures.n)
-    (subst (λ (p : Protection). AreRows c.args.core.now.setting.shape.rows p.shared) (sym c.protected-protected.ensures.is)
-    c.protected-protected.ensures.fit.0.8)
+pub prove_sum-requires-clause-people : goal.prove_sum-requires-clause-people
+prove_sum-requires-clause-people c =
+    subst (λ (n : ℕ). CountPeople n c.protected-protected.result.now.people) (sym c.in-Sum-Sums.ensures.n)
+    (subst (λ (p : Protection). CountPeople c.args.core.now.setting.shape.rows p.people) (sym c.protected-protected.ensures.is)
+    c.protected-protected.ensures.fit.2)
 
 pub prove_sum-requires-clause-denied : goal.prove_sum-requires-clause-denied
 prove_sum-requires-clause-denied c =
@@ -82,45 +83,45 @@ prove_max-requires-clause-records c =
 pub prove_max-requires-clause-answers : goal.prove_max-requires-clause-answers
 prove_max-requires-clause-answers c = c.in-Max-Maxima.ensures.answers ∙ ap (answers_of c.args.asked.now.column) (sym c.history-history.ensures.is)
 
-pub over-shared-requires-clause-rows : goal.over-shared-requires-clause-rows
-over-shared-requires-clause-rows c =
-    let same = c.shared.ensures.is ∙ ap (λ (p : Protection). p.shared) c.protected-protected.ensures.is in
-    subst (AreRows c.n-in-Max-Maxima.result) (sym same)
-    (subst (λ (n : ℕ). AreRows n c.args.core.now.setting.protected.shared) (sym (c.n-in-Max-Maxima.ensures.n ∙ c.requires.question.same_n))
-    c.protected-protected.ensures.fit.0.8)
+pub over-requires-clause-within : goal.over-requires-clause-within
+over-requires-clause-within c =
+    let people = c.rows.ensures ∙ ap (λ (p : Protection). p.people) c.protected-protected.ensures.is in
+    subst (λ (k : ℕ). length c.rows.result.now.people.counts ≤ k) (sym (c.n-in-Max-Maxima.ensures.n ∙ c.requires.question.same_n))
+    (subst (λ (p : Headcount). length p.counts ≤ c.args.core.now.setting.shape.rows) (sym people) c.protected-protected.ensures.fit.2.within)
 
-pub prove_max-requires-clause-shared : goal.prove_max-requires-clause-shared
-prove_max-requires-clause-shared c =
-    ap (λ (s : Rows). s.n) c.over-shared.ensures ∙ c.n-in-Max-Maxima.ensures.n ∙ c.requires.question.same_n ∙ sym c.in-Max-Maxima.ensures.n
+pub prove_max-requires-clause-people : goal.prove_max-requires-clause-people
+prove_max-requires-clause-people c =
+    ap (λ (x : Counted). x.n) c.in_ok-people-in-Max-Maxima.ensures ∙ c.n-in-Max-Maxima.ensures.n ∙ c.requires.question.same_n ∙ sym c.in-Max-Maxima.ensures.n
 
-pub prove_max-requires-clause-none_lone : goal.prove_max-requires-clause-none_lone
-prove_max-requires-clause-none_lone c = λ row own lone.
+pub prove_max-requires-clause-none_few : goal.prove_max-requires-clause-none_few
+prove_max-requires-clause-none_few c =
     let setting = c.args.core.now.setting in
     let history = c.args.core.now.history in
     let fit = subst (λ (list : List Answered). All (λ (r : Answered). FitsShape setting.shape r.column r.rows) list) c.history-history.ensures.is
     c.history-history.ensures.fit in
     let unsafe = c.denied_maxima.ensures setting history c.args.asked.now fit c.protected-protected.ensures.fit c.requires.legal c.requires.question
     c.in-Max-Maxima.ensures.own_kind c.requires.denied in
-    let shared = ap (λ (s : Rows). s.list) c.over-shared.ensures ∙ c.shared.ensures.is ∙ ap (λ (p : Protection). p.shared) c.protected-protected.ensures.is in
-    unsafe.none_lone row (ap (λ (l : List ℕ). has_row l row) (sym shared) ∙ own)
-    (subst (λ (answers : List Answer). IsLone answers row) c.in-Max-Maxima.ensures.answers lone)
+    let people = ap (λ (x : Counted). x.people) c.in_ok-people-in-Max-Maxima.ensures ∙ c.rows.ensures
+    ∙ ap (λ (p : Protection). p.people) c.protected-protected.ensures.is in
+    subst (λ (p : Headcount). ¬ (HasFewPeople p c.in-Max-Maxima.maxima.now.answers)) (sym people)
+    (subst (λ (answers : List Answer). ¬ (HasFewPeople setting.protected.people answers)) (sym c.in-Max-Maxima.ensures.answers) unsafe.none_few)
 
 pub prove_max-requires-clause-dangerous : goal.prove_max-requires-clause-dangerous
 prove_max-requires-clause-dangerous c =
     let setting = c.args.core.now.setting in
     let history = c.args.core.now.history in
-    let rows = c.args.asked.now.rows.list in
     let fit = subst (λ (list : List Answered). All (λ (r : Answered). FitsShape setting.shape r.column r.rows) list) c.history-history.ensures.is
     c.history-history.ensures.fit in
     let unsafe = c.denied_maxima.ensures setting history c.args.asked.now fit c.protected-protected.ensures.fit c.requires.legal c.requires.question
     c.in-Max-Maxima.ensures.own_kind c.requires.denied in
-    let shared = ap (λ (s : Rows). s.list) c.over-shared.ensures ∙ c.shared.ensures.is ∙ ap (λ (p : Protection). p.shared) c.protected-protected.ensures.is in
-    subst (λ (n : ℕ). HasBadCandidate (guarding (known_max n c.in-Max-Maxima.maxima.now.answers) c.over-shared.result.list []) rows)
+    let people = ap (λ (x : Counted). x.people) c.in_ok-people-in-Max-Maxima.ensures ∙ c.rows.ensures
+    ∙ ap (λ (p : Protection). p.people) c.protected-protected.ensures.is in
+    let rows = c.args.asked.now.rows.list in
+    subst (λ (p : Headcount). HasBadCandidate (guarding (known_max c.in-Max-Maxima.maxima.now.n c.in-Max-Maxima.maxima.now.answers) p []) rows) (sym people)
+    (subst (λ (n : ℕ). HasBadCandidate (guarding (known_max n c.in-Max-Maxima.maxima.now.answers) setting.protected.people []) rows)
     (sym c.in-Max-Maxima.ensures.n)
-    (subst (λ (answers : List Answer). HasBadCandidate (guarding (known_max setting.shape.rows answers) c.over-shared.result.list []) rows)
-    (sym c.in-Max-Maxima.ensures.answers)
-    (subst (λ (list : List ℕ). HasBadCandidate (guarding (known_max setting.shape.rows (answers_of c.args.asked.now.column history)) list []) rows) (sym shared)
-    unsafe.bad))
+    (subst (λ (answers : List Answer). HasBadCandidate (guarding (known_max setting.shape.rows answers) setting.protected.people []) rows)
+    (sym c.in-Max-Maxima.ensures.answers) unsafe.bad))
 
 pub returns-in-Sum-Sums : goal.returns-in-Sum-Sums
 returns-in-Sum-Sums c =
@@ -148,8 +149,9 @@ returns-in_ok-prove_max-in-Max-Maxima c =
     let same_n = c.in-Max-Maxima.ensures.n in
     let same = c.history-history.ensures.is in
     let maxima = c.in-Max-Maxima.ensures.own_kind in
-    let shared = ap (λ (s : Rows). s.list) c.over-shared.ensures ∙ c.shared.ensures.is ∙ ap (λ (p : Protection). p.shared) c.protected-protected.ensures.is in
-    let is = max_is setting history asked n _ same_n same maxima _ shared _ c.in_ok-prove_max-in-Max-Maxima.ensures in record {
+    let people = ap (λ (x : Counted). x.people) c.in_ok-people-in-Max-Maxima.ensures ∙ c.rows.ensures
+    ∙ ap (λ (p : Protection). p.people) c.protected-protected.ensures.is in
+    let is = max_is setting history asked n _ same_n same maxima _ people _ c.in_ok-prove_max-in-Max-Maxima.ensures in record {
       canonical = is.0;
       proof = is.1;
       wide = λ fault. absurd cc;
