@@ -8,7 +8,7 @@ use Rattle.audit_types.specs.declared.shapes.Shape.{Shape}
 use Rattle.audit_types.specs.declared.records.Answered.{Answered}
 use Rattle.audit_types.specs.declared.records.Protected.{Protected}
 use Rattle.audit_types.specs.declared.records.Verdict.TheVariants.{Released}
-use Rattle.audit_types.specs.Column.{Known, IsGuarded, number, total, IsDangerous, with_groups}
+use Rattle.audit_types.specs.Column.{Known, IsGuarded, number, greatest, total, IsDangerous, with_groups}
 use Rattle.audit_types.specs.Judgement.{IsDecision, IsWithinWidthFor, sets_with}
 use Rattle.audit_types.specs.Reach.{IsWithinBounds}
 use Rattle.audit_types.specs.ListLaws.{all_by_place}
@@ -17,6 +17,7 @@ use Rattle.audit_types.specs.WideningLaws.{widened-same}
 use Rattle.audit_types.specs.History.{Protection, Table, Secrets, AreSecrets, IsLegal, groups_of, known_of, setting_of}
 use Rattle.audit_core.specs.WideningLaws.{LegalStays}
 use Rattle.table_load.specs.Database.{Database, IsDatabase, table_in}
+use Rattle.audit_session.specs.HistoryFacts.{over_own}
 use Rattle.audit_session.specs.Lives.{Follows}
 use Rattle.audit_session.specs.Laws.{KeepsNumbers, KeepsGroups}
 use Rattle.audit_session.proofs.WholeTables.{whole_table}
@@ -29,7 +30,8 @@ module _ (known : Known) (groups : List (List ℕ)) (fewer : (group : List ℕ) 
   less = with_groups known groups
 
   guarded_more : (own : List ℕ) {value : List ℤ → ℤ} → IsGuarded less own value → IsGuarded known own value
-  guarded_more own (number row below other alone) = number row below other alone
+  guarded_more own (number row below other few) = number row below other few
+  guarded_more own (greatest rows maxima are some others few) = greatest rows maxima are some others few
   guarded_more own (total group row there inside other) = total group row (fewer group there) inside other
 
   danger_more : (rows : List ℕ) → IsDangerous less rows → IsDangerous known rows
@@ -73,12 +75,6 @@ fewer_groups shape protected groups secrets history fewer legal = record {
 
 -- ---- a table that comes after another
 
--- a legal history is over the rows of its table
-over_own : (table : Table) (history : List Answered) → IsLegal table history → widened table.setting.shape.rows history ≡ history
-over_own table history legal =
-    widened-same table.setting.shape.rows history
-    (all_by_place (λ r. r.rows.n ≡ table.setting.shape.rows) history (λ i r here. (legal.each i r here).fits.same_n))
-
 pub followers_stay : LegalStays → (base later : Database) (history : List Answered) → IsDatabase later →
     AreSecrets later.secret.shape later.secret.lists → Follows base later → KeepsNumbers base later → KeepsGroups base later →
     IsLegal (table_in base) history → IsLegal (table_in later) (widened later.secret.shape.rows history)
@@ -102,7 +98,7 @@ followers_stay stay base later history database are follows numbers keeps legal 
     fewer_groups (over m later.secret.shape) (protection_among m later.protected) base.protected.groups (map (take m) later.secret.lists) history keeps.0
     same_guard in
     elim (cases_lt m n) [
-      | inl lt ↦ stay (first_rows m table) table history database.protected.0 (ap (λ (p : Protection). p.own) database.protected.1) (lt, refl) front
+      | inl lt ↦ stay (first_rows m table) table history database.protected (lt, refl) front
       | inr ge ↦
           let same : m ≡ n = omega (arith, ge, follows.rows) in
           let whole : first_rows m table ≡ table = ap (λ k. first_rows k table) same ∙ whole_table table are database.protected in

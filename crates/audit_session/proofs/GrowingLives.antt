@@ -11,6 +11,7 @@ use Rattle.journal_form.specs.Journal.{StandsAt, StandsFor}
 use Rattle.question_plan.specs.Session.{Replied, records_of, bytes_of, AreReplies}
 use Rattle.question_plan.specs.Replies.{IsDue}
 use Rattle.question_plan.specs.Laws.{RepliesKeepLegal}
+use Rattle.audit_session.specs.HistoryFacts.{over_left}
 use Rattle.audit_session.specs.Stops.{IsFront}
 use Rattle.audit_session.specs.Lives.{Standing, Deed, serves, grows, Run, Makes, GoesFrom, Lead, KeepAll, shape_in, history_over, lines_of, over_all}
 
@@ -37,10 +38,6 @@ widened_front n a more = record { rest = widened n more; is = widened-append n a
 -- each set of the history is over the rows in force
 abbrev pub IsOver : Standing → Type 0
 IsOver at = widened at.rows at.history ≡ at.history
-
-pub over_left : (image : List ℕ) (shape : Shape) (history : List Answered) → StandsFor image shape history → widened shape.rows history ≡ history
-over_left image shape history stands =
-    let groups = stands.1.history_is in ap (widened shape.rows) groups ∙ widened-widened shape.rows shape.rows _ ∙ sym groups
 
 -- what a run made of the history, and what it sent
 pub record Step (deed : Deed) (at left : Standing) (sent : List ℕ) : Type 0 where

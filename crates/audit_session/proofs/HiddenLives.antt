@@ -22,6 +22,7 @@ use Rattle.audit_types.specs.declared.records.Answered.{Answered}
 use Rattle.audit_types.specs.Rows.{AreRows, AscendsFrom}
 use Rattle.audit_types.specs.Shapes.{kind_at}
 use Rattle.audit_types.specs.Truth.{number_at, sum_over, truth}
+use Rattle.audit_types.specs.GreatestLaws.{same_truth}
 use Rattle.audit_types.specs.HistoryLaws.{own_answer}
 use Rattle.audit_types.specs.ListLaws.{all_by_place, all-filter, all-get_or, all-map, all-unmap}
 use Rattle.audit_types.specs.History.{Table, Secrets, AreSecrets, AgreeWithHistory, IsLegal, answer_in, list_of}
@@ -38,30 +39,12 @@ use Rattle.question_plan.specs.declared.planning.Plan.TheVariants.{Ready, Ask}
 use Rattle.question_plan.specs.Session.{Replied, records_of, AreReplies}
 use Rattle.question_plan.specs.Replies.{IsDue, IsReplyOf}
 use Rattle.question_plan.specs.Laws.{RepliesKeepLegal}
+use Rattle.audit_session.specs.HistoryFacts.{rows_of_legal}
 use Rattle.audit_session.specs.Stops.{IsFront}
 use Rattle.audit_session.specs.Lives.{Standing, Deed, serves, grows, Run, Makes, Lead, Follows, over_all, shape_in, history_over}
 use Rattle.audit_session.specs.Laws.{LivesStayLegal, AgreeingSecretsLeadAlike}
 use Rattle.audit_session.specs.Hidden.{with_secrets, standing_with, run_with}
 use Rattle.audit_session.proofs.GrowingLives.{OneReading, first_in_last, run_step, stands_then, fresh_stands, Stands}
-
--- ---- the truth over a set reads no number but those of its rows
-
-module _ (w v : List ℤ) (m : ℕ) (same : (r : ℕ) → r < m → number_at w r ≡ number_at v r) where
-  same_sum : (low : ℕ) (rows : List ℕ) → AscendsFrom low m rows → sum_over w rows ≡ sum_over v rows
-  same_sum low [] are = refl
-  same_sum low (r ∷ rows) are = ap (λ z. z +ℤ sum_over w rows) (same r are.1) ∙ ap (λ z. number_at v r +ℤ z) (same_sum (r + 1) rows are.2)
-
-  same_numbers : (low : ℕ) (rows : List ℕ) → AscendsFrom low m rows → map (number_at w) rows ≡ map (number_at v) rows
-  same_numbers low [] are = refl
-  same_numbers low (r ∷ rows) are =
-      ap (λ z. z ∷ map (number_at w) rows) (same r are.1) ∙ ap (λ zs. number_at v r ∷ zs) (same_numbers (r + 1) rows are.2)
-
-  same_truth : (kind : Kind) (rows : List ℕ) → AreRows m rows → truth kind w rows ≡ truth kind v rows
-  same_truth Sum rows are = same_sum 0 rows are
-  same_truth Max [] are = refl
-  same_truth Max (r ∷ rows) are =
-      ap (λ z. fold int_max z (map (number_at w) rows)) (same r are.1)
-      ∙ ap (λ zs. fold int_max (number_at v r) zs) (same_numbers (r + 1) rows are.2)
 
 -- ---- the first numbers of secrets
 
@@ -176,12 +159,6 @@ module _ (last : Standing) (legal : IsLegal (table_in last.base) (history_over l
     )
 
 -- ---- a life
-
--- each set of a legal history is of rows of the table
-rows_of_legal : (table : Table) (history : List Answered) → IsLegal table history →
-    AllByRecursion (λ r. AreRows table.setting.shape.rows r.rows.list) history
-rows_of_legal table history legal = all_by_place (λ r. AreRows table.setting.shape.rows r.rows.list) history
-    (λ i r here. let fits = (legal.each i r here).fits in subst (λ n. AreRows n r.rows.list) fits.same_n fits.are_rows)
 
 -- a table that comes after another has its columns
 same_kinds : (base later : Database) → Follows base later → (column : ℕ) → kind_at base.secret.shape column ≡ kind_at later.secret.shape column

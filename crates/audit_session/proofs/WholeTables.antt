@@ -10,9 +10,8 @@ use Rattle.audit_types.specs.declared.shapes.Shape.{Shape}
 use Rattle.audit_types.specs.ListLaws.{all-get_or}
 use Rattle.audit_types.specs.RowLaws.{rows-again}
 use Rattle.audit_types.specs.Rows.{AreRows, has_row, rows_that}
-use Rattle.audit_types.specs.OutsiderLaws.{outsiders_among}
 use Rattle.audit_types.specs.Widening.{groups_among, protection_among, first_rows}
-use Rattle.audit_types.specs.History.{Protection, Table, Secrets, AreSecrets, IsGuardFor, IsProtected, against_outsiders, entry_of, setting_of}
+use Rattle.audit_types.specs.History.{Protection, Table, Secrets, AreSecrets, AreProtected, IsProtected, entry_of, setting_of}
 
 -- the lists of the secrets, all rows of each
 whole_lists : (n : ℕ) (lists : List (List ℤ)) → AllByRecursion (λ w. length w ≡ n) lists → map (take n) lists ≡ lists
@@ -35,15 +34,14 @@ whole_groups shape (p ∷ protected) fit =
     ∙ ap (λ l. l ++ groups_among shape.rows protected) (whole_entry p.column p.place shape.rows p.rows.n p.rows.list first.same_n first.some)
     ∙ ap (λ l. p ∷ l) (whole_groups shape protected (All-tail (IsProtected shape) p protected fit))
 
-whole_protection : (shape : Shape) (protected : Protection) → IsGuardFor shape protected → protection_among shape.rows protected ≡ protected
+whole_protection : (shape : Shape) (protected : Protection) → AreProtected shape protected → protection_among shape.rows protected ≡ protected
 whole_protection shape protected fit =
-    outsiders_among shape.rows protected fit.1
-    ∙ ap (λ groups. against_outsiders groups (rows_that (has_row protected.shared) shape.rows) protected.width protected.reach)
-    (whole_groups shape protected.groups fit.0.0)
-    ∙ ap (λ shared. against_outsiders protected.groups shared protected.width protected.reach) (rows-again shape.rows protected.shared fit.0.8)
-    ∙ sym fit.1
+    let counts = take_all shape.rows protected.people.counts fit.2.within in
+    ap (λ groups. record protected { groups = groups; people = record protected.people { counts = take shape.rows protected.people.counts } })
+    (whole_groups shape protected.groups fit.0)
+    ∙ ap (λ counts. record protected { people = record protected.people { counts = counts } }) counts
 
-pub whole_table : (table : Table) → AreSecrets table.setting.shape table.secrets → IsGuardFor table.setting.shape table.setting.protected →
+pub whole_table : (table : Table) → AreSecrets table.setting.shape table.secrets → AreProtected table.setting.shape table.setting.protected →
     first_rows table.setting.shape.rows table ≡ table
 whole_table table are fit =
     let shape = table.setting.shape in

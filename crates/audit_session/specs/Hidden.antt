@@ -1,7 +1,7 @@
 -- The promise as one sentence: other secrets lead the same life, byte for byte, and differ in what is guarded.
-use Rattle.std.specs.Prelude.{◌≡◌, ◌≢◌, ℕ, ◌<◌, ℤ, List, [], ◌∷◌, ◌++◌, length, map, take, slice_set, false}
+use Rattle.std.specs.Prelude.{◌≡◌, ◌≢◌, ℕ, ◌<◌, ℤ, List, [], ◌∷◌, ◌++◌, length, map, take, slice_set}
 use Rattle.std.specs.List.{slice_index_or}
-use Rattle.audit_types.specs.Rows.{has_row}
+use Rattle.audit_types.specs.Headcount.{AreFew}
 use Rattle.audit_types.specs.Shapes.{columns}
 use Rattle.audit_types.specs.Column.{AreOwn, IsGuarded}
 use Rattle.audit_types.specs.Truth.{number_at}
@@ -37,7 +37,7 @@ pub record HasTwinLife (base : Database) (runs : List Run) (last : Standing) (ow
   pub same : AreSameFor own last.base.secret.lists lists
   pub differs : value (list_of lists column) ≢ value numbers
 
--- a life hides what is guarded of the last table from each asker: each number whose row isn't shared, and each protected total
+-- a life hides what is guarded of the last table from each asker: what few people have, and each protected total
 abbrev pub IsHidden : Database → List Run → Standing → Type 0
 IsHidden base runs last =
     (column : ℕ) (own : List ℕ) (value : List ℤ → ℤ) → column < columns last.base.secret.shape →
@@ -45,25 +45,20 @@ IsHidden base runs last =
     IsGuarded (known_of (table_in last.base).setting (history_over last.base last) column) own value →
     HasTwinLife base runs last own column value (list_of last.base.secret.lists column)
 
--- other people may be behind the rows of the last table, of whom this one has another number: what is told of them leads the same life
-pub record HidesPerson (base : Database) (runs : List Run) (last : Standing) (everyone : List (List (List ℤ))) (column row person : ℕ) : Type 0 where
-  pub others : List (List (List ℤ))
-  pub lists : Secrets
-  pub behind : AreBehind last.base.secret.shape (counts_of last.base.columns last.base.public) lists others
-  pub life : LeadsLife lists base runs last
-  pub differs : number_at (slice_index_or (people_in others column) row []) person ≢ number_at (slice_index_or (people_in everyone column) row []) person
-
--- and the number of each person behind a row of the last table, if its schema counts them
+-- and the number of each person behind a row of the last table, if its schema counts them: of other people who may be behind the rows this one
+-- has another number, and what is told of them leads the same life
 abbrev pub HidesEachPerson : Database → List Run → Standing → Type 0
 HidesEachPerson base runs last =
     (everyone : List (List (List ℤ))) (column row person : ℕ) → AreBehind last.base.secret.shape (counts_of last.base.columns last.base.public) last.base.secret.lists everyone →
-    column < columns last.base.secret.shape → person < length (slice_index_or (people_in everyone column) row []) → HidesPerson base runs last everyone column row person
+    column < columns last.base.secret.shape → person < length (slice_index_or (people_in everyone column) row []) →
+    (others : List (List (List ℤ))) × (lists : Secrets) × AreBehind last.base.secret.shape (counts_of last.base.columns last.base.public) lists others × LeadsLife lists base runs last
+    × (number_at (slice_index_or (people_in others column) row []) person ≢ number_at (slice_index_or (people_in everyone column) row []) person)
 
--- and each number that stood in the table at one of its runs, whether it still does or not, in a row that isn't shared
+-- and each number that stood in the table at one of its runs, whether it still does or not, in a row of few people
 abbrev pub HidesWhatStood : Database → List Run → Standing → Type 0
 HidesWhatStood base runs last =
     (before after : List Run) (run : Run) (column row : ℕ) → runs ≡ before ++ run ∷ after → column < columns last.base.secret.shape →
-    has_row last.base.protected.shared row ≡ false → row < run.left.base.secret.shape.rows → HasTwinLife base runs last [] column (λ w. number_at w row) (list_of run.left.base.secret.lists column)
+    AreFew last.base.protected.people [] (row ∷ []) → row < run.left.base.secret.shape.rows → HasTwinLife base runs last [] column (λ w. number_at w row) (list_of run.left.base.secret.lists column)
 
 -- for all that a life sent a column of the last table may have numbers of which this is true: with them and the other columns, all along, the
 -- same life is led

@@ -7,6 +7,8 @@ use Rattle.std.proofs.Math.Seq.{take-append-add}
 use Rattle.std.proofs.lemmas.List.{take_more, take-take, get_or-take, get_or-append-add}
 use Rattle.std.proofs.lemmas.Option.{same_Some, slice_get_within, get_or_from_slice_get, slice_get-get_or, slice_get_read}
 use Rattle.audit_types.specs.declared.records.Answered.{Answered}
+use Rattle.audit_types.specs.Headcount.{one_person_each}
+use Rattle.audit_types.specs.Limits.{most_rows, most_width}
 use Rattle.audit_types.specs.History.{Protection, Table, FitsShape, IsLegal, IsLegalRecord, IsPossibleHistory}
 use Rattle.audit_types.specs.Laws.{LegalIsPossible}
 use Rattle.audit_core.specs.Laws.{LegalGrows}
@@ -21,6 +23,10 @@ use Rattle.table_load.specs.SecretLists.{are_secrets}
 pub legal_is_possible : (secret : SecretView) (protected : Protection) (history : List Answered) → LegalIsPossible → IsSecret secret →
     IsLegal (secret_table secret protected) history → IsPossibleHistory (secret_table secret protected).setting history
 legal_is_possible secret protected history law is legal = law (secret_table secret protected) history (are_secrets secret is) legal
+
+-- the table of these secrets, one person behind each row, of which no group is protected
+abbrev pub plain_table : SecretView → Table
+plain_table secret = secret_table secret (record { groups = []; people = one_person_each; width = most_width; reach = most_rows })
 
 module _ (table : Table) (list : List Answered) (k : ℕ) (legal : IsLegal table (take k list)) where
   -- a record more that fits, is true and was to be released

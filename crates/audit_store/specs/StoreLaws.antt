@@ -7,7 +7,7 @@ use Rattle.std.proofs.Math.Seq.{take-length, drop-append_seam}
 use Rattle.std.proofs.lemmas.List.{take-append-drop, take_all}
 use Rattle.audit_types.specs.declared.records.Answered.{Answered}
 use Rattle.audit_types.specs.declared.shapes.Shape.{Shape}
-use Rattle.audit_types.specs.History.{Protection, Table, Setting, IsGuardFor, IsLegal, setting_of}
+use Rattle.audit_types.specs.History.{Protection, Table, Setting, AreProtected, IsLegal, setting_of}
 use Rattle.audit_core.specs.Audited.{Audited}
 use Rattle.table_load.specs.Cells.{SecretView}
 use Rattle.bench_core.specs.declared.bench.Bench.{Ghosts}
@@ -96,12 +96,12 @@ module _ (secret : SecretView) (protected : Protection) (journal : JournalConten
   recovered_groups = ap (λ (s : Setting). s.protected) found.same_setting
 
   -- what was recovered is a store, all of whose records are released
-  pub recovered_store : IsGuardFor secret.shape protected →
+  pub recovered_store : AreProtected secret.shape protected →
       IsStore (store_in secret core journal.count journal true) × IsAuditedBy (table_by secret core) core journal.count true
   recovered_store fit = (
     record {
       numbers = found.numbers;
-      fit = subst (λ (p : Protection). IsGuardFor secret.shape p) (sym recovered_groups) fit;
+      fit = subst (λ (p : Protection). AreProtected secret.shape p) (sym recovered_groups) fit;
       legal = subst (λ (p : Protection). IsLegal (secret_table secret p) (take journal.count core.history)) (sym recovered_groups)
           (subst (λ (h : List Answered). IsLegal (secret_table secret protected) h) (sym all_released) found.legal);
       journal_usable = λ _. found.usable;
@@ -137,7 +137,7 @@ refused_store secret old new released before after usable is_usable store audite
     let groups : old.setting.protected ≡ new.setting.protected = ap (λ (s : Setting). s.protected) (sym setting) in (
       record {
         numbers = store.numbers;
-        fit = subst (λ (p : Protection). IsGuardFor secret.shape p) groups store.fit;
+        fit = subst (λ (p : Protection). AreProtected secret.shape p) groups store.fit;
         legal = subst (λ (p : Protection). IsLegal (secret_table secret p) (take released new.history)) groups
             (subst (λ (h : List Answered). IsLegal (table_by secret old) h) same store.legal);
         journal_usable = λ is. let none : ⊥ = cc in absurd none;
@@ -179,7 +179,7 @@ kept_store secret old new released now before after usable group made is_usable 
     let groups : old.setting.protected ≡ new.setting.protected = ap (λ (s : Setting). s.protected) (sym setting) in (
       record {
         numbers = store.numbers;
-        fit = subst (λ (p : Protection). IsGuardFor secret.shape p) groups store.fit;
+        fit = subst (λ (p : Protection). AreProtected secret.shape p) groups store.fit;
         legal = subst (λ (p : Protection). IsLegal (secret_table secret p) (take now new.history)) groups
             (subst (λ (h : List Answered). IsLegal (table_by secret old) h) (sym whole) legal);
         journal_usable = λ _. usable_after;

@@ -4,7 +4,7 @@ use Rattle.std.specs.Prelude.{◌≡◌, ◌⊎◌, ℕ, ◌≤◌, Bool, true, 
 use Rattle.audit_types.specs.declared.shapes.Shape.{Shape}
 use Rattle.audit_types.specs.declared.records.Asked.{Asked}
 use Rattle.audit_types.specs.declared.records.Answered.{Answered}
-use Rattle.audit_types.specs.History.{Protection, Table, IsGuardFor, IsLegal}
+use Rattle.audit_types.specs.History.{Protection, Table, AreProtected, IsLegal}
 use Rattle.audit_core.specs.Audited.{Audited}
 use Rattle.table_load.specs.Cells.{SecretView, IsSecret}
 use Rattle.table_load.specs.Database.{secret_table}
@@ -32,7 +32,7 @@ table_of store = secret_table store.secret store.protected
 -- what is true of every store: its history is legal, and while it is usable its journal is that of its table and history
 pub record IsStore (store : StoreContents) : Type 0 where
   pub numbers : IsSecret store.secret
-  pub fit : IsGuardFor store.secret.shape store.protected
+  pub fit : AreProtected store.secret.shape store.protected
   pub legal : IsLegal (table_of store) store.history
   pub journal_usable : store.usable ≡ true → store.journal.usable ≡ true
   pub same_shape : store.usable ≡ true → store.journal.shape ≡ store.secret.shape

@@ -1,7 +1,7 @@
 //! Growing the journal of a table to rows that came at its end.
 ghost use Rattle.std.specs.Prelude.{◌≡◌, ◌≤◌, length, All, IfErr, OnOk};
 ghost use Rattle.audit_types.specs.Limits.{most_records};
-ghost use Rattle.audit_types.specs.History.{FitsShape, IsGuardFor};
+ghost use Rattle.audit_types.specs.History.{FitsShape, AreProtected};
 ghost use Rattle.audit_store.specs.Growing.{grow_fault, GrowsFrom, GrowHistoryCause};
 ghost use Rattle.table_load.specs.Database.{secret_table};
 
@@ -78,7 +78,7 @@ pub fn may_grow(
     kept: &Shape,
     list: &mut [Answered],
 ) -> Result<(), GrowFault>
-    requires groups { IsGuardFor secret.now.shape protected }
+    requires groups { AreProtected secret.now.shape protected }
     requires few { length list.old ≤ most_records }
     requires fit { All (λ r. FitsShape kept.now r.column r.rows) list.old }
     ensures ok { OnOk result (GrowsFrom kept.now list.old (secret_table secret.now protected)) }

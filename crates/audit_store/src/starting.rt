@@ -1,7 +1,7 @@
 //! Opening the journal of a table.
 ghost use Rattle.std.specs.Prelude.{◌≡◌, ◌<◌, ◌≤◌, ◌+◌, true, false, Ok, Err, List, length, All, IfOk, IfErr, OnOk, IsErrOf};
 ghost use Rattle.audit_types.specs.Limits.{most_records};
-ghost use Rattle.audit_types.specs.History.{Protection, FitsShape, IsGuardFor, IsLegal, IsPossibleHistory, IsDecisionAfter, IsJudgementAfter, setting_of};
+ghost use Rattle.audit_types.specs.History.{Protection, FitsShape, AreProtected, IsLegal, IsPossibleHistory, IsDecisionAfter, IsJudgementAfter, setting_of};
 ghost use Rattle.audit_types.specs.declared.records.Answered.{Answered};
 ghost use Rattle.audit_types.specs.declared.records.Verdict.TheVariants.{Released};
 ghost use Rattle.audit_types.specs.Minima.{as_it_stands};
@@ -143,7 +143,7 @@ fn replay(
     protected: Guard,
     list: &[Answered],
 ) -> Result<Core, StartFault>
-    requires groups { IsGuardFor secret.now.shape protected }
+    requires groups { AreProtected secret.now.shape protected }
     requires fit { All (λ r. FitsShape secret.now.shape r.column r.rows) list.now }
     requires few { length list.now ≤ most_records }
     requires are_true { AreTrue (secret_table secret.now protected) list.now }
@@ -177,7 +177,7 @@ pub fn audited(
     protected: Guard,
     list: &[Answered],
 ) -> Result<Core, StartFault>
-    requires groups { IsGuardFor secret.now.shape protected }
+    requires groups { AreProtected secret.now.shape protected }
     requires fit { All (λ r. FitsShape secret.now.shape r.column r.rows) list.now }
     requires few { length list.now ≤ most_records }
     ensures ok { IfOk result (λ core. (core ≡ record { setting = setting_of secret.now.shape protected; history = list.now }) × IsLegal (secret_table secret.now protected) list.now) }
@@ -197,7 +197,7 @@ fn opened(
     kept: &Shape,
     list: &[Answered],
 ) -> Result<Core, StartFault>
-    requires groups { IsGuardFor secret.now.shape protected }
+    requires groups { AreProtected secret.now.shape protected }
     requires few { length list.now ≤ most_records }
     requires fit { All (λ r. FitsShape kept.now r.column r.rows) list.now }
     ensures ok { IfOk result (λ core. (core ≡ record { setting = setting_of secret.now.shape protected; history = list.now }) × IsLegal (secret_table secret.now protected) list.now) }
@@ -221,7 +221,7 @@ pub fn recover<B: Bench>(
     protected: Guard,
     bench: &mut B,
 ) -> Result<(Journal, Core), StartFault>
-    requires fit { IsGuardFor secret.now.shape protected }
+    requires fit { AreProtected secret.now.shape protected }
 
     // The core's history is that of the file, and it is legal.
     ensures recovers { IfOk result (λ found. Recovers secret.now protected found.0 found.1) }

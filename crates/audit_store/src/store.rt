@@ -1,7 +1,7 @@
 //! The store.
 ghost use Rattle.std.specs.Prelude.{◌≡◌, ◌≢◌, ◌≤◌, ◌+◌, ◌++◌, [], ℕ, List, true, false, length, take, All, IfOk, IfErr, OnOk, OnErr, IsErrOf, Err};
 ghost use Rattle.audit_types.specs.declared.records.Answered.{Answered};
-ghost use Rattle.audit_types.specs.History.{FitsShape, IsGuardFor, IsLegal, setting_of};
+ghost use Rattle.audit_types.specs.History.{FitsShape, AreProtected, IsLegal, setting_of};
 ghost use Rattle.bench_core.specs.Calls.{IsQuiet, LeavesOnly, IsUntouched, OnlyReads, TellsFault};
 ghost use Rattle.journal_form.specs.Journal.{StandsAt, StandsFor};
 ghost use Rattle.answer_journal.specs.Moments.{IsBeforeOrAfter, IsBeforeOrGrown};
@@ -63,7 +63,7 @@ impl Store {
         protected: Guard,
         bench: &mut B,
     ) -> Result<Store, StartFault>
-        requires fit { IsGuardFor secret.shape protected }
+        requires fit { AreProtected secret.shape protected }
 
         // The store is that of the file's history, which is legal.
         ensures store { IfOk result (λ store. (store.secret ≡ secret) × (store.protected ≡ protected) × (store.usable ≡ true) × IsStore store) }
@@ -97,7 +97,7 @@ impl Store {
         protected: Guard,
         bench: &mut B,
     ) -> Result<(), GrowFault>
-        requires fit { IsGuardFor secret.shape protected }
+        requires fit { AreProtected secret.shape protected }
 
         // Each refusal has its cause in the file, and each cause has its refusal; a history that is legal over all rows is never
         // refused.

@@ -1,5 +1,5 @@
 -- What a life left is taken by the next run, whatever became of what is public.
-use Rattle.std.proofs.Common.{◌≡◌, ◌<◌, ℕ, List, sym, ◌∙◌, ap, subst}
+use Rattle.std.proofs.Common.{◌≡◌, ◌<◌, ℕ, List, ap, subst}
 use Rattle.audit_types.specs.declared.records.Answered.{Answered}
 use Rattle.audit_types.specs.declared.shapes.Shape.{Shape}
 use Rattle.audit_types.specs.Widening.{over, widened}
@@ -7,14 +7,10 @@ use Rattle.audit_types.specs.WideningLaws.{widened-widened}
 use Rattle.audit_types.specs.History.{AreSecrets, IsLegal}
 use Rattle.table_load.specs.Database.{Database, IsDatabase, table_in}
 use Rattle.journal_form.specs.Journal.{StandsFor}
+use Rattle.audit_session.specs.HistoryFacts.{over_left}
 use Rattle.audit_session.specs.Laws.{LivesStayLegal, FollowersStayLegal, KeepsNumbers, KeepsGroups}
 use Rattle.audit_session.specs.Lives.{Standing, Run, Follows, IsLife, shape_in, history_over}
 use Rattle.auditor_top.specs.Commands.{AreSoundFilesOf, ServesOver, GrowsOver}
-
--- what a file stands for is over the rows in force
-over_left : (image : List ℕ) (shape : Shape) (history : List Answered) → StandsFor image shape history → widened shape.rows history ≡ history
-over_left image shape history stands =
-    let groups = stands.1.history_is in ap (widened shape.rows) groups ∙ widened-widened shape.rows shape.rows _ ∙ sym groups
 
 module _ (stays : LivesStayLegal) (follow : FollowersStayLegal) (schema table image : List ℕ) (base now : Database) (runs : List Run) (last : Standing)
     (files : AreSoundFilesOf schema table now) (database : IsDatabase now) (are : AreSecrets now.secret.shape now.secret.lists) (life : IsLife base runs last)

@@ -1,20 +1,19 @@
 -- A life with one run more.
-use Rattle.std.proofs.Common.{◌≡◌, ◌≢◌, ℕ, inl, inr, List, [], ◌∷◌, ◌++◌, Bool, true, false, Option, Some, append_assoc}
-use Rattle.std.proofs.Common.{refl, sym, ◌∙◌, ap, subst, arith}
+use Rattle.std.proofs.Common.{◌≡◌, ◌≢◌, ℕ, inl, inr, List, [], ◌∷◌, ◌++◌, Bool, true, false, Option, Some}
+use Rattle.std.proofs.Common.{refl, sym, ◌∙◌, subst, arith}
 use Rattle.std.proofs.lemmas.List.{append_cancel_left, append-nil}
 use Rattle.audit_types.specs.declared.records.Answered.{Answered}
 use Rattle.audit_types.specs.History.{Table, IsLegal}
-use Rattle.audit_types.specs.ListLaws.{all_by_place}
-use Rattle.audit_types.specs.WideningLaws.{widened-same}
 use Rattle.bench_core.specs.declared.bench.Bench.{Ghosts}
 use Rattle.bench_core.specs.declared.source.Source as source
 use Rattle.bench_core.specs.Calls.{IsQuiet}
 use Rattle.table_load.specs.Database.{Database, table_in}
 use Rattle.journal_form.specs.Journal.{StandsFor}
-use Rattle.audit_types.specs.Widening.{over, widened}
+use Rattle.audit_types.specs.Widening.{over}
 use Rattle.answer_journal.specs.Moments.{IsBeforeOrGrown}
 use Rattle.line_wire.specs.Lines.{counted_lines}
 use Rattle.question_plan.specs.Replies.{IsDue}
+use Rattle.audit_session.specs.HistoryFacts.{fronts_meet, over_own}
 use Rattle.audit_session.specs.Stops.{IsBatch, IsFront, Stop, StopsOver, stands_over}
 use Rattle.audit_session.specs.Lives.{Standing, Follows, serves, grows, Run, GoesFrom, Lead, IsLife, shape_in}
 use Rattle.twin_journal.specs.Twins.{CatchesUpOrStops}
@@ -32,24 +31,6 @@ use Rattle.auditor_top.proofs.OneTable.{OneReading, untouched_stops}
 -- the empty history is legal
 pub nothing_is_legal : (table : Table) → IsLegal table []
 nothing_is_legal table = record { few = omega arith; each = λ i r is. cc }
-
--- what begins each other is the same
-pub fronts_meet : (a b : List Answered) → IsFront a b → IsFront b a → a ≡ b
-fronts_meet a b first second =
-    let whole : a ≡ a ++ (first.rest ++ second.rest) =
-    second.is ∙ ap (λ (l : List Answered). l ++ second.rest) first.is ∙ append_assoc a first.rest second.rest in
-    let none : [] ≡ first.rest ++ second.rest = append_cancel_left a [] _ (append-nil a ∙ whole) in
-    sym (first.is ∙ ap (λ (l : List Answered). a ++ l) (none_first first.rest second.rest none) ∙ append-nil a)
-  where
-    none_first : (x y : List Answered) → [] ≡ x ++ y → x ≡ []
-    none_first [] y is = refl
-    none_first (r ∷ x) y is = cc
-
--- a legal history is over the rows of its table
-over_own : (table : Table) (history : List Answered) → IsLegal table history → widened table.setting.shape.rows history ≡ history
-over_own table history legal =
-    widened-same table.setting.shape.rows history
-    (all_by_place (λ r. r.rows.n ≡ table.setting.shape.rows) history (λ i r here. (legal.each i r here).fits.same_n))
 
 pub lead_push : (at : Standing) (runs : List Run) (mid : Standing) (run : Run) → Lead at runs mid → GoesFrom mid run →
     Lead at (runs ++ run ∷ []) run.left

@@ -237,7 +237,7 @@ module _ {P I B : Type 0} (files : source.Ghosts P) (lines : source.Ghosts I) (b
         (gives_up Audit is ptold (λ opens. told) (base, history, over)) reads.sent reads.sent none none;
     auditing = λ ptold told quiet base history over.
         still quiet (untouched_report (audit_over base history) (subjects_over base) (bench.file at) (bench.sent at));
-    audit_calls = λ ptold told done base given. never_done status early done;
+    audit_calls = λ ptold told done base history over. never_done status early done;
     audits = λ ptold told base history over none. wants (gives_up Audit is ptold (λ opens. told) (base, history, over)) none;
   }
 

@@ -48,7 +48,7 @@ same_report status base other history same people before after = (λ x. x, λ x.
 
 -- an audit of these columns, over this shape
 abbrev an_audit : Database → Shape → List Answered → Audit
-an_audit base shape history = record { schema = base.columns; shape = shape; shared = base.protected.shared; history = history }
+an_audit base shape history = record { schema = base.columns; shape = shape; people = base.protected.people; history = history }
 
 pub twins_alike : (base other : Database) (history : List Answered) → AreTwins base other → AreShownAlike base other history
 twins_alike base other history twins =
@@ -58,7 +58,7 @@ twins_alike base other history twins =
     record {
       report = λ status before after. same_report status base other history audit people before after;
       meanwhile = λ file before image sent.
-          same_told (λ (a : Audit) (p : Option ℕ). SendsMeanwhile a (subjects a.shape a.shared p) file before image sent) base other history audit people;
+          same_told (λ (a : Audit) (p : Option ℕ). SendsMeanwhile a (subjects a.shape p) file before image sent) base other history audit people;
       certificates = λ asked lines. same_public (λ cs i. AreExplained cs i history asked lines) base other twins.0;
       compacted = λ status spare new_spare before after. same_said (λ (s : Shape). CompactEnds status s history spare new_spare before after)
           base.secret.shape other.secret.shape twins.1;

@@ -1,7 +1,7 @@
 -- Files without fault are those of a database.
 use Rattle.std.proofs.Common.{◌≡◌, ℕ, List, Ok, sym, subst}
 use Rattle.audit_types.specs.declared.shapes.Shape.{Shape}
-use Rattle.audit_types.specs.History.{IsGuardFor}
+use Rattle.audit_types.specs.History.{AreProtected}
 use Rattle.schema_json.specs.Columns.{Column, SchemaView, AreColumns, IsSchema}
 use Rattle.schema_json.specs.Reading.{schema_of}
 use Rattle.schema_json.specs.SecretShape.{shape_of}
@@ -37,8 +37,11 @@ module _ (fit : MeaningsFit) (schema table : List ℕ) (base : Database) (sound 
       let seen : IsPublic (whole base.public) = fit.public base.columns table meant (means_read sound.files.table_means) in
       record { some = seen.some; at_most = seen.at_most; columns = seen.columns }
 
+  fits_schema : FitsSchema base.columns base.public
+  fits_schema = fit.fits base.columns table meant (means_read sound.files.table_means)
+
   pub are_lines : AreLines base
-  are_lines = fit.lines base sound.files.guards (fit.fits base.columns table meant (means_read sound.files.table_means)) is_public sound.entries
+  are_lines = fit.lines base sound.files.guards fits_schema is_public sound.entries
 
   pub is_database : IsDatabase base
   is_database =
@@ -46,6 +49,6 @@ module _ (fit : MeaningsFit) (schema table : List ℕ) (base : Database) (sound 
       record {
         schema = is_schema.columns;
         shape = shape;
-        protected = subst (λ (s : Shape). IsGuardFor s base.protected) (sym shape)
-            (fit.entries base.columns base.public sound.files.guards base.protected is_schema.columns is_public is_schema.guards sound.entries);
+        protected = subst (λ (s : Shape). AreProtected s base.protected) (sym shape)
+            (fit.entries base.columns base.public sound.files.guards base.protected is_schema.columns fits_schema is_public is_schema.guards sound.entries);
       }

@@ -5,7 +5,7 @@ use Rattle.audit_types.specs.Shapes.{IsShape}
 use Rattle.bench_core.specs.declared.bench.Bench.{Ghosts}
 use Rattle.bench_core.specs.declared.source.Source as source
 use Rattle.std.specs.Bool.{OnTrue}
-use Rattle.audit_types.specs.History.{IsGuardFor}
+use Rattle.audit_types.specs.History.{AreProtected}
 use Rattle.schema_json.specs.Columns.{Column, SchemaView}
 use Rattle.schema_json.specs.Reading.{schema_of, most_schema}
 use Rattle.schema_json.specs.SecretShape.{shape_of}
@@ -71,18 +71,18 @@ IsReady bench now (Serve schema index store batch) =
     IsOpened bench now store × FitsSchema schema.columns index.public × (store.secret.shape ≡ shape_of schema.columns index.public.rows) ×
     (index.protected ≡ store.protected)
 IsReady bench now (Twin schema index secret protected batch) =
-    IsGuardFor secret.shape protected × FitsSchema schema.columns index.public × (secret.shape ≡ shape_of schema.columns index.public.rows) ×
+    AreProtected secret.shape protected × FitsSchema schema.columns index.public × (secret.shape ≡ shape_of schema.columns index.public.rows) ×
     (index.protected ≡ protected)
 IsReady bench now (Audit schema people store) = IsOpened bench now store × (store.secret.shape ≡ shape_of schema.columns store.secret.shape.rows)
 IsReady bench now (Simulate schema index) =
-    FitsSchema schema.columns index.public × IsGuardFor (shape_of schema.columns index.public.rows) index.protected
+    FitsSchema schema.columns index.public × AreProtected (shape_of schema.columns index.public.rows) index.protected
 IsReady bench now (Drill number) = Unit {0}
-IsReady bench now (Grow secret protected) = IsGuardFor secret.shape protected
+IsReady bench now (Grow secret protected) = AreProtected secret.shape protected
 IsReady bench now (Explain schema index store) =
     IsOpened bench now store × FitsSchema schema.columns index.public × (store.secret.shape ≡ shape_of schema.columns index.public.rows) ×
     (index.protected ≡ store.protected)
 IsReady bench now (Compact store) = IsOpened bench now store
-IsReady bench now (Restore secret protected) = IsGuardFor secret.shape protected
+IsReady bench now (Restore secret protected) = AreProtected secret.shape protected
 
 -- its parts are what the files mean
 abbrev pub IsReadyOver : List ℕ → List ℕ → Ready → Type 0

@@ -18,7 +18,7 @@ use Rattle.question_plan.specs.Session.{Replied, bytes_of}
 use Rattle.audit_session.specs.Ends.{KeepsCalls, TakesCalls}
 use Rattle.audit_session.specs.Stops.{IsFront, StopsOver}
 use Rattle.audit_session.specs.Lives.{IsLife, Run, Standing, shape_in, serves}
-use Rattle.journal_audit.specs.Reports.{SendsMeanwhile}
+use Rattle.journal_audit.specs.Reports.{SendsMeanwhile, TakesOneEach}
 use Rattle.certificate_lines.specs.Ends.{ExplainsMeanwhile}
 use Rattle.certificate_lines.specs.Explained.{AreExplained}
 use Rattle.transcript_sim.specs.Beginning.{public_setting}
@@ -95,8 +95,9 @@ pub record Auditing {P I B : Type 0} (files : source.Ghosts P) (lines : source.G
       ServesOver (files.left old.schema) (files.left old.table) (bench.file old.bench) base history →
       LeavesOnly bench old.bench new.bench (SendsMeanwhile (audit_over base history) (subjects_over base) (bench.file old.bench) (bench.sent old.bench))
   -- it took two calls of the bench to open the journal, and one for each line of the report
-  pub audit_calls : files.told → bench.told → status ≡ Done → (base : Database) → AreSoundFilesOf (files.left old.schema) (files.left old.table) base →
-      bench.moment new.bench ≡ bench.moment old.bench + 2 + length (subjects_over base)
+  pub audit_calls : files.told → bench.told → status ≡ Done → (base : Database) (history : List Answered) →
+      ServesOver (files.left old.schema) (files.left old.table) (bench.file old.bench) base history →
+      TakesOneEach (audit_over base history) (subjects_over base) (bench.moment old.bench + 2) (bench.moment new.bench)
   -- if nothing is wrong and nothing fails, it is done
   pub audits : files.told → bench.told → (base : Database) (history : List Answered) →
       ServesOver (files.left old.schema) (files.left old.table) (bench.file old.bench) base history →

@@ -2,8 +2,7 @@
 ghost use Rattle.std.specs.Prelude.{◌≡◌, ◌≢◌, ◌≤◌, ◌+◌, [], List, ℕ, true, Some, length, take, IfOk, OnOk};
 ghost use Rattle.audit_types.specs.Shapes.{IsShape};
 ghost use Rattle.audit_types.specs.declared.records.Answered.{Answered};
-ghost use Rattle.audit_types.specs.Limits.{most_rows, most_width};
-ghost use Rattle.audit_types.specs.History.{Table as Guarded, against_outsiders};
+ghost use Rattle.audit_types.specs.History.{Table as Guarded};
 ghost use Rattle.schema_json.specs.Columns.{no_guards};
 ghost use Rattle.schema_json.specs.SecretShape.{shape_of};
 ghost use Rattle.table_load.specs.Cells.{FitsSchema};
@@ -19,14 +18,14 @@ ghost use Rattle.drill_case.specs.Lines.{drill_text};
 ghost use Rattle.auditor_top.specs.declared.status.Which.{Which};
 ghost use Rattle.auditor_top.specs.declared.words.Command.TheVariants.{Drill};
 ghost use Rattle.auditor_top.specs.Causes.{FaultCause, WordCause, FileCause, NeverFall, NothingFailed, IsDoneOrWants, counts};
-ghost use Rattle.auditor_top.specs.Drills.{AnswersDrill, IsSummary, DrillEnds};
+ghost use Rattle.auditor_top.specs.Drills.{drill_protection, AnswersDrill, IsSummary, DrillEnds};
 ghost use Rattle.auditor_top.specs.Stages.{Before, opening_journal, reading_lines};
 
 use crate::status::Status;
 use answer_journal::{Journal, MakeFault};
 use audit_session::EndFault;
 use audit_store::{StartFault, Store};
-use audit_types::{Guard, MOST_REACH, MOST_WIDTH, NoMemory, RowSet, Shape};
+use audit_types::{NoMemory, Shape};
 use bench_core::{Bench, Failed, MemoryBench, Room, SteadySource};
 use drill_case::laws::lines_of_replies;
 use drill_case::{drill_lines, drill_schema, drill_table, summary, tally};
@@ -96,20 +95,15 @@ fn answer(
     bench: &mut MemoryBench,
 ) -> Result<(), NoMemory>
     requires fits { FitsSchema schema.now.columns index.now.public }
-    requires none { index.now.protected ≡ against_outsiders [] [] most_width most_rows }
+    requires none { index.now.protected ≡ drill_protection }
     requires shape { secret.shape ≡ shape_of schema.now.columns index.now.public.rows }
     requires stands { StandsFor (file_of bench.old) secret.shape [] }
     requires short { length lines.items ≤ 60000 }
     ensures { OnOk result ((last : List Answered) × Serves (base_of schema.now.columns index.now.public index.now.protected secret) [] (counted_lines lines.items) last (sent_of bench.old) (sent_of bench.new)) }
 {
     journal_form::laws::one_reading();
-    let shared = RowSet::new(secret.shape().rows);
-    match Store::start(
-        alloc,
-        secret,
-        Guard::new(Vec::new(alloc), shared, MOST_WIDTH, MOST_REACH),
-        bench,
-    ) {
+    let protected = index.protected().copy(alloc)?;
+    match Store::start(alloc, secret, protected, bench) {
         Ok(mut store) => answer_over(alloc, schema, index, &mut store, lines, bench),
         Err(fault) => match fault {
             StartFault::Failed | StartFault::NoMemory => Err(NoMemory),
@@ -129,7 +123,7 @@ fn answer_lines(
 ) -> Result<(), NoMemory>
     requires columns { schema.now.columns ≡ drill_columns }
     requires public { index.now.public ≡ drill_public number }
-    requires none { index.now.protected ≡ against_outsiders [] [] most_width most_rows }
+    requires none { index.now.protected ≡ drill_protection }
     requires secret { secret ≡ drill_secret number }
     requires fits { FitsSchema schema.now.columns index.now.public }
     requires empty { file_of bench.old ≡ [] }

@@ -1,6 +1,6 @@
 //! What each command goes on with: its files are read, and its journal is opened.
 ghost use Rattle.std.specs.Prelude.{◌≡◌, ◌≤◌, ◌+◌, true, false, IfOk, IfErr, IsOk, OnOk};
-ghost use Rattle.audit_types.specs.History.{IsGuardFor};
+ghost use Rattle.audit_types.specs.History.{AreProtected};
 ghost use Rattle.bench_core.specs.Calls.{OnlyReads};
 ghost use Rattle.schema_json.specs.SecretShape.{shape_of};
 ghost use Rattle.table_load.specs.Cells.{FitsSchema};
@@ -81,7 +81,7 @@ fn open_groups<P: Source, B: Bench>(
     // What is made ready is that of the files.
     ensures over { P.told → IfOk result (λ made. AreSoundFilesOf (P.left schema.old) (P.left table.old)
         (base_of made.schema.columns made.index.public made.protected made.secret)) }
-    ensures fit { IfOk result (λ made. IsGuardFor made.secret.shape made.protected) }
+    ensures fit { IfOk result (λ made. AreProtected made.secret.shape made.protected) }
     ensures fits { IfOk result (λ made. FitsSchema made.schema.columns made.index.public) }
     ensures shape { IfOk result (λ made. made.secret.shape ≡ shape_of made.schema.columns made.index.public.rows) }
     ensures entries { IfOk result (λ made. made.index.protected ≡ made.protected) }

@@ -1,7 +1,7 @@
 //! What every command over a journal stands on, besides the files: the schema's groups are ready, and the journal is open.
 ghost use Rattle.std.specs.Prelude.{◌≡◌, ◌+◌, ℕ, List, true, IfOk, OnOk, IsErrOf, Err};
 ghost use Rattle.audit_types.specs.declared.records.Answered.{Answered};
-ghost use Rattle.audit_types.specs.History.{Protection, IsLegal, IsGuardFor};
+ghost use Rattle.audit_types.specs.History.{Protection, IsLegal, AreProtected};
 ghost use Rattle.bench_core.specs.Calls.{OnlyReads, TellsFault};
 ghost use Rattle.schema_json.specs.SecretShape.{shape_of};
 ghost use Rattle.table_load.specs.Cells.{FitsSchema, PublicView, whole};
@@ -54,7 +54,7 @@ pub fn make_ready(alloc: Global, opened: Opened) -> Result<ReadyTable, IndexFaul
     requires fits { FitsSchema opened.schema.columns opened.table.public }
     ensures same { IfOk result (λ made. (made.schema ≡ opened.schema) × (whole made.index.public ≡ opened.table.public) × (made.secret ≡ opened.table.secret)
         × (made.index.protected ≡ made.protected)) }
-    ensures fit { IfOk result (λ made. IsGuardFor (shape_of opened.schema.columns made.index.public.rows) made.protected) }
+    ensures fit { IfOk result (λ made. AreProtected (shape_of opened.schema.columns made.index.public.rows) made.protected) }
     ensures entries { IfOk result (λ made. Protects opened.schema.columns made.index.public opened.schema.guards made.protected) }
     ensures bad { (part : GuardPart) → result ≡ Err (IndexFault.Bad part) → IsFirstBad opened.schema.columns opened.schema.guards part }
 {

@@ -4,7 +4,7 @@ use Rattle.audit_types.specs.declared.records.Answered.{Answered}
 use Rattle.audit_types.specs.declared.records.Asked.{Asked}
 use Rattle.audit_types.specs.declared.records.Verdict.{Verdict}
 use Rattle.audit_types.specs.declared.records.Verdict.TheVariants.{Released, DeniedUnsafe, DeniedWide}
-use Rattle.audit_types.specs.History.{Setting, FitsShape, IsGuardFor, IsDecisionAfter, setting_of}
+use Rattle.audit_types.specs.History.{Setting, FitsShape, AreProtected, IsDecisionAfter, setting_of}
 use Rattle.denial_proof.specs.declared.proof_parts.Proof.{Proof}
 use Rattle.denial_proof.specs.Denied.{IsLegalIn}
 use Rattle.denial_proof.specs.Laws.{CanonicalProofsAreOne}
@@ -22,7 +22,7 @@ use Rattle.certificate_lines.specs.Explained.{IsCertificate, IsLineFor, IsLineOf
 use Rattle.certificate_lines.specs.Laws.{CanBeExplained}
 
 module _ (proofs : CanonicalProofsAreOne) (plans : OnePlanIsMade) (fits : AskedQuestionsFit) (decisions : OneDecisionIsMade) where
-  module _ (setting : Setting) (history : List Answered) (fit : IsGuardFor setting.shape setting.protected) (legal : IsLegalIn setting history) where
+  module _ (setting : Setting) (history : List Answered) (fit : AreProtected setting.shape setting.protected) (legal : IsLegalIn setting history) where
     -- a denial has one certificate
     one_certificate : (take : Take) (asked : Asked) → FitsShape setting.shape asked.column asked.rows →
         IsDecisionAfter setting history asked.column asked.rows.list DeniedUnsafe

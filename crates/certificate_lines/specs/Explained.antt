@@ -31,8 +31,7 @@ pub record ShowsProof (setting : Setting) (history : List Answered) (take : Take
   pub narrow : ¬ (IsTooWide setting history asked)
   pub line_is : line ≡ proof_line take proof
 
--- the certificate of a denial as unsafe: such a line, which names no shared row, as a canonical proof doesn't; or the one that says that its proof is
--- too wide
+-- the certificate of a denial as unsafe: such a line, or the one that says that its proof is too wide
 abbrev pub IsCertificate : Setting → List Answered → Take → Asked → List ℕ → Type 0
 IsCertificate setting history take asked line = ShowsProof setting history take asked line ⊎ (IsTooWide setting history asked × (line ≡ wide_line))
 

@@ -1,7 +1,7 @@
 -- Laws of what is sent for the lines of an input.
 use Rattle.std.specs.Prelude.{◌≡◌, ℕ, List, take}
 use Rattle.audit_types.specs.declared.records.Answered.{Answered}
-use Rattle.audit_types.specs.History.{IsGuardFor, setting_of}
+use Rattle.audit_types.specs.History.{AreProtected, setting_of}
 use Rattle.denial_proof.specs.Denied.{IsLegalIn}
 use Rattle.schema_json.specs.Columns.{Column, AreColumns}
 use Rattle.schema_json.specs.SecretShape.{shape_of}
@@ -12,7 +12,7 @@ use Rattle.certificate_lines.specs.Explained.{IsExplained, AreExplained}
 -- a schema, a public part with protected groups, and a history that is legal for some table of them
 pub record CanBeExplained (columns : List Column) (index : IndexView) (history : List Answered) : Type 0 where
   pub schema : AreColumns columns
-  pub fit : IsGuardFor (shape_of columns index.public.rows) index.protected
+  pub fit : AreProtected (shape_of columns index.public.rows) index.protected
   pub legal : IsLegalIn (setting_of (shape_of columns index.public.rows) index.protected) history
 
 -- at most one line is due to a counted line

@@ -1,16 +1,18 @@
 -- Sending lines on one subject after another: what was sent on the first ones and then on more was sent on all of them.
-use Rattle.std.proofs.Common.{◌≡◌, ℕ, List, [], ◌∷◌, ◌++◌, Result, Ok, Err, refl, sym, ◌∙◌, subst, arith, length-append}
+use Rattle.std.proofs.Common.{◌≡◌, ℕ, List, [], ◌∷◌, ◌++◌, Result, Ok, Err, refl, sym, ◌∙◌, subst, arith}
 use Rattle.std.proofs.lemmas.Bool.{false≢true}
+use Rattle.std.proofs.lemmas.List.{append-nil}
 use Rattle.std.specs.Result.{IsErr, IsErrAnd}
 use Rattle.bench_core.specs.declared.bench.Bench.{Ghosts}
 use Rattle.bench_core.specs.Bench.{Sending}
 use Rattle.bench_core.specs.Causes.{Rose}
 use Rattle.bench_core.specs.Calls.{IsQuiet, LeavesOnly}
 use Rattle.bench_core.specs.Moments.{started, goes_on, joins, weakens}
-use Rattle.journal_audit.specs.Reports.{Audit, Subject, IsLineOn, SendsFront, SendsMeanwhile, SendsLine, SendsLinesOn}
+use Rattle.journal_audit.specs.Reports.{Audit, Subject, HasLine, IsLineOn, SendsFront, SendsMeanwhile, SendsLine, SendsLinesOn}
+use Rattle.journal_audit.specs.Reports.AreLinesOn.{none, one, left_out}
 use Rattle.journal_audit.specs.declared.faults.AuditFault.{AuditFault}
 use Rattle.journal_audit.specs.declared.faults.AuditFault.TheVariants as fault
-use Rattle.journal_audit.proofs.Sending.{none_sent, one_sent, one_front, sent_then, front_of_more, then_front}
+use Rattle.journal_audit.proofs.Sending.{none_sent, one_sent, one_front, sent_then, front_of_more, then_front, takes_both}
 use Rattle.journal_audit.specs.SendLaws.{none_front}
 
 -- what an answer that is a refusal says
@@ -39,7 +41,7 @@ module _ {D : Type 0} (bench : Ghosts D) (only_now : NowOnly bench) (audit : Aud
     sends = λ told. none_sent audit (bench.sent old);
     part = λ told. tt;
     moments = λ told quiet. found_now [] old quiet;
-    ticks = λ told. omega arith;
+    ticks = λ told. ([], none, omega arith);
     file = refl;
     crash = λ image left. left;
     later = omega arith;
@@ -64,7 +66,7 @@ module _ {D : Type 0} (bench : Ghosts D) (only_now : NowOnly bench) (audit : Aud
   }
 
   -- a line's send
-  module _ (subject : Subject) (line : List ℕ) (is : IsLineOn audit subject line) (old new : D) where
+  module _ (subject : Subject) (line : List ℕ) (has : HasLine audit subject) (is : IsLineOn audit subject line) (old new : D) where
     while_sending : {r : Result (Unit {0}) AuditFault} → SendsLine bench line old new r → IsQuiet bench old →
         LeavesOnly bench old new (SendsMeanwhile audit (subject ∷ []) (bench.file old) (bench.sent old))
     while_sending sends quiet =
@@ -73,16 +75,16 @@ module _ {D : Type 0} (bench : Ghosts D) (only_now : NowOnly bench) (audit : Aud
         (λ image sent within. record {
           same = quiet image (sends.crash image within.0);
           front =
-              one_front audit subject line (bench.sent old) sent is within.1;
+              one_front audit subject line (bench.sent old) sent has is within.1;
         })
 
     -- it was sent, or a front of it was
     pub line_on : (r : Result (Unit {0}) AuditFault) → SendsLine bench line old new r → SendsLinesOn bench audit (subject ∷ []) old new r
     line_on (Ok u) sends = record {
-      sends = λ told. one_sent audit subject line (bench.sent old) (bench.sent new) is (sends.sends told);
+      sends = λ told. one_sent audit subject line (bench.sent old) (bench.sent new) has is (sends.sends told);
       part = λ told. tt;
       moments = λ told quiet. while_sending sends quiet;
-      ticks = sends.ticks;
+      ticks = λ told. (line ∷ [], one subject line has is none, sends.ticks told);
       file = sends.file;
       crash = sends.crash;
       later = sends.later;
@@ -92,7 +94,7 @@ module _ {D : Type 0} (bench : Ghosts D) (only_now : NowOnly bench) (audit : Aud
     }
     line_on (Err e) sends = record {
       sends = λ told. tt;
-      part = λ told. one_front audit subject line (bench.sent old) (bench.sent new) is (sends.part told);
+      part = λ told. one_front audit subject line (bench.sent old) (bench.sent new) has is (sends.part told);
       moments = λ told quiet. while_sending sends quiet;
       ticks = λ told. tt;
       file = sends.file;
@@ -102,6 +104,21 @@ module _ {D : Type 0} (bench : Ghosts D) (only_now : NowOnly bench) (audit : Aud
       last_call = sends.last_call;
       steady = sends.steady;
     }
+
+  -- no line on what has none
+  pub no_line_on : (subject : Subject) (old : D) → ¬ (HasLine audit subject) → SendsLinesOn bench audit (subject ∷ []) old old (Ok tt)
+  no_line_on subject old lacks = record {
+    sends = λ told. record { lines = []; are = left_out subject lacks none; sent_is = sym (append-nil (bench.sent old)) };
+    part = λ told. tt;
+    moments = λ told quiet. found_now (subject ∷ []) old quiet;
+    ticks = λ told. ([], left_out subject lacks none, omega arith);
+    file = refl;
+    crash = λ image left. left;
+    later = omega arith;
+    failed = λ is. cc;
+    last_call = λ is. cc;
+    steady = λ other. refl;
+  }
 
   module _ (xs ys : List Subject) (a b c : D) (first : SendsLinesOn bench audit xs a b (Ok tt)) where
     still_quiet : IsQuiet bench a → IsQuiet bench b
@@ -126,7 +143,7 @@ module _ {D : Type 0} (bench : Ghosts D) (only_now : NowOnly bench) (audit : Aud
       sends = λ told. sent_then audit xs ys (bench.sent a) (bench.sent b) (bench.sent c) (first.sends told) (second.sends told);
       part = λ told. tt;
       moments = while_both (Ok u) second;
-      ticks = λ told. omega (arith, first.ticks told, second.ticks told, length-append xs ys);
+      ticks = λ told. takes_both audit xs ys (bench.moment a) (bench.moment b) (bench.moment c) (first.ticks told) (second.ticks told);
       file = second.file ∙ first.file;
       crash = λ image left. first.crash image (second.crash image left);
       later = omega (arith, first.later, second.later);

@@ -1,38 +1,41 @@
 -- What was sent of a report's lines, and what more of them makes of it.
-use Rattle.std.proofs.Common.{◌≡◌, ℕ, ◌+◌, List, [], ◌∷◌, ◌++◌, length, take, refl, sym, ap, ◌∙◌, subst, append_assoc}
+use Rattle.std.proofs.Common.{◌≡◌, ℕ, ◌+◌, List, [], ◌∷◌, ◌++◌, length, take, refl, sym, ap, ◌∙◌, subst, append_assoc, arith, length-append}
 use Rattle.std.proofs.lemmas.List.{append-nil}
 use Rattle.std.proofs.Math.Seq.{take-append-add}
 use Rattle.std.specs.List.{concat}
 use Rattle.bench_core.specs.Bench.{AppendsFront}
-use Rattle.journal_audit.specs.Reports.{Audit, Subject, IsLineOn, AreLinesOn, Sends, SendsFront}
+use Rattle.journal_audit.specs.Reports.{Audit, Subject, HasLine, IsLineOn, AreLinesOn, Sends, SendsFront, TakesOneEach}
+use Rattle.journal_audit.specs.Reports.AreLinesOn.{none, one, left_out}
 use Rattle.std.proofs.lemmas.List.Folds.{concat-append}
 
 -- lines on these, after lines on others
 pub lines-append : (audit : Audit) (xs ys : List Subject) (ls ms : List (List ℕ)) → AreLinesOn audit xs ls → AreLinesOn audit ys ms →
     AreLinesOn audit (xs ++ ys) (ls ++ ms)
-lines-append audit [] ys [] ms first second = second
-lines-append audit [] ys (l ∷ ls) ms first second = absurd first
-lines-append audit (x ∷ xs) ys [] ms first second = absurd first
-lines-append audit (x ∷ xs) ys (l ∷ ls) ms first second = (first.0, lines-append audit xs ys ls ms first.1 second)
+lines-append audit xs ys ls ms none second = second
+lines-append audit xs ys ls ms (one {about} {lines} subject line has is first) second =
+    one subject line has is (lines-append audit about ys lines ms first second)
+lines-append audit xs ys ls ms (left_out {about} {lines} subject lacks first) second =
+    left_out subject lacks (lines-append audit about ys lines ms first second)
 
 -- nothing is sent of no line
 pub none_sent : (audit : Audit) (bytes : List ℕ) → Sends audit [] bytes bytes
-none_sent audit bytes = record { lines = []; are = tt; sent_is = sym (append-nil bytes) }
+none_sent audit bytes = record { lines = []; are = none; sent_is = sym (append-nil bytes) }
 
 -- the line on this was sent
-pub one_sent : (audit : Audit) (subject : Subject) (line before after : List ℕ) → IsLineOn audit subject line → after ≡ before ++ line →
-    Sends audit (subject ∷ []) before after
-one_sent audit subject line before after is sent = record { lines = line ∷ []; are = (is, tt); sent_is = sent ∙ ap (λ l. before ++ l) (sym (append-nil line)) }
+pub one_sent : (audit : Audit) (subject : Subject) (line before after : List ℕ) → HasLine audit subject → IsLineOn audit subject line →
+    after ≡ before ++ line → Sends audit (subject ∷ []) before after
+one_sent audit subject line before after has is sent =
+    record { lines = line ∷ []; are = one subject line has is none; sent_is = sent ∙ ap (λ l. before ++ l) (sym (append-nil line)) }
 
 -- a front of it was
-pub one_front : (audit : Audit) (subject : Subject) (line before after : List ℕ) → IsLineOn audit subject line → AppendsFront before line after →
-    SendsFront audit (subject ∷ []) before after
-one_front audit subject line before after is sent = record {
+pub one_front : (audit : Audit) (subject : Subject) (line before after : List ℕ) → HasLine audit subject → IsLineOn audit subject line →
+    AppendsFront before line after → SendsFront audit (subject ∷ []) before after
+one_front audit subject line before after has is sent = record {
   first = subject ∷ [];
   others = [];
   all = refl;
   lines = line ∷ [];
-  are = (is, tt);
+  are = one subject line has is none;
   sent = subst (λ l. AppendsFront before l after) (sym (append-nil line)) sent;
 }
 
@@ -73,3 +76,11 @@ then_front audit xs ys a b c sends front = record {
         ∙ ap (λ l. take (length (concat sends.lines) + front.sent.0) l) (sym (concat-append sends.lines front.lines))),
   );
 }
+
+-- calls for the first lines and then for more
+pub takes_both : (audit : Audit) (xs ys : List Subject) (a b c : ℕ) → TakesOneEach audit xs a b → TakesOneEach audit ys b c → TakesOneEach audit (xs ++ ys) a c
+takes_both audit xs ys a b c first second = (
+  first.0 ++ second.0,
+  lines-append audit xs ys first.0 second.0 first.1 second.1,
+  omega (arith, first.2, second.2, length-append first.0 second.0),
+)

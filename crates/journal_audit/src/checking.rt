@@ -1,21 +1,23 @@
 //! Making the lists that show a secret to be free, and checking them.
-ghost use Rattle.std.specs.Prelude.{◌≡◌, ◌<◌, ◌==◌, List, ℕ, ℤ, false, map, filter, IfOk, OnOk};
+ghost use Rattle.std.specs.Prelude.{◌≡◌, ◌↔◌, ◌<◌, IsTrue, ◌==◌, List, [], ◌∷◌, ℕ, ℤ, map, filter, IfOk, OnOk};
 ghost use Rattle.std.specs.List.{AllByRecursion, All};
 ghost use Rattle.audit_types.specs.Direction.{IsPinned, IsCanonicalDirection};
-ghost use Rattle.audit_types.specs.Rows.{has_row};
+ghost use Rattle.audit_types.specs.Headcount.{AreFew};
 ghost use Rattle.audit_types.specs.Extremes.{IsConsistent, IsLone};
 ghost use Rattle.audit_types.specs.Form.{Reduced};
 ghost use Rattle.audit_types.specs.History.{answers_of, FitsShape};
 ghost use Rattle.max_audit.specs.Witnesses.{highest};
 ghost use Rattle.sum_audit.specs.Sets.{sets_of};
 ghost use Rattle.witness_check.specs.Directions.{lists_of};
+ghost use Rattle.journal_audit.specs.Reports.{RowHasLine};
 ghost use Rattle.journal_audit.specs.Texts.{bound_line, direction_line};
 
 use crate::texts::{write_bounds, write_direction};
-use audit_types::{Answered, NoMemory, RowSet};
+use audit_types::{Answered, Askers, CountedRows, NoMemory, RowSet};
 use max_audit::MaxColumn;
 use std::alloc::{AllocError, Global};
 use sum_audit::SumColumn;
+use sum_audit::laws::directions_of_a_form;
 use witness_build::{highest, max_witness, sum_witness};
 use witness_check::{check_direction, check_pair};
 
@@ -30,6 +32,32 @@ pub fn column_sets(alloc: Global, column: u8, list: &[Answered]) -> Result<Vec<R
         }
     }
     Ok(sets)
+}
+
+// Whether every list that gives the sums has the same number at the row.
+fn is_pinned(sums: &SumColumn, row: u16) -> bool
+    requires { row < sums.now.n }
+    ensures { IsTrue result ↔ IsPinned sums.now.n (sets_of sums.now.answers) row }
+{
+    directions_of_a_form();
+    let mut alone = RowSet::new(sums.n());
+    alone.add(row);
+    sums.basis().contains(&alone)
+}
+
+/// Whether there is a line on a row of a column of sums.
+pub fn has_line(people: &CountedRows, sums: &SumColumn, row: u16) -> bool
+    requires row { row < sums.now.n }
+    requires people { people.now.n ≡ sums.now.n }
+    ensures { IsTrue result ↔ RowHasLine people.now.people sums.now.n (sets_of sums.now.answers) row }
+{
+    // Counted rows say of themselves which rows are guarded.
+    let _ = people.n();
+    let shared = people.shared().has(row);
+    match people.askers() {
+        Askers::Outside => !shared,
+        Askers::Inside => !shared || !is_pinned(sums, row),
+    }
 }
 
 /// Writes the line on a row of a column of sums: the canonical direction of the row, which was checked.
@@ -81,7 +109,7 @@ fn check_row(
 }
 
 /// Writes the line on a column of maxima, or on one of minima if `least` says so: the list with each row at its upper bound. For
-/// each row that isn't shared the pair of it and the list with that row less by 1 was checked. The numbers of a column of minima are
+/// each guarded row the pair of it and the list with that row less by 1 was checked. The numbers of a column of minima are
 /// kept negated.
 pub fn write_column(
     alloc: Global,
@@ -91,18 +119,20 @@ pub fn write_column(
     column: u8,
     list: &[Answered],
     maxima: &MaxColumn,
-    shared: &RowSet,
+    people: &CountedRows,
 ) -> Result<(), NoMemory>
-    requires shared { shared.now.n ≡ maxima.now.n }
+    requires people { people.now.n ≡ maxima.now.n }
     requires consistent { IsConsistent maxima.now.answers }
-    requires free { (row : ℕ) → row < maxima.now.n → has_row shared.now.list row ≡ false → ¬ (IsLone maxima.now.answers row) }
+    requires free { (row : ℕ) → row < maxima.now.n → AreFew people.now.people [] (row ∷ []) → ¬ (IsLone maxima.now.answers row) }
     requires answers { maxima.now.answers ≡ answers_of column list.now }
     requires same_n { AllByRecursion (λ r. r.rows.n ≡ maxima.now.n) list.now }
     ensures { OnOk result (line.new.items ≡ bound_line least name.now (highest maxima.now.n maxima.now.answers)) }
 {
     let bounds = maxima.bounds();
+    // Counted rows say of themselves which rows are guarded.
+    let _ = people.n();
     for row in 0..bounds.n() {
-        if !shared.has(row) {
+        if !people.shared().has(row) {
             check_row(alloc, column, list, maxima, row)?;
         }
     }

@@ -1,5 +1,5 @@
 //! Sending a report, a line a send.
-ghost use Rattle.std.specs.Prelude.{◌≡◌, ◌<◌, ◌≤◌, ◌+◌, [], ◌∷◌, ◌++◌, List, ℕ, true, Some, length, OnOk, OnErr, Err};
+ghost use Rattle.std.specs.Prelude.{◌≡◌, ◌<◌, ◌≤◌, [], ◌∷◌, ◌++◌, List, ℕ, true, Some, OnOk, OnErr, Err};
 ghost use Rattle.audit_types.specs.Shapes.{columns, kind_at};
 ghost use Rattle.audit_types.specs.declared.shapes.Kind.TheVariants as kind;
 ghost use Rattle.schema_json.specs.Columns.{secret_place};
@@ -8,9 +8,9 @@ ghost use Rattle.bench_core.specs.Causes.{Rose};
 ghost use Rattle.bench_core.specs.Calls.{IsQuiet, LeavesOnly};
 ghost use Rattle.audit_core.specs.Columns.{HasItsPart};
 ghost use Rattle.audit_store.specs.Stores.{IsStore};
-ghost use Rattle.journal_audit.specs.Reports.{audit_of, contents_of, subjects_before, subjects_of, column_of, totals, Reports, ReportsFront, SendsMeanwhile, SendsLine, SendsLinesOn, subjects};
+ghost use Rattle.journal_audit.specs.Reports.{audit_of, contents_of, subjects_before, subjects_of, column_of, totals, Reports, ReportsFront, SendsMeanwhile, SendsLine, SendsLinesOn, TakesOneEach, subjects};
 
-use crate::checking::{column_sets, write_column, write_row};
+use crate::checking::{column_sets, has_line, write_column, write_row};
 use crate::faults::AuditFault;
 use crate::texts::write_totals;
 use audit_core::ColumnRef;
@@ -33,7 +33,7 @@ fn send_line<B: Bench>(bench: &mut B, line: &[u8]) -> Result<(), AuditFault>
     }
 }
 
-// Sends the lines on the rows of a column of sums that aren't shared.
+// Sends the lines on the rows of a column of sums that have one.
 fn send_rows<B: Bench>(
     alloc: Global,
     schema: &Schema,
@@ -48,15 +48,15 @@ fn send_rows<B: Bench>(
     requires is { IsStore store.now }
     requires below { column < columns store.now.secret.shape }
     requires part { HasItsPart (contents_of store.now) column kind.Sum sums.now }
-    ensures { SendsLinesOn B.Bench (audit_of schema.now.columns store.now) (subjects_of store.now.secret.shape store.now.protected.shared column kind.Sum) bench.old bench.new result }
+    ensures { SendsLinesOn B.Bench (audit_of schema.now.columns store.now) (subjects_of store.now.secret.shape column kind.Sum) bench.old bench.new result }
 {
     lists_of_secrets();
     free_numbers();
     let name = schema.name(place);
     let sets = column_sets(alloc, column, store.history())?;
-    let shared = store.protected().shared().over(sums.n());
+    let people = store.protected().rows().over(alloc, sums.n())?;
     for row in 0..sums.n() {
-        if !shared.has(row) {
+        if has_line(&people, sums, row) {
             write_row(alloc, line, name, sums, &sets, row)?;
             send_line(bench, line)?;
         }
@@ -85,9 +85,9 @@ fn send_highest<B: Bench>(
     free_numbers();
     let name = schema.name(place);
     let least = store.shape().is_least(column);
-    let shared = store.protected().shared().over(maxima.bounds().n());
+    let people = store.protected().rows().over(alloc, maxima.bounds().n())?;
     let history = store.history();
-    write_column(alloc, line, name, least, column, history, maxima, &shared)?;
+    write_column(alloc, line, name, least, column, history, maxima, &people)?;
     send_line(bench, line)
 }
 
@@ -105,7 +105,7 @@ fn send_column<B: Bench>(
     requires usable { store.now.usable ≡ true }
     requires is { IsStore store.now }
     requires below { column < columns store.now.secret.shape }
-    ensures { SendsLinesOn B.Bench (audit_of schema.now.columns store.now) (subjects_of store.now.secret.shape store.now.protected.shared column (kind_at store.now.secret.shape column)) bench.old bench.new result }
+    ensures { SendsLinesOn B.Bench (audit_of schema.now.columns store.now) (subjects_of store.now.secret.shape column (kind_at store.now.secret.shape column)) bench.old bench.new result }
 {
     match store.core().column(column) {
         ColumnRef::Sum(sums) => send_rows(alloc, schema, store, place, column, sums, line, bench),
@@ -126,7 +126,7 @@ fn send_columns<B: Bench>(
     requires usable { store.now.usable ≡ true }
     requires is { IsStore store.now }
     requires shape { store.now.secret.shape ≡ shape_of schema.now.columns store.now.secret.shape.rows }
-    ensures { SendsLinesOn B.Bench (audit_of schema.now.columns store.now) (subjects_before store.now.secret.shape store.now.protected.shared (columns store.now.secret.shape)) bench.old bench.new result }
+    ensures { SendsLinesOn B.Bench (audit_of schema.now.columns store.now) (subjects_before store.now.secret.shape (columns store.now.secret.shape)) bench.old bench.new result }
 {
     schema_json::laws::shape_of_a_table();
     for place in 0..schema.count() {
@@ -169,10 +169,10 @@ pub fn audit<B: Bench>(
     ensures report { B.told → OnOk result (Reports (audit_of schema.now.columns store.now) people (B.sent bench.old) (B.sent bench.new)) }
     ensures part { B.told → OnErr result (ReportsFront (audit_of schema.now.columns store.now) people (B.sent bench.old) (B.sent bench.new)) }
     ensures any_moment { B.told → IsQuiet B.Bench bench.old
-        → LeavesOnly B.Bench bench.old bench.new (SendsMeanwhile (audit_of schema.now.columns store.now) (subjects store.now.secret.shape store.now.protected.shared people) (B.file bench.old) (B.sent bench.old)) }
+        → LeavesOnly B.Bench bench.old bench.new (SendsMeanwhile (audit_of schema.now.columns store.now) (subjects store.now.secret.shape people) (B.file bench.old) (B.sent bench.old)) }
 
     // One send for each line, and no other call.
-    ensures ticks { B.told → OnOk result (B.moment bench.new ≡ B.moment bench.old + length (subjects store.now.secret.shape store.now.protected.shared people)) }
+    ensures ticks { B.told → OnOk result (TakesOneEach (audit_of schema.now.columns store.now) (subjects store.now.secret.shape people) (B.moment bench.old) (B.moment bench.new)) }
 
     // The file isn't touched.
     ensures file { B.file bench.new ≡ B.file bench.old }

@@ -2,7 +2,7 @@
 use Rattle.std.proofs.Common.{◌≡◌, ℕ, List, Option, Some, None, refl, sym, ◌∙◌, ap, subst, arith, inl, inr, option_and_then}
 use Rattle.std.proofs.lemmas.Option.{none-some, same_Some}
 use Rattle.audit_types.specs.declared.records.Asked.{Asked}
-use Rattle.audit_types.specs.PeopleLaws.{people_behind}
+use Rattle.audit_types.specs.Headcount.{people_behind}
 use Rattle.schema_json.specs.Columns.{Column}
 use Rattle.table_load.specs.Cells.{PublicView, counts_of}
 use Rattle.predicate_lang.specs.Trees.{Tree, tree_of}

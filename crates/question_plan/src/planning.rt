@@ -1,6 +1,6 @@
 //! Planning a line.
 ghost use Rattle.std.specs.Prelude.{◌≡◌, ◌≤◌, true, length, IfOk, MatchResult, Some};
-ghost use Rattle.audit_types.specs.PeopleLaws.{people_behind};
+ghost use Rattle.audit_types.specs.Headcount.{people_behind};
 ghost use Rattle.schema_json.specs.SecretShape.{HasSecret, shape_of};
 ghost use Rattle.table_load.specs.Cells.{FitsSchema, counts_of};
 ghost use Rattle.set_index.specs.Asked.{fits_public, meaning};

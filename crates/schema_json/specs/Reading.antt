@@ -34,6 +34,10 @@ abbrev pub made_of : {X Y Z : Type 0} → (X → Y → Z) → Option X → Optio
 made_of make (Some x) (Some y) = Some (make x y)
 made_of make x y = None
 
+-- two parts, if both are there
+abbrev pub both : {X Y : Type 0} → Option X → Option Y → Option (X × Y)
+both = made_of (λ x y. (x, y))
+
 -- an object of the two keys `name` and `is`
 unfoldable pub column_of : Data → Option Column
 column_of d = if key_count d == 2 then made_of (λ name role. record { name = name; role = role }) (option_and_then as_str (get (codes "name") d)) (option_and_then role_of (option_and_then as_str (get (codes "is") d))) else None
@@ -77,16 +81,20 @@ has_key key d = cond (is_some (get key d)) 1 0
 
 -- an object has no keys but `columns` and those that say what is guarded
 abbrev pub has_these_keys : Data → Bool
-has_these_keys d = key_count d == 1 + has_key (codes "only") d + has_key (codes "protect") d + has_key (codes "width") d + has_key (codes "reach") d
+has_these_keys d = key_count d == 1 + has_key (codes "only") d + has_key (codes "protect") d + has_key (codes "width") d + has_key (codes "reach") d + has_key (codes "fewest") d + has_key (codes "askers") d
+
+-- the numbers of how many rows an asker knows, by the word for where she is
+abbrev pub own_of_word : List ℕ → Option ℕ
+own_of_word word = if bytes_eq word (codes "outside") then Some 0 else (if bytes_eq word (codes "inside") then Some 1 else None)
 
 -- what an object says is guarded: no condition unless it has the key `only`, no groups unless it has `protect`, the greatest width unless it
--- has `width`, and the greatest reach unless it has `reach`
+-- has `width`, the greatest reach unless it has `reach`, what fewer than two people have unless it has `fewest`, and against nobody of the
+-- table unless it has `askers`
 unfoldable pub guards_of : Data → Option Guards
-guards_of d = if has_these_keys d then made_of (λ (make : ℕ × ℕ → Guards) bounds. make bounds)
-    (made_of (λ only groups bounds. record { only = only; groups = groups; width = bounds.0; reach = bounds.1 })
-    (key_or None (λ v. option_map Some (as_str v)) (codes "only") d) (key_or [] groups_in (codes "protect") d))
-    (made_of (λ width reach. (width, reach)) (key_or most_width (number_within 1 most_width) (codes "width") d)
-    (key_or most_rows (number_within 2 most_rows) (codes "reach") d)) else None
+guards_of d = if has_these_keys d then made_of (λ said n. record { only = said.0; groups = said.1; width = n.0.0; reach = n.0.1; fewest = n.1.0; own = n.1.1 })
+    (both (key_or None (λ v. option_map Some (as_str v)) (codes "only") d) (key_or [] groups_in (codes "protect") d))
+    (both (both (key_or most_width (number_within 1 most_width) (codes "width") d) (key_or most_rows (number_within 2 most_rows) (codes "reach") d))
+    (both (key_or 2 (number_within 2 1000) (codes "fewest") d) (key_or 0 (λ v. option_and_then own_of_word (as_str v)) (codes "askers") d))) else None
 
 -- what a value lists: columns, and what is guarded
 abbrev pub listed_of : Data → Option SchemaView

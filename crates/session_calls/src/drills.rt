@@ -2,7 +2,7 @@
 //! lines is counted here, and was worked out by demo/drill.py.
 ghost use Rattle.std.specs.Prelude.{◌≡◌, [], true, OnOk};
 ghost use Rattle.audit_types.specs.Shapes.{IsShape};
-ghost use Rattle.audit_types.specs.History.{IsGuardFor};
+ghost use Rattle.audit_types.specs.History.{AreProtected};
 ghost use Rattle.schema_json.specs.SecretShape.{shape_of};
 ghost use Rattle.table_load.specs.Cells.{FitsSchema};
 ghost use Rattle.bench_core.specs.BenchContents.{file_of};
@@ -65,7 +65,7 @@ fn start(
     bench: &mut MemoryBench,
 ) -> Result<(), NoMemory>
     requires fits { FitsSchema schema.now.columns index.now.public }
-    requires groups { IsGuardFor secret.shape index.now.protected }
+    requires groups { AreProtected secret.shape index.now.protected }
     requires shape { secret.shape ≡ shape_of schema.now.columns index.now.public.rows }
     requires empty { file_of bench.old ≡ [] }
 {

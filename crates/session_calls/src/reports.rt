@@ -5,7 +5,7 @@ ghost use Rattle.schema_json.specs.SecretShape.{shape_of};
 use crate::people::people;
 use crate::staff::{TABLE, staff};
 use audit_store::Store;
-use audit_types::{Answered, Guard, MOST_REACH, MOST_WIDTH, RowSet};
+use audit_types::{Answered, Askers, CountedRows, Guard, MOST_REACH, MOST_WIDTH};
 use bench_core::{MemoryBench, Room};
 use journal_audit::audit;
 use schema_json::Schema;
@@ -43,11 +43,11 @@ fn send_report(
 ) -> Option<()>
     requires { secret.shape ≡ shape_of schema.now.columns secret.shape.rows }
 {
-    let shared = RowSet::new(secret.shape().rows);
+    let rows = CountedRows::new(secret.shape().rows, Vec::new(alloc), 2, Askers::Outside);
     match Store::start(
         alloc,
         secret,
-        Guard::new(Vec::new(alloc), shared, MOST_WIDTH, MOST_REACH),
+        Guard::new(Vec::new(alloc), rows, MOST_WIDTH, MOST_REACH),
         bench,
     ) {
         Ok(store) => audit(alloc, schema, &store, None, bench).ok(),

@@ -1,21 +1,20 @@
 -- Laws of the entries of groups: they are one list, there is one if no group has a fault, and they fit the table.
-use Rattle.std.proofs.Common.{◌+◌, ◌≡◌, ℕ, suc, ◌≤◌, List, [], ◌∷◌, ◌++◌, length, Option, Some, None, unwrap_or, refl, sym, ap, ◌∙◌, subst, arith}
+use Rattle.std.proofs.Common.{◌+◌, ◌≡◌, ◌≢◌, ℕ, suc, ◌<◌, ◌≤◌, List, [], ◌∷◌, ◌++◌, length, Option, Some, None, unwrap_or, refl, sym, ap, ◌∙◌, subst, arith}
 use Rattle.std.specs.Prelude.{option_and_then, slice_get, All}
 use Rattle.std.proofs.lemmas.List.{length-append}
 use Rattle.std.proofs.lemmas.List.Elements.{All-append, All-nil, All-cons}
 use Rattle.std.proofs.lemmas.Option.{same_Some}
 use Rattle.audit_types.specs.Rows.{AreRows}
-use Rattle.audit_types.specs.RowLaws.{AreRows-rows_that, AscendsFrom-wider}
-use Rattle.audit_types.specs.Limits.{most_groups}
-use Rattle.audit_types.specs.OutsiderLaws.{guard_fits}
-use Rattle.audit_types.specs.History.{Protection, IsProtected, IsGuardFor, FitsShape, against_outsiders, entry_of}
-use Rattle.audit_types.specs.People.{shared_of}
+use Rattle.audit_types.specs.RowLaws.{AreRows-rows_that}
+use Rattle.audit_types.specs.Limits.{most_groups, most_rows, most_width}
+use Rattle.audit_types.specs.History.{Protection, IsProtected, FitsShape, entry_of}
+use Rattle.audit_types.specs.Headcount.{Headcount, CountPeople}
 use Rattle.audit_types.specs.declared.records.Protected.{Protected}
 use Rattle.audit_types.specs.declared.shapes.Kind.TheVariants as kind
-use Rattle.schema_json.specs.Columns.{Column, Group, Guards, AreColumns, place_of, role_at, secret_place}
+use Rattle.schema_json.specs.Columns.{Column, Group, Guards, AreColumns, AreGuards, place_of, role_at, secret_place}
 use Rattle.schema_json.specs.SecretShape.{IsSecretOf, PlacesAreColumns, shape_of}
 use Rattle.schema_json.specs.declared.roles.Role.TheVariants.{Sum}
-use Rattle.table_load.specs.Cells.{PublicView, IsPublic, counts_of, whole}
+use Rattle.table_load.specs.Cells.{PublicView, FitsSchema, IsPublic, counts_of, whole}
 use Rattle.table_load.specs.SchemaFits.{somebody_everywhere}
 use Rattle.predicate_lang.specs.Laws.{OneMeaning}
 use Rattle.predicate_lang.specs.Trees.{Tree}
@@ -67,7 +66,7 @@ one_only means columns (Some text) public other same (t, short, is, first) (u, f
 one_part : OneMeaning → (columns : List Column) (public other : PublicView) (guards : Guards) (a b : Protection) → whole public ≡ whole other →
     Protects columns public guards a → Protects columns other guards b → public ≡ other
 one_part means columns public other guards a b same first second =
-    let only : public.only ≡ other.only = one_only means columns guards.only public other same first.2 second.2 in
+    let only : public.only ≡ other.only = one_only means columns guards.only public other same first.4 second.4 in
     λ i. record { rows = (same i).rows; columns = (same i).columns; only = only i }
 
 -- there is one if the condition has no fault
@@ -81,19 +80,27 @@ pub sound_only : (columns : List Column) (only : Option (List ℕ)) (public : Pu
 sound_only columns None public asks = tt
 sound_only columns (Some text) public (t, short, is, asks) = (t, short, is)
 
+-- the people behind the rows of a table, and of how few of them what they have is guarded against whom
+abbrev people_of : List Column → PublicView → Guards → Headcount
+people_of columns public guards = record { counts = counts_of columns public; fewest = guards.fewest; own = guards.own }
+
 -- and they protect in one way
 one_way : OneMeaning → (columns : List Column) (public : PublicView) (guards : Guards) (a b : Protection) → Protects columns public guards a →
     Protects columns public guards b → a ≡ b
 one_way means columns public guards a b first second =
     let entries = one_list means columns public 0 guards.groups a.groups b.groups first.0 second.0 in
-    first.1 ∙ ap (λ groups. against_outsiders groups (shared_of (counts_of columns public)) guards.width guards.reach) entries ∙ sym second.1
+    let people = first.1 ∙ sym second.1 in
+    let width = first.2 ∙ sym second.2 in
+    let reach = first.3 ∙ sym second.3 in
+    λ i. record { groups = entries i; people = people i; width = width i; reach = reach i }
 
 some_way : (columns : List Column) (public : PublicView) (guards : Guards) → AreSound columns guards →
     (asked : PublicView) × (protected : Protection) × (whole asked ≡ whole public) × Protects columns asked guards protected
 some_way columns public guards sound =
     let part = some_part columns guards.only public sound.only in
     let list = some_list columns part.0 0 guards.groups sound.groups in
-    (part.0, against_outsiders list.0 (shared_of (counts_of columns part.0)) guards.width guards.reach, part.1, (list.1, refl, part.2))
+    let protected : Protection = record { groups = list.0; people = people_of columns part.0 guards; width = guards.width; reach = guards.reach } in
+    (part.0, protected, part.1, (list.1, refl, refl, refl, part.2))
 
 -- what has a fault isn't sound
 bad_way : (columns : List Column) (guards : Guards) (bad : GuardPart) → IsFirstBad columns guards bad → ¬ (AreSound columns guards)
@@ -106,7 +113,7 @@ one_list_of_entries means = record {
   one = one_way means;
   some = some_way;
   sound = λ columns public guards protected are. record {
-    only = sound_only columns guards.only public are.2;
+    only = sound_only columns guards.only public are.4;
     groups = entries_sound columns public 0 guards.groups protected.groups are.0;
   };
   bad = bad_way;
@@ -153,24 +160,39 @@ entries_fit places columns public from (g ∷ gs) protected are (c, t, rest, is,
     subst (λ xs. All (IsProtected shape) xs × (length xs ≤ length (g ∷ gs))) (sym protected_is)
     (All-append (IsProtected shape) entry rest first.0 others.0, few)
 
--- so do the rows of several people
-shared_are_rows : (columns : List Column) (public : PublicView) → IsPublic public → AreRows public.rows (shared_of (counts_of columns public))
-shared_are_rows columns public is =
-    AscendsFrom-wider 0 (length (counts_of columns public)) public.rows (shared_of (counts_of columns public)) (counts_few columns public is)
-    (AreRows-rows_that _ (length (counts_of columns public)))
+-- so do the people behind the rows
+people_are_counted : (columns : List Column) (public : PublicView) (guards : Guards) → FitsSchema columns public → IsPublic public → AreGuards guards →
+    CountPeople public.rows (people_of columns public guards)
+people_are_counted columns public guards fits is guarded = record {
+  within = counts_few columns public is;
+  somebody = (somebody_everywhere columns public fits is).0;
+  fewest = guarded.fewest.0;
+  own = guarded.own;
+}
 
 pub entries_are_protected : PlacesAreColumns → EntriesFit
-entries_are_protected places columns public guards protected are is guarded protects =
+entries_are_protected places columns public guards protected are fits is guarded protects =
     let shape = shape_of columns public.rows in
     let fit = entries_fit places columns public 0 guards.groups protected.groups are protects.0 in
     let few : length protected.groups ≤ most_groups = omega (arith, fit.1, guarded.few) in
-    let fits = guard_fits shape protected.groups (shared_of (counts_of columns public)) guards.width guards.reach fit.0 few guarded.width.0 guarded.width.1
-    guarded.reach.0 guarded.reach.1 (shared_are_rows columns public is) in
-    subst (IsGuardFor shape) (sym protects.1) fits
+    let people = people_are_counted columns public guards fits is guarded in
+    let width = sym protects.2 in
+    let reach = sym protects.3 in (
+      fit.0,
+      few,
+      subst (CountPeople public.rows) (sym protects.1) people,
+      subst (λ w. 0 < w) width guarded.width.0,
+      subst (λ w. w ≤ most_width) width guarded.width.1,
+      subst (λ r. 1 < r) reach guarded.reach.0,
+      subst (λ r. r ≤ most_rows) reach guarded.reach.1,
+    )
 
--- ---- behind each row is somebody
+-- ---- the people that a table counts
 
 pub rows_are_lines : RowsAreLines
 rows_are_lines base guards fits is protects =
-    let counted = somebody_everywhere base.columns base.public fits is in
-    record { somebody = counted.0; one_each = counted.1; shared = ap (λ (p : Protection). p.shared) protects.1 }
+    let counts = ap (λ (people : Headcount). people.counts) protects.1 in
+    record {
+      counts = counts;
+      one_each = subst (λ list. list ≢ [] → length list ≡ base.public.rows) (sym counts) (somebody_everywhere base.columns base.public fits is).1;
+    }

@@ -1,15 +1,12 @@
 -- How many people stand behind rows, row by row.
-use Rattle.std.proofs.Common.{◌≡◌, ℕ, zero, suc, ◌+◌, ◌^◌, ◌<◌, ◌≤◌, Bool, true, false, cond, ◌||◌, ◌==◌, List, [], ◌∷◌, ◌++◌, length, map, refl, sym, ap, ◌∙◌, arith, inl, inr, to_z, of_z, w64, SFits}
+use Rattle.std.proofs.Common.{◌≡◌, ℕ, zero, suc, ◌^◌, ◌<◌, ◌≤◌, true, List, [], ◌∷◌, length, map, refl, ap, arith, to_z, of_z, w64, SFits}
 use Rattle.std.specs.Prelude.{ℤ, pos, ◌<ℤ◌, unsigned_abs, nat_lt, Option, Some, None, option_map, unwrap_or}
 use Rattle.std.specs.List.{AllByRecursion}
 use Rattle.std.proofs.lemmas.Int.{ints, to_z-of_z}
-use Rattle.std.proofs.lemmas.List.{append-nil, length-map}
-use Rattle.std.proofs.lemmas.Bool.{ltb-false, not-true, cases_lt, eq-eqb, ne_eqb}
+use Rattle.std.proofs.lemmas.List.{length-map}
+use Rattle.std.proofs.lemmas.Bool.{ltb-false, not-true}
 use Rattle.audit_types.specs.ListLaws.{all-get_or}
-use Rattle.audit_types.specs.People.{count_at}
-use Rattle.audit_types.specs.PeopleLaws.{people_behind}
-use Rattle.audit_types.specs.Rows.{has_row, rows_that, with_row}
-use Rattle.audit_types.specs.RowLaws.{has-rows_that, has-rows_that_above, rows_that_agree, rows_that_longer, rows_that_more}
+use Rattle.audit_types.specs.Headcount.{count_at, people_behind}
 use Rattle.audit_types.specs.Truth.{number_at}
 use Rattle.table_load.specs.Numerals.{in_range}
 use Rattle.table_load.specs.Cells.{Cells, hidden, numbers, texts, numbers_of, cells_at, counts_of, PublicView, IsPublic, AreNumbers, HasNumbers}
@@ -48,44 +45,6 @@ count_read z is =
 pub one_each : (rows : List ℕ) → people_behind [] rows ≡ length rows
 one_each [] = refl
 one_each (row ∷ rows) = omega (arith, one_each rows)
-
--- of no rows none passes
-pub no_rows : (test : ℕ → Bool) → rows_that test 0 ≡ []
-unfolding rows_that
-no_rows test = refl
-
--- a set with one row more, above all others of it
-pub with_last : (n : ℕ) (test : ℕ → Bool) (row : ℕ) → row < n → test row ≡ true → with_row n (rows_that test row) row ≡ rows_that test (row + 1)
-with_last n test row below passes =
-    rows_that_longer (λ r. has_row (rows_that test row) r || (r == row)) (row + 1) n (omega arith) (λ k high. later k high)
-    ∙ rows_that_agree (λ r. has_row (rows_that test row) r || (r == row)) test (row + 1) (λ r low. earlier r low)
-  where
-    both_false : (a b : Bool) → a ≡ false → b ≡ false → (a || b) ≡ false
-    both_false a b first second = ap (λ x. x || b) first ∙ second
-
-    later : (k : ℕ) → row + 1 ≤ k → (has_row (rows_that test row) k || (k == row)) ≡ false
-    later k high = both_false _ _ (has-rows_that_above test row k (omega (arith, high))) (ne_eqb k row (λ same. omega (arith, high, same)))
-
-    or_false : (a : Bool) → (a || false) ≡ a
-    or_false true = refl
-    or_false false = refl
-
-    earlier : (r : ℕ) → r < row + 1 → (has_row (rows_that test row) r || (r == row)) ≡ test r
-    earlier r low = elim (cases_lt r row) [
-      | inl before ↦ ap (λ b. has_row (rows_that test row) r || b) (ne_eqb r row (λ same. omega (arith, before, same)))
-          ∙ or_false (has_row (rows_that test row) r)
-          ∙ has-rows_that test row r before
-      | inr other ↦ let same : r ≡ row = omega (arith, low, other) in
-          ap (λ q. has_row (rows_that test row) q || (q == row)) same
-          ∙ ap (λ b. b || (row == row)) (has-rows_that_above test row row (omega arith))
-          ∙ eq-eqb row row refl
-          ∙ sym passes
-          ∙ ap test (sym same)
-    ]
-
--- the same set, if the row doesn't pass
-pub without_last : (test : ℕ → Bool) (row : ℕ) → test row ≡ false → rows_that test (row + 1) ≡ rows_that test row
-without_last test row fails = rows_that_more test row ∙ ap (λ b. rows_that test row ++ cond b (row ∷ []) []) fails ∙ append-nil (rows_that test row)
 
 -- a table has no more counts than rows
 pub counts_few : (columns : List Column) (p : PublicView) → IsPublic p → length (counts_of columns p) ≤ p.rows

@@ -1,8 +1,7 @@
 -- What a schema guards of a table, by the public part.
 use Rattle.std.specs.Prelude.{◌≡◌, ℕ, ◌<◌, ◌≤◌, ◌+◌, List, [], ◌∷◌, ◌++◌, length, slice_get, Option, Some, None, option_and_then}
 use Rattle.audit_types.specs.declared.records.Protected.{Protected}
-use Rattle.audit_types.specs.History.{Protection, against_outsiders, entry_of}
-use Rattle.audit_types.specs.People.{shared_of}
+use Rattle.audit_types.specs.History.{Protection, entry_of}
 use Rattle.schema_json.specs.Columns.{Column, Group, Guards, place_of, role_at, secret_place}
 use Rattle.schema_json.specs.declared.roles.Role.TheVariants.{Sum}
 use Rattle.table_load.specs.Cells.{PublicView, counts_of, whole}
@@ -31,11 +30,12 @@ abbrev pub AsksOnly : List Column → Option (List ℕ) → PublicView → Type 
 AsksOnly columns None public = public.only ≡ None
 AsksOnly columns (Some text) public = (t : Tree) × (length text ≤ 8192) × Means columns text t × (public.only ≡ Some (meaning (whole public) t))
 
--- what a schema guards of a table: each row of one person, and the entries of its groups, by forms of its width and reach; and of which rows
--- may be asked
+-- what a schema guards of a table: what so few have of the people that the table counts, and the entries of its groups, by forms of its width
+-- and reach; and of which rows may be asked
 abbrev pub Protects : List Column → PublicView → Guards → Protection → Type 0
 Protects columns public guards protected = AreEntries columns public 0 guards.groups protected.groups
-    × (protected ≡ against_outsiders protected.groups (shared_of (counts_of columns public)) guards.width guards.reach) × AsksOnly columns guards.only public
+    × (protected.people ≡ record { counts = counts_of columns public; fewest = guards.fewest; own = guards.own })
+    × (protected.width ≡ guards.width) × (protected.reach ≡ guards.reach) × AsksOnly columns guards.only public
 
 -- a group has no fault
 abbrev pub HasNoFault : List Column → Group → Type 0

@@ -1,11 +1,11 @@
 //! The public part of a table, asked for the rows that satisfy a condition.
-ghost use Rattle.std.specs.Prelude.{◌≡◌, ◌<◌, ◌≤◌, ℕ, true, None, Some, Err, Option, IfOk, IfSome, option_map, length, slice_get, slice_index_or};
+ghost use Rattle.std.specs.Prelude.{◌≡◌, ◌<◌, ◌≤◌, ℕ, true, None, Some, Err, Option, IfOk, IfSome, OnErr, option_map, length, slice_get, slice_index_or};
 ghost use Rattle.std.specs.List.Sorted.{IsSorted};
 ghost use Rattle.std.specs.Option.{option_to_list};
 ghost use Rattle.std.specs.Ordering.{nat_cmp};
-ghost use Rattle.audit_types.specs.History.{IsGuardFor, entry_of};
+ghost use Rattle.audit_types.specs.History.{AreProtected, entry_of};
+ghost use Rattle.audit_types.specs.Headcount.{headcount, people_behind};
 ghost use Rattle.audit_types.specs.Limits.{most_answer, most_rows};
-ghost use Rattle.audit_types.specs.PeopleLaws.{people_behind};
 ghost use Rattle.audit_types.specs.Rows.{intersection, rows_that};
 ghost use Rattle.schema_json.specs.Columns.{Group};
 ghost use Rattle.schema_json.specs.SecretShape.{shape_of};
@@ -20,7 +20,7 @@ ghost use Rattle.set_index.specs.Ordered.{IsOrder, IsShown, compare_rows};
 
 use crate::asking::rows_of;
 use crate::laws::{groups_of_a_schema, reads_what_fits};
-use crate::people::{people_by, shared_rows};
+use crate::people::{counted_rows, people_by};
 use crate::sorted::Sorted;
 use crate::values::sort_by_value;
 use audit_types::{Guard, NoMemory, Protected, RowSet};
@@ -221,6 +221,28 @@ fn entries_of(alloc: Global, schema: &Schema, index: &Index) -> Result<Vec<Prote
     Ok(list)
 }
 
+// What a schema guards of a public part, with these entries of its groups.
+fn guard_of(
+    alloc: Global,
+    schema: &Schema,
+    public: &Public,
+    groups: Vec<Protected>,
+) -> Result<Guard, IndexFault>
+    requires { FitsSchema schema.now.columns public.now }
+    ensures guard { IfOk result (λ guard. guard ≡ record {
+      groups = groups.items;
+      people = headcount (counts_of schema.now.columns public.now) schema.now.guards.fewest schema.now.guards.own;
+      width = schema.now.guards.width;
+      reach = schema.now.guards.reach;
+    }) }
+    ensures sound { OnErr result (result ≡ Err IndexFault.NoMemory) }
+{
+    match counted_rows(alloc, schema, public) {
+        Ok(rows) => Ok(Guard::new(groups, rows, schema.width(), schema.reach())),
+        Err(_) => Err(IndexFault::NoMemory),
+    }
+}
+
 // The rows of a set that may be asked of.
 fn among(only: &Option<RowSet>, rows: RowSet) -> RowSet
     requires { IfSome only.now (λ set. set.n ≡ rows.n) }
@@ -239,33 +261,34 @@ fn among(only: &Option<RowSet>, rows: RowSet) -> RowSet
 }
 
 impl Index {
-    /// Makes a public part ready, and finds the rows that may be asked of, those of the groups that its schema protects, and those of
-    /// several people. With a refusal it is dropped.
+    /// Makes a public part ready, and finds the rows that may be asked of, those of the groups that its schema protects, and the people
+    /// behind the rows. With a refusal it is dropped.
     pub fn new(alloc: Global, schema: &Schema, public: Public) -> Result<Index, IndexFault>
         requires { FitsSchema schema.now.columns public }
         ensures public { IfOk result (λ index. whole index.public ≡ public) }
         ensures entries { IfOk result (λ index. Protects schema.now.columns index.public schema.now.guards index.protected) }
         ensures bad { (part : GuardPart) → result ≡ Err (IndexFault.Bad part) → IsFirstBad schema.now.columns schema.now.guards part }
-        ensures fit { IfOk result (λ index. IsGuardFor (shape_of schema.now.columns index.public.rows) index.protected) }
+        ensures fit { IfOk result (λ index. AreProtected (shape_of schema.now.columns index.public.rows) index.protected) }
         ensures fits { IfOk result (λ index. FitsSchema schema.now.columns index.public) }
     {
         groups_of_a_schema();
-        // The count says that these are a schema's columns, and the width that at most 64 groups are guarded, within bounds.
-        let (_count, width, reach) = (schema.count(), schema.width(), schema.reach());
+        // The count says that these are a schema's columns, and the width that what is guarded is within bounds.
+        let (_count, _width) = (schema.count(), schema.width());
         // What was read of a table says of no row that it may not be asked of.
         let _rows = public.rows();
         let Ok(columns) = sorted_columns(alloc, &public) else {
             return Err(IndexFault::NoMemory);
         };
-        let shared = shared_rows(schema, &public);
+        let protected = guard_of(alloc, schema, &public, Vec::new(alloc))?;
         let mut index = Index {
             public,
             only: None,
-            protected: Guard::new(Vec::new(alloc), shared, width, reach),
+            protected,
             columns,
         };
         index.only = only_rows(alloc, schema, &index)?;
-        index.protected = Guard::new(entries_of(alloc, schema, &index)?, shared, width, reach);
+        let groups = entries_of(alloc, schema, &index)?;
+        index.protected = guard_of(alloc, schema, &index.public, groups)?;
         Ok(index)
     }
 
@@ -276,8 +299,8 @@ impl Index {
         &self.public
     }
 
-    /// What the schema guards: each row of one person, and the groups that some row satisfies, in the order of the schema; and by which
-    /// width and reach.
+    /// What the schema guards: what few people behind the rows have, and the groups that some row satisfies, in the order of the schema; and
+    /// by which width and reach.
     pub fn protected(&self) -> &Guard
         ensures { result.now ≡ self.now.protected }
     {

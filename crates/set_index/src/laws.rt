@@ -24,7 +24,7 @@ pub fn groups_of_a_schema()
     secret_columns();
 }
 
-/// Behind each row is somebody, and the rows of several people are the shared ones of what is guarded.
+/// What is guarded goes by the people that a table counts.
 pub fn lines_of_a_table()
     ensures { RowsAreLines }
 {}

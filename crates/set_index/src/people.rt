@@ -1,17 +1,14 @@
 //! How many people stand behind rows.
-ghost use Rattle.std.specs.Prelude.{◌≡◌, ◌<◌, ◌≤◌, ◌<ℤ◌, length, map, pos, unsigned_abs};
+ghost use Rattle.std.specs.Prelude.{◌≡◌, ◌<◌, ◌≤◌, ◌<ℤ◌, length, map, pos, unsigned_abs, IfOk};
 ghost use Rattle.std.specs.List.{AllByRecursion};
-ghost use Rattle.audit_types.specs.Limits.{most_answer, most_rows};
-ghost use Rattle.audit_types.specs.People.{shared_of};
-ghost use Rattle.audit_types.specs.PeopleLaws.{people_behind};
+ghost use Rattle.audit_types.specs.Limits.{most_answer};
+ghost use Rattle.audit_types.specs.Headcount.{headcount, people_behind};
 ghost use Rattle.table_load.specs.Cells.{AreNumbers, FitsSchema, counts_of};
 
-use audit_types::RowSet;
+use audit_types::{CountedRows, NoMemory, RowSet};
 use schema_json::Schema;
+use std::alloc::Global;
 use table_load::Public;
-
-// The count of a row that is guarded by itself.
-const ALONE: i64 = 1;
 
 /// How many people stand behind rows, by how many each row stands for.
 pub(crate) fn people_by(counts: &[i64], rows: &RowSet) -> u64
@@ -30,33 +27,39 @@ pub(crate) fn people_by(counts: &[i64], rows: &RowSet) -> u64
     people
 }
 
-// The rows that stand for several people.
-fn several(counts: &[i64], rows: u16) -> RowSet
-    requires some { 0 < rows }
-    requires at_most { rows ≤ most_rows }
-    requires numbers { AreNumbers rows counts.now }
-    requires above { AllByRecursion (λ z. pos 0 <ℤ z) counts.now }
-    ensures n { result.n ≡ rows }
-    ensures shared { result.list ≡ shared_of (map unsigned_abs counts.now) }
+// How many people each row stands for.
+fn sizes(alloc: Global, counts: &[i64]) -> Result<Vec<u64>, NoMemory>
+    ensures { IfOk result (λ sizes. sizes.items ≡ map unsigned_abs counts.now) }
 {
-    let mut shared = RowSet::new(rows);
-    for row in 0..rows {
-        if counts[row as usize] > ALONE {
-            shared.add(row);
-        }
+    let mut sizes = Vec::new(alloc);
+    for count in counts {
+        sizes.push(count.unsigned_abs())?;
     }
-    shared
+    Ok(sizes)
 }
 
-/// The rows of a table that stand for several people.
-pub(crate) fn shared_rows(schema: &Schema, public: &Public) -> RowSet
+// The counts of a table, none if no column says so.
+fn counts_in(alloc: Global, schema: &Schema, public: &Public) -> Result<Vec<u64>, NoMemory>
     requires { FitsSchema schema.now.columns public.now }
-    ensures n { result.n ≡ public.now.rows }
-    ensures shared { result.list ≡ shared_of (counts_of schema.now.columns public.now) }
+    ensures { IfOk result (λ counts. counts.items ≡ counts_of schema.now.columns public.now) }
+{
+    match public.counts(schema) {
+        Some(counts) => sizes(alloc, counts),
+        None => Ok(Vec::new(alloc)),
+    }
+}
+
+/// The rows of a table, with the people that stand behind them, and of how few of these what they have is guarded against whom.
+pub(crate) fn counted_rows(
+    alloc: Global,
+    schema: &Schema,
+    public: &Public,
+) -> Result<CountedRows, NoMemory>
+    requires { FitsSchema schema.now.columns public.now }
+    ensures n { IfOk result (λ rows. rows.n ≡ public.now.rows) }
+    ensures people { IfOk result (λ rows. rows.people ≡ headcount (counts_of schema.now.columns public.now) schema.now.guards.fewest schema.now.guards.own) }
 {
     let rows = public.rows();
-    match public.counts(schema) {
-        Some(counts) => several(counts, rows),
-        None => RowSet::new(rows),
-    }
+    let counts = counts_in(alloc, schema, public)?;
+    Ok(CountedRows::new(rows, counts, schema.fewest(), schema.askers()))
 }

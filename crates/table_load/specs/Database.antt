@@ -1,8 +1,7 @@
 -- What the files of a table mean to the auditor.
 use Rattle.std.specs.Prelude.{◌≡◌, ◌≢◌, ℕ, ◌<◌, List, [], map, length, take}
 use Rattle.std.specs.List.{AllByRecursion}
-use Rattle.audit_types.specs.History.{Table, Protection, IsGuardFor, setting_of}
-use Rattle.audit_types.specs.People.{shared_of}
+use Rattle.audit_types.specs.History.{Table, Protection, AreProtected, setting_of}
 use Rattle.audit_types.specs.Widening.{over, protection_among}
 use Rattle.schema_json.specs.Columns.{Column, AreColumns}
 use Rattle.schema_json.specs.SecretShape.{shape_of}
@@ -19,17 +18,16 @@ pub record Database : Type 0 where
 abbrev pub base_of : List Column → PublicView → Protection → SecretView → Database
 base_of columns public protected secret = record { columns = columns; public = public; protected = protected; secret = secret }
 
--- a schema's columns, secrets of the shape that they give the table, and plain protection that fits it
+-- a schema's columns, secrets of the shape that they give the table, and protection that fits it
 pub record IsDatabase (base : Database) : Type 0 where
   pub schema : AreColumns base.columns
   pub shape : base.secret.shape ≡ shape_of base.columns base.public.rows
-  pub protected : IsGuardFor base.secret.shape base.protected
+  pub protected : AreProtected base.secret.shape base.protected
 
--- behind each row is somebody, and the rows of several people are the shared ones
+-- what is guarded goes by the people that the table counts, behind each row or behind none
 pub record AreLines (base : Database) : Type 0 where
-  pub somebody : AllByRecursion (λ count. 0 < count) (counts_of base.columns base.public)
-  pub one_each : counts_of base.columns base.public ≢ [] → length (counts_of base.columns base.public) ≡ base.public.rows
-  pub shared : base.protected.shared ≡ shared_of (counts_of base.columns base.public)
+  pub counts : base.protected.people.counts ≡ counts_of base.columns base.public
+  pub one_each : base.protected.people.counts ≢ [] → length base.protected.people.counts ≡ base.public.rows
 
 -- tables that differ in their secrets alone, which are of one shape
 abbrev pub AreTwins : Database → Database → Type 0

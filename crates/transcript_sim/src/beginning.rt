@@ -2,7 +2,7 @@
 ghost use Rattle.std.specs.Prelude.{◌≡◌, ◌≤◌, ◌+◌, length, All, IfOk, IfErr, OnOk, IsErrOf};
 ghost use Rattle.audit_types.specs.Limits.{most_records};
 ghost use Rattle.audit_types.specs.Shapes.{IsShape};
-ghost use Rattle.audit_types.specs.History.{FitsShape, IsGuardFor, setting_of};
+ghost use Rattle.audit_types.specs.History.{FitsShape, AreProtected, setting_of};
 ghost use Rattle.audit_core.specs.Released.{WereReleased};
 ghost use Rattle.bench_core.specs.Calls.{OnlyReads, TellsFault};
 ghost use Rattle.transcript_sim.specs.Beginning.{BeginsWith, EndBegins, HistoryCause, IsUnbegun};
@@ -23,7 +23,7 @@ fn audited(
     list: &[Answered],
 ) -> Result<Core, SimulationFault>
     requires valid { IsShape shape }
-    requires protected { IsGuardFor shape protected }
+    requires protected { AreProtected shape protected }
     requires fit { All (λ r. FitsShape kept r.column r.rows) list.now }
     requires few { length list.now ≤ most_records }
     ensures core { IfOk result (λ core. core ≡ record { setting = setting_of shape protected; history = list.now }) }
@@ -45,7 +45,7 @@ pub(crate) fn begin<B: Bench>(
     bench: &mut B,
 ) -> Result<Core, SimulationFault>
     requires valid { IsShape shape }
-    requires fit { IsGuardFor shape protected.now }
+    requires fit { AreProtected shape protected.now }
     ensures setting { IfOk result (λ core. core.setting ≡ setting_of shape protected.now) }
     ensures begins { B.told → IfOk result (λ core. BeginsWith (B.file bench.old) (setting_of shape protected.now) core.history) }
     ensures cause { B.told → EndBegins result (B.file bench.old) (setting_of shape protected.now) }

@@ -1,6 +1,6 @@
 //! Reading a transcript, and sending its verdicts.
 ghost use Rattle.std.specs.Prelude.{◌≡◌, ◌≢◌, ◌≤◌, ◌+◌, [], List, ℕ, false, length, OnOk, Err, true};
-ghost use Rattle.audit_types.specs.History.{IsGuardFor, setting_of};
+ghost use Rattle.audit_types.specs.History.{AreProtected, setting_of};
 ghost use Rattle.audit_types.specs.declared.records.Answered.{Answered};
 ghost use Rattle.bench_core.specs.Causes.{Rose};
 ghost use Rattle.bench_core.specs.Calls.{IsQuiet, IsUntouched, LeavesOnly};
@@ -138,7 +138,7 @@ pub fn simulate<P: Source, B: Bench>(
     bench: &mut B,
 ) -> Result<(), SimulationFault>
     requires fits { FitsSchema schema.now.columns index.now.public }
-    requires protected { IsGuardFor (shape_of schema.now.columns index.now.public.rows) index.now.protected }
+    requires protected { AreProtected (shape_of schema.now.columns index.now.public.rows) index.now.protected }
 
     // Which verdicts there are after the history that it begins with, and that their lines were sent, by one call for each question and no
     // other after the two that open the journal.

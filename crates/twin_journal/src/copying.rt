@@ -1,7 +1,7 @@
 //! Writing a journal whole from another one.
 ghost use Rattle.std.specs.Prelude.{◌≡◌, ◌≢◌, ◌+◌, ℕ, List, Err, OnOk, IsErrOf};
 ghost use Rattle.audit_types.specs.declared.records.Answered.{Answered};
-ghost use Rattle.audit_types.specs.History.{IsGuardFor, IsLegal};
+ghost use Rattle.audit_types.specs.History.{AreProtected, IsLegal};
 ghost use Rattle.bench_core.specs.Calls.{IsQuiet, IsUntouched, LeavesOnly, OnlyReads, TellsFault};
 ghost use Rattle.journal_form.specs.Journal.{StandsFor};
 ghost use Rattle.answer_journal.specs.Make.{calls_to_make};
@@ -55,7 +55,7 @@ pub fn copy_journal<K: Bench, L: Bench>(
     kept: &mut K,
     lost: &mut L,
 ) -> Result<(), CopyFault>
-    requires fit { IsGuardFor secret.shape protected }
+    requires fit { AreProtected secret.shape protected }
     requires lost { L.told → IsLost (L.file lost.old) }
 
     // The lost one then stands for the history of the kept one, which is only read, and holds it whole.

@@ -1,7 +1,7 @@
 //! Writing a lost journal anew.
 ghost use Rattle.std.specs.Prelude.{◌≡◌, ◌≢◌, ◌⊎◌, ◌↔◌, ◌+◌, List, ℕ, true, Err, IfOk, OnOk, OnErr, IsErrOf, IsTrue};
 ghost use Rattle.audit_types.specs.declared.records.Answered.{Answered};
-ghost use Rattle.audit_types.specs.History.{IsGuardFor};
+ghost use Rattle.audit_types.specs.History.{AreProtected};
 ghost use Rattle.bench_core.specs.Causes.{HasCause};
 ghost use Rattle.bench_core.specs.Calls.{IsQuiet, IsUntouched, LeavesOnly, OnlyReads, TellsFault};
 ghost use Rattle.answer_journal.specs.Moments.{IsMade};
@@ -89,7 +89,7 @@ pub fn restore<B: Bench, S: Bench>(
     bench: &mut B,
     spare: &mut S,
 ) -> Result<(), RestoreFault>
-    requires fit { IsGuardFor secret.shape protected }
+    requires fit { AreProtected secret.shape protected }
 
     // Both files then stand for the history of the one that wasn't lost, and for nothing that the other doesn't.
     ensures done { B.told → S.told → OnOk result ((history : List Answered)

@@ -1,7 +1,7 @@
 //! Opening two journals of one table, and asking over both.
 ghost use Rattle.std.specs.Prelude.{◌≡◌, ◌≢◌, ◌≤◌, ◌+◌, ◌++◌, [], List, ℕ, true, false, length, All, Err, IfOk, OnOk, OnErr, IsErrOf};
 ghost use Rattle.audit_types.specs.declared.records.Answered.{Answered};
-ghost use Rattle.audit_types.specs.History.{IsGuardFor, FitsShape};
+ghost use Rattle.audit_types.specs.History.{AreProtected, FitsShape};
 ghost use Rattle.audit_core.specs.Outcomes.{AreOutcomes, records_made};
 ghost use Rattle.bench_core.specs.Calls.{IsQuiet, IsUntouched, LeavesOnly, OnlyReads, TellsFault};
 ghost use Rattle.answer_journal.specs.Moments.{IsBeforeOrAfter};
@@ -99,7 +99,7 @@ impl TwinStore {
         bench: &mut B,
         spare: &mut S,
     ) -> Result<TwinStore, TwinFault>
-        requires fit { IsGuardFor secret.shape protected }
+        requires fit { AreProtected secret.shape protected }
 
         // The store is that of the longer history, and both files are as it left them.
         ensures store { IfOk result (λ twin. (twin.store.secret ≡ secret) × (twin.store.protected ≡ protected) × (twin.store.usable ≡ true) × IsStore twin.store × IsTwin twin) }

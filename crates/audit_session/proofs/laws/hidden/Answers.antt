@@ -20,14 +20,14 @@ returns-clause-hide c = λ base runs last database numbers life column own value
 
 -- of the other number and the last one, one isn't that which stood there
 pub returns-clause-stood : goal.returns-clause-stood
-returns-clause-stood c = λ base runs last database numbers life before after run column row is below alone within.
+returns-clause-stood c = λ base runs last database numbers life before after run column row is below few within.
     let lead = leads_alike c.one_reading.ensures c.answered_lines.ensures c.lives.ensures.legal base runs last in
     let are = c.lists_of_secrets.ensures last.base.secret numbers in
     let own = last.base.secret.lists in
     let legal = c.lives.ensures.legal base runs last life in
     let rows = rows_to run.left after last (from_run (over_all base []) before after run last (subst (λ (list : List Run). IsLife base list last) is life)) in
     let found = (c.lives.ensures.keep base runs last database are life).undisclosed column [] (λ w. number_at w row) below (tt, omega arith, tt)
-    (number row (omega (arith, rows, within)) refl alone) in
+    (number row (omega (arith, rows, within)) refl few) in
     elim (differs_or (number_at (list_of found.twin column) row) (number_at (list_of own column) row)
     (number_at (list_of run.left.base.secret.lists column) row) found.differs) [
       | inl other ↦ record { lists = found.twin; are_secrets = found.are_secrets; life = lead found.twin life found.agree; same = λ c. tt; differs = other }
@@ -47,6 +47,6 @@ returns-clause-people c = λ base runs last database lines numbers life.
     let kept = c.lives.ensures.keep base runs last database are life in
     hides_each_person c.people_behind_lines.ensures.differ base runs last database lines are
     (lead last.base.secret.lists life (agree_own (table_in last.base) (history_over last.base last) are (c.lives.ensures.legal base runs last life)))
-    (λ column row below within alone.
-    let found = kept.undisclosed column [] (λ w. number_at w row) below (tt, omega arith, tt) (number row within refl alone) in
+    (λ column row below within few.
+    let found = kept.undisclosed column [] (λ w. number_at w row) below (tt, omega arith, tt) (number row within refl few) in
     record { others = found.twin; are_secrets = found.are_secrets; still = lead found.twin life found.agree; differs = found.differs })

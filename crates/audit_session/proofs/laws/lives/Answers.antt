@@ -12,7 +12,7 @@ returns-clause-keep c = λ base runs last database are life.
     let stands = last_stands one keep (over_all base []) runs last begun life in
     record {
       legal = stands.legal;
-      undisclosed = c.legal_histories.ensures (table_in last.base) (history_over last.base last) are database.protected.0 stands.legal;
+      undisclosed = c.legal_histories.ensures (table_in last.base) (history_over last.base last) are database.protected stands.legal;
       kept = all_kept one keep (over_all base []) runs last begun life;
     }
 

@@ -22,4 +22,4 @@ returns c = λ base runs last database numbers life column below.
       has.is,
     ))
     (known_of table.setting history column) (list_of last.base.secret.lists column)
-    (c.open_ranges.ensures table history column are database.protected.0 legal below)
+    (c.open_ranges.ensures table history column are database.protected legal below)

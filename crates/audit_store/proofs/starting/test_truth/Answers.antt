@@ -1,15 +1,13 @@
-use Rattle.std.proofs.Common.{◌≢◌, rules, [], refl, sym, ap, subst, arith, FitsSigned, to_z, of_z, ◌∙◌}
+use Rattle.std.proofs.Common.{◌≢◌, rules, refl, sym, ap, subst, arith, FitsSigned, to_z, of_z, ◌∙◌}
 use Rattle.std.specs.Int.{w64}
 use Rattle.std.proofs.Math.Facts.{to_z-of_z}
 use Rattle.std.proofs.lemmas.Option.{slice_get_read, slice_get_within}
-use Rattle.audit_types.specs.Limits.{most_width, most_rows}
 use Rattle.audit_types.specs.Shapes.{is_least}
-use Rattle.audit_types.specs.History.{against_outsiders}
 use Rattle.table_load.specs.Database.{secret_table}
 use Rattle.audit_store.specs.declared.starting.StartFault.{StartFault}
 use Rattle.audit_store.specs.Starting.{HistoryCause, stated_answer}
 use Rattle.audit_store.proofs.Causes.{same_stated}
-use Rattle.audit_store.proofs.LegalHistories.{next_is_true}
+use Rattle.audit_store.proofs.LegalHistories.{next_is_true, plain_table}
 use Rattle.audit_store.proofs.starting.test_truth.Goals as goal
 
 pub returns-then-now-answered-clause-err : goal.returns-then-now-answered-clause-err
@@ -40,7 +38,7 @@ loop-place-preserved c =
     let now : FitsSigned w64 c.truth-now.result = search rules in
     let stands = slice_get_read list _ c.loop-place.place r refl c.loop-place-test.true c.index-list-place.is in
     let is = sym (to_z-of_z kept) ∙ (rw c.if-now-answered.false at (to_z-of_z now)) ∙ c.truth-now.ensures in
-    next_is_true (secret_table c.args.secret.now (against_outsiders [] [] most_width most_rows)) list c.loop-place.place r stands is c.loop-place.invariant
+    next_is_true (plain_table c.args.secret.now) list c.loop-place.place r stands is c.loop-place.invariant
 
 pub returns-clause-ok : goal.returns-clause-ok
 returns-clause-ok c =

@@ -1,4 +1,4 @@
-use Rattle.std.proofs.Common.{rules, ◌≡◌, length, ◌∙◌, ap}
+use Rattle.std.proofs.Common.{rules, ◌≡◌, length}
 use Rattle.auditor_top.specs.Compactions.{compact_line}
 use Rattle.auditor_top.proofs.CompactSteps.{sent_whole, sent_front, writes_kept, sends_line}
 use Rattle.auditor_top.proofs.compacting.compact.Goals as goal

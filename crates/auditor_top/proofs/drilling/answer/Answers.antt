@@ -1,8 +1,8 @@
-use Rattle.std.proofs.Common.{◌≡◌, refl, ℕ, List, [], Result, Ok, Err, OnOk, ap, sym, ◌∙◌, subst}
-use Rattle.audit_types.specs.declared.records.Protected.{Protected}
+use Rattle.std.proofs.Common.{◌≡◌, refl, ℕ, List, [], Result, Ok, Err, OnOk, ap, sym, ◌∙◌, subst, arith}
+use Rattle.std.proofs.lemmas.List.Elements.{All-nil}
 use Rattle.audit_types.specs.declared.records.Answered.{Answered}
-use Rattle.audit_types.specs.Limits.{most_rows, most_width}
-use Rattle.audit_types.specs.History.{against_outsiders}
+use Rattle.audit_types.specs.declared.shapes.Shape.{Shape}
+use Rattle.audit_types.specs.History.{Protection, AreProtected, IsProtected}
 use Rattle.table_load.specs.Cells.{SecretView}
 use Rattle.bench_core.specs.BenchContents.{file_of, sent_of}
 use Rattle.audit_store.specs.Stores.{IsAsLeft}
@@ -12,6 +12,7 @@ use Rattle.audit_store.specs.declared.starting.StartFault.{StartFault}
 use Rattle.audit_store.specs.declared.starting.StartFault.TheVariants.{NotMade, Damaged, OtherShape, Untrue, Illegal, Failed, NoMemory}
 use Rattle.audit_store.specs.Starting.{GivesUp}
 use Rattle.table_load.specs.Database.{base_of, secret_table}
+use Rattle.auditor_top.specs.Drills.{drill_protection}
 use Rattle.auditor_top.proofs.OneRunMore.{nothing_is_legal}
 use Rattle.auditor_top.proofs.drilling.answer.Goals as goal
 
@@ -21,13 +22,28 @@ up_to_some : {T E : Type 0} (r : Result T E) (last : List Answered) (UpTo : List
 up_to_some (Ok done) last UpTo is = (last, is)
 up_to_some (Err fault) last UpTo is = tt
 
+-- it fits each table
+drill_fits : (shape : Shape) → AreProtected shape drill_protection
+drill_fits shape = (
+  All-nil (IsProtected shape),
+  omega arith,
+  record { within = omega arith; somebody = tt; fewest = omega arith; own = omega arith },
+  omega arith,
+  omega arith,
+  omega arith,
+  omega arith,
+)
+
+pub start-requires : goal.start-requires
+start-requires c = record {
+  fit = subst (λ (protected : Protection). AreProtected c.args.secret.shape protected)
+      (sym (c.in_ok-protected.ensures ∙ c.protected.ensures ∙ c.requires.none)) (drill_fits c.args.secret.shape);
+}
+
 pub answer_over-requires : goal.answer_over-requires
 answer_over-requires c = record {
   usable = c.in-Ok.ensures.store.2;
-  entries = c.requires.none
-      ∙ sym (c.new-2.ensures ∙ ap (λ (groups : List Protected). against_outsiders groups c.new-shared.result.list most_width most_rows) c.new.ensures.items
-      ∙ ap (λ (shared : List ℕ). against_outsiders [] shared most_width most_rows) c.new-shared.ensures.empty)
-      ∙ sym c.in-Ok.ensures.store.1;
+  entries = sym (c.in-Ok.ensures.store.1 ∙ c.in_ok-protected.ensures ∙ c.protected.ensures);
   fits = c.requires.fits;
   shape = ap (λ (secret : SecretView). secret.shape) c.in-Ok.ensures.store.0 ∙ c.requires.shape;
   stands = subst (λ (file : List ℕ). IsAsLeft file c.in-Ok.store) (sym c.start.ensures.reads.file) (c.in-Ok.ensures.stands (tt {0}));
@@ -70,5 +86,5 @@ gave_up NoMemory failed memory gives = memory refl
 
 pub unreachable-requires : goal.unreachable-requires
 unreachable-requires c =
-    let table = secret_table c.args.secret c.new-2.result in
+    let table = secret_table c.args.secret c.in_ok-protected.protected in
     gave_up c.in-Err.fault c.in_default.not-Failed c.in_default.not-NoMemory (c.in-Err.ensures.opens [] (tt {0}) c.requires.stands (nothing_is_legal table))

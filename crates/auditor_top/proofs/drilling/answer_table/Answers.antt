@@ -1,17 +1,14 @@
-use Rattle.std.proofs.Common.{◌≡◌, ◌∙◌, ℕ, ◌<◌, nat_lt, List, [], length, Err, None, refl, arith, ap, subst}
+use Rattle.std.proofs.Common.{◌≡◌, ◌∙◌, ◌<◌, List, [], length, Err, arith, ap, subst}
 use Rattle.std.proofs.lemmas.Option.{slice_get_within}
 use Rattle.std.proofs.lemmas.Result.{IfOk-from_err}
-use Rattle.audit_types.specs.declared.records.Protected.{Protected}
-use Rattle.audit_types.specs.Limits.{most_rows, most_width}
-use Rattle.audit_types.specs.History.{Protection, against_outsiders}
-use Rattle.audit_types.specs.People.{count_at, shared_of}
-use Rattle.audit_types.specs.RowLaws.{rows_that_none}
+use Rattle.audit_types.specs.History.{Protection}
 use Rattle.schema_json.specs.Columns.{Column, Group, Guards, no_guards}
-use Rattle.table_load.specs.Cells.{PublicView, counts_of, whole}
+use Rattle.table_load.specs.Cells.{PublicView, whole}
 use Rattle.drill_case.specs.Tables.{drill_columns}
 use Rattle.set_index.specs.declared.index.GuardPart.{GuardPart}
 use Rattle.set_index.specs.declared.index.GuardPart.TheVariants as part
 use Rattle.set_index.specs.Groups.{Protects, IsFirstBad}
+use Rattle.auditor_top.specs.Drills.{drill_protection}
 use Rattle.auditor_top.proofs.drilling.answer_table.Goals as goal
 
 -- of nothing nothing has a fault
@@ -26,17 +23,14 @@ unreachable-requires c =
     (subst (λ (guards : Guards). IsFirstBad schema.columns guards c.in-Bad.part) c.requires.guards
     (c.in-Err.ensures.bad c.in-Bad.part (ap (λ f. Err f) c.in-Bad.is)))
 
--- no group guards each row alone, and none stands for several people
+-- no group is guarded, and each row is of one person
 none_guarded : (columns : List Column) (public : PublicView) (guards : Guards) (protected : Protection) → columns ≡ drill_columns → guards ≡ no_guards →
     Protects columns public guards protected →
-    protected ≡ against_outsiders [] [] most_width most_rows
+    protected ≡ drill_protection
 none_guarded columns public guards protected drills none protects =
     let alone = subst (λ (g : Guards). Protects drill_columns public g protected) none
     (subst (λ (l : List Column). Protects l public guards protected) drills protects) in
-    alone.1
-    ∙ ap (λ (entries : List Protected). against_outsiders entries (shared_of (counts_of drill_columns public)) most_width most_rows) alone.0
-    ∙ ap (λ (shared : List ℕ). against_outsiders [] shared most_width most_rows)
-    (rows_that_none (λ line. nat_lt 1 (count_at [] line)) 0 (λ line below. absurd (omega (arith, below))))
+    λ i. record { groups = alone.0 i; people = alone.1 i; width = alone.2 i; reach = alone.3 i }
 
 -- and each row may be asked of
 none_left : (columns : List Column) (public : PublicView) (guards : Guards) (protected : Protection) → guards ≡ no_guards →
@@ -44,7 +38,7 @@ none_left : (columns : List Column) (public : PublicView) (guards : Guards) (pro
     public ≡ whole public
 none_left columns public guards protected none protects =
     let alone = subst (λ (g : Guards). Protects columns public g protected) none protects in
-    λ i. record { rows = public.rows; columns = public.columns; only = alone.2 i }
+    λ i. record { rows = public.rows; columns = public.columns; only = alone.4 i }
 
 pub answer_lines-requires-clause-public : goal.answer_lines-requires-clause-public
 answer_lines-requires-clause-public c =

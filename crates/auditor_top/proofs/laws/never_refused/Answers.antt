@@ -45,7 +45,7 @@ returns-clause-simulated c = λ schema table file public_schema public_table bas
     let is = c.sound_files.ensures.database schema table base over.files in
     let released = c.released_histories.ensures (table_in base) history (c.lists_of_secrets.ensures base.secret (c.sound_files.ensures.secret schema
     table base over.files))
-    is.protected.0 over.legal in
+    is.protected over.legal in
     record {
       files = given;
       begins = inr (

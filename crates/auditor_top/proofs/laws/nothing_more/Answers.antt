@@ -7,7 +7,8 @@ use Rattle.table_load.specs.Database.{IsDatabase, table_in}
 use Rattle.audit_session.specs.Hidden.{with_secrets, run_with, standing_with}
 use Rattle.auditor_top.specs.declared.status.Status.TheVariants.{Done}
 use Rattle.auditor_top.specs.Ends.{audit_over, people_over}
-use Rattle.auditor_top.proofs.OneReport.{one_report, rows_of_legal}
+use Rattle.audit_session.specs.HistoryFacts.{rows_of_legal}
+use Rattle.auditor_top.proofs.OneReport.{one_report}
 use Rattle.auditor_top.proofs.ShownAlike.{twins_alike}
 use Rattle.auditor_top.proofs.laws.nothing_more.Goals as goal
 

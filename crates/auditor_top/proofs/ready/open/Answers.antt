@@ -1,6 +1,6 @@
-use Rattle.std.proofs.Common.{◌≡◌, ℕ, List, [], Result, Err, refl, sym, ap, subst}
-use Rattle.audit_types.specs.Limits.{most_rows, most_width}
-use Rattle.audit_types.specs.History.{Protection, against_outsiders}
+use Rattle.std.proofs.Common.{◌≡◌, List, Result, Err, refl, sym, ap, subst}
+use Rattle.audit_types.specs.History.{Protection}
+use Rattle.auditor_top.specs.Drills.{drill_protection}
 use Rattle.table_load.specs.Database.{base_of}
 use Rattle.auditor_top.specs.declared.words.Command.{Command}
 use Rattle.auditor_top.specs.declared.status.Status.{Status}
@@ -41,7 +41,7 @@ returns-in_ok-opened-in-Init-clause-over g c =
     let e = c.in_ok-opened-in-Init.ensures in
     let opened = c.in_ok-opened-in-Init.opened in
     λ ptold. (
-      base_of opened.schema.columns opened.table.public (against_outsiders [] [] most_width most_rows) opened.table.secret,
+      base_of opened.schema.columns opened.table.public drill_protection opened.table.secret,
       record { guards = opened.schema.guards; schema_is = e.schema_is ptold; table_means = read_whole _ _ _ (e.table_is ptold) },
       c.shape.ensures.shape,
     )

@@ -1,7 +1,7 @@
-use Rattle.std.proofs.Common.{◌≡◌, ℕ, List, Result, Err, sym, ◌∙◌, ap, subst}
+use Rattle.std.proofs.Common.{◌≡◌, List, Result, Err, sym, ◌∙◌, ap, subst}
 use Rattle.schema_json.specs.Columns.{Column, SchemaView}
 use Rattle.schema_json.specs.SecretShape.{shape_of}
-use Rattle.audit_types.specs.History.{IsGuardFor}
+use Rattle.audit_types.specs.History.{AreProtected}
 use Rattle.audit_types.specs.declared.shapes.Shape.{Shape}
 use Rattle.table_load.specs.Cells.{FitsSchema, PublicView, SecretView}
 use Rattle.table_load.specs.Database.{base_of}
@@ -82,7 +82,7 @@ returns g c =
             };
             entries = a.entries;
           }));
-      fit = subst (λ (s : Shape). IsGuardFor s made.protected) (sym (shape ∙ ap (λ (p : PublicView). shape_of opened.schema.columns p.rows) (sym a.same.1)))
+      fit = subst (λ (s : Shape). AreProtected s made.protected) (sym (shape ∙ ap (λ (p : PublicView). shape_of opened.schema.columns p.rows) (sym a.same.1)))
           a.fit;
       fits = subst (λ (p : PublicView). FitsSchema made.schema.columns p) (sym a.same.1)
           (subst (λ (v : SchemaView). FitsSchema v.columns opened.table.public) (sym a.same.0) e.fits);

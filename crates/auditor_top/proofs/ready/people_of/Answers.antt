@@ -1,6 +1,6 @@
 use Rattle.std.proofs.Common.{◌≡◌, ℕ, List, Some, true, sym, ap, ◌∙◌}
 use Rattle.std.specs.Prelude.{option_map}
-use Rattle.audit_types.specs.PeopleLaws.{people_behind}
+use Rattle.audit_types.specs.Headcount.{people_behind}
 use Rattle.audit_types.specs.Rows.{complement, rows_that}
 use Rattle.schema_json.specs.Columns.{people_place}
 use Rattle.table_load.specs.Cells.{PublicView, counts_of}

@@ -1,10 +1,18 @@
 use Rattle.std.proofs.Common.{rules, ◌≡◌, true, false, Some, codes, ap, ◌∙◌}
-use Rattle.clap.specs.Words.{Rule, app_of, rule_of, new_app, with_rule}
+use Rattle.clap.specs.Words.{App, Rule, app_of, rule_of, new_app, new_rule, with_rule}
 use Rattle.clap.specs.declared.builder.arg.Arg.{Arg}
 use Rattle.clap.specs.declared.builder.action.ArgAction.TheVariants.{SetTrue}
-use Rattle.auditor_top.specs.Words.{without_name, command_rule, number_rule, batch_rule, twin_rule}
+use Rattle.auditor_top.specs.Words.{command_rule, batch_rule, twin_rule}
 use Rattle.auditor_top.proofs.Parses.{one_more, last_added}
 use Rattle.auditor_top.proofs.words.command_line.Goals as goal
+
+-- the arguments don't begin with the program's name
+abbrev without_name : App → App
+without_name line = record line { top = record line.top { no_binary_name = true } }
+
+-- a second argument
+abbrev number_rule : Rule
+number_rule = new_rule (codes "number")
 
 pub returns : goal.returns
 returns c =

@@ -9,24 +9,24 @@ use Rattle.journal_audit.proofs.reporting.audit.Goals.{After-drop-line}
 -- the columns' lines were refused
 refused_first : (g : Over) (c : After-drop-line g) →
     SendsLinesOn g.B.Bench (audit_of c.args.schema.now.columns c.args.store.now)
-    (subjects c.args.store.now.secret.shape c.args.store.now.protected.shared c.args.people) c.args.bench.now c.send_columns.new.bench c.from_residual.result
+    (subjects c.args.store.now.secret.shape c.args.people) c.args.bench.now c.send_columns.new.bench c.from_residual.result
 refused_first g c =
     let shape = c.args.store.now.secret.shape in
     let audit = audit_of c.args.schema.now.columns c.args.store.now in
     let is = refusal_is c.from_residual.result _ c.from_residual.ensures in
-    subst (λ r. SendsLinesOn g.B.Bench audit (subjects shape audit.shared c.args.people) c.args.bench.now c.send_columns.new.bench r)
+    subst (λ r. SendsLinesOn g.B.Bench audit (subjects shape c.args.people) c.args.bench.now c.send_columns.new.bench r)
     (sym (is.1.0 ∙ ap Err is.1.1))
-    (refused g.B.Bench g.met.B.Bench.only_now audit (subjects_before shape audit.shared (columns shape))
+    (refused g.B.Bench g.met.B.Bench.only_now audit (subjects_before shape (columns shape))
     (totals c.args.people ∷ []) c.args.bench.now c.send_columns.new.bench c.in_err-send_columns.field-0.0 c.in_err-send_columns.ensures)
 
 -- the columns' lines were sent, and then that of totals
 then_totals : (g : Over) (c : goal.After-drop-line-2 g) →
     SendsLinesOn g.B.Bench (audit_of c.args.schema.now.columns c.args.store.now)
-    (subjects c.args.store.now.secret.shape c.args.store.now.protected.shared c.args.people) c.args.bench.now c.send_totals.new.bench c.send_totals.result
+    (subjects c.args.store.now.secret.shape c.args.people) c.args.bench.now c.send_totals.new.bench c.send_totals.result
 then_totals g c =
     let shape = c.args.store.now.secret.shape in
     let audit = audit_of c.args.schema.now.columns c.args.store.now in
-    and_then g.B.Bench g.met.B.Bench.only_now audit (subjects_before shape audit.shared (columns shape))
+    and_then g.B.Bench g.met.B.Bench.only_now audit (subjects_before shape (columns shape))
     (totals c.args.people ∷ []) c.args.bench.now c.send_columns.new.bench c.send_totals.new.bench c.in_ok-send_columns.ensures c.send_totals.result
     c.send_totals.ensures
 

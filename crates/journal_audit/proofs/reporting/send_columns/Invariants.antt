@@ -6,4 +6,4 @@ use Rattle.journal_audit.proofs.reporting.send_columns.Given as goal
 abbrev pub invariant-loop-place : goal.invariant-loop-place
 invariant-loop-place g l =
     SendsLinesOn g.B.Bench (audit_of l.schema.columns l.store)
-    (subjects_before l.store.secret.shape l.store.protected.shared (secret_count (take l.place l.schema.columns))) l.initial.bench l.bench (Ok tt)
+    (subjects_before l.store.secret.shape (secret_count (take l.place l.schema.columns))) l.initial.bench l.bench (Ok tt)

@@ -20,5 +20,5 @@ returns g c =
     let line : c.deref.result.now ≡ total_line (length audit.history) (columns audit.shape) audit.shape.rows c.args.people =
     c.deref.ensures.value ∙ c.in_ok-write_totals.ensures
     ∙ (λ i. total_line (length (c.history-records.ensures.history i)) (counted i) (shape i).rows c.args.people) in
-    line_on g.B.Bench g.met.B.Bench.only_now audit (totals c.args.people) c.deref.result.now line c.args.bench.now c.send_line.new.bench
+    line_on g.B.Bench g.met.B.Bench.only_now audit (totals c.args.people) c.deref.result.now tt line c.args.bench.now c.send_line.new.bench
     c.send_line.result c.send_line.ensures

@@ -1,7 +1,7 @@
 use Rattle.std.proofs.Common.{◌≤◌, ℕ, List, length, sym, ◌∙◌, subst}
 use Rattle.std.proofs.lemmas.Bool.{false≢true}
 use Rattle.audit_types.specs.Limits.{most_answer}
-use Rattle.audit_types.specs.PeopleLaws.{people_behind}
+use Rattle.audit_types.specs.Headcount.{people_behind}
 use Rattle.schema_json.specs.SecretShape.{shape_of}
 use Rattle.table_load.specs.Cells.{counts_of}
 use Rattle.predicate_lang.specs.Trees.{tree_of}

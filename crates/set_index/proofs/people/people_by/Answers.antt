@@ -1,7 +1,7 @@
 use Rattle.std.proofs.Common.{◌≤◌, [], ◌∷◌, length, length-append, map, ap, arith}
 use Rattle.std.specs.Prelude.{unsigned_abs}
 use Rattle.std.proofs.lemmas.Int.{ints}
-use Rattle.audit_types.specs.PeopleLaws.{people_behind}
+use Rattle.audit_types.specs.Headcount.{people_behind}
 use Rattle.audit_types.specs.RowLaws.{walk_row, walk_more, length-rows}
 use Rattle.audit_types.specs.Truth.{number_at}
 use Rattle.set_index.proofs.PeopleCounts.{count_is, count_read, count_there}

@@ -1,6 +1,6 @@
 use Rattle.std.proofs.Common.{◌≡◌, ◌+◌, ◌++◌, ◌*◌, ◌^◌, ◌≤◌, length, map}
 use Rattle.std.specs.Prelude.{unsigned_abs}
-use Rattle.audit_types.specs.PeopleLaws.{people_behind}
+use Rattle.audit_types.specs.Headcount.{people_behind}
 use Rattle.set_index.proofs.people.people_by.Given as goal
 
 abbrev pub invariant-loop-row : goal.invariant-loop-row

@@ -1,11 +1,11 @@
 -- What `run` says of `audit`.
-use Rattle.std.proofs.Common.{◌≡◌, ◌+◌, ℕ, Option, List, length, Some, OnOk, OnErr, refl, sym, ◌∙◌, ap, subst, map, string_bytes}
+use Rattle.std.proofs.Common.{◌≡◌, ◌+◌, ℕ, Option, List, Some, OnOk, OnErr, refl, sym, ◌∙◌, ap, subst, map, string_bytes}
 use Rattle.audit_types.specs.declared.records.Answered.{Answered}
 use Rattle.bench_core.specs.Calls.{LeavesOnly, IsUntouched}
 use Rattle.bench_core.specs.Moments.{joins, weakens}
-use Rattle.table_load.specs.Cells.{SecretView, PublicView}
+use Rattle.table_load.specs.Cells.{PublicView}
 use Rattle.table_load.specs.Database.{Database, base_of, table_in, secret_table}
-use Rattle.journal_audit.specs.Reports.{Subject, audit_of, subjects, Reports, ReportsFront, SendsMeanwhile}
+use Rattle.journal_audit.specs.Reports.{Subject, audit_of, subjects, Reports, ReportsFront, SendsMeanwhile, TakesOneEach}
 use Rattle.auditor_top.specs.declared.words.Command.{Command}
 use Rattle.auditor_top.specs.declared.words.Command.TheVariants as command
 use Rattle.auditor_top.specs.declared.status.Status.{Status}
@@ -19,7 +19,7 @@ use Rattle.auditor_top.specs.Faults.{audit_status}
 use Rattle.auditor_top.proofs.AuditEndings.{untouched_report, report_ends, report_faults, report_wants, report_says}
 use Rattle.auditor_top.proofs.OneCommand.{one_command, same_command, asked_for, not_asked, none_asked, takes_step, lacks_step, spare_called}
 use Rattle.auditor_top.proofs.OneRunMore.{does_so, never_goes_on}
-use Rattle.auditor_top.proofs.OneTable.{same_given, carried, one_base}
+use Rattle.auditor_top.proofs.OneTable.{same_given, carried}
 use Rattle.auditor_top.proofs.Openings.{stays}
 use Rattle.auditor_top.proofs.Refusals.{as_quiet}
 use Rattle.auditor_top.specs.Stages.{opening_spare}
@@ -61,7 +61,7 @@ reporting g c =
     let columns = c.in-Ok-Audit.schema.columns in
     let kept = store.history in
     let people = c.in-Ok-Audit.people in
-    let about : (Option ℕ → List Subject) = λ p. subjects store.secret.shape store.protected.shared p in
+    let about : (Option ℕ → List Subject) = λ p. subjects store.secret.shape p in
     let sent = g.B.Bench.sent at in
     let file = g.B.Bench.file at in
     let same : c.in-Ok.command ≡ command.Audit = same_command _ _ _ c.in-Ok-Audit.field-0-is c.in-Ok-Audit.ensures.asked in
@@ -96,12 +96,13 @@ reporting g c =
           (subst (λ (bytes : List ℕ). LeavesOnly g.B.Bench c.open.new.bench later
           (SendsMeanwhile (audit_of columns store) (about people) (g.B.Bench.file c.open.new.bench) bytes)) reads.sent
           (c.audit.ensures.any_moment told (as_quiet g.B.Bench at c.open.new.bench reads quiet))))));
-      audit_calls = λ ptold told done base files.
-          subst (λ (b : Database). g.B.Bench.moment later ≡ g.B.Bench.moment at + 2 + length (subjects_over b))
-          (one_base c.groups_of_a_schema.ensures.entries _ _ (known ptold) base (are g c ptold).1 files)
-          (subst (λ (p : Option ℕ). g.B.Bench.moment later ≡ g.B.Bench.moment at + 2 + length (about p)) (are g c ptold).2
-          ((report_says c.audit.result).done _ done (c.audit.ensures.ticks told)
-          ∙ ap (λ (n : ℕ). n + length (about people)) (c.in-Ok-Audit.ensures.ticks told (ap opens_store same))));
+      audit_calls = λ ptold told done base history over.
+          carried (λ (b : Database) (h : List Answered). TakesOneEach (audit_over b h) (subjects_over b) (g.B.Bench.moment at + 2) (g.B.Bench.moment later))
+          (known ptold) base kept history
+          (given ptold told base history over)
+          (subst (λ (p : Option ℕ). TakesOneEach (audit_of columns store) (about p) (g.B.Bench.moment at + 2) (g.B.Bench.moment later)) (are g c ptold).2
+          (subst (λ (n : ℕ). TakesOneEach (audit_of columns store) (about people) n (g.B.Bench.moment later))
+          (c.in-Ok-Audit.ensures.ticks told (ap opens_store same)) ((report_says c.audit.result).done _ done (c.audit.ensures.ticks told))));
       audits = λ ptold told base history over none.
           report_wants c.audit.result (faults_of g.P.Source g.I.Source g.B.Bench old) (faults_of g.P.Source g.I.Source g.B.Bench new)
           (subst (λ (s : Status). FaultCause s (faults_of g.P.Source g.I.Source g.B.Bench old) (faults_of g.P.Source g.I.Source g.B.Bench new))

@@ -31,30 +31,30 @@ use Rattle.auditor_top.proofs.running.run.Given.{Over}
 use Rattle.auditor_top.proofs.running.run.Goals as goal
 
 -- the files are those of the table whose journal was opened
-abbrev seen : (g : Over) (c : goal.After-drop-store-inside-in-Ok-Compact-4 g) → g.P.Source.told → Database
+abbrev seen : (g : Over) (c : goal.After-drop-store-inside-in-Ok-Compact-5 g) → g.P.Source.told → Database
 seen g c ptold =
     let over = subst (IsReadyOver (g.P.Source.left c.args.schema.now) (g.P.Source.left c.args.table.now)) c.in-Ok-Compact.field-0-is
     (c.in-Ok-Compact.ensures.over ptold) in
     base_of over.0 over.1 c.in-Ok-Compact.store.protected c.in-Ok-Compact.store.secret
 
-are : (g : Over) (c : goal.After-drop-store-inside-in-Ok-Compact-4 g) (ptold : g.P.Source.told) →
+are : (g : Over) (c : goal.After-drop-store-inside-in-Ok-Compact-5 g) (ptold : g.P.Source.told) →
     AreSoundFilesOf (g.P.Source.left c.args.schema.now) (g.P.Source.left c.args.table.now) (seen g c ptold)
 are g c ptold =
     (subst (IsReadyOver (g.P.Source.left c.args.schema.now) (g.P.Source.left c.args.table.now)) c.in-Ok-Compact.field-0-is
     (c.in-Ok-Compact.ensures.over ptold)).2
 
-opened : (g : Over) (c : goal.After-drop-store-inside-in-Ok-Compact-4 g) → IsOpened g.B.Bench c.open.new.bench c.in-Ok-Compact.store
+opened : (g : Over) (c : goal.After-drop-store-inside-in-Ok-Compact-5 g) → IsOpened g.B.Bench c.open.new.bench c.in-Ok-Compact.store
 opened g c = subst (IsReady g.B.Bench c.open.new.bench) c.in-Ok-Compact.field-0-is c.in-Ok-Compact.ensures.ready
 
-stands : (g : Over) (c : goal.After-drop-store-inside-in-Ok-Compact-4 g) → g.B.Bench.told → IsAsLeft (g.B.Bench.file c.args.bench.now) c.in-Ok-Compact.store
+stands : (g : Over) (c : goal.After-drop-store-inside-in-Ok-Compact-5 g) → g.B.Bench.told → IsAsLeft (g.B.Bench.file c.args.bench.now) c.in-Ok-Compact.store
 stands g c = stands_so g.B.Bench c.args.bench.now c.open.new.bench c.in-Ok-Compact.store (opened g c) c.open.ensures.reads.file
 
-holds : (g : Over) (c : goal.After-drop-store-inside-in-Ok-Compact-4 g) → g.B.Bench.told →
+holds : (g : Over) (c : goal.After-drop-store-inside-in-Ok-Compact-5 g) → g.B.Bench.told →
     HoldsLegal (g.B.Bench.file c.args.bench.now) (secret_table c.in-Ok-Compact.store.secret c.in-Ok-Compact.store.protected)
 holds g c = holds_so g.B.Bench c.args.bench.now c.open.new.bench c.in-Ok-Compact.store (opened g c) c.open.ensures.reads.file
 
 -- so a history that they are given with is the store's, and what is said of that is said of it
-given : (g : Over) (c : goal.After-drop-store-inside-in-Ok-Compact-4 g) (P : Database → List Answered → Type 0) (ptold : g.P.Source.told) → g.B.Bench.told →
+given : (g : Over) (c : goal.After-drop-store-inside-in-Ok-Compact-5 g) (P : Database → List Answered → Type 0) (ptold : g.P.Source.told) → g.B.Bench.told →
     (base : Database) (records : List Answered) →
     ServesOver (g.P.Source.left c.args.schema.now) (g.P.Source.left c.args.table.now) (g.B.Bench.file c.args.bench.now) base records →
     P (seen g c ptold) c.in-Ok-Compact.store.history → P base records
@@ -64,7 +64,7 @@ given g c P ptold told base records over =
     (same_given c.one_reading.ensures c.groups_of_a_schema.ensures.entries _ _ (g.B.Bench.file c.args.bench.now)
     (seen g c ptold) base store.history records store.journal.gate (are g c ptold) (stands g c told) over)
 
-compacted_faults : (g : Over) (c : goal.After-drop-store-inside-in-Ok-Compact-4 g) → FaultCause c.compacted.result
+compacted_faults : (g : Over) (c : goal.After-drop-store-inside-in-Ok-Compact-5 g) → FaultCause c.compacted.result
     (faults_of g.P.Source g.I.Source g.B.Bench (objects c.args.schema.now c.args.table.now c.args.input.now c.args.bench.now c.args.spare.now))
     (faults_of g.P.Source g.I.Source g.B.Bench (objects c.open.new.schema c.open.new.table c.args.input.now c.compact.new.bench c.compact.new.spare))
 compacted_faults g c =
@@ -75,7 +75,7 @@ compacted_faults g c =
     (compact_faults c.compact.result _ _ _ does.fault.failed does.fault.steady does.spare_fault.failed does.spare_fault.steady)
 
 -- what is found on the journal at every moment: its file, and a front of the line sent
-sends : (g : Over) (c : goal.After-drop-store-inside-in-Ok-Compact-4 g) → g.B.Bench.told → IsQuiet g.B.Bench c.args.bench.now →
+sends : (g : Over) (c : goal.After-drop-store-inside-in-Ok-Compact-5 g) → g.B.Bench.told → IsQuiet g.B.Bench c.args.bench.now →
     LeavesOnly g.B.Bench c.args.bench.now c.compact.new.bench
     (SendsCounts c.in-Ok-Compact.store.secret.shape c.in-Ok-Compact.store.history (g.B.Bench.file c.args.bench.now) (g.B.Bench.sent c.args.bench.now))
 sends g c told quiet =
@@ -94,7 +94,7 @@ sends g c told quiet =
     (c.compact.ensures.sending told (as_quiet g.B.Bench at opened reads quiet))))
 
 -- and on the spare
-spare_moments : (g : Over) (c : goal.After-drop-store-inside-in-Ok-Compact-4 g) → g.P.Source.told → g.B.Bench.told →
+spare_moments : (g : Over) (c : goal.After-drop-store-inside-in-Ok-Compact-5 g) → g.P.Source.told → g.B.Bench.told →
     (IsMade (g.B.Bench.file c.args.spare.now) → ⊥) →
     IsQuiet g.B.Bench c.args.spare.now → (base : Database) (records : List Answered) →
     ServesOver (g.P.Source.left c.args.schema.now) (g.P.Source.left c.args.table.now) (g.B.Bench.file c.args.bench.now) base records →
@@ -103,7 +103,7 @@ spare_moments g c ptold told unmade quiet base records over =
     given g c (λ (b : Database) (h : List Answered). LeavesOnly g.B.Bench c.args.spare.now c.compact.new.spare
     (IsUnmadeOrKept b.secret.shape h (g.B.Bench.sent c.args.spare.now))) ptold told base records over (c.compact.ensures.any_moment told unmade quiet)
 
-compacting : (g : Over) (c : goal.After-drop-store-inside-in-Ok-Compact-4 g) →
+compacting : (g : Over) (c : goal.After-drop-store-inside-in-Ok-Compact-5 g) →
     Compacting g.P.Source g.I.Source g.B.Bench c.compacted.result
     (objects c.args.schema.now c.args.table.now c.args.input.now c.args.bench.now c.args.spare.now)
     (objects c.open.new.schema c.open.new.table c.args.input.now c.compact.new.bench c.compact.new.spare)

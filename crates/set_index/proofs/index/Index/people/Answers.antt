@@ -1,5 +1,5 @@
 use Rattle.std.proofs.Common.{sym, ap, ◌∙◌}
-use Rattle.audit_types.specs.PeopleLaws.{people_behind}
+use Rattle.audit_types.specs.Headcount.{people_behind}
 use Rattle.set_index.proofs.PeopleCounts.{one_each}
 use Rattle.set_index.proofs.index.Index.people.Goals as goal
 
