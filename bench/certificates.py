@@ -1,9 +1,9 @@
 #!/usr/bin/env python3
 """Has random denials explained, compares two programs, and changes what they say. bench/certificates.sh calls this.
 
-    certificates.py PROGRAM PLAIN ROUNDS SEED
+    certificates.py PROGRAM PLAIN KEYS ROUNDS SEED
 
-Works in the folder that it is called in. A round draws a small table, has the program answer random questions over it, over more rows
+Works in the folder that it is called in. A round draws a small table and, of the KEYS, separated by commas, some that its schema states, has the program answer random questions over it, over more rows
 in the end than in the beginning in some rounds, and then explain a hundred others. The plain program has to print the same lines, byte
 for byte, demo/check_certificate.py has to take them, and the journal has to stay. Then one number of each certificate is changed by 1.
 If the script takes that too, another way has to find it true: for a sum, both sides are equal over some tables of large random numbers;
@@ -53,14 +53,14 @@ def is_total(journal, target, asked, line, draw):
 
 
 def is_lone(journal, column, asked, line):
-    """Whether some list gives all answers, and in each that does the row has the answer of the set that is named, or the asker's own row."""
+    """Whether some list gives all answers, and in each that does one of the rows has the answer of the set that is named, or the asker's own row."""
     pairs = {place: (record.answer, record.rows) for place, record in enumerate(journal.records) if record.column == column}
     # A record of a minimum has it negated.
     pairs["asked"] = -line["answer"] if "low" in line else line["answer"], asked
     rows = range(journal.rows)
     bounds = {row: min((answer for answer, chosen in pairs.values() if row in chosen), default=None) for row in rows}
     reached = {place: {row for row in chosen if bounds[row] == answer} for place, (answer, chosen) in pairs.items()}
-    return all(reached.values()) and reached[line["pair"]] == {line[key] for key in ("row", "own") if key in line}
+    return all(reached.values()) and reached[line["pair"]] == {*line.get("rows", []), *(line[key] for key in ("row", "own") if key in line)}
 
 
 def is_true(facts, journal, question, line, draw):
@@ -75,7 +75,7 @@ def numbers(line):
     """Each number of a certificate, as what holds it and its key or place there."""
     yield from ((line, key) for key, value in line.items() if isinstance(value, int))
     yield from ((term, place) for term in line.get("by", []) for place in range(2))
-    for word in line.keys() & {"high", "low"}:
+    for word in sorted(line.keys() & {"high", "low", "rows"}):
         yield from ((line[word], place) for place in range(len(line[word])))
 
 
@@ -89,8 +89,8 @@ def with_a_change(line, draw):
 class Round:
     """A history, and what both programs say of the same questions after it."""
 
-    def __init__(self, program, plain, seed):
-        self.drawn = Protecting(seed)
+    def __init__(self, program, plain, keys, seed):
+        self.drawn = Protecting(keys, seed)
         make_history(program, self.drawn)
         self.questions = compact(self.drawn.questions(EXPLAINED))
         before = read("answers.journal")
@@ -124,10 +124,10 @@ class Round:
 
 
 def main():
-    program, plain, rounds, first = sys.argv[1], sys.argv[2], int(sys.argv[3]), int(sys.argv[4])
+    program, plain, keys, rounds, first = *sys.argv[1:3], sys.argv[3].split(","), int(sys.argv[4]), int(sys.argv[5])
     wrong = certificates = taken = groups = 0
     for seed in range(first, first + rounds):
-        made = Round(program, plain, seed)
+        made = Round(program, plain, keys, seed)
         tried = made.tried()
         if not made.alike or tried is None:
             print(f"seed {seed}: {len(made.drawn.cells)} rows, {len(made.journal.records)} records: something differs")

@@ -4,11 +4,10 @@
 # way. Prints how many there were, and ends with 1 if anything differs. It isn't in the gate. Build the program first: demo/run.sh does. The
 # plain one is built here, with cargo.
 #
-#   bench/certificates.sh [ROUNDS [SEED]]     40 rounds if none is given, from seed 1 on
-# A sync is free in a folder that is kept in memory.
-[ -d /dev/shm ] && export TMPDIR=/dev/shm
-rounds=${1:-40}
-seed=${2:-1}
-. "$(dirname "$0")/setup.sh"
-cargo build --quiet --release --offline --manifest-path "$here/plain/Cargo.toml" || exit 1
-python3 "$here/certificates.py" "$program" "$here/plain/target/release/plain" "$rounds" "$seed"
+#   bench/certificates.sh [--keys askers,fewest] [ROUNDS [SEED]]     40 rounds if none is given, from seed 1 on; keys: of width, reach, askers
+#                                                                    and fewest those that schemas state, none if none is given
+keys= rounds=40
+. "$(dirname "$0")/drawn.sh"
+. "$here/setup.sh"
+build_plain
+python3 "$here/certificates.py" "$program" "$plain" "$keys" "$rounds" "$seed"

@@ -1,9 +1,9 @@
 #!/usr/bin/env python3
 """Compacts random histories, and compares what is kept with what the definition keeps. bench/kept.sh calls this.
 
-    kept.py PROGRAM ROUNDS SEED
+    kept.py PROGRAM KEYS ROUNDS SEED
 
-Works in the folder that it is called in. A round draws a small table, and has the program answer random questions over it, over more
+Works in the folder that it is called in. A round draws a small table and, of the KEYS, separated by commas, some that its schema states, and has the program answer random questions over it, over more
 rows in the end than in the beginning in some rounds. `compact` then has to write, byte for byte, the journal of the records that
 those before them don't imply, as this page works them out: a sum is implied if its row is in the span of the rows before it, by fractions;
 a maximum, if no row of its set may have more, and an earlier answer of this number has all its extreme rows in the set; a minimum as
@@ -27,6 +27,8 @@ ASKED = 10_000
 AT_ONCE = 100
 # Over so few rows every list of numbers is tried.
 FEW = 4
+# What is drawn for a key of a schema.
+DRAWN = {"width": [1, 2, 4, 2**56], "reach": [2, 3, 5, 1024], "askers": ["inside", "inside", "outside"], "fewest": [2, 3, 3, 4, 6, 1000]}
 
 
 @dataclass(frozen=True)
@@ -165,17 +167,18 @@ def kept(journal):
 class Draw:
     """What is drawn in a round: the kinds of secret columns, a table, and questions over it."""
 
-    def __init__(self, seed):
+    def __init__(self, keys, seed):
         self.draw = random.Random(seed)
         self.rows = self.draw.choice([3, 4, 4, 6, 8, 9, 12, 16, 20, 24])
         self.kinds = [self.draw.choice([SUM, MAX, MIN]) for _ in range(self.draw.randint(1, 3))]
         self.most = self.draw.choice([2, 5, 1000])
         self.cells = []
+        self.keys = {key: self.draw.choice(DRAWN[key]) for key in keys if key and self.draw.random() < 0.8}
 
     def schema(self):
         columns = [{"name": "id", "is": "number"}, {"name": "part", "is": "number"}]
         columns += [{"name": f"s{place}", "is": KINDS[kind]} for place, kind in enumerate(self.kinds)]
-        schema = {"columns": columns}
+        schema = {"columns": columns, **self.keys}
         if SUM in self.kinds and self.draw.random() < 0.3:
             schema["protect"] = [{"column": f"s{self.kinds.index(SUM)}", "where": f"id < {self.rows // 2 + 1}"}]
         return json.dumps(schema)
@@ -295,10 +298,10 @@ def stays_compacted(program):
 
 
 def main():
-    program, rounds, first = sys.argv[1], int(sys.argv[2]), int(sys.argv[3])
+    program, keys, rounds, first = sys.argv[1], sys.argv[2].split(","), int(sys.argv[3]), int(sys.argv[4])
     wrong = records = stayed = 0
     for seed in range(first, first + rounds):
-        drawn = Draw(seed)
+        drawn = Draw(keys, seed)
         make_history(program, drawn)
         met, counts = compacts_as_defined(program)
         records, stayed = records + counts[0], stayed + counts[1]

@@ -3,10 +3,9 @@
 # asks both journals 10,000 random questions each round. Prints how many records there were and how many were kept, and ends with 1
 # if anything differs. It isn't in the gate. Build the program first: demo/run.sh does.
 #
-#   bench/kept.sh [ROUNDS [SEED]]     40 rounds if none is given, from seed 1 on
-# A sync is free in a folder that is kept in memory.
-[ -d /dev/shm ] && export TMPDIR=/dev/shm
-rounds=${1:-40}
-seed=${2:-1}
-. "$(dirname "$0")/setup.sh"
-python3 "$here/kept.py" "$program" "$rounds" "$seed"
+#   bench/kept.sh [--keys askers,fewest] [ROUNDS [SEED]]     40 rounds if none is given, from seed 1 on; keys: of width, reach, askers and fewest
+#                                                            those that schemas state, none if none is given
+keys= rounds=40
+. "$(dirname "$0")/drawn.sh"
+. "$here/setup.sh"
+python3 "$here/kept.py" "$program" "$keys" "$rounds" "$seed"

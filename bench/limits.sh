@@ -4,14 +4,7 @@
 # isn't in the gate. Build the program first: demo/run.sh does; AUDITOR names another one, such as the plain program's.
 #
 #   bench/limits.sh [--keys width] [ROUNDS [SEED]]     200 rounds if none is given, from seed 1 on; keys: width, reach, or width,reach
-# A sync is free in a folder that is kept in memory.
-[ -d /dev/shm ] && export TMPDIR=/dev/shm
-keys=width
-if [ "${1:-}" = --keys ]; then
-    keys=$2
-    shift 2
-fi
-rounds=${1:-200}
-seed=${2:-1}
-. "$(dirname "$0")/setup.sh"
+keys=width rounds=200
+. "$(dirname "$0")/drawn.sh"
+. "$here/setup.sh"
 python3 "$here/limits.py" "$program" "$keys" "$rounds" "$seed"

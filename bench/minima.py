@@ -20,7 +20,7 @@ class Least(Draw):
     """A draw whose first secret column is one of minima."""
 
     def __init__(self, seed):
-        super().__init__(seed)
+        super().__init__([], seed)
         self.kinds = [MIN, *self.kinds[1:]]
 
     def chosen(self, where):

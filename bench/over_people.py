@@ -8,9 +8,10 @@ one of maxima and one of minima; its rows have what is told of their people toge
 some that are drawn. The program serves 25 random questions in two runs, and explains 12 others. Each reply has to be what follows, by fractions,
 from the answers before it:
 
-    over the rows     a number is guarded against everybody if one person is behind its row, or at most two if the askers are in the table, and
-                      against one who knows her own row, which has one person, if another person alone is behind it
-    over the people   the same of a table with a row for each person, and with sets of people in place of sets of rows
+    over the rows     what fewer people than `fewest` have is guarded, two without the key; if the askers are in the table one of these may be the
+                      asker, so one more, but that one who knows her own row, which has one person, isn't among those behind other rows. Of a
+                      column of sums that is the number of a row, of one of maxima or minima the greatest or least of any rows
+    over the people   the same of a table with a row for each person, and with sets of people in place of sets of rows; without `fewest`
 
 Both have to say the same, and counts, sums, averages, maxima and minima have to be those of the people. A certificate has to name what the definition
 finds first, and demo/check_certificate.py has to take it; demo/check_report.py has to take the report. `simulate` over the public part has
@@ -34,10 +35,10 @@ NAMES = ("pay", "best", "least")
 
 
 class People:
-    """So many people behind each row, and whether the askers are among them."""
+    """So many people behind each row, whether the askers are among them, and fewer than how many are guarded."""
 
-    def __init__(self, counts, inside):
-        self.counts, self.inside = counts, inside
+    def __init__(self, counts, inside, fewest):
+        self.counts, self.inside, self.fewest = counts, inside, fewest
 
     def askers(self):
         """What an asker may know: nothing, or her own row."""
@@ -45,9 +46,12 @@ class People:
         if self.inside:
             yield from ((row,) for row, count in enumerate(self.counts) if count == 1)
 
+    def are_few(self, rows, own):
+        """Whether the people behind these rows are guarded against one who knows these own rows."""
+        return sum(self.counts[row] for row in rows) + len(own) < self.fewest + self.inside
+
     def guarded(self, own):
-        most = 1 if own else 1 + self.inside
-        return [row for row, count in enumerate(self.counts) if count <= most and row not in own]
+        return [row for row in range(len(self.counts)) if row not in own and self.are_few([row], own)]
 
 
 def still_at(changes, own):
@@ -120,19 +124,23 @@ class Maxima:
         return sorted({0} if not values else values | {value + 1 for value in values} | {min(values) - 1})
 
     def told(self, rows, value):
-        """What would be known if the answer were this: the row, the asker's own row, and the first answer of which it is so."""
+        """What would be known if the answer were this, in the order in which a certificate names it: a row, a row and the asker's own, or rows; and
+        the first answer of which it is so."""
         answers = [*self.answers, (rows, value)]
         if not all(self.extremes(answers)):
             return []
         found = []
         for own in self.people.askers():
-            guarded = self.people.guarded(own)
             for knows in self.numbers(own):
                 extremes = self.extremes(answers + [([row], number) for row, number in zip(own, knows)])
                 if all(extremes):
-                    lone = [(place, rows[0]) for place, rows in enumerate(extremes[: len(answers)]) if len(rows) == 1 and rows[0] in guarded]
-                    found += [(bool(own), row, own, place) for place, row in lone]
+                    few = [(place, rows) for place, rows in enumerate(extremes[: len(answers)]) if not set(own) & set(rows) and self.people.are_few(rows, own)]
+                    found += [(self.way(rows, own), rows, own, place) for place, rows in few if len(rows) == 1 or not own]
         return sorted(found)
+
+    def way(self, rows, own):
+        """Which way to name comes first: a row, a row beside an asker's own, several rows."""
+        return 1 if own else 0 if len(rows) == 1 else 2
 
     def numbers(self, own):
         """Numbers that stand for all that an asker may have: each that was answered, and those next to it."""
@@ -146,8 +154,8 @@ class Maxima:
 
     def first_told(self, rows):
         value, told = next((value, told) for value in self.candidates() if (told := self.told(rows, value)))
-        _, row, own, place = told[0]
-        return value, row, own, place
+        _, rows, own, place = told[0]
+        return value, rows, own, place
 
     def implies(self, rows):
         """Whether each candidate but one is impossible."""
@@ -170,6 +178,7 @@ class Table:
         draw = self.draw = random.Random(seed)
         self.counts = [draw.choice((1, 1, 1, 2, 2, 3, 4)) for _ in range(draw.randrange(2, 8))]
         self.inside = "askers" in keys and draw.random() < 0.7
+        self.fewest = draw.choice((2, 3, 3, 4, 6)) if "fewest" in keys else 2
         self.width = draw.choice(WIDTHS) if "width" in keys else 2**56
         self.reach = draw.randrange(2, 6) if "reach" in keys else 1024
         most = draw.choice((2, 5, 1000))
@@ -187,6 +196,8 @@ class Table:
         schema = {"columns": columns, "width": self.width, "reach": self.reach}
         if self.inside:
             schema["askers"] = "inside"
+        if self.fewest > 2:
+            schema["fewest"] = self.fewest
         schema["protect"] = [{"column": "pay", "where": condition(rows)} for rows in self.groups]
         with open("schema.json", "w") as file:
             json.dump(schema, file)
@@ -212,7 +223,7 @@ class Table:
     def columns(self, over_people):
         """The audit of each column, over the rows or over all people one by one. How far a change goes is no fact of people, so of these each
         is within reach."""
-        people = People([1] * sum(self.counts) if over_people else self.counts, self.inside)
+        people = People([1] * sum(self.counts) if over_people else self.counts, self.inside, self.fewest)
         groups = [self.behind(rows) for rows in self.groups] if over_people else self.groups
         return [Sums(people, groups, self.width, 1024 if over_people else self.reach), Maxima(people), Maxima(people)]
 
@@ -257,6 +268,8 @@ class Audit:
     def verdict(self, ask, rows):
         column = COLUMN[ask]
         verdict = self.by_rows[column].verdict(rows)
+        if self.table.fewest > 2:
+            return verdict
         over_people = self.by_people[column].verdict(self.table.behind(rows))
         far = verdict == "wide" and over_people != "wide"
         assert verdict == over_people or far and self.table.reach < 1024, f"{verdict} over rows, {over_people} over people"
@@ -286,10 +299,12 @@ class Audit:
         if column == PAY:
             kind, place, own = self.by_rows[PAY].first_told(rows)
             return said.get("proof") == "wide" or said.get(kind) == place and said.get("own") == (own[0] if own else None)
-        value, row, own, place = self.by_rows[column].first_told(rows)
+        value, few, own, place = self.by_rows[column].first_told(rows)
+        named = {"row": few[0]} if len(few) == 1 else {"rows": few}
         pair = (self.places.get(column, []) + ["asked"])[place]
         sign = -1 if column == LEAST else 1
-        return (said["answer"], said["row"], said.get("own"), said["pair"]) == (sign * value, row, own[0] if own else None, pair)
+        due = {"answer": sign * value, **named, **({"own": own[0]} if own else {}), "pair": pair}
+        return {key: value for key, value in said.items() if key not in ("verdict", "high", "low")} == due
 
 
 def run(program, words, given=""):
@@ -323,12 +338,16 @@ def explains(program, audit, others):
     return named and script("check_certificate.py", said, "questions.jsonl"), said.count('"unsafe"')
 
 
-def reports(program, table):
-    """Whether the report has a line for each guarded row and says how many people there are, and holds."""
+def reports(program, table, audit):
+    """Whether the report has a line for each guarded row, or for each row that may change if the askers are in the table, says how many people there
+    are, and holds."""
     said = run(program, ["audit"])
     lines = [json.loads(text) for text in said.splitlines()]
     rows = [found["row"] for found in lines if "row" in found]
-    due = People(table.counts, table.inside).guarded(())
+    sums = audit.by_rows[PAY]
+    changes = list(changes_of(*reduced_form(sums.sets, sums.count), sums.count))
+    open_rows = [row for row in range(sums.count) if any(change[row] for change in changes)]
+    due = open_rows if table.inside else sums.people.guarded(())
     return rows == due and lines[-1]["people"] == sum(table.counts) and script("check_report.py", said)
 
 
@@ -356,7 +375,7 @@ def one_table(program, keys, seed, counts):
     counts["certificates"] += certificates
     if not hold:
         return "a certificate isn't as it has to be"
-    if not reports(program, table):
+    if not reports(program, table, audit):
         return "the report isn't as it has to be"
     if not simulates(program, table, questions, replies, verdicts):
         return "a verdict on the transcript isn't as it has to be"
@@ -373,7 +392,7 @@ def main():
             wrong += 1
     certificates = counts.pop("certificates", 0)
     said = ", ".join(f"{count} {name}" for name, count in sorted(counts.items()))
-    print(f"{tables} tables, {sum(counts.values())} questions over rows and over all of their people, the same of both: {said}; {certificates} certificates; {wrong} wrong")
+    print(f"{tables} tables, {sum(counts.values())} questions over rows and over all of their people where no fewest is stated, the same of both: {said}; {certificates} certificates; {wrong} wrong")
     return 1 if wrong else 0
 
 

@@ -22,6 +22,10 @@ from over_people import script as takes
 
 EXPLAINED = 100
 HEADER = "id,part,people,s0\n"
+BAD_WORDS = {
+    "fewest": [2, 3, 1000, 0, 1, 1001, -2, 2.0, "2", "", None, True, [2], 10**30],
+    "askers": ["inside", "outside", "staff", "Inside", "", 1, None, True, ["inside"]],
+}
 GOOD = {"columns": [{"name": "id", "is": "number"}, {"name": "part", "is": "number"}, {"name": "people", "is": "count"}, {"name": "s0", "is": "sum"}]}
 
 
@@ -29,12 +33,10 @@ class Counted(Protecting):
     """A draw of a table with a column of counts, wherever it stands."""
 
     def __init__(self, keys, seed):
-        super().__init__(seed)
+        super().__init__(keys, seed)
         self.counts, self.at = [], self.draw.randrange(3)
         most = self.draw.choice([2, 4, 1000, 10**12])
         self.sizes = [1, 1, 1, 2, 2, 3, most]
-        drawn = {"width": self.draw.choice([1, 2, 4, 2**56]), "reach": self.draw.choice([2, 3, 5, 1024]), "askers": self.draw.choice(["inside", "inside", "outside"])}
-        self.keys = {key: drawn[key] for key in keys if key and self.draw.random() < 0.8}
 
     def with_counts(self, line, count):
         return [*line[: self.at], count, *line[self.at :]]
@@ -42,7 +44,7 @@ class Counted(Protecting):
     def schema(self):
         schema = json.loads(super().schema())
         schema["columns"] = self.with_counts(schema["columns"], {"name": "people", "is": "count"})
-        return json.dumps({**schema, **self.keys}, separators=(",", ":"))
+        return json.dumps(schema, separators=(",", ":"))
 
     def add_rows(self, count):
         super().add_rows(count)
@@ -186,6 +188,8 @@ def bad_files():
     yield GOOD, HEADER + "1,1,5\n"
     yield GOOD, HEADER + "1,1,2,5\n1,1,2,5\n"
     yield {"columns": [GOOD["columns"][2], GOOD["columns"][3]]}, "people,s0\n1,5\n"
+    for key, words in BAD_WORDS.items():
+        yield from (({**GOOD, key: word}, HEADER + rows) for word in words)
     for column, where in (("people", "all"), ("s0", "people > 1"), ("s0", "people = 1 or all"), ("s0", "part = 1")):
         yield {**GOOD, "protect": [{"column": column, "where": where}]}, HEADER + rows
 

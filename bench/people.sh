@@ -4,17 +4,10 @@
 # demo's scripts have to take reports and certificates. Prints how many of each there were, and ends with 1 if anything differs. It isn't
 # in the gate. Build the program first: demo/run.sh does. The plain one is built here, with cargo.
 #
-#   bench/people.sh [--keys width,askers] [ROUNDS [SEED]]     200 rounds if none is given, from seed 1 on; keys: of width, reach and askers
-#                                                             those that schemas state, none if none is given
-# A sync is free in a folder that is kept in memory.
-[ -d /dev/shm ] && export TMPDIR=/dev/shm
-keys=
-if [ "${1:-}" = --keys ]; then
-    keys=$2
-    shift 2
-fi
-rounds=${1:-200}
-seed=${2:-1}
-. "$(dirname "$0")/setup.sh"
-cargo build --quiet --release --offline --manifest-path "$here/plain/Cargo.toml" || exit 1
-python3 "$here/people.py" "$program" "${CARGO_TARGET_DIR:-$here/plain/target}/release/plain" "$keys" "$rounds" "$seed"
+#   bench/people.sh [--keys width,askers] [ROUNDS [SEED]]     200 rounds if none is given, from seed 1 on; keys: of width, reach, askers and
+#                                                             fewest those that schemas state, none if none is given
+keys= rounds=200
+. "$(dirname "$0")/drawn.sh"
+. "$here/setup.sh"
+build_plain
+python3 "$here/people.py" "$program" "$plain" "$keys" "$rounds" "$seed"

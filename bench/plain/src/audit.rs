@@ -45,6 +45,20 @@ fn upright(mut change: Vec<i128>, row: usize) -> Vec<i128> {
     change
 }
 
+/// The rows that have a line: those whose number is guarded, or, if the askers are in the table, all that may change, so that each two of them
+/// can be compared.
+fn told_of(form: &[Row], guard: &Guard, rows: u16) -> Vec<u16> {
+    let may_change = |row: &u16| {
+        let own = form.iter().find(|of| of.pivot == *row);
+        own.is_none_or(|of| !of.entries.is_empty())
+    };
+    if guard.inside {
+        (0..rows).filter(may_change).collect()
+    } else {
+        guard.against_all.rows().collect()
+    }
+}
+
 fn sum_lines(name: &str, form: &[Row], guard: &Guard, rows: u16) -> String {
     let line = |row: u16| {
         let change = change(form, usize::from(rows), row);
@@ -58,11 +72,12 @@ fn sum_lines(name: &str, form: &[Row], guard: &Guard, rows: u16) -> String {
         let pairs = pairs.join(",");
         format!("{{\"column\":\"{name}\",\"row\":{row},\"direction\":[{pairs}]}}\n")
     };
-    guard.against_all.rows().map(line).collect()
+    let told_of = told_of(form, guard, rows).into_iter();
+    told_of.map(line).collect()
 }
 
 /// The line of a column of maxima, or of minima, which are maxima of the negated numbers.
-fn bounds_line(column: &Column, records: &[Record], place: u8, guard: Guard, rows: u16) -> String {
+fn bounds_line(column: &Column, records: &[Record], place: u8, guard: &Guard, rows: u16) -> String {
     let (word, sign) = match column.role {
         Role::Min => ("low", -1),
         _ => ("high", 1),
@@ -73,7 +88,7 @@ fn bounds_line(column: &Column, records: &[Record], place: u8, guard: Guard, row
     let answers: Vec<(u32, i64, &RowSet)> = own
         .map(|(place, record)| (place, record.answer, &record.rows))
         .collect();
-    let bounds: Vec<String> = Lone::new(rows, guard, &answers)
+    let bounds: Vec<String> = Lone::new(rows, guard.clone(), &answers)
         .highest()
         .map(|high| (sign * high).to_string())
         .collect();
@@ -85,7 +100,7 @@ fn bounds_line(column: &Column, records: &[Record], place: u8, guard: Guard, row
 pub fn audit() -> Result<(), RunFault> {
     let (auditor, records) = Auditor::open()?;
     let settings = &auditor.settings;
-    let (schema, rows, guard) = (&settings.schema, settings.table.rows, settings.guard);
+    let (schema, rows, guard) = (&settings.schema, settings.table.rows, &settings.guard);
     let names = schema
         .columns
         .iter()
@@ -93,7 +108,7 @@ pub fn audit() -> Result<(), RunFault> {
     let mut output = stream(1);
     for ((place, part), column) in (0..).zip(&auditor.parts).zip(names) {
         let lines = match part {
-            Part::Sums(sums) => sum_lines(&column.name, sums.form().rows(), &guard, rows),
+            Part::Sums(sums) => sum_lines(&column.name, sums.form().rows(), guard, rows),
             Part::Maxima(_) => bounds_line(column, &records, place, guard, rows),
         };
         output.write_all(lines.as_bytes()).unwrap();

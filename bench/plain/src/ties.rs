@@ -9,7 +9,7 @@ use crate::guard::Guard;
 use crate::reach::left_of;
 use crate::row_set::RowSet;
 use crate::rows::Row;
-use std::collections::hash_map::{Entry, HashMap};
+use std::collections::HashMap;
 
 /// Numbers at columns without a common divisor, of which the first is positive.
 type Line = Vec<(u16, i128)>;
@@ -35,33 +35,51 @@ fn left_of_row(row: u16, form: &[Row]) -> Line {
     }
 }
 
-/// The rows that an asker may know, by what the form leaves of them, each time the least first.
+/// Rows that are tied to one another: those that an asker may know, and those that she may not work out, each time the least first.
+#[derive(Default)]
+struct Tied {
+    known: Vec<u16>,
+    guarded: Vec<u16>,
+}
+
+impl Tied {
+    /// The least guarded row that is tied to a known one, with the least of these.
+    fn first(&self) -> Option<(u16, u16)> {
+        let mut guarded = self.guarded.iter();
+        guarded.find_map(|row| {
+            let own = self.known.iter().find(|own| *own != row);
+            own.map(|own| (*row, *own))
+        })
+    }
+}
+
+/// The rows by what the form leaves of them.
 pub struct Ties {
-    known: HashMap<Line, Vec<u16>>,
+    tied: HashMap<Line, Tied>,
 }
 
 impl Ties {
     pub fn new(guard: &Guard, form: &[Row]) -> Ties {
-        let mut known: HashMap<Line, Vec<u16>> = HashMap::new();
-        for row in guard.single.rows() {
-            match known.entry(left_of_row(row, form)) {
-                Entry::Occupied(mut rows) => rows.get_mut().push(row),
-                Entry::Vacant(place) => drop(place.insert(vec![row])),
+        let mut tied: HashMap<Line, Tied> = HashMap::new();
+        for row in guard.against_askers.rows() {
+            let rows = tied.entry(left_of_row(row, form)).or_default();
+            rows.guarded.push(row);
+            if guard.single.has(row) {
+                rows.known.push(row);
             }
         }
-        Ties { known }
+        Ties { tied }
     }
 
-    /// The least row that is tied to another one, with the least of these.
+    /// The least row that is tied to another one, whose asker may not know it, with the least of these.
     pub fn first(&self) -> Option<(u16, u16)> {
-        let pairs = self.known.values().filter(|rows| rows.len() > 1);
-        pairs.map(|rows| (rows[0], rows[1])).min()
+        self.tied.values().filter_map(Tied::first).min()
     }
 
     /// The least row whose asker works out the total of the group, in which somebody else is too.
     pub fn teller(&self, group: &RowSet, form: &[Row], columns: usize) -> Option<u16> {
-        let rows = self.known.get(&line(left_of(group, form, columns)))?;
+        let rows = self.tied.get(&line(left_of(group, form, columns)))?;
         let is_other = |row: &&u16| group.len() > 1 || !group.has(**row);
-        rows.iter().find(is_other).copied()
+        rows.known.iter().find(is_other).copied()
     }
 }
