@@ -8,10 +8,11 @@ Run it in the folder of schema.json, table.csv and answers.journal, with the que
 It reads the files by FORMATS.md, of table.csv the public columns alone, and finds the rows of each condition itself. For a
 sum it counts the named records' sets and the asked set, each as often as the line says: every row of what would be given away
 has to come to `times`, and every other row to 0. For a maximum the printed list has to give each record's answer and the new
-one, and all rows but one of the named set have to lie in sets with a lower answer, for a minimum in sets with a greater one. The row has to
-be one that is guarded: one person alone is behind it, or at most two if the schema says that the askers are inside. Then a line may also name
-the row of an asker, of one person, who knows her own number: a sum's sets come to `share` there besides, and of maxima and minima that row may
-have the answer too. It says how many records and lines were checked, or which file or line is wrong and why, and ends with 0 or 1.
+one, and all rows but those that it names of the named set have to lie in sets with a lower answer, for a minimum in sets with a greater one.
+The row, or the rows together, have to be guarded: fewer people than the schema's `fewest` are behind them, or than two, and one more if the
+schema says that the askers are inside. Then a line may also name the row of an asker, of one person, who knows her own number: a sum's sets
+come to `share` there besides, and of maxima and minima that row may have the answer too. It says how many records and lines were checked,
+or which file or line is wrong and why, and ends with 0 or 1.
 
 A yes shows of each denial with a certificate that an answer could have given away this number, or this protected total. It
 doesn't show that a line without a certificate is right, that the journal is the one in use, or that no other certificate holds.
@@ -197,9 +198,6 @@ def is_place(number, places):
     return are_whole([number]) and 0 <= number < len(places)
 
 
-def is_guarded(facts, row, own):
-    """Whether nobody may know a row's number who knows that of her own row, or none."""
-    return row in (facts.people.single() if own is not None else facts.people.guarded()) and row != own
 
 
 def own_row(facts, line):
@@ -207,16 +205,23 @@ def own_row(facts, line):
     if "own" not in line:
         return None
     need(facts.people.inside, "an asker's own row, and the schema doesn't say that the askers are inside")
-    need(is_place(line["own"], range(facts.rows)) and line["own"] in facts.people.single(), "an asker's own row is one of one person")
+    need(is_place(line["own"], range(facts.rows)) and facts.people.may_know(line["own"]), "an asker's own row is one of one person")
     return line["own"]
+
+
+def few_rows(facts, line, own):
+    """The row that the line names, or the rows, which have to be so few people's that these are guarded."""
+    rows = line.get("rows", [line.get("row")])
+    need(isinstance(rows, list) and rows and all(is_place(row, range(facts.rows)) for row in rows), "it names no row")
+    need("row" in line or rows == sorted(set(rows)) and len(rows) > 1, "several rows stand in ascending order")
+    need(facts.people.are_few(rows, own) and own not in rows, f"what rows {rows} have isn't guarded")
+    return rows
 
 
 def given_away(facts, column, line, own):
     """The rows whose total would be known: a single row, or those of a protected group."""
     if "row" in line:
-        need(is_place(line["row"], range(facts.rows)), "it names no row")
-        need(is_guarded(facts, line["row"], own), f"row {line['row']} isn't guarded")
-        return {line["row"]}
+        return set(few_rows(facts, line, own))
     need(is_place(line["group"], facts.groups), "it names no protected group")
     of, chosen = facts.groups[line["group"]]
     need(of == column, f"group {line['group']} is one of another column")
@@ -247,9 +252,9 @@ def check_bounds(facts, column, asked, line):
     kind = facts.columns[column][1]
     word, extreme = BOUNDS.get(kind, (None, None))
     need(word in line, "a certificate for maxima or minima, and the column is another one")
-    answer, row, own, numbers = line["answer"], line["row"], own_row(facts, line), line[word]
-    need(are_whole([answer]) and is_place(row, range(facts.rows)), "it has no whole answer, or names no row")
-    need(is_guarded(facts, row, own), f"row {row} isn't guarded")
+    answer, own, numbers = line["answer"], own_row(facts, line), line[word]
+    few = few_rows(facts, line, own)
+    need(are_whole([answer]), "it has no whole answer")
     need(are_whole(numbers) and len(numbers) == facts.rows, "it has no list with a whole number for each row")
     answers = [(stated(kind, kept), chosen) for of, kept, chosen in facts.records if of == column] + [(answer, asked)]
     for value, chosen in answers:
@@ -261,10 +266,10 @@ def check_bounds(facts, column, asked, line):
     if line["pair"] != "asked":
         kept, chosen = facts.record(line["pair"], column)
         value = stated(kind, kept)
-    need(row in chosen and own in (None, *chosen), "a row that it names isn't in the set that it names")
+    need(set(few) <= set(chosen) and own in (None, *chosen), "a row that it names isn't in the set that it names")
     # In a set with a lower maximum, or a greater minimum, no row has the number.
     without = set().union(*(rows for other, rows in answers if other != value and extreme(other, value) == value))
-    need(without.issuperset(set(chosen) - {row, own}), f"another row than {row} could have the {value}")
+    need(without.issuperset(set(chosen) - {*few, own}), f"another row than {few} could have the {value}")
 
 
 FORMS = {
@@ -276,6 +281,8 @@ FORMS = {
     frozenset(("verdict", "answer", "row", "pair", "low")): check_bounds,
     frozenset(("verdict", "answer", "row", "own", "pair", "high")): check_bounds,
     frozenset(("verdict", "answer", "row", "own", "pair", "low")): check_bounds,
+    frozenset(("verdict", "answer", "rows", "pair", "high")): check_bounds,
+    frozenset(("verdict", "answer", "rows", "pair", "low")): check_bounds,
 }
 
 

@@ -5,11 +5,12 @@ Run it in the folder of schema.json, table.csv and answers.journal:  auditor aud
 It reads the journal by FORMATS.md. For each row of a column of sums it adds up the printed change over the set of each
 record: every total has to be 0, and the change has to move the row. For a column of maxima the printed list, and the
 list with any one row less by 1, have to give each record's answer; for one of minima the list, and the list with any one row
-more by 1. If a public column counts the people behind each row, that is asked of the rows of one person alone.
+more by 1. If a public column counts the people behind each row, that is asked of the rows of fewer people than the schema's `fewest`, or of
+one person; and of a column of maxima or minima each answer has to stay if any rows of so few people are less by 1 together, or more.
 
-If the schema says that the askers are inside, it is asked of the rows of two as well, and more: of a column of sums no two rows of one person
-may always change by one ratio, and of maxima and minima each answer has to stay if one row of one person has any number and another one is
-less, or more, by 1. It says how many records and lines were checked, or which file or line is wrong and why, and ends with 0 or 1.
+If the schema says that the askers are inside, one person more counts as few, and of a column of sums each row that may change has a line. Of these
+no row of fewer people than `fewest` may always change by one ratio with another row, of one person, who knows her own number. It
+says how many records and lines were checked, or which file or line is wrong and why, and ends with 0 or 1.
 """
 
 import csv
@@ -64,7 +65,7 @@ def number_of_rows():
 
 
 class People:
-    """Who is behind the rows, and which of these are guarded."""
+    """Who is behind the rows, and which of these are guarded: fewer people than `fewest`, one of whom may ask if the askers are inside."""
 
     def __init__(self):
         found = schema()
@@ -76,18 +77,21 @@ class People:
             raise Wrong("no number of people for each row") from None
         need(min(self.counts) >= 1, "a row of nobody")
         self.inside = found.get("askers") == "inside"
+        self.fewest = found.get("fewest", 2)
+        need(are_whole([self.fewest]) and 2 <= self.fewest <= 1000, "no schema")
         self.all = sum(self.counts) if columns else None
 
+    def are_few(self, rows, own=None):
+        """Whether what these rows have is guarded, against everybody or against one who knows her own row besides."""
+        return sum(self.counts[row] for row in rows) + (own is not None) < self.fewest + self.inside
+
     def guarded(self):
-        """The rows whose number nobody may know: of one person, and of two if each of the two knows her own."""
-        return [row for row, count in enumerate(self.counts) if count <= 1 + self.inside]
+        """The rows whose number nobody may know who knows none."""
+        return [row for row in range(len(self.counts)) if self.are_few([row])]
 
-    def single(self):
-        return [row for row, count in enumerate(self.counts) if count == 1]
-
-    def are_few(self, rows):
-        """Whether so few people are behind these rows that an answer which only they can have tells of one of them."""
-        return sum(self.counts[row] for row in rows) <= 1 + self.inside
+    def may_know(self, own):
+        """Whether somebody may know this row as her own."""
+        return self.inside and self.counts[own] == 1
 
 
 def journal(columns):
@@ -164,44 +168,22 @@ def check_direction(line, row, rows, sets):
     return change
 
 
-def tied_rows(changes, single):
-    """Two of the rows that all these changes alter by one ratio, if there are two."""
-    seen = {}
-    for row in single:
-        column = [change[row] for change in changes]
-        first = next((number for number in column if number), 1)
-        ratios = tuple(Fraction(number, first) for number in column)
-        if ratios in seen:
-            return seen[ratios], row
-        seen[ratios] = row
-    return None
+def ratios(changes, row):
+    """By what all these changes alter a row, but for a factor."""
+    column = [change[row] for change in changes]
+    first = next((number for number in column if number), 1)
+    return tuple(Fraction(number, first) for number in column)
 
 
-def all_changes(sets, rows):
-    """Changes of which every change that alters no answer is made, by fractions."""
-    form = {}
-    for chosen in sets:
-        left = [Fraction(row in chosen) for row in range(rows)]
-        for place, line in form.items():
-            if left[place]:
-                left = [one - left[place] * other for one, other in zip(left, line)]
-        place = next((row for row in range(rows) if left[row]), None)
-        if place is not None:
-            left = [number / left[place] for number in left]
-            form = {at: [one - line[place] * other for one, other in zip(line, left)] for at, line in form.items()}
-            form[place] = left
-    for free in range(rows):
-        if free not in form:
-            yield [Fraction(row == free) - (form[row][free] if row in form else 0) for row in range(rows)]
-
-
-def check_pairs(changes, people, sets):
-    """Whoever knows one row of one person mustn't know another one. The printed changes show it, or, where many are behind other rows, which have no
-    line, all that there are."""
-    pair = tied_rows(changes, people.single())
-    if pair and len(changes) < len(people.counts):
-        pair = tied_rows(list(all_changes(map(set, sets), len(people.counts))), people.single())
-    need(not pair, "whoever knows the number of row {} knows that of row {}".format(*pair or (0, 0)))
+def check_pairs(changes, people):
+    """Whoever knows a row of one person mustn't know another one of few. Two rows that these changes alter by different ratios aren't tied."""
+    tied = {}
+    for row in people.guarded():
+        tied.setdefault(ratios(changes, row), []).append(row)
+    for rows in tied.values():
+        for own in filter(people.may_know, rows):
+            others = [row for row in rows if row != own and people.are_few([row], own)]
+            need(not others, f"whoever knows the number of row {own} knows that of row {[*others, 0][0]}")
 
 
 def stated(kind, answer):
@@ -216,44 +198,62 @@ def check_bounds(line, kind, people, answers):
     for chosen, kept in answers:
         answer = stated(kind, kept)
         need(extreme(numbers[place] for place in chosen) == answer, "the list gives another answer")
-        # One row less by 1, or more by 1, keeps the answer as long as others of the set have it too.
+        # A few rows less by 1, or more by 1, keep the answer as long as others of the set have it too.
         having = [place for place in chosen if numbers[place] == answer]
-        need(not people.are_few(having), f"an answer rests on {'one row' if len(having) == 1 else f'rows {having[0]} and {having[1]}'}")
+        need(not people.are_few(having), f"an answer rests on {'one row' if len(having) == 1 else f'rows {having} alone'}")
+
+
+def check_sums(lines, name, people, sets):
+    """The lines of a column of sums: of each guarded row, and, if the askers are inside, of others that may change, in order."""
+    rows, changes = len(people.counts), []
+    guarded = set(people.guarded())
+    for row in range(rows):
+        if row in guarded or people.inside and lines.comes(name, row):
+            changes.append(check_direction(lines.of(name), row, rows, sets))
+    if people.inside:
+        check_pairs(changes, people)
 
 
 def check_column(lines, column, people, answers):
-    """How many lines were checked of a column, each of which comes from the report."""
+    """The lines of a column, which come from the report."""
     name, kind = column
-    rows, changes = people.guarded() if kind == "sum" else [None], []
-    for row in rows:
-        line = next(lines)
-        need(line.get("column") == name, f"not a line of column {name}")
-        if kind == "sum":
-            changes.append(check_direction(line, row, len(people.counts), [chosen for chosen, _ in answers]))
-        else:
-            check_bounds(line, kind, people, answers)
-    if people.inside and kind == "sum":
-        check_pairs(changes, people, [chosen for chosen, _ in answers])
+    if kind == "sum":
+        check_sums(lines, name, people, [chosen for chosen, _ in answers])
+    else:
+        check_bounds(lines.of(name), kind, people, answers)
 
 
 class Report:
     """The lines of the report, in turn, and the number of the last one that was taken."""
 
     def __init__(self):
-        self.lines, self.number = report(), 0
+        self.lines, self.number, self.ahead = report(), 0, []
 
-    def __next__(self):
+    def next(self):
+        """The next line, or None at the end."""
         self.number += 1
-        line = next(self.lines, None)
+        return self.ahead.pop() if self.ahead else next(self.lines, None)
+
+    def comes(self, name, row):
+        """Whether the next line is one of this column and row."""
+        if not self.ahead:
+            self.number += 1
+            self.ahead = [next(self.lines, None)]
+            self.number -= 1
+        line = self.ahead[0]
+        return line is not None and (line.get("column"), line.get("row")) == (name, row)
+
+    def of(self, name):
+        """The next line, which has to be one of this column."""
+        line = self.next()
         need(line is not None, "the report ends too early")
+        need(line.get("column") == name, f"not a line of column {name}")
         return line
 
     def check_end(self, totals):
-        self.number += 1
-        last = next(self.lines, None)
+        last = self.next()
         need(last == totals and are_whole([*last.values()]), f"the last line has to be {json.dumps(totals)}")
-        self.number += 1
-        need(next(self.lines, None) is None, "there are more lines than the totals")
+        need(self.next() is None, "there are more lines than the totals")
         self.number -= 1
 
 

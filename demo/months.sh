@@ -36,7 +36,7 @@ renew() {
 
 {
     "$prepare" look october.csv &&
-    "$prepare" choose october.choices.json "staff_no=leave out" team=text age=number salary=sum range="0 to none" protect=none &&
+    "$prepare" choose october.choices.json "staff_no=leave out" team=text age=number salary=sum range="0 to none" protect=none askers=outside &&
     "$prepare" make october.csv october.choices.json office key=staff_no
 } >said || fail "the table wasn't made: $(cat said)"
 (cd office && "$AUDITOR" init) || fail "auditor init ended with status $?"

@@ -111,7 +111,7 @@ mkdir ../staff && cd ../staff && cp "$demo/table.csv" staff.csv || exit 1
 {
     python3 "$front/prepare.py" look staff.csv &&
     python3 "$front/prepare.py" choose staff.choices.json team=text age=number salary=sum bonus=max \
-        range="0 to none" protect=none &&
+        range="0 to none" protect=none askers=outside &&
     python3 "$front/prepare.py" make staff.csv staff.choices.json table
 } >&2 || { echo "demo: the table wasn't prepared" >&2; exit 1; }
 (cd table && "$program" init) || exit 1

@@ -18,7 +18,7 @@ PEOPLE = 100_000
 REGIONS = ["North", "East", "South", "West", "Lakes", "Coast", "Hills", "Islands"]
 SECTORS = ["Care", "Trade", "Building", "Schools", "Offices", "Transport", "Farming", "Hotels", "Software", "Mining", "Law", "Arts"]
 CHOICES = ["region=text", "sector=text", "age=number", "age.bands=10", "wage=sum", "wage.range=0 to none", "sick_days=sum",
-           "sick_days.range=0 to 365", "count=people", "protect=none"]
+           "sick_days.range=0 to 365", "count=people", "protect=none", "askers=outside"]
 
 
 def people(number):

@@ -46,7 +46,7 @@ def make_table(name, places, settings):
 
 
 def make_handlers(table, settings):
-    return TableHandlers(table, LeastSize(settings.fewest, table.ask) if settings.fewest else None)
+    return TableHandlers(table, LeastSize(settings.least, table.ask) if settings.least else None)
 
 
 def hosts_of(settings, port):

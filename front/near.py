@@ -101,7 +101,7 @@ def look(chosen):
 def say_others(several):
     """Names the rows whose numbers aren't guarded, if there are any."""
     if several:
-        print(f"{counted(len(several), 'row')} of several people, whose numbers aren't guarded: {first_numbers(several)}")
+        print(f"{counted(len(several), 'row')} of several people, of which nothing is shown: {first_numbers(several)}")
 
 
 def near_rows(column, shown, share):

@@ -35,14 +35,14 @@ def read(arguments):
     add("--weights", choices=("rows", "equal"), default="rows",
         help="what a question counts that has no weight of its own: its rows, which is the default, or 1")
     add("--merge", action="store_true", help="put a question over more rows in the place of each that is left out")
-    add("--fewest", type=int, default=0, metavar="N", help="the fewest rows that a question may be over, or leave out")
+    add("--least", type=int, default=0, metavar="N", help="the least number of rows that a question may be over, or leave out")
     add("--seconds", type=float, default=12, metavar="S", help="how long to look for a better order; 12 by default")
     add("--orders", type=int, default=10**9, metavar="N", help="how many other orders to try at most; as many as the time allows by default")
     add("--transcript", metavar="FILE", help="the questions and replies that there are, as a front door keeps them: the plan goes on from them")
     add("--report", metavar="FILE", help="says of each wanted question what becomes of it, a line of JSON each")
     settings = words.parse_args(arguments)
-    if settings.fewest < 0 or settings.seconds < 0:
-        words.error("--fewest and --seconds are at least 0")
+    if settings.least < 0 or settings.seconds < 0:
+        words.error("--least and --seconds are at least 0")
     return settings
 
 
@@ -81,17 +81,17 @@ def say_plan(plan, settings):
     say(f"{len(plan.kept) + len(plan.counts):,} of {len(plan.kept) + len(plan.left) + len(plan.counts):,} questions are answered, "
         f"{percent(plan.share)} of the weight; {counted(plan.tries, 'other order')} tried")
     if plan.left:
-        say(f"left out:\n{listed([left_words(plan, question, settings.fewest) for question in plan.left])}")
+        say(f"left out:\n{listed([left_words(plan, question, settings.least) for question in plan.left])}")
     if settings.merge and plan.left:
         say(f"{len(plan.instead):,} of {len(plan.left):,} have another in their place: {counted(len(plan.added), 'question')} more")
     if plan.extremes:
         say(f"{counted(len(plan.extremes), 'question')} on maxima or minima stand last: whether one is answered depends on the answers before it")
 
 
-def left_words(plan, question, fewest):
+def left_words(plan, question, least):
     found = plan.instead.get(question)
-    words = f"line {question.number:,}: {question.ask} {question.column} where {question.where} ({counted(question.people, 'row')})"
-    few = f"; it is over fewer than {fewest:,} rows, or leaves fewer out" if question in plan.few else ""
+    words = f"line {question.number:,}: {question.ask} {question.column} where {question.where} ({counted(question.size, 'row')})"
+    few = f"; it is over fewer than {least:,} rows, or leaves fewer out" if question in plan.few else ""
     return words + few + (f"; in its place: {found.near.where} ({found.near.more:,} more)" if found else "")
 
 

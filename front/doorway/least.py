@@ -15,8 +15,8 @@ KEPT = 4096                         # conditions whose number of rows is remembe
 class LeastSize:
     """`ask` gives the program's reply to a line."""
 
-    def __init__(self, fewest, ask):
-        self.fewest, self.ask, self.counts = fewest, ask, {}
+    def __init__(self, rows, ask):
+        self.rows, self.ask, self.counts = rows, ask, {}
 
     async def check(self, line):
         question = read_question(line)
@@ -28,8 +28,8 @@ class LeastSize:
             return
         inside, whole = await self._count(where), await self._count("all")
         # The program says itself what is wrong with a condition.
-        if inside is not None and (inside < self.fewest or 0 < whole - inside < self.fewest):
-            raise Turned("few", fewest=self.fewest)
+        if inside is not None and (inside < self.rows or 0 < whole - inside < self.rows):
+            raise Turned("few", least=self.rows)
 
     async def _count(self, where):
         """The number of rows, or None if the condition is refused."""

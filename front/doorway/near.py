@@ -25,7 +25,7 @@ class Nears:
     """Finds what is near, for one table. `least` is its least size, or None."""
 
     def __init__(self, table, least):
-        self.table, self.fewest, self.columns = table, least.fewest if least else 0, None
+        self.table, self.rows, self.columns = table, least.rows if least else 0, None
 
     async def ask(self, line, asker):
         """What is near a question, as a dict: the verdict on itself, the nearest question, and how its rows differ."""
@@ -44,7 +44,7 @@ class Nears:
             self.columns = read_columns(self.table.places.public)
         try:
             rows = self.columns.rows_where(where)
-            return rows and not self.columns.are_enough(rows, self.fewest), near(where, self.columns, self.fewest)[:MOST]
+            return rows and not self.columns.are_enough(rows, self.rows), near(where, self.columns, self.rows)[:MOST]
         except Wrong:
             return False, []
 

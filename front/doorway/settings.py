@@ -41,7 +41,7 @@ def parser():
     add("--listen", default="127.0.0.1:8087", help="unix:PATH, or an address of this machine and a port")
     add("--host", action="append", default=[], help="a name under which a proxy hands requests on; may be repeated")
     add("--report-every", type=float, default=0, metavar="SECONDS", help="the rest after which a report is made; 0 for none")
-    add("--fewest", type=int, default=0, metavar="N", help="the fewest rows that a question may be over, or leave out")
+    add("--least", type=int, default=0, metavar="N", help="the least number of rows that a question may be over, or leave out")
     add("--tokens", metavar="FILE", help="the file of tokens.py: nobody else may ask")
     add("--log", metavar="FILE", help="where it is written who asked what; nowhere by default")
     add("--proxy", action="append", default=[], metavar="ADDRESS", help="an address at which a proxy says whose requests it hands on; repeated")
@@ -66,8 +66,8 @@ def read(arguments=None):
         words.error("--batch is 1 to 64")
     if settings.twin and settings.serve:
         words.error("--twin is for a program that the door starts: with --serve it is the unit that starts `auditor serve --twin`")
-    if settings.fewest < 0 or settings.report_every < 0 or settings.connections < 0:
-        words.error("--fewest, --report-every and --connections are at least 0")
+    if settings.least < 0 or settings.report_every < 0 or settings.connections < 0:
+        words.error("--least, --report-every and --connections are at least 0")
     if settings.report_every and settings.serve and not settings.audit:
         words.error("a report through sockets wants --audit")
     if (settings.audit or settings.explain) and not settings.serve:

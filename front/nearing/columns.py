@@ -58,11 +58,18 @@ def read_column(report_path, table_path, name):
         need(len(lines) == 1 and are_numbers(lows[0], len(numbers)), report_path, name)
         need(all(number >= lowest or lowest == 0 for number, lowest in zip(numbers, lows[0])), report_path, name)
         return Minima(numbers, lows[0], people)
-    single, changes = single_rows(numbers, people), [None] * len(numbers)
-    need(len(lines) == len(single), report_path, name)
-    for row, line in zip(single, lines):
-        changes[row] = change_of(line, row, len(numbers), report_path, name)
-    return Sums(numbers, changes, people)
+    return Sums(numbers, changes_of(lines, numbers, people, report_path, name), people)
+
+
+def changes_of(lines, numbers, people, report_path, name):
+    """The change of each row of one person. Other rows may have a line too: those of few people, and with askers inside all that may change."""
+    single, changes = set(single_rows(numbers, people)), [None] * len(numbers)
+    rows = [line.get("row") for line in lines]
+    need(all(type(row) is int and 0 <= row < len(numbers) for row in rows) and rows == sorted(set(rows)) and single.issubset(rows), report_path, name)
+    for row, line in zip(rows, lines):
+        change = change_of(line, row, len(numbers), report_path, name)
+        changes[row] = change if row in single else None
+    return changes
 
 
 def people_of(told, report_path, table_path):

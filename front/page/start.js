@@ -99,16 +99,17 @@ function listColumns() {
   }));
 }
 
-// Over which rows questions are, if not over all, and the limits on sums that schema.json states, in words.
+// Over which rows questions are, if not over all, who asks, and the limits that schema.json states, in words.
 function showLimits() {
   const wheres = [...new Set(chosen.map(table => table.only || "all"))];
   const each = wheres.length > 1 ? chosen.map(table => `${table.only || "all"} (${table.name})`) : wheres;
   const rows = isWhole() ? "" : sentence("limits", "only").replace("CONDITION", () => each.join("; where "));
-  const said = ["width", "reach"].map(key => {
+  const inside = chosen.some(table => table.limits.askers === "inside") ? sentence("limits", "inside") : "";
+  const said = ["width", "reach", "fewest"].map(key => {
     const numbers = [...new Set(chosen.map(table => table.limits[key]).filter(Number.isInteger))];
     return numbers.length ? sentence("limits", key).replace("NUMBER", numbers.map(showLimit).join(" or ")) : "";
   });
-  byId("limits").textContent = [rows, ...said].filter(words => words).join(" ");
+  byId("limits").textContent = [rows, inside, ...said].filter(words => words).join(" ");
 }
 
 // Beyond the numbers that JavaScript keeps exactly it isn't told exactly.

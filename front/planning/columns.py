@@ -44,10 +44,10 @@ class Columns:
     def rows_of(self, holds):
         return sum(1 << place for place, row in enumerate(self.rows) if holds(row))
 
-    def are_enough(self, rows, fewest):
+    def are_enough(self, rows, least):
         """Whether a question over these rows is over so many people, and leaves none out or as many."""
         inside, whole = self.people(rows), self.people(self.everyone)
-        return inside >= fewest and (inside == whole or whole - inside >= fewest)
+        return inside >= least and (inside == whole or whole - inside >= least)
 
     def people(self, rows):
         """How many people some rows stand for: one each, if no column has their number."""

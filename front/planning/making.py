@@ -56,7 +56,7 @@ def make(simulate, questions, columns, settings, say):
     plan.counts = [question for question in questions if question.ask == "count"]
     plan.extremes = sorted((question for question in questions if question.ask in EXTREMES), key=lambda one: -one.weight)
     sums = [question for question in questions if question.ask in ("sum", "avg")]
-    plan.few = {question for question in sums if not columns.are_enough(question.rows, settings.fewest)}
+    plan.few = {question for question in sums if not columns.are_enough(question.rows, settings.least)}
     many = [question for question in sums if question not in plan.few]
     searches = [Search(simulate, [question for question in many if question.column == name], progress)
                 for name in dict.fromkeys(question.column for question in many)]
@@ -69,7 +69,7 @@ def make(simulate, questions, columns, settings, say):
         plan.left += [search.questions[place] for place in search.order if place not in search.answered]
         plan.tries += search.tries
     plan.left += [question for question in sums if question in plan.few]
-    merging = Merging(columns, settings.fewest, plan.kept)
+    merging = Merging(columns, settings.least, plan.kept)
     try:
         if plan.whole:
             merging.run(simulate, plan.left if settings.merge else [], progress)
@@ -109,7 +109,7 @@ def report_lines(plan):
     """The report of a plan: a line of JSON for each wanted question, and one of the whole."""
     left = set(plan.left)
     for question in sorted([*plan.kept, *plan.left, *plan.counts, *plan.extremes], key=lambda one: one.number):
-        line = {"line": question.number, **json.loads(question.line), "rows": question.people, "weight": question.weight}
+        line = {"line": question.number, **json.loads(question.line), "rows": question.size, "weight": question.weight}
         line["answered"] = None if question.ask in EXTREMES else question not in left
         found = plan.instead.get(question)
         if found:

@@ -26,8 +26,8 @@ class Merged:
 class Merging:
     """Finds them in one run of the program, after the questions that are answered."""
 
-    def __init__(self, columns, fewest, kept):
-        self.columns, self.fewest, self.kept = columns, fewest, kept
+    def __init__(self, columns, least, kept):
+        self.columns, self.least, self.kept = columns, least, kept
         self.instead, self.added = {}, []
 
     def run(self, simulate, left, say=lambda text: None):
@@ -62,7 +62,7 @@ class Merging:
         family, taken = self.family(question), 0
         for one in [*self.kept, *self.added]:
             taken |= one.rows if self.family(one) == family else 0
-        tried = [near for near in merged(question.where, self.columns, self.fewest) if not near.rows & ~question.rows & taken]
+        tried = [near for near in merged(question.where, self.columns, self.least) if not near.rows & ~question.rows & taken]
         for near in tried[:MOST]:
             other = question.over(near.where, near.rows)
             verdict = run.verdict(other.line)

@@ -28,27 +28,27 @@ class Near:
         return self.more + self.fewer
 
 
-def near(where, columns, fewest=0):
+def near(where, columns, least=0):
     """The conditions near one, the nearest first, each over another set of at least so many rows. Wrong if it isn't a condition."""
     parts = parts_of(where, columns.publics)
-    return nearest(parts, [*changed(parts, columns), *without_one(parts), *earlier(where, parts, columns)], columns, fewest)
+    return nearest(parts, [*changed(parts, columns), *without_one(parts), *earlier(where, parts, columns)], columns, least)
 
 
-def merged(where, columns, fewest=0):
+def merged(where, columns, least=0):
     """Conditions over all rows of this one and those of one or two other values of a column, or of a wider interval."""
     parts = parts_of(where, columns.publics)
-    found = nearest(parts, [*changed(parts, columns), *with_two(parts, columns)], columns, fewest)
+    found = nearest(parts, [*changed(parts, columns), *with_two(parts, columns)], columns, least)
     return [one for one in found if not one.fewer]
 
 
-def nearest(parts, others, columns, fewest):
+def nearest(parts, others, columns, least):
     """Some conditions by their distance from the question's parts, one for each set of rows."""
     known = {}
     masks = {part: part.rows(columns) for part in {*parts, *(part for other in others for part in other)}}
     here = rows_of(parts, masks, columns)
     for other in others:
         rows = rows_of(other, masks, columns)
-        if rows != here and rows not in known and columns.are_enough(rows, max(fewest, 1)):
+        if rows != here and rows not in known and columns.are_enough(rows, max(least, 1)):
             known[rows] = Near(joined(other), rows, (rows & ~here).bit_count(), (here & ~rows).bit_count())
     return sorted(known.values(), key=lambda one: one.distance)
 

@@ -40,7 +40,8 @@ class Wanted:
         return line_of(self.ask, self.column, self.where)
 
     @property
-    def people(self):
+    def size(self):
+        """Over how many rows it is."""
         return self.rows.bit_count()
 
     def over(self, where, rows):
@@ -130,7 +131,7 @@ class Reader:
 
     def _add(self, number, ask, column, where, rows, weight):
         if weight is None:
-            weight = 1 if self.equal else rows.bit_count()
+            weight = 1 if self.equal else self.columns.people(rows)
         question = Wanted(number, ask, column, where, rows, weight)
         if len(question.line) > LONGEST:
             raise Fault(f"the question has {counted(len(question.line), 'byte')}, and {LONGEST:,} are read")

@@ -6,11 +6,10 @@ import json
 import pathlib
 import shutil
 
-from . import choices as choosing
 from .choices import PUBLIC, SECRET, SEEN
 from .faults import Fault, counted, shown
 from .guards import say_what_is_known, secrets_apart
-from .making import Changes, columns_to_write, convert_all, need_columns, read_as_chosen, say_changes
+from .making import Changes, chosen_columns, convert_all, read_as_chosen, say_changes
 from .ordering import by_public_cells, say_order
 from .protecting import need_totals, say_totals
 from .ranges import need_ranges, say_ranges
@@ -20,10 +19,8 @@ from .writing import lines_for, need_few_bytes, put_into_place, said_of_program,
 
 def add(path, choices_path, old, new, program):
     """Writes the folder `new`, with the tables of the folder `old` and the rows of a file at their end."""
-    choices = choosing.read(choices_path)
-    choosing.need_decided(choices)
-    old, columns = pathlib.Path(old), columns_to_write(choices)
-    need_columns(columns)
+    choices, columns = chosen_columns(choices_path)
+    old = pathlib.Path(old)
     schema = need_schema(old, columns)
     before = rows_before(old / "table.csv", columns)
     table, changes = read_as_chosen(path, choices), Changes()

@@ -8,7 +8,7 @@ import os
 import re
 import tempfile
 
-from . import limits
+from . import guarding, limits
 from .cells import FORMS
 from .coarsening import coarsening_faults
 from .faults import Fault, listed, shown
@@ -26,6 +26,7 @@ SEEN = PUBLIC + (COUNT,)  # what stands in the public file
 KINDS = PUBLIC + SECRET + ("leave out",)
 MISSING = {"drop the row": KINDS, "keep": ("text",), "mark": ("number",)}
 ROUNDINGS = ("no", "down", "nearest")
+LAST = ("protect", guarding.ASKERS)  # what is asked after the columns
 TABLE_KEYS = {
     "encoding": str,
     "separator": str,
@@ -56,8 +57,9 @@ SECRET_KEYS = NUMBER_KEYS + ("range",)
 
 
 def table_keys():
-    """The keys of a file of choices, each with the type of its values: one for each limit among them, and the name of the column of counts."""
-    return TABLE_KEYS | dict.fromkeys(limits.LIMITS, int) | {COUNT: str}
+    """The keys of a file of choices, each with the type of its values: one for each limit among them, the name of the column of counts, who asks,
+    and of how few people what they have is guarded."""
+    return TABLE_KEYS | dict.fromkeys(limits.LIMITS, int) | {COUNT: str, guarding.ASKERS: str, guarding.FEWEST: int}
 
 
 def read(path):
@@ -71,6 +73,7 @@ def read(path):
         raise Fault(f"{path} isn't JSON: {error}") from None
     if isinstance(choices, dict):
         limits.fill_in(choices)
+        guarding.fill_in(choices)
         choices.setdefault(COUNT, None)
     faults = key_faults(choices, table_keys(), "the file of choices")
     if not faults:
@@ -121,15 +124,15 @@ def write(path, choices, fresh):
 
 
 def open_choices(choices):
-    """What is still to be chosen, in the arguments that `choose` takes: the columns before the totals that are over them.
+    """What is still to be chosen, in the arguments that `choose` takes: the columns before the totals that are over them, and who asks.
 
     A column that is left out asks no more.
     """
-    found = [key for key in table_keys() if key != "protect" and choices[key] == OPEN]
+    found = [key for key in table_keys() if key not in LAST and choices[key] == OPEN]
     for column in choices["columns"]:
         keys = {OPEN: ("is",), "leave out": (), "text": TEXT_KEYS, "number": NUMBER_KEYS}.get(column["is"], SECRET_KEYS)
         found += [column["name"] + ("" if key == "is" else f".{key}") for key in keys if column[key] == OPEN]
-    return found + ["protect"] * (choices["protect"] == OPEN)
+    return found + [key for key in LAST if choices[key] == OPEN]
 
 
 def need_decided(choices):
@@ -137,7 +140,7 @@ def need_decided(choices):
     still_open = open_choices(choices)
     if still_open:
         raise Fault("still to be chosen:\n" + listed(still_open))
-    faults = table_faults(choices) + limits.limit_faults(choices)
+    faults = table_faults(choices) + limits.limit_faults(choices) + guarding.guard_faults(choices)
     for column in choices["columns"]:
         faults += column_faults(column)
     if faults:

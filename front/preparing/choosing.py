@@ -3,6 +3,7 @@
 import re
 
 from . import choices as choosing
+from . import guarding
 from .choices import COLUMN_KEYS, KINDS, MISSING, OPEN, ROUNDINGS, table_keys
 from .cells import FORMS
 from .coarsening import JOIN_WORDS, read_bands, read_join
@@ -72,6 +73,8 @@ def set_choice(choices, key, value):
                 set_column(column, "range", value)
     elif key == "protect":
         add_protected(choices, value)
+    elif key == guarding.ASKERS and value not in guarding.WHO:
+        raise Fault(f"{key} can't be {shown(value)}: it is one of {', '.join(guarding.WHO)}")
     elif key in table_keys() and key != "columns":
         choices[key] = from_words(key, value, table_keys()[key])
     else:
@@ -208,6 +211,8 @@ def ask_for_more_totals(choices):
 def question_about(choices, key):
     """What was seen of the column, and what the answer may be."""
     name, _, part = key.partition(".")
+    if key == guarding.ASKERS:
+        return guarding.question()
     if part == "range":
         return f" (the range that people know these numbers to be in: {WORDS})"
     column = next((column for column in choices["columns"] if column["name"] == name), None)

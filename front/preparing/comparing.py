@@ -3,12 +3,11 @@
 import csv
 import re
 
-from . import choices as choosing
 from .choices import COUNT, PUBLIC, SECRET
 from .condensing import people_words, sizes_words
 from .faults import Fault, counted, listed, shown
-from .lines import cells_words, condensed, count_of
-from .making import columns_to_write, need_columns
+from .guarding import few_of
+from .lines import cells_words, columns_of_lines, condensed, count_of
 from .writing import MOST_BYTES
 
 WHOLE = re.compile(r"[+-]?\d{1,19}", re.ASCII)
@@ -19,19 +18,16 @@ def check(path, choices_path, lines_path):
 
     It is for a first table: two lines of the same public cells, which a growth makes, are a difference.
     """
-    choices = choosing.read(choices_path)
-    choosing.need_decided(choices)
-    if choices.get(COUNT) is None:
-        raise Fault("no column of counts is chosen: a row stands for one person then, and there is nothing to compare")
-    columns = columns_to_write(choices)
-    need_columns(columns)
+    why = "no column of counts is chosen: a row stands for one person then, and there is nothing to compare"
+    choices, columns = columns_of_lines(choices_path, why)
     lines = read_lines(lines_path, columns)
     condenser = condensed(path, choices, columns)
     due = {values: due_of(line, columns) for values, line in condenser.lines.items()}
     faults = differences(lines, due, columns)
     if faults:
         raise Fault(f"{lines_path} isn't what the people of {path} give:\n{listed(faults)}")
-    print(f"{sizes_words([line.people for line in condenser.lines.values()])}: they are those of the {condenser.people():,} people of {path}")
+    sizes = sizes_words([line.people for line in condenser.lines.values()], few_of(choices))
+    print(f"{sizes}: they are those of the {condenser.people():,} people of {path}")
     if condenser.dropped.number:
         print(f"in no row, for what they lack: {counted(condenser.dropped.number, 'row')} of {path}")
 

@@ -12,6 +12,7 @@ import operator
 from .cells import FORMS
 from .choices import OPEN, PUBLIC, SECRET
 from .faults import MOST_SHOWN, Fault, counted, listed, shown
+from .guarding import few_words
 from .making import DROPPED, Changes, TooFine, convert, fine_words
 from .reading import is_empty
 
@@ -223,7 +224,7 @@ def people_words(number):
     return "1 person" if number == 1 else f"{number:,} people"
 
 
-def sizes_words(sizes):
-    """How many lines there are of one, two, three or more people, of the numbers of people of each."""
+def sizes_words(sizes, few):
+    """How many lines there are of one, two, three or more people, of the numbers of people of each, and of how many fewer than `few` are."""
     ones, twos = sum(size == 1 for size in sizes), sum(size == 2 for size in sizes)
-    return f"{counted(len(sizes), 'row')}: {ones:,} of one person, {twos:,} of two, {len(sizes) - ones - twos:,} of three or more"
+    return f"{counted(len(sizes), 'row')}: {ones:,} of one person, {twos:,} of two, {len(sizes) - ones - twos:,} of three or more" + few_words(sizes, few)

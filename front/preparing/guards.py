@@ -12,6 +12,7 @@ import statistics
 from .cells import NUMBER_FORMS
 from .choices import PUBLIC, SECRET
 from .faults import MOST_SHOWN, Fault, counted, listed, shown
+from .guarding import is_inside
 
 FEW_VALUES = 3
 FEW_ROWS = 5  # of one public value, of which something can be said
@@ -109,12 +110,13 @@ def say_what_is_known(rows, public, secret):
     )
 
 
-def say_of_two():
-    """What two people who are in the table learn of each other, over every table that has sums."""
+def say_of_two(keys):
+    """What two people who are in the table learn of each other, over every table that has sums and whose askers aren't inside."""
+    if is_inside(keys):
+        return
     print(
-        "A sum over two people tells each of them the other's number. If people in the table may ask, publish a report over"
-        " disjoint groups and open no door. door.py --fewest 5 hands on no question over fewer than five people, but two that are"
-        " answered may still differ by two of them"
+        "A sum over two people tells each of them the other's number. If people in the table may ask, choose askers=inside: door.py --least 5"
+        " alone hands on no question over fewer than five people, but two that are answered may still differ by two of them"
     )
 
 

@@ -13,10 +13,11 @@ from .choices import COUNT, PUBLIC, SECRET
 from .coarsening import say_unused
 from .condensing import Condenser, people_words, sizes_words
 from .faults import Fault, counted, first_numbers, shown
+from .guarding import LEAST, few_of, guard_of, say_guard
 from .guards import say_of_pair, say_of_secret, say_of_two, say_readers, secrets_apart
 from .keys import need_one_table
 from .limits import say_limits, stated
-from .making import MOST_SIZE, column_words, columns_to_write, from_file, need_columns, say_names, say_next
+from .making import MOST_SIZE, chosen_columns, column_words, from_file, say_names, say_next
 from .protecting import need_totals, say_totals
 from .ranges import range_of, say_ranges
 from .splitting import MOST_ROWS, Part, parts, say_parts
@@ -31,14 +32,19 @@ def stands_for_people(path):
     return choosing.read(path).get(COUNT) is not None
 
 
+def columns_of_lines(choices_path, why):
+    """The choices for rows that stand for people, and the columns to write by them; a Fault that says why if no column of counts is chosen."""
+    choices, columns = chosen_columns(choices_path)
+    if choices.get(COUNT) is None:
+        raise Fault(why)
+    return choices, columns
+
+
 def make_lines(path, choices_path, folder, program, key=None):
     """Writes the folders of the lines, or raises a Fault and leaves nothing behind."""
-    choices = choosing.read(choices_path)
-    choosing.need_decided(choices)
+    choices, columns = chosen_columns(choices_path)
     if key is not None:
         need_one_table(choices)
-    columns = columns_to_write(choices)
-    need_columns(columns)
     need_totals(choices["protect"] or [], columns)
     need_free(pathlib.Path(folder))
     condenser = condensed(path, choices, columns)
@@ -49,26 +55,25 @@ def make_lines(path, choices_path, folder, program, key=None):
 
 def write_lines(rows, choices, columns, folder, program, say_first):
     """Writes the folders of lines, and says what is in them, after what is said first."""
-    totals, limits = choices["protect"] or [], stated(choices)
+    totals, limits, guard = choices["protect"] or [], stated(choices), guard_of(choices)
     need_apart(rows, columns)
     tables = cut(rows, choices, columns)
-    write_folders(folder, columns, schema_of(columns, totals, limits), tables, program)
+    write_folders(folder, columns, schema_of(columns, totals, {**limits, **guard}), tables, program)
     say_first()
-    say_lines(rows, columns)
+    say_lines(rows, columns, few_of(guard))
     say_names(choices)
     print("rows: in the order of their public cells")
     say_limits(limits)
+    say_guard(guard)
     say_parts(tables)
     say_totals(totals, columns, tables)
-    say_of_own(rows, columns, limits)
+    say_of_own(rows, columns, {**limits, **guard})
 
 
 def add_lines(path, choices_path, old, new, program):
     """Writes the folder `new`: the tables of the folder `old`, and the lines of newcomers alone at their end."""
-    choices = choosing.read(choices_path)
-    choosing.need_decided(choices)
-    old, columns = pathlib.Path(old), columns_to_write(choices)
-    need_columns(columns)
+    choices, columns = chosen_columns(choices_path)
+    old = pathlib.Path(old)
     schema = need_schema(old, columns)
     before = rows_before(old / "table.csv", columns)
     need_free(pathlib.Path(new))
@@ -86,7 +91,7 @@ def add_lines(path, choices_path, old, new, program):
     said_of_program(program)
     say_condensed(choices, columns, condenser)
     say_joined_cells(before, added, columns)
-    say_lines(rows, columns)
+    say_lines(rows, columns, few_of(schema))
     say_totals(schema.get("protect", []), columns, [Part(rows)])
     say_of_own(rows, columns, schema)
     say_readers(path)
@@ -192,12 +197,13 @@ def told_words(chosen):
     return {"sum": ", of each row the total", "max": ", of each row the greatest", "min": ", of each row the least"}.get(chosen["is"], "")
 
 
-def say_lines(rows, columns):
-    """How many people the lines stand for, and how many are alone."""
+def say_lines(rows, columns, few):
+    """How many people the lines stand for, how many are alone, and how many rows stand for so few that they are guarded."""
     count = count_of(columns)
     sizes = [row[count] for row in rows]
-    print(f"{sum(sizes):,} people in {sizes_words(sizes)}")
-    print("A row of one person is protected. What is told of a row of several people fixes nobody's number")
+    print(f"{sum(sizes):,} people in {sizes_words(sizes, few)}")
+    guarded, others = (f"fewer than {few:,} people", "as many or more") if few > LEAST else ("one person", "several people")
+    print(f"A row of {guarded} is protected. What is told of a row of {others} fixes nobody's number")
 
 
 def say_joined_cells(before, added, columns):
@@ -209,8 +215,8 @@ def say_joined_cells(before, added, columns):
         print(f"{counted(again, 'row')} of newcomers: the public cells are those of an old row, which goes on standing for whom it stood for")
 
 
-def say_of_own(rows, columns, limits):
-    """Points out what people may conclude of the lines of one person, as of rows."""
+def say_of_own(rows, columns, keys):
+    """Points out what people may conclude of the lines of one person, as of rows, by the keys of the schema."""
     own = own_lines(rows, columns)
     secret = [column for column in columns if column.kind in SECRET]
     if not own or not secret:
@@ -223,6 +229,6 @@ def say_of_own(rows, columns, limits):
     for place, first in enumerate(names):
         for second in names[place + 1 :]:
             say_of_pair(first, second, lines)
-    say_ranges(lines, secret, [place for place, _ in own], limits)
+    say_ranges(lines, secret, [place for place, _ in own], keys)
     if any(column.kind == "sum" for column in secret):
-        say_of_two()
+        say_of_two(keys)

@@ -5,7 +5,7 @@ import dataclasses
 import pathlib
 
 from . import choices as choosing
-from . import limits, reading
+from . import guarding, limits, reading
 from .cells import FORMS, forms_of, unit_of, without_unit
 from .faults import Fault, counted, shown
 from .names import names_of
@@ -59,7 +59,7 @@ def look(path, encoding=None, separator=None, untitled=None, sheet=None):
         "columns": columns,
     }
     limits.fill_in(choices)
-    choices[choosing.COUNT] = None
+    choices |= {choosing.COUNT: None, guarding.ASKERS: choosing.OPEN, guarding.FEWEST: None}
     choosing.write(out, choices, fresh=True)
     say_next(out, choices)
 
@@ -272,6 +272,7 @@ def say_next(out, choices):
     )
     print('"wave" is for a table to which rows may be added later: choose wave=1, and prepare.py add can tell them apart.')
     limits.say_choice()
+    guarding.say_choice()
     print(
         "If people move, leave, come back or get other numbers, leave a column out by which they are known, and make the table with"
         " key=TITLE, that column's title: prepare.py renew then writes it anew by each export."

@@ -9,6 +9,7 @@ from .cells import FORMS, without_unit
 from .choices import COUNT, PUBLIC, SECRET
 from .coarsening import coarsening_words, joined, read_bands, say_unused
 from .faults import Fault, counted, first_numbers, listed, shown
+from .guarding import guard_of, say_guard
 from .guards import say_of_two, say_readers, say_what_is_known, secrets_apart
 from .keys import CURRENT, KEY, ONLY, keys_of_export, need_one_table, need_told_apart
 from .limits import say_limits, stated
@@ -76,18 +77,19 @@ def make(path, choices_path, folder, program, key=None):
     places = [number for number, _ in table.rows if number not in changes.dropped]
     need_ranges(rows, secret, places)
     tables = parts(by_public_cells(rows, public), choices["split by"], public)
-    limits = stated(choices)
-    write_folders(folder, columns, schema_of(columns, totals, {**limits, **({} if key is None else only())}), tables, program)
+    limits, guard = stated(choices), guard_of(choices)
+    write_folders(folder, columns, schema_of(columns, totals, {**limits, **guard, **({} if key is None else only())}), tables, program)
     say_changes(choices, columns, table, changes)
     say_names(choices)
     say_order()
     say_limits(limits)
+    say_guard(guard)
     say_parts(tables)
     say_totals(totals, columns, tables)
     say_what_is_known(rows, public, [column.name for column in secret])
     say_ranges(rows, secret, places, limits)
     if any(column.kind == "sum" for column in secret):
-        say_of_two()
+        say_of_two(guard)
     say_readers(path)
     if key is not None:
         say_key()
@@ -146,6 +148,15 @@ def columns_to_write(choices):
     if choices["wave"] is not None:
         columns.append(Column("wave", "number"))
     return columns
+
+
+def chosen_columns(choices_path):
+    """The choices of a file, of which none is open, and the columns to write by them."""
+    choices = choosing.read(choices_path)
+    choosing.need_decided(choices)
+    columns = columns_to_write(choices)
+    need_columns(columns)
+    return choices, columns
 
 
 def columns_with_current(choices):

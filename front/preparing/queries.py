@@ -59,8 +59,12 @@ class Dialect:
     def date(self, title):
         raise NotImplementedError
 
-    def script(self, select, left_out, not_whole):
+    def written(self, select):
+        """The statement that writes what is selected to a file."""
         raise NotImplementedError
+
+    def script(self, select, left_out, not_whole):
+        return f"{self.written(select)}\n{left_out};\n{not_whole};"
 
 
 class PostgreSQL(Dialect):
@@ -69,9 +73,9 @@ class PostgreSQL(Dialect):
     def date(self, title):
         return f"CAST(to_char(CAST({self.name(title)} AS date), 'YYYYMMDD') AS integer)"
 
-    def script(self, select, left_out, not_whole):
+    def written(self, select):
         one_line = " ".join(select.split("\n"))
-        return f"\\copy ({one_line}) TO 'table.csv' WITH (FORMAT csv, HEADER, ENCODING 'UTF8')\n{left_out};\n{not_whole};"
+        return f"\\copy ({one_line}) TO 'table.csv' WITH (FORMAT csv, HEADER, ENCODING 'UTF8')"
 
 
 class DuckDB(Dialect):
@@ -83,8 +87,8 @@ class DuckDB(Dialect):
     def date(self, title):
         return f"CAST(strftime(CAST({self.name(title)} AS date), '%Y%m%d') AS integer)"
 
-    def script(self, select, left_out, not_whole):
-        return f"COPY ({select}) TO 'table.csv' (FORMAT csv, HEADER, DELIMITER ',');\n{left_out};\n{not_whole};"
+    def written(self, select):
+        return f"COPY ({select}) TO 'table.csv' (FORMAT csv, HEADER, DELIMITER ',');"
 
 
 class SQLite(Dialect):
@@ -106,8 +110,8 @@ class SQLite(Dialect):
     def date(self, title):
         return f"CAST(replace(substr(CAST({self.name(title)} AS text), 1, 10), '-', '') AS integer)"
 
-    def script(self, select, left_out, not_whole):
-        return f".mode csv\n.headers on\n.once table.csv\n{select};\n{left_out};\n{not_whole};"
+    def written(self, select):
+        return f".mode csv\n.headers on\n.once table.csv\n{select};"
 
 
 class Spark(Dialect):
@@ -122,9 +126,9 @@ class Spark(Dialect):
     def date(self, title):
         return f"CAST(date_format(CAST({self.name(title)} AS date), 'yyyyMMdd') AS int)"
 
-    def script(self, select, left_out, not_whole):
+    def written(self, select):
         hinted = select.replace("SELECT", "SELECT /*+ COALESCE(1) */", 1)
-        return f"INSERT OVERWRITE DIRECTORY 'table' USING csv OPTIONS (header 'true', lineSep '\\n')\n{hinted};\n{left_out};\n{not_whole};"
+        return f"INSERT OVERWRITE DIRECTORY 'table' USING csv OPTIONS (header 'true', lineSep '\\n')\n{hinted};"
 
 
 DIALECTS = {"postgresql": PostgreSQL(), "duckdb": DuckDB(), "sqlite": SQLite(), "spark": Spark()}

@@ -161,7 +161,7 @@ def say_largest(name, numbers, places):
         print(
             f"CAREFUL: {counted(len(large), 'number')} of {name} {'is' if len(large) == 1 else 'are'} more than twenty times"
             f" the median: a sum over such a person and one other is nearly hers. Let no question be over fewer than five"
-            f" people (the door's --fewest 5), or leave these rows out. {rows_words(large)}"
+            f" people (the door's --least 5), or leave these rows out. {rows_words(large)}"
         )
 
 

@@ -5,13 +5,12 @@ Nothing here can say whether the counts are those of the people: `check` does, w
 
 import pathlib
 
-from . import choices as choosing
 from .choices import COUNT, PUBLIC, SECRET
 from .comparing import read_lines
 from .faults import Fault
 from .guards import say_readers
-from .lines import cells_words, count_of, own_lines, write_lines
-from .making import MOST_SIZE, columns_to_write, need_columns, say_next
+from .lines import cells_words, columns_of_lines, count_of, own_lines, write_lines
+from .making import MOST_SIZE, say_next
 from .protecting import need_totals
 from .ranges import need_ranges
 from .writing import need_free
@@ -19,12 +18,7 @@ from .writing import need_free
 
 def take(path, choices_path, folder, program):
     """Writes the folders of a file of lines, or raises a Fault and leaves nothing behind."""
-    choices = choosing.read(choices_path)
-    choosing.need_decided(choices)
-    if choices.get(COUNT) is None:
-        raise Fault("no column of counts is chosen: count=people, say, names it")
-    columns = columns_to_write(choices)
-    need_columns(columns)
+    choices, columns = columns_of_lines(choices_path, "no column of counts is chosen: count=people, say, names it")
     need_totals(choices["protect"] or [], columns)
     need_free(pathlib.Path(folder))
     rows = rows_taken(path, columns)

@@ -12,6 +12,7 @@ from .choices import OPEN
 from .choosing import follow, name_by_steps
 from .coarsening import read_bands
 from .condensing import Condenser
+from .guarding import ASKERS, LEAST, OUTSIDE, few_of
 from .making import columns_to_write
 from .splitting import MOST_ROWS
 from .streaming import People
@@ -32,14 +33,15 @@ def say_tries(path, choices_path, words):
         condenser.read(people)
     sizes = {values: line.people for values, line in condenser.lines.items()}
     found = [("as chosen" + "".join(f", {word}" for word in words), sizes)] + list(coarser(condenser.public, sizes))
-    print_table([(words_of_one, list(one.values())) for words_of_one, one in found])
+    print_table([(words_of_one, list(one.values())) for words_of_one, one in found], few_of(choices))
     say_next()
 
 
 def columns_to_try(choices):
     """The columns that are written, if all is chosen that says what a cell becomes."""
     columns = [{**column, "range": None if column["range"] == OPEN else column["range"]} for column in choices["columns"]]
-    choosing.need_decided({**choices, "protect": [], "columns": columns})
+    who = OUTSIDE if choices[ASKERS] == OPEN else choices[ASKERS]
+    choosing.need_decided({**choices, "protect": [], ASKERS: who, "columns": columns})
     return columns_to_write(choices)
 
 
@@ -103,19 +105,26 @@ def merged(sizes, changes):
     return found
 
 
-def print_table(tries):
-    """The table: a line for each choice, the choices as they are first and the others with the fewest combinations last."""
-    first, *others = [(words, *counts(sizes)) for words, sizes in tries]
-    lines = [HEADER] + [tuple(map(str_of, line)) for line in [first] + sorted(others, key=lambda line: -line[1])]
-    widest = [max(len(line[place]) for line in lines) for place in range(len(HEADER))]
+def print_table(tries, few):
+    """The table: a line for each choice, the choices as they are first and the others with the fewest combinations last. Of fewer people than
+    `few` a row is guarded."""
+    first, *others = [(words, *counts(sizes, few)) for words, sizes in tries]
+    lines = [(*HEADER, *guarded_header(few))] + [tuple(map(str_of, line)) for line in [first] + sorted(others, key=lambda line: -line[1])]
+    widest = [max(len(line[place]) for line in lines) for place in range(len(lines[0]))]
     for line in lines:
         print("  ".join(cell.ljust(width) if place == 0 else cell.rjust(width) for place, (cell, width) in enumerate(zip(line, widest))).rstrip())
 
 
-def counts(sizes):
-    """How many combinations, how many of them of one person, of two, of three or more, and what share of the people is alone."""
+def guarded_header(few):
+    return [f"of fewer than {few:,}"] if few > LEAST else []
+
+
+def counts(sizes, few):
+    """How many combinations, how many of them of one person, of two, of three or more, what share of the people is alone, and, if more are guarded
+    than these, how many are."""
     ones, twos, people = sum(size == 1 for size in sizes), sum(size == 2 for size in sizes), sum(sizes)
-    return len(sizes), ones, twos, len(sizes) - ones - twos, f"{100 * ones / people:.2f} %"
+    guarded = [sum(size < few for size in sizes)] if few > LEAST else []
+    return len(sizes), ones, twos, len(sizes) - ones - twos, f"{100 * ones / people:.2f} %", *guarded
 
 
 def str_of(cell):

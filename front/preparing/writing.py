@@ -15,6 +15,7 @@ from .choices import COUNT, SEEN
 from .coarsening import read_bands
 from .faults import Fault
 from .keys import KEY
+from .guarding import ASKERS, FEWEST, OUTSIDE
 from .limits import LIMITS
 from .protecting import total_words
 
@@ -187,6 +188,7 @@ def complaint_words(folder, status, said):
     if any(column["is"] == COUNT for column in schema["columns"]) and status == 3:
         return ". This auditor may be older than rows that stand for several people: choose count=none, or take a newer one"
     newer = [("protected totals", "protect=none")] * bool(groups) + [(f"a {key}", f"{key}=none") for key in LIMITS if key in schema]
+    newer += [("askers inside", f"{ASKERS}={OUTSIDE}")] * (ASKERS in schema) + [(f"the key {FEWEST}", f"{FEWEST}=none")] * (FEWEST in schema)
     if newer and status == 3:
         what, instead = (" or ".join(words) for words in zip(*newer))
         return f". This auditor may be older than {what}: choose {instead}, or take a newer one"

@@ -45,9 +45,12 @@ class TableTest(unittest.TestCase):
         return said_by(prepare.main, words)
 
     def look(self, text, *options, encoding="utf-8"):
-        """Looks at a file with this text, or these bytes."""
+        """Looks at a file with this text, or these bytes. Few tests are of who asks: all askers are outside, until one chooses otherwise."""
         self.file.write_bytes(text if isinstance(text, bytes) else text.encode(encoding))
-        return self.prepare("look", self.file, *options)
+        found = self.prepare("look", self.file, *options)
+        if self.choices.exists():
+            self.choose("askers=outside")
+        return found
 
     def chosen(self):
         return json.loads(self.choices.read_text(encoding="utf-8"))

@@ -63,7 +63,7 @@ class First(FirstCase):
         self.end_and_check()
 
     async def test_what_isnt_a_question_is_said_and_the_rest_goes_on(self):
-        self.door.words += ["--fewest", "5"]
+        self.door.words += ["--least", "5"]
         self.write([b"x", line_of("sum", 0, 3), line_of("sum", 0, 59), b"", line_of("sum", 70, 80), b"y" * 9000])
         self.assertEqual((await self.served())["records"], 1)
         for text in ("1 of 5 questions are answered", "line 1: this isn't a question", "line 2: fewer than 5 rows", "line 5: fewer than 5 rows",

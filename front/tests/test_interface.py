@@ -29,7 +29,7 @@ def validator(document, schema):
 class Described(DoorCase):
     """What the door says to requests of each kind fits its own description."""
 
-    words, rows = ("--fewest", "3"), 40
+    words, rows = ("--least", "3"), 40
 
     async def described(self, session, method, path, due, body=None, **headers):
         """A request whose reply has this status, and fits what the description has for it. The code, if it has one."""

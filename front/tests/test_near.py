@@ -74,9 +74,16 @@ class OfSeveralPeople(NearTest):
         # Three people come to 630 at most: taken off ten times, and added 60 times, when row 2 has 210.
         self.assertEqual(self.near(0, 210, "--share", 41), (1, (
             "v: 2 numbers, of which 1 are shown to be open by 41 % or more by the report's lines alone\n"
-            "1 row of several people, whose numbers aren't guarded: 1\nrow 2: 150, shown only from 140 to 210\n")))
+            "1 row of several people, of which nothing is shown: 1\nrow 2: 150, shown only from 140 to 210\n")))
         self.assertEqual(self.near(0, 210, "--share", 40)[0], 0)
         self.assertEqual(self.near(0, 206, "--share", 40)[0], 2)
+
+    def test_a_line_of_a_row_of_several_people_is_read_and_not_shown(self):
+        change, other = [[0, 1], [1, -1], [2, 1]], [[0, -1], [1, 1], [2, -1]]
+        self.people([100, 620, 150], "sum", [{"column": "v", "row": row, "direction": own} for row, own in ((0, change), (1, other), (2, change))])
+        self.assertIn("of which nothing is shown: 1\nrow 2: 150, shown only from 140 to 210", self.near(0, 210, "--share", 41)[1])
+        self.people([100, 620, 150], "sum", [{"column": "v", "row": row, "direction": own} for row, own in ((0, change), (1, other))])
+        self.assertIn("isn't a whole report", self.near(0, 210)[1])
 
     def test_a_search_shows_the_same(self):
         self.sums_of([100, 620, 150])
@@ -86,7 +93,7 @@ class OfSeveralPeople(NearTest):
         self.people([5, 9, 9], "max", [{"column": "v", "high": [9, 9, 9]}])
         self.assertEqual(self.near(0, 20, "--share", 81), (0, (
             "v: 2 numbers, of which 2 are shown to be open by 81 % or more by the report's lines alone\n"
-            "1 row of several people, whose numbers aren't guarded: 1\n")))
+            "1 row of several people, of which nothing is shown: 1\n")))
 
     def test_without_the_schema_or_of_another_table_it_is_said(self):
         self.sums_of([100, 620, 150], people=6)

@@ -23,8 +23,8 @@ class Parts(unittest.TestCase):
     """The parts of conditions, and what is near them, over six rows by hand."""
     columns = Columns(SCHEMA, TABLE)
 
-    def wheres(self, where, fewest=0):
-        return [(one.where, one.more, one.fewer) for one in near(where, self.columns, fewest)]
+    def wheres(self, where, least=0):
+        return [(one.where, one.more, one.fewer) for one in near(where, self.columns, least)]
 
     def test_a_condition_is_read_into_its_parts(self):
         for where, parts in (("all", []), ("team='A'and age>=041", ["team = 'A'", "age >= 41"]), ("(team = 'A') and (age < 3 and all)", ["team = 'A'", "age < 3"]),
@@ -128,7 +128,7 @@ class Near(DoorCase):
 
     async def test_the_least_size_holds(self):
         async with self.door.session() as session:
-            await self.start(session, "--fewest", 10)
+            await self.start(session, "--least", 10)
             said = await self.near(session, line_of("sum", 30, 35))
             self.assertEqual((said["verdict"], said["rows"], said["more"], said["fewer"]), ("withheld", 10, 4, 0))
             self.assertEqual((await ask(session, json.dumps(said["near"]).encode()))[0], 200)

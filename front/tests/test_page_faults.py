@@ -134,6 +134,15 @@ class Scripted(OneTable):
                 for words in due:
                     self.assertIn(words, said)
 
+    def test_who_asks_and_of_how_few_is_told_in_words(self):
+        for limits, due in (({}, ""), ({"askers": "outside", "fewest": "3"}, ""), ({"askers": "inside"}, "People in the table may ask here:"),
+                            ({"fewest": 3}, "What fewer than 3 people have is guarded"), ({"askers": "inside", "fewest": 1000}, "What fewer than 1,000 people have")):
+            with self.subTest(limits=limits):
+                self.open("", {"schema.json": json.dumps({"columns": COLUMNS, **limits})})
+                said = self.browser.text("limits")
+                self.assertIn(due, said)
+                self.assertEqual(said == "", due == "")
+
     def test_a_denial_of_a_protected_total_says_so(self):
         totals = [{"column": "pay", "where": "age > 30 "}]
         self.open("", {"schema.json": json.dumps({"protect": totals, "columns": COLUMNS})})

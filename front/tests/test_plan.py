@@ -94,7 +94,7 @@ class Plans(PlanCase):
     def test_serve_answers_each_question_of_a_plan(self):
         self.office()
         planned, said = self.plan("by team, site of sum salary with margins", "by grade of avg sick_days", "by site, grade of sum salary",
-                                  "max bonus where all", words=["--merge", "--fewest", 2])
+                                  "max bonus where all", words=["--merge", "--least", 2])
         sums = [line for line in planned if json.loads(line)["ask"] != "max"]
         self.assertEqual(json.loads(planned[-1])["ask"], "max")
         self.assertGreater(len(sums), 40)
@@ -208,7 +208,7 @@ class Merging(PlanCase):
 
     def test_the_least_size_holds_for_all(self):
         self.table("ABDECCCCC")
-        planned, said = self.plan("by team of sum pay", "sum pay where all", words=["--merge", "--fewest", 4])
+        planned, said = self.plan("by team of sum pay", "sum pay where all", words=["--merge", "--least", 4])
         self.assertEqual(sorted(self.wheres(planned)), ["all", "team = 'C'"])
         self.assertIn("where team = 'A' (1 row); it is over fewer than 4 rows, or leaves fewer out", said)
 

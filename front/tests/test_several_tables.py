@@ -183,7 +183,7 @@ class Arguments(unittest.TestCase):
     def test_wrong_arguments_are_named(self):
         for words, text in [
                 (["--batch", "0"], "--batch is 1 to 64"), (["--batch", "65"], "--batch is 1 to 64"),
-                (["--fewest", "-1"], "at least 0"), (["--listen", "8087"], "--listen is"), (["--listen", ":8087"], "--listen is"),
+                (["--least", "-1"], "at least 0"), (["--listen", "8087"], "--listen is"), (["--listen", ":8087"], "--listen is"),
                 (["--serve", "s", "--report-every", "1"], "wants --audit"), (["--audit", "s"], "want --serve"),
                 (["--table", "a/b"], "can't name a table"), (["--table", "health"], "can't name a table"),
                 (["--table", "a", "--table", "a"], "named twice"), (["--table", "a", "--keep", "b"], "{table}"),

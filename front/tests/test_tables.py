@@ -84,7 +84,7 @@ class Round(TableTest):
         self.file = self.folder / name
         self.choices = self.file.with_suffix(".choices.json")
         shutil.copy(TABLES / name, self.file)
-        for status, said in (self.prepare("look", self.file), self.choose("protect=none", "range=none", *words), self.make()):
+        for status, said in (self.prepare("look", self.file), self.choose("protect=none", "askers=outside", "range=none", *words), self.make()):
             self.assertEqual(status, 0, said)
         self.assertNotIn("not tried with the program", said)
         return said

@@ -65,7 +65,7 @@ class Always(Warnings):
             self.out = self.folder / kind
             said = self.made("team,pay,cost\nA,5,9\nB,7,3\nC,9,4\n", "team=text", f"pay={kind}", f"cost={kind}")
             self.assertEqual(said.count("tells each of them the other's number. "), times)
-            self.assertEqual(said.count("door.py --fewest 5"), times)
+            self.assertEqual(said.count("door.py --least 5"), times)
 
     def test_a_file_that_others_may_read_is_named(self):
         inner = self.folder / "inner"
@@ -121,7 +121,7 @@ class Ranges(Warnings):
         self.assertEqual(self.of_pays(pays, "pay.range=none"), [])
         (said,) = self.of_pays([*pays[:-1], 261], "pay.range=none")
         self.assertTrue(said.startswith("1 number of pay is more than twenty times the median"), said)
-        self.assertIn("(the door's --fewest 5)", said)
+        self.assertIn("(the door's --least 5)", said)
         self.assertTrue(said.endswith("row 1: 8"), said)
 
     def test_rows_that_are_added_count_in_the_longer_table(self):

@@ -124,7 +124,7 @@ class Certificates(WhyCase):
 
     async def test_what_isnt_handed_on_isnt_explained_either(self):
         async with self.door.session() as session:
-            await self.start(session, "--fewest", 5)
+            await self.start(session, "--least", 5)
             self.assertIn(b"fewer than 5 rows", await self.why(session, line_of("sum", 0, 3), 422))
             self.assertEqual(await self.why(session, line_of("sum", 0, 9)), b'{"verdict":"released"}\n')
         self.assertEqual(self.door.stop(), 0)

@@ -7,8 +7,8 @@ from case import DoorCase
 from kit import SEED, ask, health, line_of
 
 
-class Fewest(DoorCase):
-    words = ("--fewest", 10)
+class Least(DoorCase):
+    words = ("--least", 10)
 
     async def test_questions_over_too_few_rows_are_not_handed_on(self):
         few = (422, {"error": "fewer than 10 rows", "code": "few"})
