@@ -1,30 +1,73 @@
--- Directions modulo a number, by which a form can be seen to tie no two columns.
+-- Points of rows, by which a form is seen to tell nobody who knows the number at one column that at another.
 --
--- Two lists are kept, a number for each column, so that the products of each row of the form with them are multiples of the modulus. The two
--- numbers of a column are its point. If the span ties two columns, their points lie on one line: so a form whose points all lie apart ties none.
-use Rattle.std.specs.Prelude.{◌≡◌, ◌≢◌, ℕ, ◌<◌, ℤ, pos, ◌-ℤ◌, ◌*ℤ◌, List}
-use Rattle.std.specs.Int.{◌∣◌, IsGcd}
-use Rattle.std.specs.List.{AllByRecursion}
+-- What a form leaves of a row are entries at its free columns. If a row lies in the span with the unit row of a column, what is left of the two
+-- are multiples of one another, and so are two sums over each, whatever the weights are: their points. Modulo a number, the first sum over the
+-- second is a row's key. So rows of different keys are no multiples of one another.
+use Rattle.std.specs.Prelude.{◌≡◌, ◌≢◌, ℕ, ◌<◌, ◌*◌, ◌++◌, ℤ, pos, ◌+ℤ◌, ◌-ℤ◌, ◌*ℤ◌, List, [], ◌∷◌, slice_index_or}
 use Rattle.audit_types.specs.Truth.{number_at}
-use Rattle.audit_types.specs.Form.{IsPrimitive, IsEchelon, pivot_entries}
-use Rattle.audit_types.specs.Totals.{product}
-use Rattle.sum_basis.specs.Ties.{Ties}
+use Rattle.audit_types.specs.Form.{combined, InSpan}
+use Rattle.sum_basis.specs.Basis.{Echelon, unit_row}
+use Rattle.sum_basis.specs.Elimination.{IsSmallForm, IsZeroAtPivots}
+use Rattle.sum_basis.specs.Reach.{IsLeftOverOrNone}
+use Rattle.sum_basis.specs.Sparse.{entry_at, row_of}
+use Rattle.sum_basis.specs.declared.points.Point.{Point}
+use Rattle.sum_basis.specs.declared.sparse.FreeEntry.{FreeEntry}
 
--- the number is a multiple of the modulus
-abbrev pub IsMultiple : ℕ → ℤ → Type 0
-IsMultiple m z = (k : ℤ) × (z ≡ pos m *ℤ k)
+-- by what sums are divided to keep what is left
+abbrev pub modulus : ℕ
+modulus = 4294967291
 
--- the products of the rows with the list are multiples of the modulus
-abbrev pub IsDirectionModulo : ℕ → ℕ → List (List ℤ) → List ℤ → Type 0
-IsDirectionModulo m n rows d = AllByRecursion (λ row. IsMultiple m (product row (number_at d) n)) rows
+-- what is left of a number, modulo the modulus
+abbrev pub IsLeftModulo : ℤ → ℕ → Type 0
+IsLeftModulo z left = (left < modulus) × ((k : ℤ) × (z ≡ k *ℤ pos modulus +ℤ pos left))
 
--- the points of two columns lie on one line, modulo the number
-abbrev pub AreInLine : ℕ → List ℤ → List ℤ → ℕ → ℕ → Type 0
-AreInLine m a b p q = IsMultiple m (number_at a p *ℤ number_at b q -ℤ number_at a q *ℤ number_at b p)
+-- the two weights of a column
+abbrev pub first_weight : List Point → ℕ → ℤ
+first_weight weights j = pos (slice_index_or weights j (record { first = 0; second = 0 })).first
 
--- if the modulus has no divisor in common with the pivot entries, the points of columns that the form ties lie on one line
-abbrev pub TiesAreInLine : Type 0
-TiesAreInLine =
-    (m n common : ℕ) (form : List (List ℤ)) (a b : List ℤ) (p q : ℕ) → AllByRecursion (IsPrimitive n) form → IsEchelon form →
-    AllByRecursion (λ x. x ∣ common) (pivot_entries form) → IsGcd m common 1 → 0 < m → IsDirectionModulo m n form a → IsDirectionModulo m n form b →
-    p < n → q < n → q ≢ p → Ties form p q → AreInLine m a b p q
+abbrev pub second_weight : List Point → ℕ → ℤ
+second_weight weights j = pos (slice_index_or weights j (record { first = 0; second = 0 })).second
+
+-- the sum of the values, each as many times as the weight at its place says
+abbrev pub weighted : (ℕ → ℤ) → List FreeEntry → ℤ
+weighted weight [] = pos 0
+weighted weight (e ∷ entries) = weight e.place *ℤ e.value +ℤ weighted weight entries
+
+-- the same of a multiple of the entries, less one of the list of a new row: they are 0 at its first place
+abbrev pub weighted_after : (ℕ → ℤ) → List FreeEntry → List FreeEntry → ℤ
+weighted_after weight [] entries = weighted weight entries
+weighted_after weight (e ∷ new) entries = e.value *ℤ weighted weight entries -ℤ entry_at entries e.place *ℤ weighted weight (e ∷ new)
+
+-- the two sums of the entries, modulo the modulus, once the form has the new list
+pub record IsPointAfter (weights : List Point) (new entries : List FreeEntry) (point : Point) : Type 0 where
+  pub first : IsLeftModulo (weighted_after (first_weight weights) new entries) point.first
+  pub second : IsLeftModulo (weighted_after (second_weight weights) new entries) point.second
+
+-- the first sum over the second, which has an inverse
+pub record IsKey (point : Point) (key : ℕ) : Type 0 where
+  pub inverse : ℕ
+  pub is_inverse : IsLeftModulo (pos (point.second * inverse)) 1
+  pub is : IsLeftModulo (pos (point.first * inverse)) key
+
+-- what the form leaves of a row: entries that are 0 at the pivots, of which a multiple is one of the row but for rows of the form
+pub record IsResidue (form : Echelon) (row : List ℤ) (entries : List FreeEntry) : Type 0 where
+  pub zeros : IsZeroAtPivots form.rows (row_of form.n entries)
+  pub times : ℤ
+  pub times_some : times ≢ pos 0
+  pub by : ℤ
+  pub by_some : by ≢ pos 0
+  pub coefficients : List ℤ
+  pub is : (j : ℕ) → times *ℤ number_at row j ≡ by *ℤ number_at (row_of form.n entries) j +ℤ combined coefficients form.rows j
+
+-- the rows of the form, with that of a new list if there is one
+abbrev pub with_new : Echelon → List FreeEntry → List (List ℤ)
+with_new form [] = form.rows
+with_new form (e ∷ new) = form.rows ++ row_of form.n (e ∷ new) ∷ []
+
+-- a row that lies in the span with the unit row of a column, once the form has a new list, has the key of that unit row
+abbrev pub LikeRowsHaveOneKey : Type 0
+LikeRowsHaveOneKey =
+    (form : Echelon) (new : List FreeEntry) (weights : List Point) (q : ℕ) (row : List ℤ) (entries others : List FreeEntry)
+    (point other : Point) (key another : ℕ) → IsSmallForm form.n form.rows → IsLeftOverOrNone form new →
+    IsResidue form row entries → IsResidue form (unit_row form.n q) others → InSpan (with_new form new ++ unit_row form.n q ∷ []) row →
+    IsPointAfter weights new entries point → IsPointAfter weights new others other → IsKey point key → IsKey other another → key ≡ another

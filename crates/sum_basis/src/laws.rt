@@ -1,7 +1,6 @@
 //! The laws of reduced forms. Each function computes nothing: its contract is the law.
 ghost use Rattle.sum_basis.specs.Laws.{EveryRowSpaceHasAForm, FormsAreUnique, SetsHaveOneForm, SpanKeepsForm, OneMoreSet, NarrowOrWide};
 ghost use Rattle.sum_basis.specs.Ties.{TiesByForm, TiesByFormBut};
-ghost use Rattle.sum_basis.specs.Points.{TiesAreInLine};
 ghost use Rattle.sum_basis.specs.Reach.{FreeColumnsHaveDirections};
 
 /// Every list of rows has a reduced form.
@@ -43,11 +42,6 @@ pub fn ties()
 /// The same of a column that isn't among some, and of another one that isn't among others.
 pub fn ties_but()
     ensures { TiesByFormBut }
-{}
-
-/// Two directions modulo a number show a form to tie no two columns: the points of tied columns lie on one line.
-pub fn points()
-    ensures { TiesAreInLine }
 {}
 
 /// Each free column of a form has a direction.
