@@ -3,13 +3,16 @@
 -- What a form leaves of a row are entries at its free columns. If a row lies in the span with the unit row of a column, what is left of the two
 -- are multiples of one another, and so are two sums over each, whatever the weights are: their points. Modulo a number, the first sum over the
 -- second is a row's key. So rows of different keys are no multiples of one another.
-use Rattle.std.specs.Prelude.{◌≡◌, ◌≢◌, ℕ, ◌<◌, ◌*◌, ◌++◌, ℤ, pos, ◌+ℤ◌, ◌-ℤ◌, ◌*ℤ◌, List, [], ◌∷◌, slice_index_or}
+use Rattle.std.specs.Prelude.{◌≡◌, ◌≢◌, ◌⊎◌, ℕ, ◌<◌, ◌*◌, ◌++◌, ℤ, pos, ◌+ℤ◌, ◌-ℤ◌, ◌*ℤ◌, false, List, [], ◌∷◌, slice_index_or, Contains, Option, None, Some, Vec}
+use Rattle.std.specs.declared.alloc.Global.{Global}
+use Rattle.audit_types.specs.Rows.{has_row}
 use Rattle.audit_types.specs.Truth.{number_at}
-use Rattle.audit_types.specs.Form.{combined, InSpan}
+use Rattle.audit_types.specs.Form.{set_row, combined, InSpan}
 use Rattle.sum_basis.specs.Basis.{Echelon, unit_row}
 use Rattle.sum_basis.specs.Elimination.{IsSmallForm, IsZeroAtPivots}
 use Rattle.sum_basis.specs.Reach.{IsLeftOverOrNone}
-use Rattle.sum_basis.specs.Sparse.{entry_at, row_of}
+use Rattle.sum_basis.specs.Sparse.{entry_at, row_of, IsListed}
+use Rattle.sum_basis.specs.Ties.{MayTell}
 use Rattle.sum_basis.specs.declared.points.Point.{Point}
 use Rattle.sum_basis.specs.declared.sparse.FreeEntry.{FreeEntry}
 
@@ -49,8 +52,9 @@ pub record IsKey (point : Point) (key : ℕ) : Type 0 where
   pub is_inverse : IsLeftModulo (pos (point.second * inverse)) 1
   pub is : IsLeftModulo (pos (point.first * inverse)) key
 
--- what the form leaves of a row: entries that are 0 at the pivots, of which a multiple is one of the row but for rows of the form
+-- what the form leaves of a row: entries in ascending places that are 0 at the pivots, of which a multiple is one of the row but for rows of the form
 pub record IsResidue (form : Echelon) (row : List ℤ) (entries : List FreeEntry) : Type 0 where
+  pub listed : IsListed 0 form.n entries
   pub zeros : IsZeroAtPivots form.rows (row_of form.n entries)
   pub times : ℤ
   pub times_some : times ≢ pos 0
@@ -71,3 +75,37 @@ LikeRowsHaveOneKey =
     (point other : Point) (key another : ℕ) → IsSmallForm form.n form.rows → IsLeftOverOrNone form new →
     IsResidue form row entries → IsResidue form (unit_row form.n q) others → InSpan (with_new form new ++ unit_row form.n q ∷ []) row →
     IsPointAfter weights new entries point → IsPointAfter weights new others other → IsKey point key → IsKey other another → key ≡ another
+
+-- ---- keys of columns
+
+-- the list that is left of a row, empty if none is
+abbrev pub items_of : Option (Vec FreeEntry Global) → List FreeEntry
+items_of None = []
+items_of (Some list) = list.items
+
+-- the number at the column may tell somebody one at another column, or be told by it
+abbrev pub Matters : List ℕ → List ℕ → ℕ → Type 0
+Matters beside several j = (has_row beside j ≡ false) ⊎ (has_row several j ≡ false)
+
+-- what the form with the new list leaves of a row has this key
+pub record HasKey (form : Echelon) (weights : List Point) (new : List FreeEntry) (row : List ℤ) (key : ℕ) : Type 0 where
+  pub entries : List FreeEntry
+  pub residue : IsResidue form row entries
+  pub point : Point
+  pub point_is : IsPointAfter weights new entries point
+  pub key_is : IsKey point key
+
+-- each column that matters has the key that stands at its place, and no two have one of which the one may tell the other
+pub record AreKeysApart (form : Echelon) (weights : List Point) (new : List FreeEntry) (beside several keys : List ℕ) : Type 0 where
+  pub each : (j : ℕ) → j < form.n → Matters beside several j → HasKey form weights new (unit_row form.n j) (slice_index_or keys j 0)
+  pub apart : (i j : ℕ) → i < form.n → j < form.n → MayTell beside several i j → i ≢ j → slice_index_or keys i 0 ≢ slice_index_or keys j 0
+
+-- the row of the set has a key, which is that of no column that isn't one of several people
+pub record IsKeyApart (form : Echelon) (weights : List Point) (new : List FreeEntry) (several keys set : List ℕ) : Type 0 where
+  pub key : ℕ
+  pub key_is : HasKey form weights new (set_row form.n set) key
+  pub apart : (j : ℕ) → j < form.n → has_row several j ≡ false → slice_index_or keys j 0 ≢ key
+
+-- so have the rows of these sets
+abbrev pub AreSetsApart : Echelon → List Point → List FreeEntry → List ℕ → List ℕ → List (List ℕ) → Type 0
+AreSetsApart form weights new several keys sets = (set : List ℕ) → Contains sets set → IsKeyApart form weights new several keys set

@@ -2,6 +2,7 @@
 ghost use Rattle.sum_basis.specs.Laws.{EveryRowSpaceHasAForm, FormsAreUnique, SetsHaveOneForm, SpanKeepsForm, OneMoreSet, NarrowOrWide};
 ghost use Rattle.sum_basis.specs.Ties.{TiesByForm, TiesByFormBut};
 ghost use Rattle.sum_basis.specs.Reach.{FreeColumnsHaveDirections};
+ghost use Rattle.sum_basis.specs.Points.{LikeRowsHaveOneKey};
 
 /// Every list of rows has a reduced form.
 pub fn every_row_space_has_a_form()
@@ -47,4 +48,9 @@ pub fn ties_but()
 /// Each free column of a form has a direction.
 pub fn directions()
     ensures { FreeColumnsHaveDirections }
+{}
+
+/// A row that lies in the span with the unit row of a column has the column's key: columns with different keys are tied by nothing.
+pub fn points()
+    ensures { LikeRowsHaveOneKey }
 {}
