@@ -125,8 +125,8 @@ module _ (form : Echelon) (q : ℕ) (below : q < form.n) (free : AllByRecursion 
   alone_is : (j : ℕ) → number_at (unit_row form.n q) j ≡ entry_at alone j
   alone_is j = elim (cases_eq q j) [
     | inl same ↦
-        ap (number_at (unit_row form.n q)) (sym same) ∙ unit_here form.n q below ∙ sym (first_value 0 form.n (record { place = q; value = pos 1 }) [] alone_listed)
-        ∙ ap (entry_at alone) same
+        ap (number_at (unit_row form.n q)) (sym same) ∙ unit_here form.n q below
+        ∙ sym (first_value 0 form.n (record { place = q; value = pos 1 }) [] alone_listed) ∙ ap (entry_at alone) same
     | inr apart ↦ unit_elsewhere form.n q j (λ e. apart (sym e)) ∙ sym (nothing_at alone j ((λ e. apart (sym e)), tt))
   ]
 
