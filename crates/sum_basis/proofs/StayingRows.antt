@@ -1,0 +1,117 @@
+-- Rows of a form that stay as they are when a new row joins: those that are 0 at its pivot.
+use Rattle.std.proofs.Common.{◌≡◌, ◌≢◌, ℕ, zero, suc, ◌+◌, ◌<◌, Bool, true, false, ◌||◌, ◌==◌, ℤ, pos, List, [], ◌∷◌, ◌++◌, length, get_or, refl, sym, ap, ◌∙◌, subst, arith, inl, inr, ◌⊎◌}
+use Rattle.std.specs.Prelude.{◌+ℤ◌}
+use Rattle.std.specs.List.{AllByRecursion}
+use Rattle.std.proofs.lemmas.Int.{ints}
+use Rattle.std.proofs.lemmas.Bool.{eq-eqb, ne_eqb, true≢false}
+use Rattle.audit_types.specs.Truth.{number_at}
+use Rattle.audit_types.specs.Direction.{is_pivot}
+use Rattle.audit_types.specs.Form.{IsReducedForm, pivot, pivot_entry}
+use Rattle.audit_types.specs.Numbers.{positive_not_zero}
+use Rattle.sum_basis.specs.Basis.{Echelon, IsFreeList}
+use Rattle.sum_basis.specs.Elimination.{IsSmallForm}
+use Rattle.sum_basis.specs.Growth.{IsLeftOver}
+use Rattle.sum_basis.specs.Sparse.{entry_at, row_of, IsListed}
+use Rattle.sum_basis.specs.Ties.{IsRowOf}
+use Rattle.sum_basis.specs.declared.sparse.FreeEntry.{FreeEntry}
+use Rattle.sum_basis.proofs.GrownForms.{grown_is, of_own}
+use Rattle.sum_basis.proofs.KeptForms.{row_among}
+use Rattle.sum_basis.proofs.OwnRows.{pivot_or_none}
+use Rattle.sum_basis.proofs.SparseRows.{elsewhere, first_value}
+use Rattle.sum_basis.proofs.SpansWithOneMore.{first_place}
+
+-- a column that is no pivot, by the test
+free_to : (rows : List (List ℤ)) (j : ℕ) → AllByRecursion (λ other. pivot other ≢ j) rows → is_pivot rows j ≡ false
+free_to [] j h = refl
+free_to (r ∷ rows) j h = ap (λ b. b || is_pivot rows j) (ne_eqb (pivot r) j h.0) ∙ free_to rows j h.1
+
+free_from : (rows : List (List ℤ)) (j : ℕ) → is_pivot rows j ≡ false → AllByRecursion (λ other. pivot other ≢ j) rows
+free_from [] j h = tt
+free_from (r ∷ rows) j h = go (pivot r == j) refl h
+  where
+    go : (b : Bool) → (pivot r == j) ≡ b → (b || is_pivot rows j) ≡ false → AllByRecursion (λ other. pivot other ≢ j) (r ∷ rows)
+    go true e h = absurd (true≢false h)
+    go false e h = ((λ same. true≢false (sym (eq-eqb (pivot r) j same) ∙ e)), free_from rows j h)
+
+-- where a row stands
+place_of : (rows : List (List ℤ)) (row : List ℤ) → IsRowOf row rows → (k : ℕ) × (k < length rows) × (get_or rows k [] ≡ row)
+place_of [] row among = absurd among
+place_of (r ∷ rows) row (inl same) = (0, omega arith, same)
+place_of (r ∷ rows) row (inr among) = let (k, within, is) = place_of rows row among in (suc k, omega arith, is)
+
+-- a row of the form, and its list, as they stand in the new one
+pub record StaysAt (old new : Echelon) (k : ℕ) : Type 0 where
+  pub place : ℕ
+  pub within : place < length new.rows
+  pub same : get_or new.rows place [] ≡ get_or old.rows k []
+  pub free : (entries : List FreeEntry) → IsFreeList old.n old.rows (get_or old.rows k []) entries →
+      IsFreeList new.n new.rows (get_or new.rows place []) entries
+
+module _ (old new : Echelon) (list : List FreeEntry) (k : ℕ) (d : FreeEntry) (f : IsSmallForm old.n old.rows) (left : IsLeftOver old list) (n : new.n ≡ old.n)
+    (reduced : IsReducedForm old.n (old.rows ++ row_of old.n list ∷ []) new.rows) (within : k < length old.rows)
+    (zero_there : number_at (get_or old.rows k []) (get_or list 0 d).place ≡ pos 0) where
+  abbrev joined : List ℤ
+  joined = row_of old.n list
+
+  abbrev row : List ℤ
+  row = get_or old.rows k []
+
+  zero_at_new : number_at row (pivot joined) ≡ pos 0
+  zero_at_new = ap (number_at row) (first_place old.n list d left.0.some left.0.listed) ∙ zero_there
+
+  pivots_are : (j : ℕ) → is_pivot new.rows j ≡ ((pivot joined == j) || is_pivot old.rows j)
+  pivots_are = (grown_is old.n joined left.0.primitive old.rows new.rows f.primitive f.echelon left.1 reduced).pivots
+
+  -- a column that is no pivot of the new form is none of the old one
+  still_free : (j : ℕ) → AllByRecursion (λ other. pivot other ≢ j) new.rows → AllByRecursion (λ other. pivot other ≢ j) old.rows
+  still_free j h = free_from old.rows j (go (pivot joined == j) (sym (pivots_are j) ∙ free_to new.rows j h))
+    where
+      go : (b : Bool) → (b || is_pivot old.rows j) ≡ false → is_pivot old.rows j ≡ false
+      go true e = absurd (true≢false e)
+      go false e = e
+
+  -- and back, if the new row's pivot stands elsewhere
+  now_free : (j : ℕ) → pivot joined ≢ j → AllByRecursion (λ other. pivot other ≢ j) old.rows → AllByRecursion (λ other. pivot other ≢ j) new.rows
+  now_free j apart h =
+      free_from new.rows j (pivots_are j ∙ ap (λ b. b || is_pivot old.rows j) (ne_eqb (pivot joined) j apart) ∙ free_to old.rows j h)
+
+  -- the list of the row has no entry at the new pivot
+  all_free : (from : ℕ) (entries : List FreeEntry) → IsListed from old.n entries → entry_at entries (pivot joined) ≡ pos 0 →
+      AllByRecursion (λ (e : FreeEntry). AllByRecursion (λ other. pivot other ≢ e.place) old.rows) entries →
+      AllByRecursion (λ (e : FreeEntry). AllByRecursion (λ other. pivot other ≢ e.place) new.rows) entries
+  all_free from [] listed none free = tt
+  all_free from (e ∷ entries) listed none free = (now_free e.place apart free.0, all_free (e.place + 1) entries listed.3 rest free.1)
+    where
+      apart : pivot joined ≢ e.place
+      apart same = listed.2 (sym (first_value from old.n e entries listed) ∙ ap (entry_at (e ∷ entries)) (sym same) ∙ none)
+
+      rest : entry_at entries (pivot joined) ≡ pos 0
+      rest = let first = elsewhere e (pivot joined) (λ same. apart (sym same)) in omega (arith, ints)
+
+  list_stays : (entries : List FreeEntry) → IsFreeList old.n old.rows row entries → IsFreeList old.n new.rows row entries
+  list_stays entries h = record {
+    listed = h.listed;
+    free = all_free 0 entries h.listed (at_new (pivot_or_none old.rows (pivot joined))) h.free;
+    is = λ j none. h.is j (still_free j none);
+  }
+    where
+      at_new : ((m : ℕ) × (m < length old.rows) × (pivot (get_or old.rows m []) ≡ pivot joined)) ⊎
+          AllByRecursion (λ other. pivot other ≢ pivot joined) old.rows → entry_at entries (pivot joined) ≡ pos 0
+      at_new (inl found) =
+          let other = get_or old.rows found.0 [] in
+          let none = of_own (λ r. number_at joined (pivot r) ≡ pos 0) old.rows other left.1 (row_among old.rows found.0 found.1) in
+          absurd (positive_not_zero (pivot_entry joined) left.0.primitive.leading (ap (number_at joined) (sym found.2) ∙ none))
+      at_new (inr none) = h.is (pivot joined) none ∙ zero_at_new
+
+  pub row_stays : StaysAt old new k
+  row_stays =
+      let (made, among, lined) = (grown_is old.n joined left.0.primitive old.rows new.rows f.primitive f.echelon left.1 reduced).row k within in
+      let (place, there, is) = place_of new.rows made among in
+      let same : get_or new.rows place [] ≡ row = is ∙ lined.stays zero_at_new in
+      record {
+        place = place;
+        within = there;
+        same = same;
+        free = λ entries h. subst (λ m. IsFreeList m new.rows (get_or new.rows place []) entries) (sym n)
+            (subst (λ r. IsFreeList old.n new.rows r entries) (sym same) (list_stays entries h));
+      }
