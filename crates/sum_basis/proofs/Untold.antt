@@ -97,13 +97,13 @@ zeros_spanned rows n q past = record {
 }
 
 -- the form's rows with a list that isn't empty
-with_some : (form : Echelon) (new : List FreeEntry) → 0 < length new → with_new form new ≡ form.rows ++ row_of form.n new ∷ []
+pub with_some : (form : Echelon) (new : List FreeEntry) → 0 < length new → with_new form new ≡ form.rows ++ row_of form.n new ∷ []
 with_some form [] some = absurd (omega arith)
 with_some form (e ∷ new) some = refl
 
 module _ (form : Echelon) (asked : List ℤ) (grown : Echelon) (grows : GrowsTo form asked grown) where
   -- what is left of the row asked, or nothing
-  left_over : (left : Option (Vec FreeEntry Global)) → LeavesList form asked left → IsLeftOverOrNone form (items_of left)
+  pub left_over : (left : Option (Vec FreeEntry Global)) → LeavesList form asked left → IsLeftOverOrNone form (items_of left)
   left_over None leaves = inl refl
   left_over (Some list) leaves = inr (leaves.0, leaves.1.zeros)
 
