@@ -11,4 +11,5 @@ pub mod Holding
 pub mod Ties
 pub mod Asking
 pub mod Points
+pub mod Keys
 pub mod Reach
