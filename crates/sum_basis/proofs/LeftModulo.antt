@@ -32,29 +32,33 @@ left_lifted z k m is =
     left_same z (pos m) (m % modulus)
     (neg_ℤ (pos k), let minus = neg-times (pos k) (pos modulus) in let product = pos-*ℤ-pos k modulus in omega (arith, ints)) (left_rem m)
 
-module _ (x y : ℤ) (a b : ℕ) (x_is : IsLeftModulo x a) (y_is : IsLeftModulo y b) where
+-- what is left is the same
+pub left_is : (x : ℤ) (left : ℕ) → IsLeftModulo x left → IsSame modulus x (pos left)
+left_is x left is = is.1
+
+module _ (x y : ℤ) (a b : ℕ) (x_is : IsSame modulus x (pos a)) (y_is : IsSame modulus y (pos b)) where
   -- of a product
   pub left_product : (left : ℕ) → IsLeftModulo (pos (a * b)) left → IsLeftModulo (x *ℤ y) left
   left_product left is =
-      (is.0, same_then modulus (x *ℤ y) (pos a *ℤ pos b) (pos left) (same_products modulus x (pos a) y (pos b) x_is.1 y_is.1)
+      (is.0, same_then modulus (x *ℤ y) (pos a *ℤ pos b) (pos left) (same_products modulus x (pos a) y (pos b) x_is y_is)
       (product_is modulus a b left is.1))
 
   -- of a product and one number more
-  pub left_product_plus : (z : ℤ) (c left : ℕ) → IsLeftModulo z c → IsLeftModulo (pos (a * b + c)) left → IsLeftModulo (z +ℤ x *ℤ y) left
+  pub left_product_plus : (z : ℤ) (c left : ℕ) → IsSame modulus z (pos c) → IsLeftModulo (pos (a * b + c)) left → IsLeftModulo (z +ℤ x *ℤ y) left
   left_product_plus z c left z_is is =
       left_same (z +ℤ x *ℤ y) (pos (a * b + c)) left
       (same_then modulus (z +ℤ x *ℤ y) (pos c +ℤ pos a *ℤ pos b) (pos (a * b + c))
-      (same_plus modulus z (pos c) (x *ℤ y) (pos a *ℤ pos b) z_is.1 (same_products modulus x (pos a) y (pos b) x_is.1 y_is.1))
+      (same_plus modulus z (pos c) (x *ℤ y) (pos a *ℤ pos b) z_is (same_products modulus x (pos a) y (pos b) x_is y_is))
       (same_equal modulus (pos c +ℤ pos a *ℤ pos b) (pos (a * b + c)) (let product = pos-*ℤ-pos a b in omega (arith, ints)))) is
 
 -- of a product less another one
-pub left_between : (x y u v : ℤ) (a b c d left : ℕ) → IsLeftModulo x a → IsLeftModulo y b → IsLeftModulo u c → IsLeftModulo v d →
-    IsLeftModulo (pos (a * b) -ℤ pos (c * d)) left → IsLeftModulo (x *ℤ y -ℤ u *ℤ v) left
+pub left_between : (x y u v : ℤ) (a b c d left : ℕ) → IsSame modulus x (pos a) → IsSame modulus y (pos b) → IsSame modulus u (pos c) →
+    IsSame modulus v (pos d) → IsLeftModulo (pos (a * b) -ℤ pos (c * d)) left → IsLeftModulo (x *ℤ y -ℤ u *ℤ v) left
 left_between x y u v a b c d left x_is y_is u_is v_is is =
     left_same (x *ℤ y -ℤ u *ℤ v) (pos (a * b) -ℤ pos (c * d)) left
     (same_then modulus (x *ℤ y -ℤ u *ℤ v) (pos a *ℤ pos b -ℤ pos c *ℤ pos d) (pos (a * b) -ℤ pos (c * d))
-    (same_minus modulus (x *ℤ y) (pos a *ℤ pos b) (u *ℤ v) (pos c *ℤ pos d) (same_products modulus x (pos a) y (pos b) x_is.1 y_is.1)
-    (same_products modulus u (pos c) v (pos d) u_is.1 v_is.1))
+    (same_minus modulus (x *ℤ y) (pos a *ℤ pos b) (u *ℤ v) (pos c *ℤ pos d) (same_products modulus x (pos a) y (pos b) x_is y_is)
+    (same_products modulus u (pos c) v (pos d) u_is v_is))
     (same_equal modulus (pos a *ℤ pos b -ℤ pos c *ℤ pos d) (pos (a * b) -ℤ pos (c * d))
     (let first = pos-*ℤ-pos a b in let second = pos-*ℤ-pos c d in omega (arith, ints)))) is
 
@@ -75,3 +79,10 @@ left_negated a b c d rest back left whole back_is is =
         let product = pos-*ℤ-pos d modulus in
         let sum = ap (λ k. k * d) whole in
         omega (arith, ints)
+
+-- products of natural numbers that are the same
+pub same_naturals : (a b c d : ℕ) → IsSame modulus (pos a) (pos b) → IsSame modulus (pos c) (pos d) → IsSame modulus (pos (a * c)) (pos (b * d))
+same_naturals a b c d first second =
+    same_then modulus (pos (a * c)) (pos a *ℤ pos c) (pos (b * d)) (same_equal modulus (pos (a * c)) (pos a *ℤ pos c) (sym (pos-*ℤ-pos a c)))
+    (same_then modulus (pos a *ℤ pos c) (pos b *ℤ pos d) (pos (b * d)) (same_products modulus (pos a) (pos b) (pos c) (pos d) first second)
+    (same_equal modulus (pos b *ℤ pos d) (pos (b * d)) (pos-*ℤ-pos b d)))
