@@ -18,6 +18,13 @@ product_more points j product next is more =
     (left_same (pos (product_before points j * second)) (pos (product * second)) next
     (same_naturals (product_before points j) product second second is.1 (same_equal modulus (pos second) (pos second) refl)) more)
 
+-- the inverse of what is left of a product is its own
+pub inverse_of_all : (product left inverse : ℕ) → IsLeftModulo (pos product) left → IsLeftModulo (pos (left * inverse)) 1 →
+    IsLeftModulo (pos (product * inverse)) 1
+inverse_of_all product left inverse is one =
+    left_same (pos (product * inverse)) (pos (left * inverse)) 1
+    (same_naturals product left inverse inverse is.1 (same_equal modulus (pos inverse) (pos inverse) refl)) one
+
 module _ (points : List Point) (j product inverse own : ℕ) (is : IsLeftModulo (pos (product_before points j)) product)
     (whole : IsLeftModulo (pos (product_before points (j + 1) * inverse)) 1) (own_is : IsLeftModulo (pos (product * inverse)) own) where
   whole_is : IsLeftModulo (pos ((product_before points j * (get_or points j no_point).second) * inverse)) 1

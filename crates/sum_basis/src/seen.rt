@@ -4,6 +4,7 @@ ghost use Rattle.audit_types.specs.Words.{has_bit};
 ghost use Rattle.sum_basis.specs.Keys.{IsSeen};
 
 /// The bits of keys. Those of a key that wasn't seen may all be set too, though seldom.
+#[derive(Drop)]
 pub(crate) struct Seen {
     low: [u64; 1024],
     high: [u64; 1024],

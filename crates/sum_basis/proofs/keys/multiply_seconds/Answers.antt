@@ -13,3 +13,6 @@ loop-j-preserved c = record {
       (let inside : c.loop-j.j < length c.loop-j.products = omega arith in rw get_or-set_same c.loop-j.invariant.product);
   product = product_more c.args.points.now c.loop-j.j c.loop-j.product _ c.loop-j.invariant.product c.times-product.ensures;
 }
+
+pub returns-clause-before : goal.returns-clause-before
+returns-clause-before c = λ j below. c.loop-j.invariant.before j (let ends = c.loop-j-test.false in omega arith)
