@@ -1,4 +1,4 @@
-use Rattle.std.proofs.Common.{◌≡◌, ◌≢◌, ◌<◌, get_or, sym, subst, arith, below_more}
+use Rattle.std.proofs.Common.{◌≡◌, ◌≢◌, ◌<◌, get_or, refl, sym, subst, arith, below_more}
 use Rattle.std.specs.Prelude.{true, false}
 use Rattle.std.proofs.lemmas.Bool.{false≢true}
 use Rattle.sum_basis.specs.Keys.{IsSeen}
@@ -7,10 +7,10 @@ use Rattle.sum_basis.proofs.telling.are_askers_apart.Goals as goal
 pub loop-q-preserved : goal.loop-q-preserved
 loop-q-preserved c = record {
   apart = below_more _ _ c.loop-q.invariant.apart
-      (λ i before alone single same. c.adds_asker.ensures.unseen c.if-adds_asker.true single
+      (λ i before alone single same. c.if-not-adds_asker.ensures.unseen refl single
       (subst (IsSeen c.loop-q.seen) same (c.loop-q.invariant.seen i before alone)));
   seen = below_more _ _ (λ i before alone. c.adds_asker.ensures.stay (get_or c.args.keys.now i 0) (c.loop-q.invariant.seen i before alone))
-      (λ single. c.adds_asker.ensures.added c.if-adds_asker.true single);
+      (λ single. c.if-not-adds_asker.ensures.added refl single);
 }
 
 pub returns-clause-apart : goal.returns-clause-apart
