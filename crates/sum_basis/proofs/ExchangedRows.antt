@@ -3,7 +3,7 @@
 -- If a row lies in the span with another one, and not without, the two can change places. So a set's row lies in the span with a unit row exactly if
 -- the unit row lies in that with what the form leaves of the set's; and that is no larger than the rows of the form.
 use Rattle.std.proofs.Common.{◌≡◌, ◌≢◌, ℕ, ◌<◌, ◌≤◌, Bool, true, false, not, ◌||◌, ◌==◌, ℤ, pos, List, [], ◌∷◌, ◌++◌, length, get_or, refl, sym, ap, ◌∙◌, subst, arith, inl, inr}
-use Rattle.std.specs.Prelude.{◌↔◌, ◌+ℤ◌, ◌*ℤ◌, ◌<ℤ◌, neg_ℤ, unsigned_abs, Vec, Some, IsTrue}
+use Rattle.std.specs.Prelude.{◌↔◌, ◌+ℤ◌, ◌*ℤ◌, ◌<ℤ◌, neg_ℤ, unsigned_abs, Option, Vec, Some, IsTrue}
 use Rattle.std.specs.declared.alloc.Global.{Global}
 use Rattle.std.specs.List.{AllByRecursion, list_all}
 use Rattle.std.proofs.lemmas.Int.{ints}
@@ -35,7 +35,7 @@ use Rattle.audit_types.specs.RowNumbers.{all_by_number, all_zeros_at, length-set
 use Rattle.sum_basis.specs.CombinedRows.{length-combine}
 use Rattle.sum_basis.proofs.Sizes.{within_at}
 use Rattle.sum_basis.proofs.KeptForms.{row_among}
-use Rattle.sum_basis.proofs.OwnRows.{pivot_or_none, not_in_form, at_new_pivot, lone_in_form, lone_with_new, lone_if_nothing, rest, rest_is, rest_zeros, rest_spanned, unit_zeros}
+use Rattle.sum_basis.proofs.OwnRows.{pivot_or_none, not_in_form, at_new_pivot, lone_if_nothing, rest, rest_is, rest_zeros, rest_spanned, unit_zeros}
 use Rattle.sum_basis.proofs.SpansWithOneMore.{IsOnLine, on_line, alone, one_of_line, by_some}
 use Rattle.sum_basis.proofs.Reduction.{span_line, primitive_exists}
 use Rattle.sum_basis.proofs.UnitRowsInSpan.{unit_in_span, unit_here, unit_elsewhere}
@@ -142,35 +142,17 @@ module _ (form : Echelon) (f : IsSmallForm form.n form.rows) (several set but : 
 
 -- ---- unit rows
 
-module _ (form : Echelon) (f : IsSmallForm form.n form.rows) (k : ℕ) (within : k < length form.rows) where
-  abbrev row : List ℤ
-  row = get_or form.rows k []
-
-  primitive : IsPrimitive form.n row
-  primitive = All-from_recursion (IsPrimitive form.n) form.rows f.primitive k [] within
-
-  inside : pivot row < form.n
-  inside = pivot_below form.n row primitive
-
-  -- the unit row at the pivot of a row with another entry isn't in the span of the form
-  pub not_known : (place : ℕ) → place ≢ pivot row → number_at row place ≢ pos 0 → ¬ (InSpan form.rows (unit_row form.n (pivot row)))
-  not_known place apart some span = some (lone_in_form form.n form.rows row f (row_among form.rows k within) inside span place apart)
-
-  -- if the row is 0 at the first place of what was left of another one, the unit row is in the span with that only if it is without
-  pub known_if_after : (list : Vec FreeEntry Global) → IsLeftOver form list.items → number_at row (pivot (row_of form.n list.items)) ≡ pos 0 →
-      SpansAfter form (Some list) (unit_row form.n (pivot row)) → InSpan form.rows (unit_row form.n (pivot row))
-  known_if_after list over none_there span =
-      let r = row_of form.n list.items in
-      unit_in_span form.n form.rows row primitive (All-from_recursion (InSpan form.rows) form.rows (own form.rows) k [] within)
-      (lone_with_new form.n form.rows r row f over.1 over.0.primitive.leading (row_among form.rows k within) inside span none_there
-      (All-from_recursion (λ other. number_at r (pivot other) ≡ pos 0) form.rows over.1 k [] within))
+-- of the unit rows at pivots that aren't among these, those in the span with what was left are in that of the form
+abbrev pub NoneNewAtPivots : Echelon → Option (Vec FreeEntry Global) → List ℕ → Type 0
+NoneNewAtPivots form left but = (j : ℕ) → j < length form.rows → has_row but (pivot (get_or form.rows j [])) ≡ false →
+    SpansAfter form left (unit_row form.n (pivot (get_or form.rows j []))) → InSpan form.rows (unit_row form.n (pivot (get_or form.rows j [])))
 
 module _ (form : Echelon) (f : IsSmallForm form.n form.rows) (list : Vec FreeEntry Global) (over : IsLeftOver form list.items) where
   abbrev new_row : List ℤ
   new_row = row_of form.n list.items
 
   -- the first place of what was left is the pivot of no row
-  no_pivot_there : (rows : List (List ℤ)) → IsZeroAtPivots rows new_row → AllByRecursion (λ other. pivot other ≢ pivot new_row) rows
+  pub no_pivot_there : (rows : List (List ℤ)) → IsZeroAtPivots rows new_row → AllByRecursion (λ other. pivot other ≢ pivot new_row) rows
   no_pivot_there [] zeros = tt
   no_pivot_there (r ∷ rows) zeros = (
     λ same. positive_not_zero (pivot_entry new_row) over.0.primitive.leading (ap (number_at new_row) (sym same) ∙ zeros.0),
@@ -186,10 +168,8 @@ module _ (form : Echelon) (f : IsSmallForm form.n form.rows) (list : Vec FreeEnt
   not_known_there = not_in_form form.n (pivot new_row) form.rows f (pivot_below form.n new_row over.0.primitive) (no_pivot_there form.rows over.1)
 
   -- if no unit row at a pivot that isn't among these is new, only that at the first place is
-  pub only_new : (but : List ℕ) → ((j : ℕ) → j < length form.rows → has_row but (pivot (get_or form.rows j [])) ≡ false →
-      SpansAfter form (Some list) (unit_row form.n (pivot (get_or form.rows j []))) → InSpan form.rows (unit_row form.n (pivot (get_or form.rows j [])))) →
-      (i : ℕ) → i < form.n → has_row but i ≡ false → SpansAfter form (Some list) (unit_row form.n i) → ¬ (InSpan form.rows (unit_row form.n i)) →
-      pivot new_row ≡ i
+  pub only_new : (but : List ℕ) → NoneNewAtPivots form (Some list) but → (i : ℕ) → i < form.n → has_row but i ≡ false →
+      SpansAfter form (Some list) (unit_row form.n i) → ¬ (InSpan form.rows (unit_row form.n i)) → pivot new_row ≡ i
   only_new but none i below out span new = elim (pivot_or_none form.rows i) [
     | inl found ↦ absurd (new (subst (λ p. InSpan form.rows (unit_row form.n p)) found.2 (none found.0 found.1 (ap (has_row but) found.2 ∙ out)
         (subst (λ p. SpansAfter form (Some list) (unit_row form.n p)) (sym found.2) span))))

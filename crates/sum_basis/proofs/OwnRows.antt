@@ -1,20 +1,17 @@
 -- Which unit rows may lie in the span of a form with a row that is 0 at its pivots: those at the form's pivots, and that at the new row's.
--- One at a pivot does only if its row has no other entry, or one at the new row's pivot.
 use Rattle.std.proofs.Common.{◌≡◌, ◌≢◌, ℕ, suc, ◌<◌, false, ℤ, pos, List, [], ◌∷◌, ◌++◌, ◌⊎◌, length, get_or, refl, sym, ap, ◌∙◌, arith, subst, inl, inr}
-use Rattle.std.specs.Prelude.{◌+ℤ◌, ◌*ℤ◌, neg_ℤ, ◌<ℤ◌, Option, None, Some, Vec}
+use Rattle.std.specs.Prelude.{◌+ℤ◌, ◌*ℤ◌, neg_ℤ, Option, None, Some, Vec}
 use Rattle.std.specs.declared.alloc.Global.{Global}
 use Rattle.std.specs.List.{AllByRecursion}
 use Rattle.std.proofs.lemmas.Int.{ints}
 use Rattle.std.proofs.lemmas.Bool.{cases_eq}
-use Rattle.std.proofs.Math.IntN.{*ℤ-zero, *ℤ_comm, zero-*ℤ}
+use Rattle.std.proofs.Math.IntN.{*ℤ-zero, *ℤ_comm}
 use Rattle.std.proofs.lemmas.List.Elements.{All-from_recursion}
 use Rattle.audit_types.specs.Truth.{number_at}
 use Rattle.audit_types.specs.Form.{InSpan, IsPrimitive, pivot, pivot_entry}
 use Rattle.audit_types.specs.FormRows.{pivot_below}
 use Rattle.audit_types.specs.Rows.{has_row}
-use Rattle.audit_types.specs.ListLaws.{all-front}
-use Rattle.audit_types.specs.Numbers.{positive_not_zero}
-use Rattle.audit_types.specs.Products.{neg-times, one-times, zero_factor}
+use Rattle.audit_types.specs.Products.{neg-times, one-times}
 use Rattle.sum_basis.specs.Basis.{Echelon, unit_row, IsFreeList}
 use Rattle.sum_basis.specs.Combination.{combine}
 use Rattle.sum_basis.specs.CombinedRows.{number_at-combine}
@@ -97,36 +94,6 @@ lone_in_form n form row f among inside spanned =
     (spans_from form (rest n form form f (own form) row among inside spanned) (rest_spanned n form form f (own form) row among inside spanned))
     (rest_zeros n form form f (own form) row among inside spanned))
 
--- one whose pivot's unit row is in the span of the form with a new row is lone, or has something at the new row's pivot
-module _ (n : ℕ) (form : List (List ℤ)) (r row : List ℤ) (f : IsSmallForm n form) (zeros : IsZeroAtPivots form r) (leading : pos 0 <ℤ pivot_entry r)
-    (among : IsRowOf row form) (inside : pivot row < n) (spanned : InSpan (form ++ r ∷ []) (unit_row n (pivot row)))
-    (none_there : number_at row (pivot r) ≡ pos 0)
-    (r_there : number_at r (pivot row) ≡ pos 0) where
-  abbrev pub both : List (List ℤ)
-  both = form ++ r ∷ []
-
-  pub of_form : AllByRecursion (InSpan both) form
-  of_form = (all-front (InSpan both) form r (own both)).0
-
-  abbrev pub d : List ℤ
-  d = rest n form both f of_form row among inside spanned
-
-  pub lone_with_new : IsLone row
-  lone_with_new =
-      let line = on_line r d (alone form r d f.echelon (leads_from n form f.primitive) (rest_zeros n form both f of_form row among inside spanned) zeros
-      (rest_spanned n form both f of_form row among inside spanned)) in
-      let apart : pivot r ≢ pivot row = λ same. positive_not_zero (pivot_entry r) leading (ap (number_at r) same ∙ r_there) in
-      let above : pos 0 <ℤ pos line.multiple = let m = line.positive in omega (arith, ints) in
-      let nothing : number_at d (pivot r) ≡ pos 0 = rest_is n form both f of_form row among inside spanned (pivot r)
-      ∙ ap (λ z. pivot_entry row *ℤ z +ℤ neg_ℤ (pos 1) *ℤ number_at row (pivot r)) (unit_elsewhere n (pivot row) (pivot r) apart)
-      ∙ ap (λ z. pivot_entry row *ℤ pos 0 +ℤ neg_ℤ (pos 1) *ℤ z) none_there
-      ∙ ap (λ z. z +ℤ neg_ℤ (pos 1) *ℤ pos 0) (*ℤ-zero (pivot_entry row)) ∙ ap (λ z. pos 0 +ℤ z) (*ℤ-zero (neg_ℤ (pos 1))) in
-      let by_none : line.by ≡ pos 0 = zero_factor line.by (pivot_entry r)
-      (sym (line.is (pivot r)) ∙ ap (λ z. pos line.multiple *ℤ z) nothing ∙ *ℤ-zero (pos line.multiple)) leading in
-      lone_if_nothing n form both f of_form row among inside spanned
-      (λ j. zero_factor (number_at d j) (pos line.multiple)
-      (*ℤ_comm (number_at d j) (pos line.multiple) ∙ line.is j ∙ ap (λ z. z *ℤ number_at r j) by_none ∙ zero-*ℤ (number_at r j)) above)
-
 -- a number is the pivot of a row of the form, or of none
 pub pivot_or_none : (form : List (List ℤ)) (i : ℕ) → ((k : ℕ) × (k < length form) × (pivot (get_or form k []) ≡ i)) ⊎
     AllByRecursion (λ other. pivot other ≢ i) form
@@ -172,16 +139,6 @@ module _ (form : Echelon) (f : IsSmallForm form.n form.rows) (k : ℕ) (within :
       ¬ (SpansAfter form None (unit_row form.n (pivot row)))
   not_alone entries free some span =
       not_lone form.n form.rows k entries within free some (lone_in_form form.n form.rows row f (row_among form.rows k within) inside span)
-
-  -- nor in that with what was left of another row, if it has nothing at that row's pivot
-  pub not_alone_after : (entries : List FreeEntry) → IsFreeList form.n form.rows row entries → length entries ≢ 0 →
-      (list : Vec FreeEntry Global) → IsLeftOver form list.items → number_at row (pivot (row_of form.n list.items)) ≡ pos 0 →
-      ¬ (SpansAfter form (Some list) (unit_row form.n (pivot row)))
-  not_alone_after entries free some list over none_there span =
-      let r = row_of form.n list.items in
-      not_lone form.n form.rows k entries within free some
-      (lone_with_new form.n form.rows r row f over.1 over.0.primitive.leading (row_among form.rows k within) inside span none_there
-      (All-from_recursion (λ other. number_at r (pivot other) ≡ pos 0) form.rows over.1 k [] within))
 
 -- the unit row at no pivot of the form that isn't shared is in the span
 abbrev pub NoneAtPivots : Echelon → Option (Vec FreeEntry Global) → List ℕ → Type 0

@@ -6,9 +6,9 @@ ghost use Rattle.sum_basis.specs.Basis.{unit_row};
 ghost use Rattle.sum_basis.specs.Elimination.{IsSmallForm};
 ghost use Rattle.sum_basis.specs.Growth.{IsLeftOver, SpansAfter};
 
+use crate::alone::is_alone_anew;
 use crate::elimination::write_set;
 use crate::form::{Form, Left};
-use crate::guarding::spans_unit_after;
 use crate::sparse::FreeEntry;
 use audit_types::{MOST_WIDTH, NoMemory, RowSet};
 
@@ -28,49 +28,20 @@ fn not_asking(several: &RowSet, set: &RowSet) -> RowSet
     rows
 }
 
-// Whether row k of the form isn't 0 at the first place of what the form left of another row. Only then is its pivot's unit row in the span of both,
-// and not in that of the form.
-fn may_be_new(form: &Form, left: &Option<Vec<FreeEntry>>, k: u16) -> bool
-    requires form { IsSmallForm form.now.n form.now.rows }
-    requires k { k < length form.now.rows }
-    requires left { IfSome left.now (λ list. IsLeftOver form.now list.items) }
-    ensures some { IsTrue result → ¬ (InSpan form.now.rows (unit_row form.now.n (pivot (slice_index_or form.now.rows k [])))) }
-    ensures none { ¬ (IsTrue result) → SpansAfter form.now left.now (unit_row form.now.n (pivot (slice_index_or form.now.rows k []))) → InSpan form.now.rows (unit_row form.now.n (pivot (slice_index_or form.now.rows k []))) }
-{
-    match left {
-        Some(list) => form.entry(k, list[0].place) != 0,
-        None => false,
-    }
-}
-
 // Whether the unit row of some row that isn't in the set lies in the span of the form with what it left of another row, and not in that of the form.
 // Only those at the pivots can.
-fn spans_new_after(
-    form: &Form,
-    left: &Option<Vec<FreeEntry>>,
-    row: &mut [i128],
-    but: &RowSet,
-) -> bool
-    requires length { length row.old ≡ form.now.n }
+fn spans_new_after(form: &Form, left: &Option<Vec<FreeEntry>>, but: &RowSet) -> bool
     requires but { but.now.n ≡ form.now.n }
     requires left { IfSome left.now (λ list. IsLeftOver form.now list.items) }
     ensures { IsTrue result ↔ SpansNewAfter form.now left.now but.now.list }
 {
-    let n = but.n();
     for k in 0..form.rank() {
-        let place = form.pivot(k);
-        if !but.has(place)
-            && may_be_new(form, left, k)
-            && spans_unit_after(form, left, row, n, place)
-        {
+        if !but.has(form.pivot(k)) && is_alone_anew(form, left, k) {
             return true;
         }
     }
     match left {
-        Some(list) => {
-            let place = list[0].place;
-            !but.has(place) && spans_unit_after(form, left, row, n, place)
-        }
+        Some(list) => list.len() == 1 && !but.has(list[0].place),
         None => false,
     }
 }
@@ -98,6 +69,6 @@ pub(crate) fn spans_with_one(form: &Form, set: &RowSet, several: &RowSet) -> Res
             Ok(!asking.is_empty())
         }
         Left::Large => Ok(false),
-        Left::Entries(list) => Ok(spans_new_after(form, &Some(list), row, &but)),
+        Left::Entries(list) => Ok(spans_new_after(form, &Some(list), &but)),
     }
 }

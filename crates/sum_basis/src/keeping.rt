@@ -221,7 +221,7 @@ fn tell_narrow_kept(
     ensures told { (asked : List ℤ) → IsWeighed form.now asked weighed.now → IfOk result (ForeseesApart form.now asked shared.now.list (map (λ s. s.list) apart.now)) }
     ensures kept { AllByRecursion (IsKeptOf form.now) kept.new.items }
 {
-    if has_own_unit(form, weighed, row, shared) {
+    if has_own_unit(form, weighed, shared) {
         return Ok(Prospect::Fixing);
     }
     keep_all(kept, apart)?;

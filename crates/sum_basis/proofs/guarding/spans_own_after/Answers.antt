@@ -1,17 +1,17 @@
-use Rattle.std.proofs.Common.{◌≡◌, ◌<◌, false, [], get_or, sym, ap, ◌∙◌, subst, arith, inl, inr}
+use Rattle.std.proofs.Common.{◌≡◌, false, [], length, get_or, sym, ap, ◌∙◌, subst, arith, inl, inr}
 use Rattle.std.specs.Prelude.{not}
-use Rattle.std.proofs.lemmas.Bool.{cases_eq, false≢true}
+use Rattle.std.proofs.lemmas.Bool.{cases_eq, false≢true, eqb-true, eq-eqb, not-true}
 use Rattle.audit_types.specs.Form.{pivot}
-use Rattle.audit_types.specs.FormRows.{pivot_below}
 use Rattle.audit_types.specs.Rows.{has_row}
 use Rattle.sum_basis.specs.Basis.{unit_row}
-use Rattle.sum_basis.specs.Growth.{SpansAfter}
+use Rattle.sum_basis.specs.Growth.{SpansAfter, SpansOwnAfter}
 use Rattle.sum_basis.specs.Sparse.{row_of}
 use Rattle.sum_basis.specs.declared.sparse.FreeEntry.{FreeEntry}
 use Rattle.sum_basis.proofs.SpansWithOneMore.{first_place}
-use Rattle.sum_basis.proofs.OwnRows.{none_at_all, only_at_left}
+use Rattle.sum_basis.proofs.OwnRows.{none_at_all}
+use Rattle.sum_basis.proofs.AloneRows.{own_at_left}
 use Rattle.sum_basis.proofs.guarding.spans_own_after.Goals as goal
-use Rattle.sum_basis.proofs.guarding.spans_own_after.Goals.{else-not-has-via-then-not-has+then-may_be_alone+else-spans_unit_after, else-not-has-via-then-not-has+else-may_be_alone, else-not-has-via-else-not-has}
+use Rattle.sum_basis.proofs.guarding.spans_own_after.Goals.{else-not-has-via-then-not-has+else-is_alone_after, else-not-has-via-else-not-has}
 
 pub loop-k-preserved : goal.loop-k-preserved
 loop-k-preserved c = λ j before mine span.
@@ -19,61 +19,48 @@ loop-k-preserved c = λ j before mine span.
     let k = c.loop-k.k in
     elim (cases_eq j k) [
       | inl same ↦
-          let at = c.pivot-place.ensures.pivot in
+          let at = c.pivot.ensures.pivot in
           let own : has_row c.args.shared.now.list (pivot (get_or form.rows k [])) ≡ false =
           subst (λ i. has_row c.args.shared.now.list (pivot (get_or form.rows i [])) ≡ false) same mine in
           let here : SpansAfter form c.args.left.now (unit_row form.n (pivot (get_or form.rows k []))) =
           subst (λ i. SpansAfter form c.args.left.now (unit_row form.n (pivot (get_or form.rows i [])))) same span in
           elim c.else-not-has.branch [
-            | else-not-has-via-then-not-has+then-may_be_alone+else-spans_unit_after w ↦
-                false≢true (sym w.if-spans_unit_after.false ∙ w.spans_unit_after.ensures.1
-                (subst (λ p. SpansAfter form c.args.left.now (unit_row form.n p)) (sym at) here))
-            | else-not-has-via-then-not-has+else-may_be_alone w ↦
-                w.may_be_alone.ensures (λ yes. false≢true (sym w.if-may_be_alone.false ∙ yes)) here
+            | else-not-has-via-then-not-has+else-is_alone_after w ↦
+                false≢true (sym w.if-is_alone_after.false ∙ w.is_alone_after.ensures.1 here)
             | else-not-has-via-else-not-has w ↦
                 false≢true (sym own ∙ ap (has_row c.args.shared.now.list) (sym at) ∙ sym c.has.ensures ∙ w.if-not-has.false)
           ]
       | inr other ↦ c.loop-k.invariant j (let b = before in omega (arith, other)) mine span
     ]
 
-pub returns-then-not-has-2 : goal.returns-then-not-has-2
-returns-then-not-has-2 c =
+pub returns-then-len-eq1 : goal.returns-then-len-eq1
+returns-then-len-eq1 c =
     let form = c.args.form.now in
     let list = c.in-Some.list in
     let over = rw c.in-Some.is at c.requires.left in
     let rank = c.rank-k-end.ensures.rank in
     let place : pivot (row_of form.n list.items) ≡ c.index.result.now.place =
     first_place form.n list.items c.index.result.now over.0.some over.0.listed ∙ ap (λ (e : FreeEntry). e.place) (sym c.index.ensures) in
-    let spans = c.spans_unit_after-then-not-has-2.ensures in (
-      λ yes. (
-        c.index.result.now.place,
-        subst (λ p. p < form.n) place (pivot_below form.n (row_of form.n list.items) over.0.primitive),
-        sym c.has-in-Some.ensures ∙ c.if-not-has-2.true,
-        spans.0 yes,
-      ),
-      λ found.
-          let is = only_at_left form c.rank-k-end.ensures.form c.args.shared.now.list found.0 found.1 found.2 list over
-          (λ j below mine span. c.loop-k.invariant j (let ends = c.loop-k-test.false in omega arith) mine
-          (subst (λ o. SpansAfter form o (unit_row form.n (pivot (get_or form.rows j [])))) (sym c.in-Some.is) span))
-          (subst (λ o. SpansAfter form o (unit_row form.n found.0)) c.in-Some.is found.3) in
-          spans.1 (subst (λ p. SpansAfter form c.args.left.now (unit_row form.n p)) (sym is ∙ place) found.3),
+    let told = own_at_left form c.rank-k-end.ensures.form list over c.args.shared.now.list (λ j below mine span.
+    c.loop-k.invariant j (let ends = c.loop-k-test.false in omega arith) mine
+    (subst (λ o. SpansAfter form o (unit_row form.n (pivot (get_or form.rows j [])))) (sym c.in-Some.is) span)) in
+    let one : length list.items ≡ 1 = omega (arith, list.ok.0, c.len.ensures, c.if-len-eq1.true) in
+    let at = c.has-then-len-eq1.ensures ∙ ap (has_row c.args.shared.now.list) (sym place) in (
+      λ yes. subst (λ o. SpansOwnAfter form o c.args.shared.now.list) (sym c.in-Some.is) (told.1 (one, sym at ∙ not-true c.has-then-len-eq1.result yes)),
+      λ found. ap not (at ∙ (told.0 (subst (λ o. SpansOwnAfter form o c.args.shared.now.list) c.in-Some.is found)).1),
     )
 
-pub returns-else-not-has-2 : goal.returns-else-not-has-2
-returns-else-not-has-2 c =
+pub returns-else-len-eq1 : goal.returns-else-len-eq1
+returns-else-len-eq1 c =
     let form = c.args.form.now in
     let list = c.in-Some.list in
     let over = rw c.in-Some.is at c.requires.left in
     let rank = c.rank-k-end.ensures.rank in
-    let place : pivot (row_of form.n list.items) ≡ c.index.result.now.place =
-    first_place form.n list.items c.index.result.now over.0.some over.0.listed ∙ ap (λ (e : FreeEntry). e.place) (sym c.index.ensures) in (
-      λ yes. absurd (false≢true (sym (ap not c.if-not-has-2.false) ∙ yes)),
-      λ found.
-          let is = only_at_left form c.rank-k-end.ensures.form c.args.shared.now.list found.0 found.1 found.2 list over
-          (λ j below mine span. c.loop-k.invariant j (let ends = c.loop-k-test.false in omega arith) mine
-          (subst (λ o. SpansAfter form o (unit_row form.n (pivot (get_or form.rows j [])))) (sym c.in-Some.is) span))
-          (subst (λ o. SpansAfter form o (unit_row form.n found.0)) c.in-Some.is found.3) in
-          absurd (false≢true (sym found.2 ∙ ap (has_row c.args.shared.now.list) (sym is ∙ place) ∙ sym c.has-in-Some.ensures ∙ c.if-not-has-2.false)),
+    let told = own_at_left form c.rank-k-end.ensures.form list over c.args.shared.now.list (λ j below mine span.
+    c.loop-k.invariant j (let ends = c.loop-k-test.false in omega arith) mine
+    (subst (λ o. SpansAfter form o (unit_row form.n (pivot (get_or form.rows j [])))) (sym c.in-Some.is) span)) in (
+      λ yes. absurd (c.if-len-eq1.false (eqb-true c.len.result 1 yes)),
+      λ found. eq-eqb c.len.result 1 (c.len.ensures ∙ list.ok.0 ∙ (told.0 (subst (λ o. SpansOwnAfter form o c.args.shared.now.list) c.in-Some.is found)).0),
     )
 
 pub returns-in-None : goal.returns-in-None
