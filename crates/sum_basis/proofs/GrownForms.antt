@@ -1,8 +1,9 @@
 -- The reduced form of a form's rows with a new row: each row, cleared, isn't 0 where its cross product with the new row isn't.
-use Rattle.std.proofs.Common.{◌≡◌, ℕ, zero, suc, ◌+◌, ◌<◌, Bool, true, false, cond, ◌||◌, ◌==◌, ℤ, pos, List, [], ◌∷◌, ◌++◌, length, get_or, refl, sym, ap, ◌∙◌, subst, arith, inl, inr}
+use Rattle.std.proofs.Common.{◌≡◌, ◌≢◌, ℕ, zero, suc, ◌+◌, ◌<◌, Bool, true, false, cond, ◌||◌, ◌==◌, ℤ, pos, List, [], ◌∷◌, ◌++◌, length, get_or, refl, sym, ap, ◌∙◌, subst, arith, inl, inr}
 use Rattle.std.specs.Prelude.{◌*ℤ◌, ◌-ℤ◌, nat_lt}
 use Rattle.std.specs.List.{AllByRecursion}
 use Rattle.std.proofs.lemmas.Int.{ints}
+use Rattle.std.proofs.lemmas.Bool.{eq-eqb, true≢false}
 use Rattle.std.proofs.Math.IntN.{zero-*ℤ, *ℤ-zero}
 use Rattle.audit_types.specs.Truth.{number_at}
 use Rattle.audit_types.specs.Form.{pivot, pivot_entry, IsPrimitive, IsEchelon, IsReducedForm}
@@ -37,6 +38,18 @@ all_own rows = all_own_from rows rows (λ r h. h)
 pub of_own : (P : List ℤ → Type 0) (rows : List (List ℤ)) (r : List ℤ) → AllByRecursion P rows → IsRowOf r rows → P r
 of_own P [] r h among = absurd among
 of_own P (first ∷ rows) r h among = elim among [ inl e ↦ subst P e h.0 | inr later ↦ of_own P rows r h.1 later ]
+
+-- a column that is no pivot by the test is the pivot of no row
+pub not_pivots : (rows : List (List ℤ)) (j : ℕ) → is_pivot rows j ≡ false → AllByRecursion (λ other. pivot other ≢ j) rows
+not_pivots [] j e = tt
+not_pivots (row ∷ rows) j e = (
+  λ same. true≢false (sym (ap (λ b. b || is_pivot rows j) (eq-eqb (pivot row) j same)) ∙ e),
+  not_pivots rows j (later (pivot row == j) (is_pivot rows j) e),
+)
+  where
+    later : (a b : Bool) → (a || b) ≡ false → b ≡ false
+    later true b not_one = absurd cc
+    later false b not_one = not_one
 
 -- ---- one row cleared
 

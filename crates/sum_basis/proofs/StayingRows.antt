@@ -3,7 +3,7 @@ use Rattle.std.proofs.Common.{◌≡◌, ◌≢◌, ℕ, zero, suc, ◌+◌, ◌
 use Rattle.std.specs.Prelude.{◌+ℤ◌}
 use Rattle.std.specs.List.{AllByRecursion}
 use Rattle.std.proofs.lemmas.Int.{ints}
-use Rattle.std.proofs.lemmas.Bool.{eq-eqb, ne_eqb, true≢false}
+use Rattle.std.proofs.lemmas.Bool.{ne_eqb, true≢false}
 use Rattle.audit_types.specs.Truth.{number_at}
 use Rattle.audit_types.specs.Direction.{is_pivot}
 use Rattle.audit_types.specs.Form.{IsReducedForm, pivot, pivot_entry}
@@ -14,7 +14,7 @@ use Rattle.sum_basis.specs.Growth.{IsLeftOver}
 use Rattle.sum_basis.specs.Sparse.{entry_at, row_of, IsListed}
 use Rattle.sum_basis.specs.Ties.{IsRowOf}
 use Rattle.sum_basis.specs.declared.sparse.FreeEntry.{FreeEntry}
-use Rattle.sum_basis.proofs.GrownForms.{grown_is, of_own}
+use Rattle.sum_basis.proofs.GrownForms.{grown_is, not_pivots, of_own}
 use Rattle.sum_basis.proofs.KeptForms.{row_among}
 use Rattle.sum_basis.proofs.OwnRows.{pivot_or_none}
 use Rattle.sum_basis.proofs.SparseRows.{elsewhere, first_value}
@@ -24,14 +24,6 @@ use Rattle.sum_basis.proofs.SpansWithOneMore.{first_place}
 free_to : (rows : List (List ℤ)) (j : ℕ) → AllByRecursion (λ other. pivot other ≢ j) rows → is_pivot rows j ≡ false
 free_to [] j h = refl
 free_to (r ∷ rows) j h = ap (λ b. b || is_pivot rows j) (ne_eqb (pivot r) j h.0) ∙ free_to rows j h.1
-
-free_from : (rows : List (List ℤ)) (j : ℕ) → is_pivot rows j ≡ false → AllByRecursion (λ other. pivot other ≢ j) rows
-free_from [] j h = tt
-free_from (r ∷ rows) j h = go (pivot r == j) refl h
-  where
-    go : (b : Bool) → (pivot r == j) ≡ b → (b || is_pivot rows j) ≡ false → AllByRecursion (λ other. pivot other ≢ j) (r ∷ rows)
-    go true e h = absurd (true≢false h)
-    go false e h = ((λ same. true≢false (sym (eq-eqb (pivot r) j same) ∙ e)), free_from rows j h)
 
 -- where a row stands
 place_of : (rows : List (List ℤ)) (row : List ℤ) → IsRowOf row rows → (k : ℕ) × (k < length rows) × (get_or rows k [] ≡ row)
@@ -64,7 +56,7 @@ module _ (old new : Echelon) (list : List FreeEntry) (k : ℕ) (d : FreeEntry) (
 
   -- a column that is no pivot of the new form is none of the old one
   still_free : (j : ℕ) → AllByRecursion (λ other. pivot other ≢ j) new.rows → AllByRecursion (λ other. pivot other ≢ j) old.rows
-  still_free j h = free_from old.rows j (go (pivot joined == j) (sym (pivots_are j) ∙ free_to new.rows j h))
+  still_free j h = not_pivots old.rows j (go (pivot joined == j) (sym (pivots_are j) ∙ free_to new.rows j h))
     where
       go : (b : Bool) → (b || is_pivot old.rows j) ≡ false → is_pivot old.rows j ≡ false
       go true e = absurd (true≢false e)
@@ -73,7 +65,7 @@ module _ (old new : Echelon) (list : List FreeEntry) (k : ℕ) (d : FreeEntry) (
   -- and back, if the new row's pivot stands elsewhere
   now_free : (j : ℕ) → pivot joined ≢ j → AllByRecursion (λ other. pivot other ≢ j) old.rows → AllByRecursion (λ other. pivot other ≢ j) new.rows
   now_free j apart h =
-      free_from new.rows j (pivots_are j ∙ ap (λ b. b || is_pivot old.rows j) (ne_eqb (pivot joined) j apart) ∙ free_to old.rows j h)
+      not_pivots new.rows j (pivots_are j ∙ ap (λ b. b || is_pivot old.rows j) (ne_eqb (pivot joined) j apart) ∙ free_to old.rows j h)
 
   -- the list of the row has no entry at the new pivot
   all_free : (from : ℕ) (entries : List FreeEntry) → IsListed from old.n entries → entry_at entries (pivot joined) ≡ pos 0 →

@@ -25,7 +25,7 @@ use Rattle.sum_basis.specs.Ties.{IsRowOf}
 use Rattle.sum_basis.specs.declared.sparse.FreeEntry.{FreeEntry}
 use Rattle.sum_basis.proofs.Along.{own_pivots, product_only, zero_there, zero_back}
 use Rattle.sum_basis.specs.Spans.{own}
-use Rattle.sum_basis.proofs.GrownForms.{of_own, crossed, grown_is, count_crossed}
+use Rattle.sum_basis.proofs.GrownForms.{of_own, not_pivots, crossed, grown_is, count_crossed}
 use Rattle.sum_basis.proofs.KeptForms.{row_among}
 use Rattle.sum_basis.proofs.NearColumns.{Tells}
 use Rattle.sum_basis.proofs.SparseRows.{number_at-row_of, pivot-row_of, pivot_entry-row_of, first_value, zero_below, zero_past, elsewhere}
@@ -223,17 +223,6 @@ module _ (n : ℕ) (old : List (List ℤ)) (new : List FreeEntry) (grown : List 
     where
       apart : (rows : List (List ℤ)) → AllByRecursion (λ other. pivot other ≢ x.place) rows → is_pivot rows i ≡ true → x.place ≢ i
       apart rows away is same = at_pivot (λ q. q ≢ x.place) rows i away is (sym same)
-
-  not_pivots : (rows : List (List ℤ)) (j : ℕ) → is_pivot rows j ≡ false → AllByRecursion (λ other. pivot other ≢ j) rows
-  not_pivots [] j e = tt
-  not_pivots (row ∷ rows) j e = (
-    λ same. true≢false (sym (ap (λ b. b || is_pivot rows j) (eq-eqb (pivot row) j same)) ∙ e),
-    not_pivots rows j (later (pivot row == j) (is_pivot rows j) e),
-  )
-    where
-      later : (a b : Bool) → (a || b) ≡ false → b ≡ false
-      later true b not_one = absurd cc
-      later false b not_one = not_one
 
   -- the pivot of the new list is none of the old ones
   pub place_open : (first : FreeEntry) (rest : List FreeEntry) → IsListed 0 n (first ∷ rest) →
