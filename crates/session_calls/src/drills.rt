@@ -65,7 +65,7 @@ fn start(
     bench: &mut MemoryBench,
 ) -> Result<(), NoMemory>
     requires fits { FitsSchema schema.now.columns index.now.public }
-    requires groups { AreProtected secret.shape index.now.protected }
+    requires groups { AreProtected (shape_of schema.now.columns index.now.public.rows) index.now.protected }
     requires shape { secret.shape ≡ shape_of schema.now.columns index.now.public.rows }
     requires empty { file_of bench.old ≡ [] }
 {
@@ -83,7 +83,9 @@ fn play(alloc: Global, number: u32, bench: &mut MemoryBench) -> Result<(), NoMem
 {
     let schema = drill_schema(alloc)?;
     let Table { public, secret } = drill_table(alloc, number)?;
-    let index = Index::new(alloc, &schema, public).map_err(|_| NoMemory)?;
+    let Ok(index) = Index::new(alloc, &schema, public) else {
+        return Err(NoMemory);
+    };
     start(alloc, number, &schema, &index, secret, bench)
 }
 
