@@ -2,7 +2,7 @@
 use Rattle.std.proofs.Common.{◌≡◌, ◌<◌, ℕ, zero, suc, ◌+◌, ◌/◌, ◌%◌, ℤ, pos, negsuc, Bool, true, false, not, cond, nat_lt, ◌==◌, List, [], ◌∷◌, ◌++◌, length, filter, codes, decimal, refl, sym, ap, ◌∙◌, subst, arith, append_assoc, length-append}
 use Rattle.std.specs.Fmt.{digits, digits_onto, digit_glyph, signed_decimal}
 use Rattle.std.specs.List.{AllByRecursion, list_all, slice_split, flat_map, onto_first}
-use Rattle.std.proofs.lemmas.Bool.{ne_eqb, and_from, and_parts}
+use Rattle.std.proofs.lemmas.Bool.{ne_eqb, and_from, and_parts, not-true}
 use Rattle.std.proofs.lemmas.List.Folds.{list_all-append}
 use Rattle.line_wire.specs.Lines.{is_feed}
 use Rattle.line_wire.specs.Reply.{reply_bytes, numbered, average}
@@ -94,13 +94,9 @@ split_after : (text rest : List ℕ) → feedless text ≡ true → slice_split 
 split_after [] rest is = refl
 split_after (b ∷ text) rest is =
     let parts = and_parts (not (is_feed b)) (feedless text) is in
-    let same : is_feed b ≡ false = flipped (is_feed b) parts.0 in
+    let same : is_feed b ≡ false = not-true (is_feed b) parts.0 in
     ap (λ (feed : Bool). cond feed ([] ∷ slice_split is_feed (text ++ 10 ∷ rest)) (onto_first b (slice_split is_feed (text ++ 10 ∷ rest)))) same
     ∙ ap (onto_first b) (split_after text rest parts.1)
-  where
-    flipped : (x : Bool) → not x ≡ true → x ≡ false
-    flipped true is = cc
-    flipped false is = refl
 
 one_more : (bytes rest : List ℕ) → IsLine bytes → length (lines_in (bytes ++ rest)) ≡ length (lines_in rest) + 1
 one_more bytes rest line =
