@@ -32,7 +32,7 @@ fewest_reached count (b ∷ answers) small = elim (cases_lt (fewest_of (map coun
 ]
 
 -- as somebody stands behind each row, there are no fewer people than rows
-somebody_each : (n : ℕ) (people : Headcount) → CountPeople n people → (rows : List ℕ) → length rows ≤ people_behind people.counts rows
+pub somebody_each : (n : ℕ) (people : Headcount) → CountPeople n people → (rows : List ℕ) → length rows ≤ people_behind people.counts rows
 somebody_each n people count [] = omega arith
 somebody_each n people count (r ∷ rows) =
     let one = somebody_behind n people count r in let rest = somebody_each n people count rows in omega (arith, one, rest)

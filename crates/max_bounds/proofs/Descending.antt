@@ -1,15 +1,17 @@
 -- Sets with descending answers, as a new one goes among them.
-use Rattle.std.proofs.Common.{◌≡◌, ℕ, ◌<◌, ◌≤◌, zero, suc, ℤ, true, false, cond, List, [], ◌∷◌, ◌++◌, length, map, take, drop, get_or, refl, sym, ap, ◌∙◌, subst, inl, inr, ◌⊎◌, arith}
+use Rattle.std.proofs.Common.{◌≡◌, ℕ, ◌<◌, ◌≤◌, zero, suc, ℤ, true, false, cond, not, List, [], ◌∷◌, ◌++◌, length, map, take, drop, get_or, refl, sym, ap, ◌∙◌, subst, inl, inr, ◌⊎◌, arith}
 use Rattle.std.specs.Prelude.{◌≤ℤ◌, ◌<ℤ◌, int_lt}
 use Rattle.std.specs.List.{AllByRecursion}
 use Rattle.std.proofs.Math.Seq.{split_at}
 use Rattle.std.specs.List.Sorted.{IsPartitionPoint, IsPartitionedBy}
 use Rattle.std.proofs.lemmas.Int.{ints}
+use Rattle.std.proofs.lemmas.Bool.{not-true, not-false}
 use Rattle.std.proofs.lemmas.List.{map-append}
 use Rattle.audit_types.specs.Column.{Answer, IsOneOf}
+use Rattle.audit_types.specs.ListLaws.{all-weaker}
 use Rattle.max_bounds.specs.Outside.{outside}
 use Rattle.max_bounds.specs.Maxima.{answer_of, answers_of}
-use Rattle.max_bounds.specs.Kept.{lowered_set, Descend, IsPlaceOf}
+use Rattle.max_bounds.specs.Kept.{lowered_set, Descend, IsPlaceOf, IsEndOf}
 use Rattle.max_bounds.specs.declared.answered.AnsweredMax.{AnsweredMax}
 use Rattle.max_bounds.proofs.HighRows.{all_inserted}
 
@@ -73,6 +75,43 @@ place_after sets x i point =
     )
     after (y ∷ sets) (suc i) low = after sets i (λ k d late within. low (suc k) d (omega (arith, late)) (omega (arith, within)))
 
+-- those that aren't below a number come first too
+pub low_come_last : (sets : List AnsweredMax) (x : ℤ) → Descend (answers_of sets) → IsPartitionedBy (λ s. not (int_lt s.answer x)) sets
+low_come_last sets x h i j d order within high =
+    let low = later_is_low sets i j d h order within in not_below x (get_or sets j d).answer (get_or sets i d).answer high low
+  where
+    not_below : (x a b : ℤ) → not (int_lt a x) ≡ true → a ≤ℤ b → not (int_lt b x) ≡ true
+    not_below x a b high low = elim (int_lt b x) as (λ t. int_lt b x ≡ t → not t ≡ true) [
+      | true ↦ λ is. absurd (let late = not-true (int_lt a x) high in omega (arith, ints, is, low, late))
+      | false ↦ λ is. refl
+    ] refl
+
+-- and those below it begin after them
+pub end_before : (sets : List AnsweredMax) (x : ℤ) (i : ℕ) →
+    IsPartitionPoint (λ s. not (int_lt s.answer x) ≡ true) (λ s. not (int_lt s.answer x) ≡ false) sets i → IsEndOf x sets i
+end_before sets x i point =
+    record { front = before sets i (λ k d first. point.0 k d (omega arith) first); rest = after sets i (λ k d late within. point.1 k d late within) }
+  where
+    before : (sets : List AnsweredMax) (i : ℕ) → ((k : ℕ) (d : AnsweredMax) → k < i → not (int_lt (get_or sets k d).answer x) ≡ true) →
+        AllByRecursion (λ b. x ≤ℤ b.value) (answers_of (take i sets))
+    before [] zero above = tt
+    before [] (suc i) above = tt
+    before (y ∷ sets) zero above = tt
+    before (y ∷ sets) (suc i) above = (
+      let here = not-true (int_lt y.answer x) (above 0 y (omega arith)) in omega (arith, ints, here),
+      before sets i (λ k d first. above (suc k) d (omega (arith, first))),
+    )
+
+    after : (sets : List AnsweredMax) (i : ℕ) → ((k : ℕ) (d : AnsweredMax) → i ≤ k → k < length sets → not (int_lt (get_or sets k d).answer x) ≡ false) →
+        AllByRecursion (λ b. b.value <ℤ x) (answers_of (drop i sets))
+    after [] zero low = tt
+    after [] (suc i) low = tt
+    after (y ∷ sets) zero low = (
+      (let here = low 0 y (omega arith) (omega arith) in let less = not-false (int_lt y.answer x) here in omega (arith, ints, less)),
+      after sets zero (λ k d late within. low (suc k) d (omega arith) (omega (arith, within))),
+    )
+    after (y ∷ sets) (suc i) low = after sets i (λ k d late within. low (suc k) d (omega (arith, late)) (omega (arith, within)))
+
 -- a lowered set keeps its answer
 value_kept : (x : ℤ) (rows : List ℕ) (a : Answer) → (lowered_set x rows a).value ≡ a.value
 value_kept x rows a =
@@ -100,11 +139,12 @@ answers_inserted (z ∷ least) zero y = refl
 answers_inserted (z ∷ least) (suc i) y = ap (λ l. answer_of z ∷ l) (answers_inserted least i y)
 
 -- at its place it leaves them descending
-pub inserted_descend : (least : List AnsweredMax) (place : ℕ) (y : AnsweredMax) → Descend (answers_of least) → IsPlaceOf y.answer least place →
+pub inserted_descend : (least : List AnsweredMax) (place : ℕ) (y : AnsweredMax) → Descend (answers_of least) → IsEndOf y.answer least place →
     Descend (answers_of (take place least ++ y ∷ drop place least))
 inserted_descend [] zero y h at = (tt, tt)
 inserted_descend [] (suc i) y h at = (tt, tt)
-inserted_descend (z ∷ least) zero y h at = (at.rest, h)
+inserted_descend (z ∷ least) zero y h at =
+    (all-weaker (λ b. b.value <ℤ y.answer) (λ b. b.value ≤ℤ y.answer) (λ b less. omega (arith, ints)) (answers_of (z ∷ least)) at.rest, h)
 inserted_descend (z ∷ least) (suc i) y h at = (
   subst (AllByRecursion (λ b. b.value ≤ℤ z.answer)) (sym (answers_inserted least i y))
       (all_inserted (λ b. b.value ≤ℤ z.answer) (answers_of least) i (answer_of y) h.0 (let above = at.front.0 in omega (arith, ints))),

@@ -1,4 +1,5 @@
 pub mod Lowering
+pub mod MarkedSets
 pub mod Surveys
 pub mod Walks
 pub mod HighestBounds

@@ -49,8 +49,3 @@ abbrev pub IsLeft : Headcount → List ℕ → Left → Type 0
 IsLeft people rows Nothing = rows ≡ []
 IsLeft people rows Few = (rows ≢ []) × AreFew people [] rows
 IsLeft people rows Enough = (rows ≢ []) × ¬ (AreFew people [] rows)
-
--- an answer is below that of a set of which few are left
-abbrev pub IsPast : Option ℤ → ℤ → Type 0
-IsPast None answer = ⊥
-IsPast (Some highest) answer = answer <ℤ highest

@@ -8,6 +8,7 @@ use Rattle.audit_types.specs.Extremes.{upper_bound, is_bound, extremes}
 use Rattle.max_bounds.specs.Maxima.{answers_of}
 use Rattle.max_bounds.specs.Reaching.{bound_at, reaching}
 use Rattle.max_bounds.specs.Outside.{outside}
+use Rattle.max_bounds.specs.Marks.{AreMarked}
 use Rattle.max_bounds.specs.declared.answered.AnsweredMax.{AnsweredMax}
 use Rattle.max_bounds.specs.declared.bounds.Bounds.TheInside.{Inside}
 use Rattle.max_bounds.specs.declared.counts.Range.{Range}
@@ -89,6 +90,11 @@ pub record IsPlaceOf (answer : ℤ) (least : List AnsweredMax) (place : ℕ) : T
   pub front : AllByRecursion (λ b. answer <ℤ b.value) (answers_of (take place least))
   pub rest : AllByRecursion (λ b. b.value ≤ℤ answer) (answers_of (drop place least))
 
+-- at this place the answers below one begin among descending ones
+pub record IsEndOf (answer : ℤ) (least : List AnsweredMax) (place : ℕ) : Type 0 where
+  pub front : AllByRecursion (λ b. answer ≤ℤ b.value) (answers_of (take place least))
+  pub rest : AllByRecursion (λ b. b.value <ℤ answer) (answers_of (drop place least))
+
 -- sets that stand for the extreme rows of all answers: each is those of an answer, and each answer has such a set of its value, with no other row
 pub record AreLeast (extreme_rows : Answer → List ℕ) (answers sets : List Answer) : Type 0 where
   pub each : (e : Answer) → IsOneOf e sets → (a : Answer) × IsOneOf a answers × (a.value ≡ e.value) × (extreme_rows a ≡ e.rows)
@@ -109,5 +115,6 @@ pub record IsKept (b : Inside) : Type 0 where
   pub bounds : (r : ℕ) → bound_at b.upper.items r ≡ upper_bound (answers_of b.pairs.items) r
   pub same_n_least : AllByRecursion (λ p. p.rows.n ≡ b.n) b.least.items
   pub descend : Descend (answers_of b.least.items)
+  pub marked : AreMarked b.least.items b.marks.items
   pub high : AllByRecursion (IsHigh b.n (bound_at b.upper.items)) b.high.items
   pub tells : TellsExtremes (extremes (answers_of b.pairs.items)) (answers_of b.pairs.items) b.counts.items b.fewest (answers_of b.least.items)

@@ -34,6 +34,8 @@ pub struct Bounds {
     // Extreme rows of pairs, with their answer, in descending order of answers. Each pair has such a set of its own answer and
     // with no other rows.
     least: Vec<AnsweredMax>,
+    // The mark of each of these sets.
+    marks: Vec<u64>,
     // The rows with high bounds, for cuts in descending order. Most questions are told by them alone.
     high: Vec<HighRows>,
 }
@@ -54,17 +56,21 @@ fn make_room(
     pairs: &mut Vec<AnsweredMax>,
     counts: &mut Vec<u16>,
     least: &mut Vec<AnsweredMax>,
+    marks: &mut Vec<u64>,
 ) -> Result<(), NoMemory>
     ensures pairs { pairs.new.items ≡ pairs.old.items }
     ensures counts { counts.new.items ≡ counts.old.items }
     ensures least { least.new.items ≡ least.old.items }
+    ensures marks { marks.new.items ≡ marks.old.items }
     ensures pairs_room { OnOk result (vec_len pairs.new < vec_capacity pairs.new) }
     ensures counts_room { OnOk result (vec_len counts.new < vec_capacity counts.new) }
     ensures least_room { OnOk result (vec_len least.new < vec_capacity least.new) }
+    ensures marks_room { OnOk result (vec_len marks.new < vec_capacity marks.new) }
 {
     pairs.reserve(1)?;
     counts.reserve(1)?;
     least.reserve(1)?;
+    marks.reserve(1)?;
     Ok(())
 }
 
@@ -83,6 +89,7 @@ impl Bounds {
             counts: Vec::new(alloc),
             fewest: u16::MAX,
             least: Vec::new(alloc),
+            marks: Vec::new(alloc),
             high: Vec::new(alloc),
         })
     }
@@ -104,7 +111,12 @@ impl Bounds {
     {
         // A set says of its n that no row is past it.
         let _ = rows.n();
-        make_room(&mut self.pairs, &mut self.counts, &mut self.least)?;
+        make_room(
+            &mut self.pairs,
+            &mut self.counts,
+            &mut self.least,
+            &mut self.marks,
+        )?;
         let latest = AnsweredMax {
             rows: *rows,
             answer,
@@ -114,6 +126,7 @@ impl Bounds {
             &mut self.counts,
             self.fewest,
             &mut self.least,
+            &mut self.marks,
             &self.pairs,
             &self.upper,
             &latest,
@@ -123,7 +136,13 @@ impl Bounds {
         let count = affected.extremes.len();
         self.fewest = fewest.min(count);
         self.counts.push_reserved(count);
-        insert(&mut self.least, &affected.extremes, &latest, &self.pairs);
+        insert(
+            &mut self.least,
+            &mut self.marks,
+            &affected.extremes,
+            &latest,
+            &self.pairs,
+        );
         self.pairs.push_reserved(latest);
         renew_high(&mut self.high, &self.upper, &affected, rows, answer);
         Ok(())
@@ -197,7 +216,7 @@ impl Bounds {
         requires same_n { rows.now.n ≡ self.now.n }
         ensures { IsTrue result ↔ HasExtremesWithin self.now.answers rows.now.list answer }
     {
-        has_within(&self.least, rows, answer)
+        has_within(&self.least, &self.marks, rows, answer)
     }
 
     // Whether few people stand behind the extreme rows of some answer, if each answer has one.
@@ -213,7 +232,7 @@ impl Bounds {
         }
         // All rows of a set are left by a question on no row.
         let none = RowSet::new(n);
-        nearly_holds(&self.least, &none, people)
+        nearly_holds(&self.least, &self.marks, &none, people)
     }
 
     /// Whether some answer to a question on these rows would be possible and leave few people behind the extreme rows of some answer, told from
@@ -231,6 +250,6 @@ impl Bounds {
             return true;
         }
         few_highest_of(&self.high, &self.upper, rows, people)
-            || nearly_holds(&self.least, rows, people)
+            || nearly_holds(&self.least, &self.marks, rows, people)
     }
 }

@@ -5,10 +5,13 @@ ghost use Rattle.audit_types.specs.Rows.{complement};
 ghost use Rattle.max_bounds.specs.Maxima.{answers_of};
 ghost use Rattle.max_bounds.specs.Outside.{outside};
 ghost use Rattle.max_bounds.specs.Kept.{Descend};
-ghost use Rattle.max_bounds.specs.Few.{HasNearlyHeld, IsLeft, IsPast};
+ghost use Rattle.max_bounds.specs.Marks.{IsMark, AreAsked, AreMarked};
+ghost use Rattle.max_bounds.specs.Few.{HasNearlyHeld, IsLeft};
 
 use crate::answered::AnsweredMax;
+use crate::marks::{asked_groups, has_many_left};
 use crate::people::{are_fewer, enough};
+use crate::within::has_within;
 use audit_types::{CountedRows, RowSet};
 
 /// What of a set is left outside another: no row, rows of few people, or rows of enough.
@@ -39,45 +42,51 @@ fn left_outside(extremes: &RowSet, others: &RowSet, people: &CountedRows, enough
     }
 }
 
-// Whether the answer is below that of a set of which few are left.
-fn is_past(few: Option<i64>, answer: i64) -> bool
-    ensures { IsTrue result ↔ IsPast few answer }
+// What of a set is left outside a question's, told by its mark or from the rows that are not in the question's.
+fn left_of_marked(
+    set: &AnsweredMax,
+    mark: u64,
+    others: &RowSet,
+    asked: u64,
+    people: &CountedRows,
+    enough: u64,
+) -> Left
+    requires same_n { set.now.rows.n ≡ others.now.n }
+    requires marked { IsMark set.now.rows mark }
+    requires enough { enough ≡ people.now.people.fewest + people.now.people.own }
+    ensures { (rows : List ℕ) → others.now.list ≡ complement others.now.n rows → AreAsked set.now.rows.n rows asked → IsLeft people.now.people (outside rows set.now.rows.list) result }
 {
-    match few {
-        None => false,
-        Some(highest) => answer < highest,
+    // The people say of themselves that somebody stands behind each row.
+    let _ = people.n();
+    if has_many_left(mark, asked, enough) {
+        return Left::Enough;
     }
-}
-
-// Whether sets with descending answers are nearly held, told from the rows that are not in the question's.
-fn are_nearly_held(least: &[AnsweredMax], others: &RowSet, people: &CountedRows) -> bool
-    requires same_n { AllByRecursion (λ p. p.rows.n ≡ others.now.n) least.now }
-    requires descend { Descend (answers_of least.now) }
-    ensures { (rows : List ℕ) → others.now.list ≡ complement others.now.n rows → IsTrue result ↔ HasNearlyHeld people.now.people (λ a. a.rows) (answers_of least.now) rows }
-{
-    let enough = enough(people);
-    let mut few = None;
-    for set in least {
-        if is_past(few, set.answer) {
-            // Each later answer is lower too.
-            return true;
-        }
-        match left_outside(&set.rows, others, people, enough) {
-            Left::Nothing => return false,
-            Left::Few => few = Some(set.answer),
-            Left::Enough => {}
-        }
-    }
-    few.is_some()
+    left_outside(&set.rows, others, people, enough)
 }
 
 /// Whether the question's rows leave of some set rows of few people, while each set that lies there whole has a lower answer.
-pub(crate) fn nearly_holds(least: &[AnsweredMax], rows: &RowSet, people: &CountedRows) -> bool
+pub(crate) fn nearly_holds(
+    least: &[AnsweredMax],
+    marks: &[u64],
+    rows: &RowSet,
+    people: &CountedRows,
+) -> bool
     requires same_n { AllByRecursion (λ p. p.rows.n ≡ rows.now.n) least.now }
     requires descend { Descend (answers_of least.now) }
+    requires marked { AreMarked least.now marks.now }
     ensures { IsTrue result ↔ HasNearlyHeld people.now.people (λ a. a.rows) (answers_of least.now) rows.now.list }
 {
     let mut others = *rows;
     others.flip();
-    are_nearly_held(least, &others, people)
+    let asked = asked_groups(&others, least.len());
+    let enough = enough(people);
+    for (k, set) in least.iter().enumerate() {
+        match left_of_marked(set, marks[k], &others, asked, people, enough) {
+            Left::Nothing => return false,
+            // No set before it lies there whole, but one of its answer may.
+            Left::Few => return !has_within(least, marks, rows, set.answer),
+            Left::Enough => {}
+        }
+    }
+    false
 }

@@ -6,10 +6,12 @@ ghost use Rattle.audit_types.specs.Extremes.{upper_bound, extremes};
 ghost use Rattle.max_bounds.specs.Maxima.{answer_of, answers_of, and_answer};
 ghost use Rattle.max_bounds.specs.Reaching.{bound_at};
 ghost use Rattle.max_bounds.specs.Kept.{rows_above, AreLeast, Descend, TellsExtremes};
+ghost use Rattle.max_bounds.specs.Marks.{AreMarked};
 
 use crate::answered::AnsweredMax;
 use crate::counts::{fewest, lower_counts};
-use crate::sets::{lower_sets, place_of};
+use crate::marks::mark_of;
+use crate::sets::{end_of, lower_sets};
 use crate::within::has_within;
 use audit_types::RowSet;
 
@@ -18,6 +20,7 @@ pub(crate) fn fall(
     counts: &mut [u16],
     least_count: u16,
     least: &mut [AnsweredMax],
+    marks: &mut [u64],
     pairs: &[AnsweredMax],
     upper: &[Option<i64>],
     latest: &AnsweredMax,
@@ -31,9 +34,11 @@ pub(crate) fn fall(
     requires bounds { (r : ℕ) → bound_at upper.now r ≡ upper_bound (answers_of pairs.now) r }
     requires falling { falling.now.list ≡ rows_above (bound_at upper.now) latest.now.answer latest.now.rows.list }
     requires descend { Descend (answers_of least.old) }
+    requires marked { AreMarked least.old marks.old }
     requires told { TellsExtremes (extremes (answers_of pairs.now)) (answers_of pairs.now) counts.old least_count (answers_of least.old) }
     ensures same_n_least { AllByRecursion (λ p. p.rows.n ≡ latest.now.rows.n) least.new }
     ensures descend { Descend (answers_of least.new) }
+    ensures marked { AreMarked least.new marks.new }
     ensures tells { TellsExtremes (extremes (and_answer (answers_of pairs.now) latest.now.rows.list latest.now.answer)) (answers_of pairs.now) counts.new result (answers_of least.new) }
 {
     if falling.is_empty() {
@@ -42,35 +47,40 @@ pub(crate) fn fall(
     // A set says of its n that no row is past it.
     let _ = latest.rows.n();
     lower_counts(counts, pairs, upper, falling);
-    lower_sets(least, &latest.rows, latest.answer);
+    lower_sets(least, marks, &latest.rows, latest.answer);
     fewest(counts)
 }
 
 /// Puts a new answer's own extreme rows among the least sets, unless one of this answer lies in its set.
 pub(crate) fn insert(
     least: &mut Vec<AnsweredMax>,
+    marks: &mut Vec<u64>,
     own: &RowSet,
     latest: &AnsweredMax,
     pairs: &[AnsweredMax],
 )
     requires room { vec_len least.old < vec_capacity least.old }
+    requires marks_room { vec_len marks.old < vec_capacity marks.old }
     requires same_n_least { AllByRecursion (λ p. p.rows.n ≡ latest.now.rows.n) least.old.items }
     requires same_n { own.now.n ≡ latest.now.rows.n }
     requires own { own.now.list ≡ extremes (and_answer (answers_of pairs.now) latest.now.rows.list latest.now.answer) (answer_of latest.now) }
     requires descend { Descend (answers_of least.old.items) }
+    requires marked { AreMarked least.old.items marks.old.items }
     requires told { AreLeast (extremes (and_answer (answers_of pairs.now) latest.now.rows.list latest.now.answer)) (answers_of pairs.now) (answers_of least.old.items) }
     ensures same_n_least { AllByRecursion (λ p. p.rows.n ≡ latest.now.rows.n) least.new.items }
     ensures descend { Descend (answers_of least.new.items) }
+    ensures marked { AreMarked least.new.items marks.new.items }
     ensures tells { AreLeast (extremes (and_answer (answers_of pairs.now) latest.now.rows.list latest.now.answer))
         (and_answer (answers_of pairs.now) latest.now.rows.list latest.now.answer) (answers_of least.new.items) }
 {
-    if !has_within(least, &latest.rows, latest.answer) {
-        let place = place_of(least, latest.answer);
+    if !has_within(least, marks, &latest.rows, latest.answer) {
+        let place = end_of(least, latest.answer);
         let set = AnsweredMax {
             rows: *own,
             answer: latest.answer,
         };
-        // There is room for it.
+        // There is room for it, and for its mark.
         least.insert(place, set).unwrap();
+        marks.insert(place, mark_of(own)).unwrap();
     }
 }

@@ -13,6 +13,7 @@ mod high_rows;
 mod highest;
 mod kept;
 pub mod laws;
+mod marks;
 mod people;
 mod reach;
 mod sets;

@@ -1,14 +1,15 @@
 use Rattle.std.specs.List.{AllByRecursion, insert}
-use Rattle.std.proofs.Common.{take, drop, cond, ◌≡◌, ◌++◌, ◌∷◌, arith, rules, SFits, sym, ap, ◌∙◌, subst, to_z, of_z}
+use Rattle.std.proofs.Common.{length, take, drop, cond, ◌≡◌, ◌++◌, ◌∷◌, arith, rules, SFits, sym, ap, ◌∙◌, subst, to_z, of_z}
 use Rattle.std.specs.Int.{w64}
 use Rattle.std.proofs.lemmas.Int.{to_z-of_z}
 use Rattle.audit_types.specs.Extremes.{extremes}
 use Rattle.max_bounds.specs.Maxima.{answers_of, and_answer}
 use Rattle.max_bounds.specs.Outside.{HasWithin}
-use Rattle.max_bounds.specs.Kept.{AreLeast, Descend, IsPlaceOf}
+use Rattle.max_bounds.specs.Kept.{AreLeast, Descend, IsEndOf}
 use Rattle.max_bounds.specs.declared.answered.AnsweredMax.{AnsweredMax}
 use Rattle.max_bounds.proofs.NextExtremes.{least_inserted, least_within}
 use Rattle.max_bounds.proofs.Descending.{answers_inserted, inserted_descend}
+use Rattle.max_bounds.proofs.MarkedSets.{marks_length, marked_inserted}
 use Rattle.max_bounds.proofs.kept.insert.Goals as goal
 
 pub unwrap-requires : goal.unwrap-requires
@@ -17,13 +18,13 @@ unwrap-requires c = c.insert.ensures.succeeds c.requires.room
 pub returns-then-not-has_within-clause-descend : goal.returns-then-not-has_within-clause-descend
 returns-then-not-has_within-clause-descend c =
     let least = c.args.least.now.items in
-    let place = c.place_of-place.result in
+    let place = c.end_of-place.result in
     let set : AnsweredMax = record { rows = c.args.own.now; answer = to_z w64 (of_z w64 c.args.latest.now.answer) } in
     let items_are : c.insert.new.self.items ≡ insert least place set = c.insert.ensures.items
     ∙ ap (λ b. cond b (insert least place set) least) (c.insert.ensures.succeeds c.requires.room) in
     subst (λ l. Descend (answers_of l)) (sym items_are)
     (inserted_descend least place set c.requires.descend (subst
-    (λ l. IsPlaceOf (to_z w64 (of_z w64 c.args.latest.now.answer)) l place) c.deref-then-not-has_within.ensures.value c.place_of-place.ensures.place))
+    (λ l. IsEndOf (to_z w64 (of_z w64 c.args.latest.now.answer)) l place) c.deref-then-not-has_within.ensures.value c.end_of-place.ensures.end))
 
 pub returns-then-not-has_within-clause-tells : goal.returns-then-not-has_within-clause-tells
 returns-then-not-has_within-clause-tells c =
@@ -33,7 +34,7 @@ returns-then-not-has_within-clause-tells c =
     let fits : SFits w64 x = search rules in
     let same = to_z-of_z w64 x fits in
     let least = c.args.least.now.items in
-    let place = c.place_of-place.result in
+    let place = c.end_of-place.result in
     let set : AnsweredMax = record { rows = c.args.own.now; answer = to_z w64 (of_z w64 c.args.latest.now.answer) } in
     let items_are : c.insert.new.self.items ≡ insert least place set = c.insert.ensures.items
     ∙ ap (λ b. cond b (insert least place set) least) (c.insert.ensures.succeeds c.requires.room) in
@@ -58,16 +59,40 @@ pub has_within-requires : goal.has_within-requires
 has_within-requires c = record {
   same_n = subst (AllByRecursion (λ (p : AnsweredMax). p.rows.n ≡ c.args.latest.now.rows.n)) (sym c.deref.ensures.value) c.requires.same_n_least;
   descend = subst (λ l. Descend (answers_of l)) (sym c.deref.ensures.value) c.requires.descend;
+  marked = rw (c.deref.ensures.value, c.deref-2.ensures.value) c.requires.marked;
 }
 
-pub place_of-place-requires : goal.place_of-place-requires
-place_of-place-requires c = record { descend = subst (λ l. Descend (answers_of l)) (sym c.deref-then-not-has_within.ensures.value) c.requires.descend }
+pub end_of-place-requires : goal.end_of-place-requires
+end_of-place-requires c = record { descend = subst (λ l. Descend (answers_of l)) (sym c.deref-then-not-has_within.ensures.value) c.requires.descend }
 
 pub insert-requires : goal.insert-requires
-insert-requires c = omega (arith, c.place_of-place.ensures.at_most, c.deref-then-not-has_within.ensures.len)
+insert-requires c = omega (arith, c.end_of-place.ensures.at_most, c.deref-then-not-has_within.ensures.len)
 
 pub returns-else-not-has_within-clause-same_n_least : goal.returns-else-not-has_within-clause-same_n_least
 returns-else-not-has_within-clause-same_n_least c = c.requires.same_n_least
 
 pub returns-else-not-has_within-clause-descend : goal.returns-else-not-has_within-clause-descend
 returns-else-not-has_within-clause-descend c = c.requires.descend
+
+pub unwrap-requires-then-not-has_within : goal.unwrap-requires-then-not-has_within
+unwrap-requires-then-not-has_within c = c.insert-then-not-has_within.ensures.succeeds c.requires.marks_room
+
+pub insert-requires-then-not-has_within : goal.insert-requires-then-not-has_within
+insert-requires-then-not-has_within c =
+    let long = marks_length c.args.least.now.items c.args.marks.now.items c.requires.marked in
+    omega (arith, long, c.end_of-place.ensures.at_most, c.deref-then-not-has_within.ensures.len, ap length c.deref-then-not-has_within.ensures.value)
+
+pub returns-then-not-has_within-clause-marked : goal.returns-then-not-has_within-clause-marked
+returns-then-not-has_within-clause-marked c =
+    let least = c.args.least.now.items in
+    let marks = c.args.marks.now.items in
+    let place = c.end_of-place.result in
+    let set : AnsweredMax = record { rows = c.args.own.now; answer = to_z w64 (of_z w64 c.args.latest.now.answer) } in
+    let items_are : c.insert.new.self.items ≡ insert least place set = c.insert.ensures.items
+    ∙ ap (λ b. cond b (insert least place set) least) (c.insert.ensures.succeeds c.requires.room) in
+    let marks_are : c.insert-then-not-has_within.new.self.items ≡ insert marks place c.mark_of.result = c.insert-then-not-has_within.ensures.items
+    ∙ ap (λ b. cond b (insert marks place c.mark_of.result) marks) (c.insert-then-not-has_within.ensures.succeeds c.requires.marks_room) in
+    rw (items_are, marks_are) (marked_inserted least marks place set c.mark_of.result c.requires.marked c.mark_of.ensures)
+
+pub returns-else-not-has_within-clause-marked : goal.returns-else-not-has_within-clause-marked
+returns-else-not-has_within-clause-marked c = c.requires.marked

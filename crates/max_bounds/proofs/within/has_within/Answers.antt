@@ -1,81 +1,85 @@
-use Rattle.std.proofs.Common.{◌≡◌, true, false, ℤ, ◌+◌, ◌-◌, ◌∷◌, ◌++◌, [], length, take, drop, sym, ap, ◌∙◌, subst, refl, SFits, rules, arith, to_z, of_z}
-use Rattle.std.specs.Prelude.{◌↔◌, ◌<ℤ◌, IsTrue, int_lt}
+use Rattle.std.proofs.Common.{◌≡◌, true, false, get_or, ℤ, ◌+◌, ◌<◌, ◌∷◌, ◌++◌, [], length, take, sym, ap, ◌∙◌, subst, refl, arith, to_z, of_z}
+use Rattle.std.specs.Prelude.{◌↔◌, IsTrue}
 use Rattle.std.specs.Int.{w64}
-use Rattle.std.proofs.lemmas.Int.{ints, to_z-of_z}
-use Rattle.std.proofs.lemmas.List.{map_more, take_all}
+use Rattle.std.proofs.lemmas.Int.{to_z-of_z}
+use Rattle.std.proofs.lemmas.List.{map_more}
 use Rattle.std.proofs.lemmas.Bool.{true≢false}
 use Rattle.audit_types.specs.Rows.{complement}
+use Rattle.audit_types.specs.ListLaws.{all-get_or}
 use Rattle.max_bounds.specs.Maxima.{answer_of, answers_of}
-use Rattle.max_bounds.specs.Kept.{Descend}
+use Rattle.max_bounds.specs.Marks.{IsMark, AreAsked}
 use Rattle.max_bounds.specs.Outside.{HasWithin}
 use Rattle.max_bounds.specs.AnswerLaws.{one_here}
-use Rattle.max_bounds.proofs.WithinSets.{within-push, from_place, descend_from, some_of_all, none_of_all, none_from_lower}
+use Rattle.max_bounds.specs.declared.answered.AnsweredMax.{AnsweredMax}
+use Rattle.max_bounds.proofs.MarkedSets.{marks_length, mark_at}
+use Rattle.max_bounds.proofs.WithinSets.{within-push, none_above, none_of_all}
 use Rattle.max_bounds.proofs.within.has_within.Goals as goal
 
-pub returns-then-set-answer : goal.returns-then-set-answer
-returns-then-set-answer c =
-    let least = c.args.least.now in
-    let rows = c.args.rows.now.list in
-    let place = c.place_of-place.result in
-    let part = take (length least - place) (drop place least) in
-    let value : ℤ = to_z w64 (of_z w64 c.args.answer) in
-    let fits : SFits w64 c.set-item.result.answer = search rules in
-    let low : int_lt c.set-item.result.answer value ≡ true = subst (λ z. int_lt z value ≡ true)
-    (to_z-of_z w64 c.set-item.result.answer fits) c.if-set-answer.true in
-    let lower : c.set-item.result.answer <ℤ value = omega (arith, ints, low) in
-    let descend = subst (λ l. Descend (answers_of l)) (sym (from_place place least)) (descend_from place least c.requires.descend) in
-    let none = none_from_lower rows value part c.loop-set.set-index c.set-item.result c.loop-set-test.true c.set-item.is descend lower c.loop-set.invariant in
-    subst (λ v. IsTrue false ↔ HasWithin (answers_of least) rows v) (to_z-of_z w64 c.args.answer c.ranges.answer) (
-      (λ no. absurd (true≢false (sym no))),
-      (λ found. absurd (none_of_all rows value least place c.place_of-place.ensures.place.front
-          (subst (λ l. HasWithin (answers_of l) rows value → ⊥) (from_place place least) none) found)),
-    )
+pub loop-k-init : goal.loop-k-init
+loop-k-init c =
+    none_above c.args.rows.now.list (to_z w64 (of_z w64 c.args.answer)) c.args.least.now c.place_of-first.result c.place_of-first.ensures.place.front
+
+pub bounds-least-k : goal.bounds-least-k
+bounds-least-k c = omega (arith, c.end_of-end.ensures.at_most)
+
+pub bounds-marks-k : goal.bounds-marks-k
+bounds-marks-k c = omega (arith, c.end_of-end.ensures.at_most, marks_length c.args.least.now c.args.marks.now c.requires.marked)
+
+pub is_within-requires : goal.is_within-requires
+is_within-requires c =
+    let within : c.loop-k.k < length c.args.least.now = omega (arith, c.end_of-end.ensures.at_most) in
+    record {
+      same_n = ap (λ (p : AnsweredMax). p.rows.n) c.index-least-k.is
+          ∙ all-get_or (λ (p : AnsweredMax). p.rows.n ≡ c.args.rows.now.n) c.args.least.now c.loop-k.k c.index-least-k.result c.requires.same_n within
+          ∙ sym c.flip.ensures.n;
+      marked =
+          subst (λ (s : AnsweredMax). IsMark s.rows (get_or c.args.marks.now c.loop-k.k 0)) (sym c.index-least-k.is)
+          (mark_at c.args.least.now c.args.marks.now c.loop-k.k c.index-least-k.result 0 c.requires.marked within);
+    }
 
 pub returns-then-is_within : goal.returns-then-is_within
 returns-then-is_within c =
     let least = c.args.least.now in
     let rows = c.args.rows.now.list in
-    let place = c.place_of-place.result in
-    let part = take (length least - place) (drop place least) in
     let value : ℤ = to_z w64 (of_z w64 c.args.answer) in
+    let k = c.loop-k.k in
+    let x = c.index-least-k.result in
+    let within : k < length least = omega (arith, c.end_of-end.ensures.at_most) in
+    let same : c.index-least-k.result.rows.n ≡ c.flip.new.self.n = ap (λ (p : AnsweredMax). p.rows.n) c.index-least-k.is
+    ∙ all-get_or (λ (p : AnsweredMax). p.rows.n ≡ c.args.rows.now.n) c.args.least.now c.loop-k.k c.index-least-k.result c.requires.same_n within
+    ∙ sym c.flip.ensures.n in
     let others : c.flip.new.self.list ≡ complement c.flip.new.self.n rows = c.flip.ensures.others ∙ ap (λ m. complement m rows) (sym c.flip.ensures.n) in
-    let found : HasWithin (answers_of part) rows value = (
-      answer_of c.set-item.result,
-      one_here part c.loop-set.set-index c.set-item.result c.loop-set-test.true c.set-item.is,
-      (c.is_within.ensures rows others).0 c.if-is_within.true,
-    ) in
-    subst (λ v. IsTrue true ↔ HasWithin (answers_of least) rows v) (to_z-of_z w64 c.args.answer c.ranges.answer) (
-      (λ yes. some_of_all rows value least place (subst (λ l. HasWithin (answers_of l) rows value) (from_place place least) found)),
-      (λ is. refl),
-    )
+    let asked = subst (λ n. AreAsked n rows c.asked_groups-asked.result) (sym same) (c.asked_groups-asked.ensures rows others) in
+    let found : HasWithin (answers_of least) rows value =
+    (answer_of x, one_here least k x within c.index-least-k.is, (c.is_within.ensures rows others asked).0 c.if-is_within.true) in
+    subst (λ v. IsTrue true ↔ HasWithin (answers_of least) rows v) (to_z-of_z w64 c.args.answer c.ranges.answer) ((λ yes. found), (λ is. refl))
 
-pub loop-set-preserved : goal.loop-set-preserved
-loop-set-preserved c =
+pub loop-k-preserved : goal.loop-k-preserved
+loop-k-preserved c =
     let least = c.args.least.now in
     let rows = c.args.rows.now.list in
-    let place = c.place_of-place.result in
-    let part = take (length least - place) (drop place least) in
     let value : ℤ = to_z w64 (of_z w64 c.args.answer) in
+    let k = c.loop-k.k in
+    let x = c.index-least-k.result in
+    let within : k < length least = omega (arith, c.end_of-end.ensures.at_most) in
+    let same : c.index-least-k.result.rows.n ≡ c.flip.new.self.n = ap (λ (p : AnsweredMax). p.rows.n) c.index-least-k.is
+    ∙ all-get_or (λ (p : AnsweredMax). p.rows.n ≡ c.args.rows.now.n) c.args.least.now c.loop-k.k c.index-least-k.result c.requires.same_n within
+    ∙ sym c.flip.ensures.n in
     let others : c.flip.new.self.list ≡ complement c.flip.new.self.n rows = c.flip.ensures.others ∙ ap (λ m. complement m rows) (sym c.flip.ensures.n) in
-    let i = c.loop-set.set-index in
-    let x = answer_of c.set-item.result in
-    let seen = answers_of (take i part) in
-    let more : answers_of (take (i + 1) part) ≡ seen ++ x ∷ [] =
-    map_more answer_of part i c.set-item.result c.loop-set-test.true ∙ ap (λ y. seen ++ answer_of y ∷ []) (sym c.set-item.is) in
-    λ found. within-push seen x rows value c.loop-set.invariant
-    (λ is. true≢false (sym ((c.is_within.ensures rows others).1 is) ∙ c.if-is_within.false))
+    let asked = subst (λ n. AreAsked n rows c.asked_groups-asked.result) (sym same) (c.asked_groups-asked.ensures rows others) in
+    let seen = answers_of (take k least) in
+    let more : answers_of (take (k + 1) least) ≡ seen ++ answer_of x ∷ [] =
+    map_more answer_of least k x within ∙ ap (λ y. seen ++ answer_of y ∷ []) (sym c.index-least-k.is) in
+    λ found. within-push seen (answer_of x) rows value c.loop-k.invariant
+    (λ is. true≢false (sym ((c.is_within.ensures rows others asked).1 is) ∙ c.if-is_within.false))
     (subst (λ l. HasWithin l rows value) more found)
 
 pub returns : goal.returns
 returns c =
     let least = c.args.least.now in
     let rows = c.args.rows.now.list in
-    let place = c.place_of-place.result in
-    let part = take (length least - place) (drop place least) in
     let value : ℤ = to_z w64 (of_z w64 c.args.answer) in
-    let none = subst (λ l. HasWithin (answers_of l) rows value → ⊥)
-    (take_all c.loop-set.set-index part (omega (arith, c.loop-set-test.false)) ∙ from_place place least) c.loop-set.invariant in
     subst (λ v. IsTrue false ↔ HasWithin (answers_of least) rows v) (to_z-of_z w64 c.args.answer c.ranges.answer) (
       (λ no. absurd (true≢false (sym no))),
-      (λ found. absurd (none_of_all rows value least place c.place_of-place.ensures.place.front none found)),
+      (λ found. absurd (none_of_all rows value least c.loop-k.k c.end_of-end.result (omega arith) c.end_of-end.ensures.end.rest c.loop-k.invariant found)),
     )
