@@ -46,7 +46,7 @@ foresees_same old v Fixing f narrow p is = (old, grows_same old v f narrow p, is
 foresees_same old v Open f narrow p is = (old, grows_same old v f narrow p, is)
 
 -- what is not wide is narrow
-not_wide : (old : Echelon) (v : List ℤ) (p : Prospect) → Foresees old v p → ¬ (p ≡ Wide) → (new : Echelon) × GrowsTo old v new
+pub not_wide : (old : Echelon) (v : List ℤ) (p : Prospect) → Foresees old v p → ¬ (p ≡ Wide) → (new : Echelon) × GrowsTo old v new
 not_wide old v Wide h other = absurd (other refl)
 not_wide old v Fixing h other = (h.0, h.1)
 not_wide old v Open h other = (h.0, h.1)

@@ -16,7 +16,7 @@ use Rattle.sum_basis.proofs.OwnRows.{pivot_or_none, not_in_form}
 use Rattle.sum_basis.proofs.UnitRowsInSpan.{unit_in_span}
 
 -- the pivots ascend
-pivots_ascend : (form : List (List ℤ)) (i k : ℕ) → IsEchelon form → i < k → k < length form → pivot (get_or form i []) < pivot (get_or form k [])
+pub pivots_ascend : (form : List (List ℤ)) (i k : ℕ) → IsEchelon form → i < k → k < length form → pivot (get_or form i []) < pivot (get_or form k [])
 pivots_ascend [] i k echelon less within = absurd (omega arith)
 pivots_ascend (r ∷ form) i zero echelon less within = absurd (omega arith)
 pivots_ascend (r ∷ form) zero (suc k) echelon less within = (stands_before r form (get_or form k []) echelon.0 (row_among form k (omega arith))).0

@@ -13,3 +13,4 @@ pub mod Asking
 pub mod Points
 pub mod Keys
 pub mod Reach
+pub mod RowsWith

@@ -9,7 +9,9 @@ ghost use Rattle.audit_types.specs.PrimitiveLines.{times};
 ghost use Rattle.sum_basis.specs.Elimination.{IsSmallForm, IsRemainder, IsZeroAtPivots};
 ghost use Rattle.std.specs.Vec.{vec_capacity};
 ghost use Rattle.sum_basis.specs.Sparse.{row_of, IsNew};
-ghost use Rattle.sum_basis.specs.Growth.{Grows, GrowsForRows, GrowsWide, Foresees, IsLeft, IsLeftWithin, LeavesLarge, IsAsItIs, LeavesNoList};
+ghost use Rattle.sum_basis.specs.Growth.{Grows, GrowsForRows, GrowsWide, Foresees, IsLeft, IsLeftWithin, LeavesLarge, IsAsItIs, IsLeftOver, LeavesNoList};
+ghost use Rattle.audit_types.specs.Rows.{IsLeast};
+ghost use Rattle.sum_basis.specs.RowsWith.{IsRowWith, IsPinned};
 ghost use Rattle.sum_basis.specs.Ties.{ShowsTieBut};
 ghost use Rattle.sum_basis.specs.declared.Grown.TheVariants.{Same, Wide};
 ghost use Rattle.sum_basis.specs.declared.form.Left.TheVariants.{Large, Entries};
@@ -18,7 +20,9 @@ use crate::cleared_list::value_at;
 use crate::elimination::{scale, write_bits};
 use crate::growth::{common_multiple, greatest_bound, grow_rows};
 use crate::looking::look_ahead;
+use crate::pinned::least_pinned;
 use crate::primitive_list::{are_within, make_primitive};
+use crate::row_with::{RowWith, row_with_list};
 use crate::sparse::{FreeEntry, SparseRow, copy_list, copy_rows, list_of, reduce};
 use crate::ties::ties_some_but;
 use crate::{Grown, Prospect};
@@ -260,6 +264,34 @@ impl Form {
         let whole = &mut room[..self.columns() as usize];
         write_bits(whole, row);
         self.join(whole)
+    }
+
+    /// The row that has its pivot at a column, of the form with a row of zeros and ones. The form stays as it is.
+    pub fn row_with(&self, row: &[u8], pivot: u16) -> Result<RowWith, NoMemory>
+        requires length { length row.now ≡ self.now.n }
+        requires bits { AllByRecursion (λ b. b ≤ 1) row.now }
+        ensures { IfOk result (IsRowWith self.now (map pos row.now) pivot) }
+    {
+        let mut room = [0; 2048];
+        let whole = &mut room[..self.columns() as usize];
+        write_bits(whole, row);
+        let Weighed { prospect, list } = self.weigh(whole)?;
+        if let Prospect::Wide = prospect {
+            return Ok(RowWith::Wide);
+        }
+        let Some(new) = list else {
+            return Ok(RowWith::Nothing);
+        };
+        row_with_list(self.alloc, self.columns, &self.rows, new, pivot)
+    }
+
+    /// The least column that isn't shared whose unit row lies in the span with the row of a new list.
+    pub(crate) fn unshared_with(&self, shared: &RowSet, new: &[FreeEntry]) -> Option<u16>
+        requires shared { shared.now.n ≡ self.now.n }
+        requires new { IsLeftOver self.now new.now }
+        ensures { (grown : List (List ℤ)) → IsReducedForm self.now.n (self.now.rows ++ row_of self.now.n new.now ∷ []) grown → IsSmallForm self.now.n grown → IsLeast (IsPinned self.now.n grown shared.now.list) result }
+    {
+        least_pinned(&self.rows, self.columns, new, shared)
     }
 
     /// The least column whose unit row lies in the span.

@@ -106,8 +106,8 @@ fn clear_anew(
     row.most = bound_of(row.head, &row.free);
 }
 
-// Clears the row at the new row's pivot.
-fn clear(
+/// Clears the row at the new row's pivot.
+pub(crate) fn clear(
     row: &mut SparseRow,
     columns: u16,
     new: &[FreeEntry],
