@@ -12,5 +12,6 @@ pub mod Ties
 pub mod Asking
 pub mod Points
 pub mod Keys
+pub mod Alike
 pub mod Reach
 pub mod RowsWith

@@ -149,8 +149,8 @@ pub(crate) fn join_list(
     form.insert_list(new)
 }
 
-// Whether the lists have the same entries.
-fn same_list(list: &[FreeEntry], other: &[FreeEntry]) -> bool
+/// Whether the lists have the same entries.
+pub(crate) fn same_list(list: &[FreeEntry], other: &[FreeEntry]) -> bool
     ensures { IsTrue result ↔ (list.now ≡ other.now) }
 {
     if list.len() != other.len() {

@@ -8,7 +8,7 @@ ghost use Rattle.audit_types.specs.Rows.{has_row};
 ghost use Rattle.audit_types.specs.Limits.{most_rows};
 ghost use Rattle.sum_basis.specs.Basis.{unit_row};
 ghost use Rattle.sum_basis.specs.Holding.{IsKeptOf};
-ghost use Rattle.sum_basis.specs.Points.{IsPointAfter, IsKey, Matters};
+ghost use Rattle.sum_basis.specs.Points.{IsPointAfter, IsKey, HasKey, Matters};
 ghost use Rattle.sum_basis.specs.Reach.{AreSmallEntries, IsLeftOverOrNone, times_of};
 ghost use Rattle.sum_basis.specs.Sparse.{entry_at};
 ghost use Rattle.sum_basis.specs.Keys.{IsNewPoint, HasPoint, IsSeen, AreWeights, AreRowPoints, AreColumnsApart, HasUnseenKey, TellSurelyNone};
@@ -226,6 +226,37 @@ fn are_sets_unseen(
     true
 }
 
+/// Writes the keys of the columns that aren't in both sets, if all have one. At the others are numbers that say nothing.
+pub(crate) fn write_keys(
+    form: &Form,
+    kept: &RowPoints,
+    list: &[FreeEntry],
+    new: &Option<NewPoint>,
+    beside: &RowSet,
+    several: &RowSet,
+    keys: &mut [u32],
+) -> bool
+    requires at_most { form.now.n ≤ most_rows }
+    requires kept { AreRowPoints form.now kept.now }
+    requires list { IsLeftOverOrNone form.now list.now }
+    requires new { IsNewPoint kept.now.weights.items list.now new.now }
+    requires beside { beside.now.n ≡ form.now.n }
+    requires several { several.now.n ≡ form.now.n }
+    requires keys { length keys.old ≡ form.now.n }
+    ensures { IsTrue result → (j : ℕ) → j < form.now.n → Matters beside.now.list several.now.list j → HasKey form.now kept.now.weights.items list.now (unit_row form.now.n j) (slice_index_or keys.new j 0) }
+{
+    let nowhere = Point {
+        first: 0,
+        second: 0,
+    };
+    let mut room = [nowhere; 1024];
+    let points = &mut room[..form.columns() as usize];
+    write_unit_points(&kept.weights, new, points);
+    write_row_points(form, kept, list, new, points);
+    leave_out(beside, several, points);
+    keys_of(points, keys)
+}
+
 /// Whether it is sure that the form with the list tells nobody who knows the number of a row that isn't in the second set that of another one
 /// that isn't in the first, or the total of one of the sets.
 pub(crate) fn tells_surely_none(
@@ -244,20 +275,10 @@ pub(crate) fn tells_surely_none(
     requires sets { AllByRecursion (IsKeptOf form.now) sets.now }
     ensures { IsTrue result → TellSurelyNone form.now kept.now.weights.items list.now beside.now.list several.now.list (map (λ s. s.rows.list) sets.now) }
 {
-    let n = form.columns() as usize;
     let new = new_point(&kept.weights, list);
-    let nowhere = Point {
-        first: 0,
-        second: 0,
-    };
-    let mut point_room = [nowhere; 1024];
-    let points = &mut point_room[..n];
-    write_unit_points(&kept.weights, &new, points);
-    write_row_points(form, kept, list, &new, points);
-    leave_out(beside, several, points);
-    let mut key_room = [0; 1024];
-    let keys = &mut key_room[..n];
-    if !keys_of(points, keys) {
+    let mut room = [0; 1024];
+    let keys = &mut room[..form.columns() as usize];
+    if !write_keys(form, kept, list, &new, beside, several, keys) {
         return false;
     }
     let mut seen = Seen::new();

@@ -27,8 +27,8 @@ fn are_like_lists(row: &SparseRow, other: &SparseRow) -> bool
     )
 }
 
-// Whether the number at one of the two columns may tell that at the other.
-fn may_tell(p: u16, q: u16, beside: &RowSet, several: &RowSet) -> bool
+/// Whether the number at one of the two columns may tell that at the other.
+pub(crate) fn may_tell(p: u16, q: u16, beside: &RowSet, several: &RowSet) -> bool
     requires same_n { beside.now.n ≡ several.now.n }
     requires p { p < several.now.n }
     requires q { q < several.now.n }

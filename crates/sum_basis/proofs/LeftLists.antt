@@ -1,0 +1,71 @@
+-- Lists of which a multiple is what a new list leaves of entries.
+use Rattle.std.proofs.Common.{◌≡◌, ◌≢◌, ℕ, ◌≤◌, ◌<◌, ◌^◌, ℤ, pos, List, [], ◌∷◌, length, map, refl, sym, ap, ◌∙◌, arith}
+use Rattle.std.specs.Prelude.{◌-ℤ◌, ◌*ℤ◌, unsigned_abs}
+use Rattle.std.specs.List.{AllByRecursion}
+use Rattle.std.proofs.lemmas.Int.{ints}
+use Rattle.std.proofs.Math.IntN.{zero-*ℤ}
+use Rattle.audit_types.specs.ListLaws.{all-unmap}
+use Rattle.audit_types.specs.Products.{one-times, times_assoc, product_not_zero}
+use Rattle.sum_basis.specs.Alike.{IsMultipleOf, AreAlikeAfter}
+use Rattle.sum_basis.specs.Reach.{AreSmallEntries, times_of, without_new}
+use Rattle.sum_basis.specs.Sparse.{entry_at, scaled, IsListed, IsMadeList}
+use Rattle.sum_basis.specs.declared.sparse.FreeEntry.{FreeEntry}
+use Rattle.sum_basis.proofs.ClearedLists.{values_from}
+use Rattle.sum_basis.proofs.ListContents.{entry_at-scaled}
+use Rattle.sum_basis.proofs.Weighted.{swapped}
+
+-- entries that are 0 at the first place stay, but for a factor
+pub stays_after : (n : ℕ) (new entries list : List FreeEntry) → AreSmallEntries n new → times_of new (entry_at entries) ≡ pos 0 → list ≡ entries →
+    IsMultipleOf (without_new new (entry_at entries)) (entry_at list)
+stays_after n [] entries list small none same = record {
+  by = pos 1;
+  some = λ e. omega (arith, ints);
+  is = λ j. sym (one-times (entry_at entries j)) ∙ ap (λ es. pos 1 *ℤ entry_at es j) (sym same);
+}
+stays_after n (e ∷ new) entries list small none same = record {
+  by = e.value;
+  some = small.0.2;
+  is = λ j.
+      let nothing = ap (λ z. z *ℤ entry_at (e ∷ new) j) none ∙ zero-*ℤ (entry_at (e ∷ new) j) in
+      let own = ap (λ es. e.value *ℤ entry_at es j) same in
+      omega (arith, ints);
+}
+
+-- numbers are themselves
+pub own_multiple : (numbers others : ℕ → ℤ) → ((j : ℕ) → others j ≡ numbers j) → IsMultipleOf numbers others
+own_multiple numbers others is = record {
+  by = pos 1;
+  some = λ e. omega (arith, ints);
+  is = λ j. sym (is j) ∙ sym (one-times (others j));
+}
+
+-- a list over its content
+pub over_content_too : (numbers : ℕ → ℤ) (old new : List FreeEntry) → IsMultipleOf numbers (entry_at old) → IsMadeList old new →
+    IsMultipleOf numbers (entry_at new)
+over_content_too numbers old new is made = record {
+  by = is.by *ℤ made.by;
+  some = product_not_zero is.by made.by is.some made.not_zero;
+  is = λ j.
+      is.is j ∙ ap (λ z. is.by *ℤ z) (ap (λ es. entry_at es j) made.is_multiple ∙ entry_at-scaled made.by new j)
+      ∙ sym (times_assoc is.by made.by (entry_at new j));
+}
+
+-- two multiples of one list
+pub alike_by : (new entries others one other : List FreeEntry) → IsMultipleOf (without_new new (entry_at entries)) (entry_at one) →
+    IsMultipleOf (without_new new (entry_at others)) (entry_at other) → one ≡ other → AreAlikeAfter new entries others
+alike_by new entries others one other first second same = record {
+  a = second.by;
+  b = first.by;
+  a_some = second.some;
+  b_some = first.some;
+  is = λ j.
+      ap (λ z. second.by *ℤ z) (first.is j) ∙ swapped second.by first.by (entry_at one j)
+      ∙ ap (λ es. first.by *ℤ (second.by *ℤ entry_at es j)) same ∙ ap (λ z. first.by *ℤ z) (sym (second.is j));
+}
+
+-- what is left of small entries isn't large
+pub left_small : (n : ℕ) (list : List FreeEntry) → IsListed 0 n list → ((j : ℕ) → unsigned_abs (entry_at list j) ≤ 2 ^ 126) →
+    AllByRecursion (λ (e : FreeEntry). unsigned_abs e.value ≤ 2 ^ 126) list
+left_small n list listed small =
+    all-unmap (λ (e : FreeEntry). e.value) (λ x. unsigned_abs x ≤ 2 ^ 126) list
+    (values_from (λ x. unsigned_abs x ≤ 2 ^ 126) 0 n list listed small (omega arith))

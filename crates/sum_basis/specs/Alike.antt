@@ -1,0 +1,40 @@
+-- What a form with a new list leaves of two columns, if these are multiples of one list.
+use Rattle.std.specs.Prelude.{◌≡◌, ◌≢◌, ℕ, ◌<◌, ℤ, pos, ◌*ℤ◌, List}
+use Rattle.sum_basis.specs.Basis.{Echelon, unit_row}
+use Rattle.sum_basis.specs.Points.{IsResidue}
+use Rattle.sum_basis.specs.Reach.{without_new}
+use Rattle.sum_basis.specs.Sparse.{entry_at}
+use Rattle.sum_basis.specs.Ties.{MayTell}
+use Rattle.sum_basis.specs.declared.sparse.FreeEntry.{FreeEntry}
+
+-- the numbers are the others times a number other than 0
+pub record IsMultipleOf (numbers others : ℕ → ℤ) : Type 0 where
+  pub by : ℤ
+  pub some : by ≢ pos 0
+  pub is : (j : ℕ) → numbers j ≡ by *ℤ others j
+
+-- what the new list leaves of the two is a multiple of one list
+pub record AreAlikeAfter (new entries others : List FreeEntry) : Type 0 where
+  pub a : ℤ
+  pub b : ℤ
+  pub a_some : a ≢ pos 0
+  pub b_some : b ≢ pos 0
+  pub is : (j : ℕ) → a *ℤ without_new new (entry_at entries) j ≡ b *ℤ without_new new (entry_at others) j
+
+-- what the form with the new list leaves of the two columns is
+pub record AreColumnsAlike (form : Echelon) (new : List FreeEntry) (p q : ℕ) : Type 0 where
+  pub entries : List FreeEntry
+  pub others : List FreeEntry
+  pub first : IsResidue form (unit_row form.n p) entries
+  pub second : IsResidue form (unit_row form.n q) others
+  pub alike : AreAlikeAfter new entries others
+
+-- so it is with two columns of which the one may tell the other
+pub record TiesSurely (form : Echelon) (new : List FreeEntry) (beside several : List ℕ) : Type 0 where
+  pub p : ℕ
+  pub q : ℕ
+  pub p_below : p < form.n
+  pub q_below : q < form.n
+  pub apart : q ≢ p
+  pub tells : MayTell beside several p q
+  pub alike : AreColumnsAlike form new p q
