@@ -75,11 +75,16 @@ impl Basis {
         let Prospect::Open = told else {
             return Ok(told);
         };
+        let beside = people.beside();
+        let several = people.several();
+        if self.tells_surely_none(rows, beside, several, apart) {
+            return Ok(Prospect::Open);
+        }
         // What every form is: its rows are a form, and narrow.
         let _ = self.form().columns();
         let mut grown = self.copy()?;
         let _ = grown.extend(rows)?;
-        if grown.tells_asker(people.beside(), people.several(), apart)? {
+        if grown.tells_asker(beside, several, apart)? {
             Ok(Prospect::Fixing)
         } else {
             Ok(Prospect::Open)
@@ -106,6 +111,16 @@ impl Basis {
         }
     }
 
+    // Keeps the points of the form's rows if nothing is told of it yet, so that keys are asked first.
+    fn keep_points_if_open(&mut self, told: Prospect) -> Result<(), NoMemory>
+        ensures { self.new ≡ self.old }
+    {
+        match told {
+            Prospect::Open => self.keep_points(),
+            _ => Ok(()),
+        }
+    }
+
     /// The same, which keeps what it found of the set, until the form changes.
     pub fn weigh_among(
         &mut self,
@@ -122,7 +137,10 @@ impl Basis {
         let told = self.weigh_apart(rows, people.shared(), apart)?;
         match people.askers() {
             Askers::Outside => Ok(told),
-            Askers::Inside => self.told_inside(told, rows, people, apart),
+            Askers::Inside => {
+                self.keep_points_if_open(told)?;
+                self.told_inside(told, rows, people, apart)
+            }
         }
     }
 }

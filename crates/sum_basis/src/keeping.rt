@@ -27,8 +27,8 @@ pub(crate) struct KeptSet {
     pub list: Option<Vec<FreeEntry>>,
 }
 
-// Whether these are the kept sets, in order.
-fn are_kept(kept: &[KeptSet], sets: &[RowSet]) -> bool
+/// Whether these are the kept sets, in order.
+pub(crate) fn are_kept(kept: &[KeptSet], sets: &[RowSet]) -> bool
     ensures { IsTrue result → map (λ k. k.rows) kept.now ≡ sets.now }
 {
     if kept.len() != sets.len() {
