@@ -41,6 +41,7 @@ fn cleared_after(
     requires times { times ≡ times_of new.now (entry_at entries.now) }
     requires some { times ≢ pos 0 }
     ensures listed { IfOk result (λ list. IsListed 0 columns list.items) }
+    ensures small { IfOk result (λ list. AllByRecursion (λ e. unsigned_abs e.value ≤ 2 ^ 126) list.items) }
     ensures is { IfOk result (λ list. (j : ℕ) → entry_at list.items j ≡ without_new new.now (entry_at entries.now) j) }
 {
     let mut list = Vec::with_capacity(alloc, columns as usize)?;

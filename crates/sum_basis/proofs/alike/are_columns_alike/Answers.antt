@@ -1,0 +1,13 @@
+use Rattle.std.proofs.Common.{◌≡◌, ℕ, List, sym, subst}
+use Rattle.std.specs.Prelude.{Bool, IsTrue}
+use Rattle.std.proofs.lemmas.Result.{IfOk-weaker}
+use Rattle.sum_basis.specs.Alike.{AreAlikeAfter, AreColumnsAlike}
+use Rattle.sum_basis.specs.Reach.{AreSmallEntries}
+use Rattle.sum_basis.specs.declared.sparse.FreeEntry.{FreeEntry}
+use Rattle.sum_basis.proofs.SmallEntries.{new_small}
+use Rattle.sum_basis.proofs.alike.are_columns_alike.Goals as goal
+
+pub are_alike-requires-clause-new : goal.are_alike-requires-clause-new
+are_alike-requires-clause-new c =
+    subst (λ (n : ℕ). AreSmallEntries n c.args.list.now) (sym c.columns-columns.ensures.columns)
+    (new_small c.args.form.now c.args.list.now c.requires.list)
