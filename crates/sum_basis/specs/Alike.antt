@@ -1,5 +1,7 @@
 -- What a form with a new list leaves of two columns, if these are multiples of one list.
-use Rattle.std.specs.Prelude.{◌≡◌, ◌≢◌, ℕ, ◌<◌, ℤ, pos, ◌*ℤ◌, List}
+use Rattle.std.specs.Prelude.{◌≡◌, ◌≢◌, ℕ, ◌<◌, ℤ, pos, ◌*ℤ◌, true, false, List, Contains}
+use Rattle.audit_types.specs.Form.{set_row}
+use Rattle.audit_types.specs.Rows.{has_row}
 use Rattle.sum_basis.specs.Basis.{Echelon, unit_row}
 use Rattle.sum_basis.specs.Points.{IsResidue}
 use Rattle.sum_basis.specs.Reach.{without_new}
@@ -38,3 +40,22 @@ pub record TiesSurely (form : Echelon) (new : List FreeEntry) (beside several : 
   pub apart : q ≢ p
   pub tells : MayTell beside several p q
   pub alike : AreColumnsAlike form new p q
+
+-- what the form with the new list leaves of the set's row, and of the unit row of a column that isn't one of several people, is a multiple of one
+-- list, and the set has another row
+pub record IsSetAlike (form : Echelon) (new : List FreeEntry) (several set : List ℕ) : Type 0 where
+  pub own : ℕ
+  pub below : own < form.n
+  pub single : has_row several own ≡ false
+  pub row : ℕ
+  pub inside : has_row set row ≡ true
+  pub other : row ≢ own
+  pub entries : List FreeEntry
+  pub others : List FreeEntry
+  pub first : IsResidue form (set_row form.n set) entries
+  pub second : IsResidue form (unit_row form.n own) others
+  pub alike : AreAlikeAfter new entries others
+
+-- so it is with one of these sets
+abbrev pub SpansSurely : Echelon → List FreeEntry → List ℕ → List (List ℕ) → Type 0
+SpansSurely form new several sets = (set : List ℕ) × Contains sets set × IsSetAlike form new several set

@@ -1,6 +1,4 @@
-//! Whether what a form with a new list leaves of two columns are multiples of one another, so that they are tied.
-//!
-//! Two columns with one key mostly are, and then it is enough to look at the two: the form with the list need not be made.
+//! Whether what a form with a new list leaves of two rows are multiples of one another, by their lists alone.
 ghost use Rattle.std.specs.Prelude.{◌≡◌, ◌≢◌, ℕ, ◌<◌, ◌≤◌, ◌^◌, ℤ, pos, List, [], ◌∷◌, length, IfOk, IfSome, IfNone, IsTrue, slice_index_or, unsigned_abs};
 ghost use Rattle.std.specs.List.{AllByRecursion};
 ghost use Rattle.audit_types.specs.Form.{pivot};
@@ -99,8 +97,8 @@ fn primitive_after(
     Ok(Some(list))
 }
 
-// Whether what is left of the two is surely a multiple of one list.
-fn are_alike(
+/// Whether what is left of the two is surely a multiple of one list.
+pub(crate) fn are_alike(
     alloc: Global,
     columns: u16,
     entries: &[FreeEntry],
@@ -135,8 +133,12 @@ fn row_with_pivot(form: &Form, column: u16) -> Option<u16>
     None
 }
 
-// What the form leaves of the unit row of a column.
-fn list_of_column(form: &Form, alloc: Global, column: u16) -> Result<Vec<FreeEntry>, NoMemory>
+/// What the form leaves of the unit row of a column.
+pub(crate) fn list_of_column(
+    form: &Form,
+    alloc: Global,
+    column: u16,
+) -> Result<Vec<FreeEntry>, NoMemory>
     requires { column < form.now.n }
     ensures residue { IfOk result (λ list. IsResidue form.now (unit_row form.now.n column) list.items) }
     ensures small { IfOk result (λ list. AreSmallEntries form.now.n list.items) }
@@ -153,116 +155,4 @@ fn list_of_column(form: &Form, alloc: Global, column: u16) -> Result<Vec<FreeEnt
             copy_list(alloc, &[own], columns)
         }
     }
-}
-
-// Whether what the form with the list leaves of the two columns is surely a multiple of one list.
-fn are_columns_alike(
-    form: &Form,
-    alloc: Global,
-    list: &[FreeEntry],
-    p: u16,
-    q: u16,
-) -> Result<bool, NoMemory>
-    requires list { IsLeftOverOrNone form.now list.now }
-    requires p { p < form.now.n }
-    requires q { q < form.now.n }
-    ensures { IfOk result (λ alike. IsTrue alike → AreColumnsAlike form.now list.now p q) }
-{
-    // What every form is: its rows are a form.
-    let columns = form.columns();
-    let first = list_of_column(form, alloc, p)?;
-    let second = list_of_column(form, alloc, q)?;
-    are_alike(alloc, columns, &first, &second, list)
-}
-
-// The first column that may be an asker's own whose key may have been seen. The keys before it are seen then.
-fn suspect_asker(keys: &[u32], several: &RowSet, seen: &mut Seen) -> Option<u16>
-    requires { several.now.n ≡ length keys.now }
-    ensures { IfSome result (λ q. q < length keys.now) }
-{
-    for q in 0..several.n() {
-        if several.has(q) {
-            continue;
-        }
-        if seen.has(keys[q as usize]) {
-            return Some(q);
-        }
-        seen.add(keys[q as usize]);
-    }
-    None
-}
-
-// The first column that may be told, and is no asker's own, whose key may have been seen.
-fn suspect_other(keys: &[u32], beside: &RowSet, several: &RowSet, seen: &Seen) -> Option<u16>
-    requires beside { beside.now.n ≡ length keys.now }
-    requires several { several.now.n ≡ length keys.now }
-    ensures { IfSome result (λ q. q < length keys.now) }
-{
-    for q in 0..beside.n() {
-        if several.has(q) && !beside.has(q) && seen.has(keys[q as usize]) {
-            return Some(q);
-        }
-    }
-    None
-}
-
-// A column whose key may be that of another one.
-fn suspect(keys: &[u32], beside: &RowSet, several: &RowSet) -> Option<u16>
-    requires beside { beside.now.n ≡ length keys.now }
-    requires several { several.now.n ≡ length keys.now }
-    ensures { IfSome result (λ q. q < length keys.now) }
-{
-    let mut seen = Seen::new();
-    if let Some(q) = suspect_asker(keys, several, &mut seen) {
-        return Some(q);
-    }
-    suspect_other(keys, beside, several, &seen)
-}
-
-// Another column with the key of this one, if the number at one of the two may tell that at the other.
-fn with_same_key(keys: &[u32], beside: &RowSet, several: &RowSet, q: u16) -> Option<u16>
-    requires beside { beside.now.n ≡ length keys.now }
-    requires several { several.now.n ≡ length keys.now }
-    requires q { q < length keys.now }
-    ensures { IfSome result (λ p. (p < length keys.now) × (q ≢ p) × MayTell beside.now.list several.now.list p q) }
-{
-    let key = keys[q as usize];
-    for p in 0..beside.n() {
-        if keys[p as usize] == key && q != p && may_tell(p, q, beside, several) {
-            return Some(p);
-        }
-    }
-    None
-}
-
-/// Whether it is sure, by two columns with one key, that the form with the list ties a column that isn't in the first set to another one that
-/// isn't in the second.
-pub(crate) fn ties_surely(
-    form: &Form,
-    alloc: Global,
-    kept: &RowPoints,
-    list: &[FreeEntry],
-    beside: &RowSet,
-    several: &RowSet,
-) -> Result<bool, NoMemory>
-    requires at_most { form.now.n ≤ most_rows }
-    requires kept { AreRowPoints form.now kept.now }
-    requires list { IsLeftOverOrNone form.now list.now }
-    requires beside { beside.now.n ≡ form.now.n }
-    requires several { several.now.n ≡ form.now.n }
-    ensures { IfOk result (λ ties. IsTrue ties → TiesSurely form.now list.now beside.now.list several.now.list) }
-{
-    let new = new_point(&kept.weights, list);
-    let mut room = [0; 1024];
-    let keys = &mut room[..form.columns() as usize];
-    if !write_keys(form, kept, list, &new, beside, several, keys) {
-        return Ok(false);
-    }
-    let Some(q) = suspect(keys, beside, several) else {
-        return Ok(false);
-    };
-    let Some(p) = with_same_key(keys, beside, several, q) else {
-        return Ok(false);
-    };
-    are_columns_alike(form, alloc, list, p, q)
 }

@@ -161,8 +161,8 @@ fn are_columns_apart(keys: &[u32], beside: &RowSet, several: &RowSet, seen: &mut
     are_askers_apart(keys, several, seen) && are_others_unseen(keys, beside, several, seen)
 }
 
-// The key of a list, if it has one.
-fn key_of(
+/// The key of a list, if it has one.
+pub(crate) fn key_of(
     weights: &[Point],
     list: &[FreeEntry],
     new: &Option<NewPoint>,

@@ -5,7 +5,7 @@ use Rattle.sum_basis.specs.Alike.{AreAlikeAfter, AreColumnsAlike}
 use Rattle.sum_basis.specs.Reach.{AreSmallEntries}
 use Rattle.sum_basis.specs.declared.sparse.FreeEntry.{FreeEntry}
 use Rattle.sum_basis.proofs.SmallEntries.{new_small}
-use Rattle.sum_basis.proofs.alike.are_columns_alike.Goals as goal
+use Rattle.sum_basis.proofs.suspects.are_columns_alike.Goals as goal
 
 pub are_alike-requires-clause-new : goal.are_alike-requires-clause-new
 are_alike-requires-clause-new c =

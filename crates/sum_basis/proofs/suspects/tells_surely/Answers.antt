@@ -1,7 +1,7 @@
 use Rattle.std.proofs.Common.{ℕ, length, sym, ap, ◌∙◌, subst}
 use Rattle.sum_basis.specs.Reach.{AreSmallEntries}
 use Rattle.sum_basis.proofs.SmallEntries.{new_small}
-use Rattle.sum_basis.proofs.alike.ties_surely.Goals as goal
+use Rattle.sum_basis.proofs.suspects.tells_surely.Goals as goal
 
 pub new_point-new-requires : goal.new_point-new-requires
 new_point-new-requires c =
