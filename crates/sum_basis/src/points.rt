@@ -55,6 +55,9 @@ fn between_products(x: u32, y: u32, less: u32, by: u32) -> u32
     requires { less < modulus }
     ensures { IsLeftModulo (pos (x * y) -ℤ pos (less * by)) result }
 {
+    if less == 0 {
+        return times(x, y);
+    }
     times_plus(x, y, times(MODULUS - less, by))
 }
 
