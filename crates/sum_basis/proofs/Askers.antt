@@ -72,6 +72,13 @@ module _ (old : Echelon) (row : List ℤ) (people : Headcount) (sets : List (Lis
     ],
   )
 
+  -- nothing more is told if it is sure that it tells none of them
+  pub told_silent : ForeseesApart old row (shared_in people) sets prospect.Open →
+      ((new : Echelon) → GrowsTo old row new → ¬ (TellsAsker new (beside_in people) (several_in people) sets)) →
+      ForeseesAmong old row people sets prospect.Open
+  told_silent (first, grows, safe) silent =
+      (first, grows, λ tells. elim tells [ inl spans ↦ safe spans | inr asker ↦ silent first grows asker.1 ])
+
   -- what it spans is told whoever asks
   pub told_anyway : (p : Prospect) → (p ≡ prospect.Open → ⊥) → ForeseesApart old row (shared_in people) sets p → ForeseesAmong old row people sets p
   told_anyway prospect.Wide not is = is

@@ -18,6 +18,7 @@ use Rattle.sum_basis.specs.Basis.{Echelon, unit_row}
 use Rattle.sum_basis.specs.Elimination.{IsSmallForm}
 use Rattle.sum_basis.specs.Growth.{GrowsTo}
 use Rattle.sum_basis.specs.Holding.{LeavesList}
+use Rattle.sum_basis.specs.Keys.{TellSurelyNone}
 use Rattle.sum_basis.specs.Points.{items_of, with_new, HasKey, AreKeysApart, AreSetsApart}
 use Rattle.sum_basis.specs.Reach.{IsLeftOverOrNone}
 use Rattle.sum_basis.specs.Spans.{combined_zero, in_span_from, own, span_trans, span_trans_all, spans_add, spans_from, spans_same, spans_times}
@@ -193,3 +194,10 @@ untold form asked grown left weights beside several keys sets f grows leaves apa
     untied form asked grown grows left leaves f weights beside several keys apart tied
 untold form asked grown left weights beside several keys sets f grows leaves apart sets_apart (inr spanned) =
     unspanned form asked grown grows left leaves f weights beside several keys apart sets sets_apart spanned
+
+-- so it is if there are such keys
+pub surely_untold : (form : Echelon) (asked : List ℤ) (left : Option (Vec FreeEntry Global)) (weights : List Point) (beside several : List ℕ)
+    (sets : List (List ℕ)) → IsSmallForm form.n form.rows → LeavesList form asked left → TellSurelyNone form weights (items_of left) beside several sets →
+    (grown : Echelon) → GrowsTo form asked grown → ¬ (TellsAsker grown beside several sets)
+surely_untold form asked left weights beside several sets f leaves sure grown grows =
+    untold form asked grown left weights beside several sure.keys sets f grows leaves sure.columns_apart sure.sets_apart

@@ -1,4 +1,4 @@
-use Rattle.std.proofs.Common.{◌≡◌, ℕ, ◌*◌, ◌<◌, ◌≤◌, pos, length, get_or}
+use Rattle.std.proofs.Common.{ℕ, ◌*◌, ◌<◌, ◌≤◌, pos, length, get_or}
 use Rattle.sum_basis.specs.Points.{IsLeftModulo, IsKey}
 use Rattle.sum_basis.specs.Keys.{product_before}
 use Rattle.sum_basis.proofs.KeyProducts.{no_point}

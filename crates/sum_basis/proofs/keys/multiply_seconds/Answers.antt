@@ -1,5 +1,5 @@
-use Rattle.std.proofs.Common.{◌≡◌, ◌≢◌, ◌<◌, length, get_or, refl, arith, below_more, get_or-set_other, get_or-set_same}
-use Rattle.sum_basis.proofs.KeyProducts.{no_point, product_more}
+use Rattle.std.proofs.Common.{◌≢◌, ◌<◌, length, arith, below_more, get_or-set_other, get_or-set_same}
+use Rattle.sum_basis.proofs.KeyProducts.{product_more}
 use Rattle.sum_basis.proofs.LeftModulo.{left_self}
 use Rattle.sum_basis.proofs.keys.multiply_seconds.Goals as goal
 

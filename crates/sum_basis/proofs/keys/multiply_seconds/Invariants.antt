@@ -1,4 +1,4 @@
-use Rattle.std.proofs.Common.{◌≡◌, ℕ, ◌<◌, pos, get_or}
+use Rattle.std.proofs.Common.{ℕ, ◌<◌, pos, get_or}
 use Rattle.sum_basis.specs.Points.{IsLeftModulo}
 use Rattle.sum_basis.specs.Keys.{product_before}
 use Rattle.sum_basis.proofs.keys.multiply_seconds.Given as goal

@@ -1,10 +1,6 @@
-use Rattle.std.proofs.Common.{◌≡◌, ◌≢◌, ℕ, ◌<◌, [], length, get_or, sym, ap, ◌∙◌, subst, arith, below_more, get_or-set_other, get_or-set_same, length-set}
-use Rattle.sum_basis.specs.Points.{IsPointAfter}
+use Rattle.std.proofs.Common.{ℕ, length, sym, ap, ◌∙◌, subst, arith}
 use Rattle.sum_basis.specs.Reach.{AreSmallEntries}
-use Rattle.sum_basis.specs.Keys.{IsRowPoint}
-use Rattle.sum_basis.specs.declared.points.Point.{Point}
 use Rattle.sum_basis.proofs.SmallEntries.{free_small}
-use Rattle.sum_basis.proofs.KeyProducts.{no_point}
 use Rattle.sum_basis.proofs.row_points.refresh_points.Goals as goal
 
 pub point_of-requires : goal.point_of-requires

@@ -1,4 +1,3 @@
-use Rattle.std.proofs.Common.{◌≡◌, length}
 use Rattle.sum_basis.specs.Keys.{AreWeights}
 use Rattle.sum_basis.proofs.row_points.weights_of.Given as goal
 

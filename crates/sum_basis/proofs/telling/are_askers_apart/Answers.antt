@@ -1,6 +1,4 @@
-use Rattle.std.proofs.Common.{◌≡◌, ◌≢◌, ◌<◌, get_or, refl, sym, subst, arith, below_more}
-use Rattle.std.specs.Prelude.{true, false}
-use Rattle.std.proofs.lemmas.Bool.{false≢true}
+use Rattle.std.proofs.Common.{get_or, refl, subst, arith, below_more}
 use Rattle.sum_basis.specs.Keys.{IsSeen}
 use Rattle.sum_basis.proofs.telling.are_askers_apart.Goals as goal
 

@@ -1,5 +1,4 @@
-use Rattle.std.proofs.Common.{◌≡◌, ◌≢◌, ◌<◌, length, sym, ◌∙◌, arith, below_more, get_or-set_other, get_or-set_same}
-use Rattle.sum_basis.specs.Points.{Matters}
+use Rattle.std.proofs.Common.{◌≢◌, ◌<◌, length, ◌∙◌, arith, below_more, get_or-set_other, get_or-set_same}
 use Rattle.sum_basis.proofs.telling.leave_out.Goals as goal
 
 pub loop-q-preserved : goal.loop-q-preserved

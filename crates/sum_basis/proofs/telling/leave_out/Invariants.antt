@@ -1,4 +1,4 @@
-use Rattle.std.proofs.Common.{◌≡◌, ℕ, ◌<◌, ◌≤◌, length, get_or}
+use Rattle.std.proofs.Common.{◌≡◌, ℕ, ◌<◌, ◌≤◌, get_or}
 use Rattle.sum_basis.specs.Points.{Matters}
 use Rattle.sum_basis.proofs.KeyProducts.{no_point}
 use Rattle.sum_basis.proofs.telling.leave_out.Given as goal

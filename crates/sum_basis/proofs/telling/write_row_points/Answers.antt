@@ -1,4 +1,4 @@
-use Rattle.std.proofs.Common.{◌≡◌, ◌≢◌, ℕ, ◌<◌, ◌≤◌, ◌^◌, ℤ, [], length, get_or, set, sym, ◌∙◌, subst, inl, inr, arith, rules, get_or-set_other, get_or-set_same}
+use Rattle.std.proofs.Common.{◌≢◌, ℕ, ◌<◌, ◌≤◌, ◌^◌, ℤ, [], length, get_or, set, sym, ◌∙◌, subst, inl, inr, arith, rules, get_or-set_other, get_or-set_same}
 use Rattle.std.specs.Prelude.{FitsSigned, unsigned_abs}
 use Rattle.std.specs.Int.{w128}
 use Rattle.std.proofs.lemmas.Bool.{cases_eq}

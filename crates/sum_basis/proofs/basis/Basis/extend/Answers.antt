@@ -53,6 +53,7 @@ invariant_of-self c = (
   tt,
   subst (AllByRecursion (IsKeptOf c.join.new.self)) (sym c.clear.ensures.items) tt,
   tt,
+  tt,
 )
 
 pub returns : goal.returns
