@@ -64,9 +64,3 @@ point_cleared new point next value left value_is first second weights (e ∷ lis
       (left_between e.value (weighted (second_weight weights) entries) value (weighted (second_weight weights) (e ∷ list)) new.value point.second left
       new.point.second next.second known.1.1 is.second.1 value_is.1 known.2.second.1 second);
 }
-
--- with no new list the point stays
-pub point_stays : (weights : List Point) (list entries : List FreeEntry) (point : Point) → IsNewPoint weights list None → IsPointAfter weights [] entries point →
-    IsPointAfter weights list entries point
-point_stays weights [] entries point none is = is
-point_stays weights (e ∷ list) entries point none is = absurd none
