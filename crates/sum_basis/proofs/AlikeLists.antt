@@ -52,7 +52,7 @@ alike_by a b value x y x_there y_there l is =
     let fourth = ap (λ z. z *ℤ l) (neg-times b y_there) ∙ neg-times (b *ℤ y_there) l ∙ ap neg_ℤ (times_assoc b y_there l) in
     omega (arith, ints)
 
-pub alike_from : (n : ℕ) (new xs ys : List FreeEntry) (a b : ℤ) → IsListed 0 n new → a ≢ pos 0 →
+alike_from : (n : ℕ) (new xs ys : List FreeEntry) (a b : ℤ) → IsListed 0 n new → a ≢ pos 0 →
     ((j : ℕ) → a *ℤ without_new new (entry_at xs) j ≡ b *ℤ without_new new (entry_at ys) j) → IsAlike new xs ys
 alike_from n [] xs ys a b listed some is =
     record { a = a; b = b; k = pos 0; some = some; is = λ j. let here = is j in omega (arith, ints) }
@@ -147,7 +147,7 @@ module _ (form : Echelon) (new : List FreeEntry) (listed : IsListed 0 form.n new
       let taken = neg-times r.by (alike.b *ℤ combined s.coefficients form.rows j) in
       omega (arith, ints)
 
-  pub in_span_together : AreInSpanTogether rows row other
+  in_span_together : AreInSpanTogether rows row other
   in_span_together = record {
     times = first_times;
     by = second_times;

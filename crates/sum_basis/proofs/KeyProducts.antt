@@ -31,7 +31,7 @@ module _ (points : List Point) (j product inverse own : ℕ) (is : IsLeftModulo 
   whole_is = subst (λ k. IsLeftModulo (pos (product_before points k * inverse)) 1) (add-one j) whole
 
   -- the product before a factor, times the inverse, is the factor's inverse
-  pub own_inverse : IsLeftModulo (pos ((get_or points j no_point).second * own)) 1
+  own_inverse : IsLeftModulo (pos ((get_or points j no_point).second * own)) 1
   own_inverse =
       let before = product_before points j in
       let second = (get_or points j no_point).second in

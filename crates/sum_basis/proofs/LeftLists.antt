@@ -66,7 +66,7 @@ alike_by new entries others one other first second same = record {
 }
 
 -- what is left of small entries isn't large
-pub left_small : (n : ℕ) (list : List FreeEntry) → IsListed 0 n list → ((j : ℕ) → unsigned_abs (entry_at list j) ≤ 2 ^ 126) →
+left_small : (n : ℕ) (list : List FreeEntry) → IsListed 0 n list → ((j : ℕ) → unsigned_abs (entry_at list j) ≤ 2 ^ 126) →
     AllByRecursion (λ (e : FreeEntry). unsigned_abs e.value ≤ 2 ^ 126) list
 left_small n list listed small =
     all-unmap (λ (e : FreeEntry). e.value) (λ x. unsigned_abs x ≤ 2 ^ 126) list

@@ -37,14 +37,6 @@ pub left_is : (x : ℤ) (left : ℕ) → IsLeftModulo x left → IsSame modulus 
 left_is x left is = is.1
 
 module _ (x y : ℤ) (a b : ℕ) (x_is : IsSame modulus x (pos a)) (y_is : IsSame modulus y (pos b)) where
-  -- of a product
-  pub left_product : (left : ℕ) → IsLeftModulo (pos (a * b)) left → IsLeftModulo (x *ℤ y) left
-  left_product left is = (
-    is.0,
-    same_then modulus (x *ℤ y) (pos a *ℤ pos b) (pos left) (same_products modulus x (pos a) y (pos b) x_is y_is)
-        (product_is modulus a b left is.1),
-  )
-
   -- of a product and one number more
   pub left_product_plus : (z : ℤ) (c left : ℕ) → IsSame modulus z (pos c) → IsLeftModulo (pos (a * b + c)) left → IsLeftModulo (z +ℤ x *ℤ y) left
   left_product_plus z c left z_is is =

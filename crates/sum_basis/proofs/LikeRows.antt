@@ -36,7 +36,7 @@ pub record IsCombined (form : Echelon) (new : List FreeEntry) (other row : List 
       ≡ (combined coefficients form.rows j +ℤ by *ℤ number_at (row_of form.n new) j) +ℤ times *ℤ number_at other j
 
 -- so it is if the row lies in the span
-pub combined_from : (form : Echelon) (new : List FreeEntry) (other row : List ℤ) → InSpan (with_new form new ++ other ∷ []) row →
+combined_from : (form : Echelon) (new : List FreeEntry) (other row : List ℤ) → InSpan (with_new form new ++ other ∷ []) row →
     IsCombined form new other row
 combined_from form [] other row span = record {
   multiple = span.multiple;
@@ -61,7 +61,7 @@ combined_from form (e ∷ new) other row span = record {
 }
 
 -- without another row too
-pub combined_alone : (form : Echelon) (new : List FreeEntry) (row : List ℤ) → InSpan (with_new form new) row → IsCombined form new [] row
+combined_alone : (form : Echelon) (new : List FreeEntry) (row : List ℤ) → InSpan (with_new form new) row → IsCombined form new [] row
 combined_alone form [] row span = record {
   multiple = span.multiple;
   positive = span.positive;
@@ -186,11 +186,11 @@ module _ (form : Echelon) (f : IsSmallForm form.n form.rows) (new : List FreeEnt
   sums_are weight = weighted_after_line weight form.n a b k entries new others r.listed listed s.listed left_is
 
   -- so the one is 0 if the other is
-  pub sum_none : (weight : ℕ → ℤ) → weighted_after weight new others ≡ pos 0 → weighted_after weight new entries ≡ pos 0
+  sum_none : (weight : ℕ → ℤ) → weighted_after weight new others ≡ pos 0 → weighted_after weight new entries ≡ pos 0
   sum_none weight none =
       zero_product a (weighted_after weight new entries) (sums_are weight ∙ ap (λ z. k *ℤ z) none ∙ *ℤ-zero k) a_some
 
-  pub same_key : (weights : List Point) (point second : Point) (key another : ℕ) → IsPointAfter weights new entries point →
+  same_key : (weights : List Point) (point second : Point) (key another : ℕ) → IsPointAfter weights new entries point →
       IsPointAfter weights new others second → IsKey point key → IsKey second another → key ≡ another
   same_key weights point second key another p q =
       one_key (weighted_after (first_weight weights) new entries) (weighted_after (second_weight weights) new entries)
@@ -210,7 +210,7 @@ pub new_listed : (form : Echelon) (new : List FreeEntry) → IsLeftOverOrNone fo
 new_listed form new (inl none) = subst (IsListed 0 form.n) (sym none) tt
 new_listed form new (inr left) = left.0.listed
 
-pub new_zeros : (form : Echelon) (new : List FreeEntry) → IsLeftOverOrNone form new → IsZeroAtPivots form.rows (row_of form.n new)
+new_zeros : (form : Echelon) (new : List FreeEntry) → IsLeftOverOrNone form new → IsZeroAtPivots form.rows (row_of form.n new)
 new_zeros form new (inl none) = subst (λ l. IsZeroAtPivots form.rows (row_of form.n l)) (sym none) (empty_zeros form.n form.rows)
 new_zeros form new (inr left) = left.1
 

@@ -171,7 +171,7 @@ module _ (form : Echelon) (f : IsSmallForm form.n form.rows) (v : List ℤ) (lis
             omega (arith, ints);
       }
 
-  pub residue_of_new : IsResidue form v list
+  residue_of_new : IsResidue form v list
   residue_of_new = record {
     listed = new.listed;
     zeros = is_new.zeros;
