@@ -28,22 +28,13 @@ use Rattle.sum_basis.proofs.SparseRows.{elsewhere, own_value, number_at-row_of}
 use Rattle.sum_basis.proofs.ListContents.{none, entry_at-scaled, first_some}
 use Rattle.sum_basis.proofs.ClearedLists.{IsLed, is_led, positive_times}
 use Rattle.sum_basis.proofs.Merges.{scaled_listed}
+use Rattle.sum_basis.proofs.OneKey.{crossed}
 use Rattle.sum_basis.proofs.Parallels.{same_listed, alike_at}
 use Rattle.sum_basis.proofs.KeptRows.{lone_new}
 use Rattle.sum_basis.proofs.SpansWithOneMore.{IsOnLine, alone, on_line, by_some}
 use Rattle.sum_basis.proofs.UnitRowsInSpan.{unit_here, unit_elsewhere, unit_in_span}
 use Rattle.sum_basis.proofs.OwnRows.{rest, rest_is, rest_zeros, rest_spanned, pivot_or_none, unit_zeros, NoneAtPivots, only_at_left}
 use Rattle.sum_basis.proofs.ExchangedRows.{NoneNewAtPivots, apart_from, no_pivot_there, not_known_there, only_new}
-
--- two pairs of numbers of one ratio
-cross : (m c a b x y : ℤ) → m ≢ pos 0 → m *ℤ x ≡ c *ℤ a → m *ℤ y ≡ c *ℤ b → a *ℤ y ≡ x *ℤ b
-cross m c a b x y some first second =
-    let same : m *ℤ (a *ℤ y) ≡ m *ℤ (x *ℤ b) = sym (times_assoc m a y) ∙ ap (λ z. z *ℤ y) (*ℤ_comm m a) ∙ times_assoc a m y ∙ ap (λ z. a *ℤ z) second
-    ∙ sym (times_assoc a c b) ∙ ap (λ z. z *ℤ b) (*ℤ_comm a c ∙ sym first) ∙ times_assoc m x b in
-    let parts = times-add m (a *ℤ y) (neg_ℤ (x *ℤ b)) in
-    let minus = *ℤ_comm m (neg_ℤ (x *ℤ b)) ∙ neg-times (x *ℤ b) m ∙ ap neg_ℤ (*ℤ_comm (x *ℤ b) m) in
-    let nothing = zero_product m (a *ℤ y +ℤ neg_ℤ (x *ℤ b)) (omega (arith, ints, same, parts, minus)) some in
-    omega (arith, ints, nothing)
 
 -- entries at free columns are 0 at the pivots
 off_pivot : (rows : List (List ℤ)) (k : ℕ) → k < length rows → (entries : List FreeEntry) →
@@ -119,9 +110,10 @@ module _ (form : Echelon) (f : IsSmallForm form.n form.rows) (k : ℕ) (within :
 
       one_ratio : (j : ℕ) → j ≢ pivot row → pivot_entry r *ℤ number_at row j ≡ number_at row (pivot r) *ℤ number_at r j
       one_ratio j other =
-          cross (pos line.multiple) (neg_ℤ line.by) (pivot_entry r) (number_at r j) (number_at row (pivot r)) (number_at row j)
+          *ℤ_comm (pivot_entry r) (number_at row j)
+          ∙ sym (crossed (pos line.multiple) (neg_ℤ line.by) (number_at row (pivot r)) (number_at row j) (pivot_entry r) (number_at r j)
           (let m = line.positive in omega (arith, ints))
-          (on_row (pivot r) (apart_from form f list over k within)) (on_row j other)
+          (on_row (pivot r) (apart_from form f list over k within)) (on_row j other))
 
     -- back, by any ratio
     module _ (by times : ℤ) (positive : pos 0 <ℤ by) (same : (j : ℕ) → j ≢ pivot row → by *ℤ number_at row j ≡ times *ℤ number_at r j) where

@@ -6,7 +6,7 @@ use Rattle.std.proofs.Common.{◌≡◌, ◌≢◌, ℕ, zero, suc, ◌+◌, ◌
 use Rattle.std.specs.Prelude.{◌+ℤ◌, ◌*ℤ◌, neg_ℤ, not}
 use Rattle.std.specs.List.{AllByRecursion, range_with_len}
 use Rattle.std.proofs.lemmas.Int.{ints}
-use Rattle.std.proofs.lemmas.Bool.{cases_eq, cases_lt, eq-eqb, ne_eqb, true≢false}
+use Rattle.std.proofs.lemmas.Bool.{cases_eq, cases_lt, eq-eqb, ne_eqb, or_parts, or_right, true≢false}
 use Rattle.std.proofs.lemmas.List.{get_or_past}
 use Rattle.std.proofs.lemmas.List.Sums.{sum_by-cons}
 use Rattle.std.proofs.lemmas.List.FromFn.{length-map-range_with_len, get_or-map-range_with_len}
@@ -55,14 +55,6 @@ total-two f n a b l m differ zeros =
 pivot_first : (row : List ℤ) (rows : List (List ℤ)) → is_pivot (row ∷ rows) (pivot row) ≡ true
 pivot_first row rows = ap (λ b. b || is_pivot rows (pivot row)) (eq-eqb (pivot row) (pivot row) refl)
 
-or_false : (a b : Bool) → (a || b) ≡ false → (a ≡ false) × (b ≡ false)
-or_false true b e = absurd cc
-or_false false b e = (refl, e)
-
-or_true : (a b : Bool) → b ≡ true → (a || b) ≡ true
-or_true true b e = refl
-or_true false b e = e
-
 -- each row's pivot is a pivot
 pub own_pivots : (form : List (List ℤ)) → AllByRecursion (λ row. is_pivot form (pivot row) ≡ true) form
 own_pivots form = go form form (λ i e. e)
@@ -72,7 +64,7 @@ own_pivots form = go form form (λ i e. e)
     go rows [] keeps = tt
     go rows (row ∷ some) keeps = (
       keeps (pivot row) (pivot_first row some),
-      go rows some (λ i e. keeps i (or_true (pivot row == i) (is_pivot some i) e)),
+      go rows some (λ i e. keeps i (or_right (pivot row == i) (is_pivot some i) e)),
     )
 
 -- the pivot of a row is that of no later one
@@ -240,7 +232,7 @@ module _ (n : ℕ) where
   zero_elsewhere : (rows : List (List ℤ)) (j i : ℕ) → is_pivot rows i ≡ false → i ≢ j → along_from n rows j i ≡ pos 0
   zero_elsewhere [] j i e other = ap (λ b. cond b (pos 1) (pos 0)) (ne_eqb j i (λ same. other (sym same)))
   zero_elsewhere (row ∷ rows) j i e other =
-      let parts = or_false (pivot row == i) (is_pivot rows i) e in
+      let parts = or_parts (pivot row == i) (is_pivot rows i) e in
       ap (λ z. pivot_entry row *ℤ z +ℤ neg_ℤ (product row (along_from n rows j) n) *ℤ spike (pivot row) i) (zero_elsewhere rows j i parts.1 other)
       ∙ ap (λ z. z +ℤ neg_ℤ (product row (along_from n rows j) n) *ℤ spike (pivot row) i) (*ℤ-zero (pivot_entry row))
       ∙ ap (λ b. pos 0 +ℤ neg_ℤ (product row (along_from n rows j) n) *ℤ cond b (pos 1) (pos 0)) parts.0
@@ -250,7 +242,7 @@ module _ (n : ℕ) where
   some_here : (rows : List (List ℤ)) (j : ℕ) → AllByRecursion (IsPrimitive n) rows → is_pivot rows j ≡ false → along_from n rows j j ≢ pos 0
   some_here [] j p e none = absurd (let one = ap (λ b. cond b (pos 1) (pos 0)) (eq-eqb j j refl) in omega (arith, ints))
   some_here (row ∷ rows) j p e none =
-      let parts = or_false (pivot row == j) (is_pivot rows j) e in
+      let parts = or_parts (pivot row == j) (is_pivot rows j) e in
       let off =
       ap (λ b. neg_ℤ (product row (along_from n rows j) n) *ℤ cond b (pos 1) (pos 0)) parts.0 ∙ *ℤ-zero (neg_ℤ (product row (along_from n rows j) n)) in
       product_not_zero (pivot_entry row) (along_from n rows j j) (positive_not_zero (pivot_entry row) p.0.leading) (some_here rows j p.1 parts.1)

@@ -17,7 +17,7 @@ use Rattle.sum_basis.specs.Merging.{first_value}
 use Rattle.sum_basis.proofs.ListContents.{none}
 use Rattle.sum_basis.proofs.ClearedLists.{values_from}
 use Rattle.sum_basis.proofs.SparseRows.{here, elsewhere, listed_from, listed_length, take_entry, front_zero}
-use Rattle.sum_basis.proofs.Merges.{neg_not_zero}
+use Rattle.sum_basis.proofs.Merges.{neg_not_zero, nothing}
 use Rattle.std.proofs.lemmas.List.{take_all}
 
 -- one entry put in
@@ -139,10 +139,6 @@ module _ (n : ℕ) (es : List FreeEntry) (k place : ℕ) (number : ℤ) (h : IsL
           (let changed = ap (λ l. entry_at l j) set_is in let new = entry_at-set es k v j f.within in let old = was j in
           let now = ap (λ p. cond (nat_eq p j) v (pos 0)) f.at_place in let sum = both (nat_eq place j) in omega (arith, ints))
     ]
-      where
-        nothing : (b : Bool) → cond b (pos 0) (pos 0) ≡ pos 0
-        nothing true = refl
-        nothing false = refl
 
 -- a multiple of the first k entries is taken from a list
 pub record IsTaken (old new : List FreeEntry) (times : ℤ) (es : List FreeEntry) (k : ℕ) : Type 0 where

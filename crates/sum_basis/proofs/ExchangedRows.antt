@@ -7,8 +7,8 @@ use Rattle.std.specs.Prelude.{◌↔◌, ◌+ℤ◌, ◌*ℤ◌, ◌<ℤ◌, neg
 use Rattle.std.specs.declared.alloc.Global.{Global}
 use Rattle.std.specs.List.{AllByRecursion, list_all}
 use Rattle.std.proofs.lemmas.Int.{ints}
-use Rattle.std.proofs.lemmas.Bool.{true≢false, false≢true, cases_eq, cases_lt, eq-eqb, eqb-true, ne_eqb, or_parts}
-use Rattle.std.proofs.Math.Bool.{or-false}
+use Rattle.std.proofs.lemmas.Bool.{true≢false, false≢true, cases_eq, cases_lt, eq-eqb, eqb-true, ne_eqb, or_parts, not-true}
+use Rattle.std.proofs.Math.Bool.{or-false, or-true}
 use Rattle.std.proofs.lemmas.List.Elements.{All-from_recursion}
 use Rattle.std.proofs.Math.IntN.{*ℤ-zero, zero-*ℤ}
 use Rattle.audit_types.specs.Truth.{number_at, is_zero}
@@ -36,13 +36,9 @@ use Rattle.sum_basis.specs.CombinedRows.{length-combine}
 use Rattle.sum_basis.proofs.Sizes.{within_at}
 use Rattle.sum_basis.proofs.KeptForms.{row_among}
 use Rattle.sum_basis.proofs.OwnRows.{pivot_or_none, not_in_form, at_new_pivot, lone_if_nothing, rest, rest_is, rest_zeros, rest_spanned, unit_zeros}
-use Rattle.sum_basis.proofs.SpansWithOneMore.{IsOnLine, on_line, alone, one_of_line, by_some}
+use Rattle.sum_basis.proofs.SpansWithOneMore.{IsOnLine, not_all_zeros, on_line, alone, one_of_line, by_some}
 use Rattle.sum_basis.proofs.Reduction.{span_line, primitive_exists}
 use Rattle.sum_basis.proofs.UnitRowsInSpan.{unit_in_span, unit_here, unit_elsewhere}
-
-or_true : (b : Bool) → (b || true) ≡ true
-or_true true = refl
-or_true false = refl
 
 -- ---- changing places
 
@@ -178,19 +174,11 @@ module _ (form : Echelon) (f : IsSmallForm form.n form.rows) (list : Vec FreeEnt
 
 -- ---- what is left is no larger than the form
 
--- a row that isn't all zeros, by its numbers
-not_zeros : (left : List ℤ) → (((j : ℕ) → number_at left j ≡ pos 0) → ⊥) → list_all is_zero left ≡ false
-not_zeros left some = by (list_all is_zero left) refl
-  where
-    by : (b : Bool) → list_all is_zero left ≡ b → list_all is_zero left ≡ false
-    by true e = absurd (some (λ j. all_zeros_at left j e))
-    by false e = e
-
 -- a primitive row is no larger than another one on its line
 no_larger : (n : ℕ) (left made : List ℤ) → length left ≡ n → IsPrimitive n made → (((j : ℕ) → number_at left j ≡ pos 0) → ⊥) → IsOnLine made left →
     (j : ℕ) → unsigned_abs (number_at made j) ≤ unsigned_abs (number_at left j)
 no_larger n left made long primitive some line j =
-    let (g, by, by_not, is, g_primitive) = primitive_exists n left long (not_zeros left some) in
+    let (g, by, by_not, is, g_primitive) = primitive_exists n left long (not_all_zeros left some) in
     let number_is : (i : ℕ) → number_at left i ≡ by *ℤ number_at g i = λ i. ap (λ l. number_at l i) is ∙ number_at-times by g i in
     let above : pos 0 <ℤ pos line.multiple = let m = line.positive in omega (arith, ints) in
     let same : g ≡ made = one_of_line n (pos line.multiple *ℤ by) line.by g made
@@ -323,7 +311,7 @@ asks_all n several (a ∷ b ∷ rest) are some more q below = ((λ out. (out, an
     ]
       where
         second : has_row (a ∷ b ∷ rest) b ≡ true
-        second = ap (λ x. (a == b) || x) (has_first b rest) ∙ or_true (a == b)
+        second = ap (λ x. (a == b) || x) (has_first b rest) ∙ or-true (a == b)
 
 is_other : (n : ℕ) (but others : List ℕ) → others ≡ complement n but → (q : ℕ) → q < n → has_row but q ≡ false → has_row others q ≡ true
 is_other n but others is q below out = ap (λ l. has_row l q) is ∙ has-rows_that (λ r. not (has_row but r)) n q below ∙ ap not out
@@ -340,12 +328,8 @@ some_other n but others is false empty = (
       let hit = some_row others (λ none. absurd (false≢true (empty.1 none))) in
       let at = ap (λ l. has_row l hit.0) (sym is) ∙ hit.1 in
       elim (cases_lt hit.0 n) [
-        | inl below ↦ (hit.0, below, not_true (has_row but hit.0) (sym (has-rows_that (λ r. not (has_row but r)) n hit.0 below) ∙ at))
+        | inl below ↦ (hit.0, below, not-true (has_row but hit.0) (sym (has-rows_that (λ r. not (has_row but r)) n hit.0 below) ∙ at))
         | inr past ↦ absurd (false≢true (sym (has-rows_that_above (λ r. not (has_row but r)) n hit.0 (omega (arith, past))) ∙ at))
       ],
   λ any. refl,
 )
-  where
-    not_true : (b : Bool) → not b ≡ true → b ≡ false
-    not_true true e = absurd cc
-    not_true false e = refl

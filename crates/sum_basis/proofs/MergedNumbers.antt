@@ -5,6 +5,7 @@ use Rattle.std.specs.Int.{w128}
 use Rattle.std.specs.List.{AllByRecursion}
 use mir.Val.{to_z, of_z}
 use Rattle.std.proofs.lemmas.Int.{ints, to_z-of_z, fits_signed_from_abs}
+use Rattle.audit_types.specs.Numbers.{zero_less}
 use Rattle.sum_basis.specs.declared.sparse.FreeEntry.{FreeEntry}
 use Rattle.sum_basis.specs.Sparse.{scaled}
 use Rattle.sum_basis.proofs.Merges.{end_is, appended}
@@ -43,10 +44,7 @@ negated z h = fits_signed_from_abs w128 (pos 0 -ℤ z) (omega (arith, ints))
 
 pub minus_is : (z : ℤ) → FitsSigned w128 z → unsigned_abs z ≤ 2 ^ 56 → to_z w128 (of_z w128 (pos 0 -ℤ to_z w128 (of_z w128 z)))
     ≡ neg_ℤ (to_z w128 (of_z w128 z))
-minus_is z fits small = rw (to_z-of_z w128 z fits) (to_z-of_z w128 (pos 0 -ℤ z) (negated z small) ∙ minus z)
-  where
-    minus : (x : ℤ) → pos 0 -ℤ x ≡ neg_ℤ x
-    minus x = omega (arith, ints)
+minus_is z fits small = rw (to_z-of_z w128 z fits) (to_z-of_z w128 (pos 0 -ℤ z) (negated z small) ∙ zero_less z)
 
 pub minus_small : (z : ℤ) → FitsSigned w128 z → unsigned_abs z ≤ 2 ^ 56 → unsigned_abs (to_z w128 (of_z w128 (pos 0 -ℤ to_z w128 (of_z w128 z)))) ≤ 2 ^ 56
 minus_small z fits small = rw (minus_is z fits small, to_z-of_z w128 z fits) (turned z small)

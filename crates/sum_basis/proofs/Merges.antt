@@ -3,7 +3,7 @@ use Rattle.std.proofs.Common.{◌≡◌, ◌≢◌, ℕ, zero, suc, ◌+◌, ◌
 use Rattle.std.specs.Prelude.{◌+ℤ◌, ◌-ℤ◌, ◌*ℤ◌, neg_ℤ}
 use Rattle.std.proofs.lemmas.Int.{ints}
 use Rattle.std.proofs.lemmas.Bool.{cases_eq, cases_lt}
-use Rattle.std.proofs.lemmas.List.{drop-drop, length-append, length-map, append-nil, take_all}
+use Rattle.std.proofs.lemmas.List.{drop_all, drop-drop, length-append, length-map, append-nil, take_all}
 use Rattle.std.proofs.Math.IntN.{*ℤ-zero}
 use Rattle.audit_types.specs.Truth.{is_zero}
 use Rattle.sum_basis.specs.declared.sparse.FreeEntry.{FreeEntry}
@@ -32,14 +32,15 @@ rest_listed next n (e ∷ es) place h le = elim (cases_eq e.place place) [
   | inr other ↦ subst (λ b. IsListed (place + 1) n (cond b (e ∷ es) es)) (sym (ap is_zero (elsewhere e place other))) (omega arith, h.1, h.2, h.3)
 ]
 
+-- whatever is chosen of nothing and nothing
+pub nothing : (b : Bool) → cond b (pos 0) (pos 0) ≡ pos 0
+nothing true = refl
+nothing false = refl
+
 -- and has what the list had but for that entry
 rest_entry : (next n : ℕ) (es : List FreeEntry) (place : ℕ) → IsListed next n es → place ≤ first_place n es → (j : ℕ) →
     entry_at es j ≡ cond (nat_eq place j) (first_value es place) (pos 0) +ℤ entry_at (rest es place) j
 rest_entry next n [] place h le j = let none = nothing (nat_eq place j) in omega (arith, ints)
-  where
-    nothing : (b : Bool) → cond b (pos 0) (pos 0) ≡ pos 0
-    nothing true = refl
-    nothing false = refl
 rest_entry next n (e ∷ es) place h le j = elim (cases_eq e.place place) [
   | inl same ↦
       let left = ap (λ b. entry_at (cond b (e ∷ es) es) j) (ap is_zero (here e place same) ∙ test_of_not_zero e.value h.2) in
@@ -50,10 +51,6 @@ rest_entry next n (e ∷ es) place h le j = elim (cases_eq e.place place) [
       let value = ap (λ z. cond (nat_eq place j) z (pos 0)) (elsewhere e place other) ∙ nothing (nat_eq place j) in
       omega (arith, ints)
 ]
-  where
-    nothing : (b : Bool) → cond b (pos 0) (pos 0) ≡ pos 0
-    nothing true = refl
-    nothing false = refl
 
 -- the rest of what is left from entry i on
 rest_drop : (es : List FreeEntry) (i : ℕ) (b : Bool) → drop (cond b i (i + 1)) es ≡ cond b (drop i es) (drop 1 (drop i es))
@@ -104,18 +101,12 @@ taken next n (e ∷ es) place h l same = ap is_zero (here e place (sym same)) �
 still_within : (es : List FreeEntry) (i place : ℕ) → i ≤ length es → cond (is_zero (first_value (drop i es) place)) i (i + 1) ≤ length es
 still_within es i place h = elim (cases_lt i (length es)) [
   | inl more ↦ at_most (is_zero (first_value (drop i es) place)) more
-  | inr none ↦ rw (gone es i none) h
+  | inr none ↦ rw (drop_all i es none) h
 ]
   where
     at_most : (b : Bool) → i < length es → cond b i (i + 1) ≤ length es
     at_most true l = omega arith
     at_most false l = omega arith
-
-    gone : (xs : List FreeEntry) (k : ℕ) → length xs ≤ k → drop k xs ≡ []
-    gone [] zero l = refl
-    gone [] (suc k) l = refl
-    gone (x ∷ xs) zero l = absurd (omega arith)
-    gone (x ∷ xs) (suc k) l = gone xs k (omega arith)
 
 module _ (n : ℕ) (by : ℤ) (first : List FreeEntry) (times : ℤ) (second out : List FreeEntry) (i j : ℕ) (m : IsMerging n by first times second out i j) where
   -- there is room for an entry more
@@ -128,12 +119,6 @@ module _ (n : ℕ) (by : ℤ) (first : List FreeEntry) (times : ℤ) (second out
 
   -- when one list is done, the result with what is left of the other is the combination
   module _ (done : (length first ≤ i) ⊎ (length second ≤ j)) (p : by ≢ pos 0) (q : times ≢ pos 0) where
-    none_left : (xs : List FreeEntry) (k : ℕ) → length xs ≤ k → drop k xs ≡ []
-    none_left [] zero l = refl
-    none_left [] (suc k) l = refl
-    none_left (x ∷ xs) zero l = absurd (omega arith)
-    none_left (x ∷ xs) (suc k) l = none_left xs k (omega arith)
-
     part_listed : IsListed 0 n (out ++ map (scaled by) (drop i first))
     part_listed =
         listed_append 0 m.next n out (map (scaled by) (drop i first)) m.next_within m.out_listed (scaled_listed by m.next n (drop i first) p m.first_left)
@@ -142,12 +127,12 @@ module _ (n : ℕ) (by : ℤ) (first : List FreeEntry) (times : ℤ) (second out
     pub whole_listed : IsListed 0 n whole
     whole_listed = elim done [
       | inl one ↦
-          subst (λ (l : List FreeEntry). IsListed 0 n ((out ++ map (scaled by) l) ++ map (scaled (neg_ℤ times)) (drop j second))) (sym (none_left first i one))
+          subst (λ (l : List FreeEntry). IsListed 0 n ((out ++ map (scaled by) l) ++ map (scaled (neg_ℤ times)) (drop j second))) (sym (drop_all i first one))
           (rw (append-nil out) (listed_append 0 m.next n out (map (scaled (neg_ℤ times)) (drop j second)) m.next_within m.out_listed
           (scaled_listed (neg_ℤ times) m.next n (drop j second) (neg_not_zero times q) m.second_left) (omega arith)))
       | inr other ↦
           subst (λ (l : List FreeEntry). IsListed 0 n ((out ++ map (scaled by) (drop i first)) ++ map (scaled (neg_ℤ times)) l))
-          (sym (none_left second j other)) (rw (append-nil (out ++ map (scaled by) (drop i first))) part_listed)
+          (sym (drop_all j second other)) (rw (append-nil (out ++ map (scaled by) (drop i first))) part_listed)
     ]
 
     pub whole_is : (k : ℕ) → entry_at whole k ≡ by *ℤ entry_at first k -ℤ times *ℤ entry_at second k

@@ -17,6 +17,8 @@ use Rattle.sum_basis.specs.declared.sparse.SparseRow.{SparseRow}
 use Rattle.sum_basis.proofs.SparseRows.{elsewhere, zero_below, first_value, number_at-row_of, pivot-row_of}
 use Rattle.sum_basis.proofs.ListContents.{entry_at-scaled}
 use Rattle.sum_basis.proofs.Parallels.{same_listed}
+use Rattle.sum_basis.proofs.OneKey.{cancelled}
+use Rattle.sum_basis.proofs.Merges.{scaled_listed}
 
 -- a kept row as a list of n numbers
 abbrev pub line_of : ℕ → SparseRow → List ℤ
@@ -101,21 +103,6 @@ small_lists n (r ∷ rows) kept small = (small_list n r kept.0 small.0, small_li
 
 -- ---- lists
 
--- a list with each value times a number that isn't 0
-scaled_listed : (by : ℤ) → by ≢ pos 0 → (from n : ℕ) (es : List FreeEntry) → IsListed from n es → IsListed from n (map (scaled by) es)
-scaled_listed by some from n [] h = tt
-scaled_listed by some from n (e ∷ es) h = (h.0, h.1, product_not_zero by e.value some h.2, scaled_listed by some (e.place + 1) n es h.3)
-
--- a factor that isn't 0 goes away
-factor_gone : (x a b : ℤ) → x ≢ pos 0 → x *ℤ a ≡ x *ℤ b → a ≡ b
-factor_gone x a b some same =
-    let apart = times-add x a (neg_ℤ b) in
-    let turned = *ℤ_comm x (neg_ℤ b) in
-    let minus = neg-times b x in
-    let back = *ℤ_comm b x in
-    let none : a +ℤ neg_ℤ b ≡ pos 0 = zero_product x (a +ℤ neg_ℤ b) (omega (arith, ints)) some in
-    omega (arith, ints)
-
 module _ (n from start : ℕ) (xs ys : List FreeEntry) (first : IsListed from n xs) (second : IsListed start n ys) where
   -- lists that have everywhere the same multiple are like each other
   pub like_from : (x y : ℤ) → x ≢ pos 0 → y ≢ pos 0 → 0 < length ys → ((j : ℕ) → x *ℤ entry_at xs j ≡ y *ℤ entry_at ys j) → AreLikeLists xs ys
@@ -148,14 +135,14 @@ module _ (n from start : ℕ) (xs ys : List FreeEntry) (first : IsListed from n 
           let values : x *ℤ e.value ≡ y *ℤ f.value = ap (λ z. x *ℤ z) (sym own_e) ∙ at e.place ∙ ap (λ k. y *ℤ entry_at (f ∷ fs) k) place
           ∙ ap (λ z. y *ℤ z) own_f in
           let cross : (j : ℕ) → f.value *ℤ entry_at (e ∷ es) j ≡ e.value *ℤ entry_at (f ∷ fs) j = λ j.
-          factor_gone x (f.value *ℤ entry_at (e ∷ es) j) (e.value *ℤ entry_at (f ∷ fs) j) x_some
+          cancelled x (f.value *ℤ entry_at (e ∷ es) j) (e.value *ℤ entry_at (f ∷ fs) j) x_some
           (sym (times_assoc x f.value (entry_at (e ∷ es) j)) ∙ ap (λ z. z *ℤ entry_at (e ∷ es) j) (*ℤ_comm x f.value)
           ∙ times_assoc f.value x (entry_at (e ∷ es) j)
           ∙ ap (λ z. f.value *ℤ z) (at j) ∙ sym (times_assoc f.value y (entry_at (f ∷ fs) j))
           ∙ ap (λ z. z *ℤ entry_at (f ∷ fs) j) (*ℤ_comm f.value y ∙ sym values)
           ∙ times_assoc x e.value (entry_at (f ∷ fs) j)) in
           same_listed 0 n (map (scaled f.value) (e ∷ es)) (map (scaled e.value) (f ∷ fs))
-          (scaled_listed f.value q.2 0 n (e ∷ es) (lower p)) (scaled_listed e.value p.2 0 n (f ∷ fs) (lower_second q))
+          (scaled_listed f.value 0 n (e ∷ es) q.2 (lower p)) (scaled_listed e.value 0 n (f ∷ fs) p.2 (lower_second q))
           (λ j. entry_at-scaled f.value (e ∷ es) j ∙ cross j ∙ sym (entry_at-scaled e.value (f ∷ fs) j))
         where
           lower : IsListed from n (e ∷ es) → IsListed 0 n (e ∷ es)

@@ -20,6 +20,7 @@ use Rattle.sum_basis.specs.CombinedRows.{number_at-combine}
 use Rattle.sum_basis.specs.Ties.{IsRowOf, Ties, TieSome, IsShort, AreParallel, TiesByForm, MayTell, TieSomeBut, IsShortBut, AreParallelBut, ShowsTieBut, TiesByFormBut}
 use Rattle.sum_basis.proofs.FormsAreUnique.{in_span_at, primitive_at, leads_from, zeros_walk, zero_at_others}
 use Rattle.sum_basis.proofs.Reduction.{span_combine}
+use Rattle.sum_basis.proofs.TiedRows.{turned}
 
 -- a column is the pivot of one of the rows, or of none
 pivot_or_none : (rows : List (List ℤ)) (p : ℕ) → ((row : List ℤ) × IsRowOf row rows × (pivot row ≡ p)) ⊎ ((row : List ℤ) → IsRowOf row rows → pivot row ≢ p)
@@ -390,23 +391,13 @@ module _ (n : ℕ) (beside several : List ℕ) (form : List (List ℤ)) (primiti
       unless (inl out) none = out
       unless (inr some) none = absurd (some none)
 
-  turned_round : (row other : List ℤ) → AreParallel row other → AreParallel other row
-  turned_round row other p = record {
-    apart = λ same. p.apart (sym same);
-    x = p.y;
-    y = p.x;
-    x_some = p.y_some;
-    y_some = p.x_some;
-    is = λ j first second. sym (p.is j second first);
-  }
-
   from_parallel_but : (row other : List ℤ) → IsRowOf row form → IsRowOf other form → AreParallelBut beside several row other → TieSomeBut beside several form
   from_parallel_but row other among too alike = elim alike.tells [
     | inl (row_out, other_out) ↦
         let at = from_parallel_at n form primitive echelon row other among too alike.parallel in
         (pivot row, pivot other, at.0, at.1, row_out, other_out)
     | inr (row_out, other_out) ↦
-        let at = from_parallel_at n form primitive echelon other row too among (turned_round row other alike.parallel) in
+        let at = from_parallel_at n form primitive echelon other row too among (turned row other alike.parallel) in
         (pivot other, pivot row, at.0, at.1, other_out, row_out)
   ]
 

@@ -3,7 +3,7 @@ use Rattle.std.proofs.Common.{◌≡◌, ◌≢◌, ℕ, ◌+◌, ◌<◌, ◌�
 use Rattle.std.specs.Prelude.{◌+ℤ◌, ◌*ℤ◌, ◌-ℤ◌, neg_ℤ}
 use Rattle.std.specs.List.{AllByRecursion}
 use Rattle.std.proofs.lemmas.Int.{ints}
-use Rattle.std.proofs.lemmas.Bool.{cases_eq, cases_lt, eq-eqb, ne_eqb, true≢false}
+use Rattle.std.proofs.lemmas.Bool.{cases_eq, cases_lt, eq-eqb, ne_eqb, or_from, true≢false}
 use Rattle.std.proofs.lemmas.List.{get_or_past}
 use Rattle.std.proofs.Math.IntN.{zero-*ℤ, *ℤ-zero, *ℤ_comm}
 use Rattle.audit_types.specs.Rows.{AreRows}
@@ -112,10 +112,6 @@ module _ (n : ℕ) (e : FreeEntry) (es : List FreeEntry) (listed : IsListed 0 n 
   or_parts true b c is not_one = absurd (true≢false (sym is ∙ not_one))
   or_parts false b c is not_one = (refl, sym is ∙ not_one)
 
-  both_false : (a b : Bool) → a ≡ false → b ≡ false → (a || b) ≡ false
-  both_false true b f g = absurd cc
-  both_false false b f g = g
-
   eqb_other : (a b : ℕ) → (a == b) ≡ false → a ≢ b
   eqb_other a b not_one same = true≢false (sym (eq-eqb a b same) ∙ not_one)
 
@@ -132,7 +128,7 @@ module _ (n : ℕ) (e : FreeEntry) (es : List FreeEntry) (listed : IsListed 0 n 
         free = λ j not_one. (parts j not_one).1;
         off = λ j not_one. eqb_other e.place j (parts j not_one).0;
         fresh = λ j not_one off.
-            g.pivots j ∙ ap (λ (q : ℕ). (q == j) || is_pivot old j) place ∙ both_false (e.place == j) (is_pivot old j) (ne_eqb e.place j off) not_one;
+            g.pivots j ∙ ap (λ (q : ℕ). (q == j) || is_pivot old j) place ∙ or_from (e.place == j) (is_pivot old j) (ne_eqb e.place j off) not_one;
         zeros = entries_zero old z;
         count = λ j not_one.
             g.count j ∙ ap (λ (m : ℕ). one_if (number_at new_row j) + m) (count_is old j)
@@ -336,6 +332,14 @@ module _ (n : ℕ) (old : List (List ℤ)) (new : List FreeEntry) (grown : List 
         },
       )
 
+  -- what is left of it, cleared, is 0 at the pivots
+  cleared_zero : (cleared : List ℤ) → IsClearedLeft n old new grown g left cleared → (i : ℕ) → is_pivot grown i ≡ true → number_at cleared i ≡ pos 0
+  cleared_zero cleared c i e = c.is i ∙ elim (zero_or_not (without_new new (number_at left) i)) [
+    | inl z ↦ z
+    | inr some ↦ absurd (true≢false (sym e
+        ∙ open_column n old new grown g (number_at left) i (λ q is. at_pivot (λ p. number_at left p ≡ pos 0) old q zeros is) some))
+  ]
+
   -- the product of what is left is 0 exactly if it is, cleared, 0 at the free column
   left_there : (j : ℕ) (d : List ℤ) → IsAlong n grown j d → product left (number_at d) n ≡ pos 0 → without_new new (number_at left) j ≡ pos 0
   left_there j d along none =
@@ -344,13 +348,6 @@ module _ (n : ℕ) (old : List (List ℤ)) (new : List FreeEntry) (grown : List 
       let zero_whole = c.1.there j d along none in
       let turned = *ℤ_comm (number_at c.0 j) (number_at d j) in
       sym (c.1.is j) ∙ zero_product (number_at d j) (number_at c.0 j) (omega (arith, ints)) along.some
-    where
-      cleared_zero : (cleared : List ℤ) → IsClearedLeft n old new grown g left cleared → (i : ℕ) → is_pivot grown i ≡ true → number_at cleared i ≡ pos 0
-      cleared_zero cleared c i e = c.is i ∙ elim (zero_or_not (without_new new (number_at left) i)) [
-        | inl z ↦ z
-        | inr some ↦ absurd (true≢false (sym e
-            ∙ open_column n old new grown g (number_at left) i (λ q is. at_pivot (λ p. number_at left p ≡ pos 0) old q zeros is) some))
-      ]
 
   left_back : (j : ℕ) (d : List ℤ) → IsAlong n grown j d → without_new new (number_at left) j ≡ pos 0 → product left (number_at d) n ≡ pos 0
   left_back j d along none =
@@ -358,13 +355,6 @@ module _ (n : ℕ) (old : List (List ℤ)) (new : List FreeEntry) (grown : List 
       let whole = product_only n grown g.primitive g.echelon j d along c.0 (cleared_zero c.0 c.1) in
       let first = ap (λ z. z *ℤ number_at d j) (c.1.is j ∙ none) ∙ zero-*ℤ (number_at d j) in
       c.1.back j d along (whole ∙ first)
-    where
-      cleared_zero : (cleared : List ℤ) → IsClearedLeft n old new grown g left cleared → (i : ℕ) → is_pivot grown i ≡ true → number_at cleared i ≡ pos 0
-      cleared_zero cleared c i e = c.is i ∙ elim (zero_or_not (without_new new (number_at left) i)) [
-        | inl z ↦ z
-        | inr some ↦ absurd (true≢false (sym e
-            ∙ open_column n old new grown g (number_at left) i (λ q is. at_pivot (λ p. number_at left p ≡ pos 0) old q zeros is) some))
-      ]
 
   -- the total of a set of which this is left
   pub set_value : (set : List ℕ) → AreRows n set → InSpan (old ++ left ∷ []) (set_row n set) → InSpan (old ++ set_row n set ∷ []) left →
