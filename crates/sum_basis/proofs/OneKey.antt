@@ -73,7 +73,7 @@ no_key v point key none v_is h =
 -- ---- multiples
 
 -- a factor that isn't 0 goes away
-cancelled : (a x y : ℤ) → a ≢ pos 0 → a *ℤ x ≡ a *ℤ y → x ≡ y
+pub cancelled : (a x y : ℤ) → a ≢ pos 0 → a *ℤ x ≡ a *ℤ y → x ≡ y
 cancelled a x y some e =
     let difference = times-less a x y in
     let none : x -ℤ y ≡ pos 0 = zero_product a (x -ℤ y) (omega (arith, ints)) some in
