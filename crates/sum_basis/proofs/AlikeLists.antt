@@ -1,6 +1,6 @@
 -- What a form with a new list leaves of a row, and of the unit row of a column, may be multiples of one another: then the row lies in its span with
 -- that unit row. So the form ties two such columns, and a set's row lies in its span with such a column.
-use Rattle.std.proofs.Common.{◌≡◌, ◌≢◌, ℕ, ◌<◌, false, true, ℤ, pos, List, [], ◌∷◌, ◌++◌, sym, ap, ◌∙◌, subst, arith}
+use Rattle.std.proofs.Common.{◌≡◌, ◌≢◌, ℕ, ◌<◌, false, true, ℤ, pos, List, [], ◌∷◌, ◌++◌, sym, ap, ◌∙◌, subst, arith, inl, inr, ◌⊎◌}
 use Rattle.std.specs.Prelude.{◌+ℤ◌, ◌-ℤ◌, ◌*ℤ◌, neg_ℤ, Option, None, Some, Vec}
 use Rattle.std.specs.declared.alloc.Global.{Global}
 use Rattle.std.specs.List.{AllByRecursion}
@@ -12,7 +12,8 @@ use Rattle.audit_types.specs.PrimitiveLines.{number_at-times, times}
 use Rattle.audit_types.specs.Products.{add-times, neg-times, times-add, times_assoc, product_not_zero}
 use Rattle.audit_types.specs.Rows.{has_row}
 use Rattle.audit_types.specs.Truth.{number_at}
-use Rattle.sum_basis.specs.Asking.{SpansBeside}
+use Rattle.sum_basis.specs.Alike.{TiesSurely, SpansSurely}
+use Rattle.sum_basis.specs.Asking.{SpansBeside, TellsAsker}
 use Rattle.sum_basis.specs.Basis.{Echelon, unit_row}
 use Rattle.sum_basis.specs.Combination.{combine}
 use Rattle.sum_basis.specs.CombinedRows.{number_at-combine}
@@ -22,7 +23,7 @@ use Rattle.sum_basis.specs.Points.{items_of, with_new, IsResidue}
 use Rattle.sum_basis.specs.Reach.{without_new}
 use Rattle.sum_basis.specs.Spans.{Spans, in_span_from, own, span_trans, spans_add, spans_combined, spans_from, spans_same, spans_times, spans_zero}
 use Rattle.sum_basis.specs.Sparse.{entry_at, row_of, IsListed}
-use Rattle.sum_basis.specs.Ties.{TieSomeBut}
+use Rattle.sum_basis.specs.Ties.{TieSomeBut, MayTell}
 use Rattle.sum_basis.specs.declared.sparse.FreeEntry.{FreeEntry}
 use Rattle.sum_basis.proofs.LikeRows.{new_listed}
 use Rattle.sum_basis.proofs.Reduction.{span_line}
@@ -255,3 +256,23 @@ beside_by_lists form asked grown left several set q i xs ys a b grows leaves bel
         (spans_from more (combine t.times (set_row form.n set) t.by (unit_row form.n q))
         (span_trans more grown.rows (combine t.times (set_row form.n set) t.by (unit_row form.n q)) parts.0 t.spanned))
         (spans_times more t.by (number_at (unit_row form.n q)) (spans_from more (unit_row form.n q) parts.1)))))
+
+-- so the grown form tells somebody who asks if there are two such columns, or such a set and such a column
+pub surely_told : (form : Echelon) (asked : List ℤ) (left : Option (Vec FreeEntry Global)) (beside several : List ℕ) (sets : List (List ℕ)) →
+    LeavesList form asked left → TiesSurely form (items_of left) beside several ⊎ SpansSurely form (items_of left) several sets →
+    (grown : Echelon) → GrowsTo form asked grown → TellsAsker grown beside several sets
+surely_told form asked left beside several sets leaves (inl t) grown grows = inl (by t.tells)
+  where
+    by : MayTell beside several t.p t.q → TieSomeBut beside several grown.rows
+    by (inl (not_beside, not_several)) =
+        tied_by_lists form asked grown left beside several t.p t.q t.alike.entries t.alike.others t.alike.alike.a t.alike.alike.b grows leaves t.p_below
+        t.apart not_beside not_several t.alike.first t.alike.second t.alike.alike.a_some t.alike.alike.is
+    by (inr (not_several, not_beside)) =
+        tied_by_lists form asked grown left beside several t.q t.p t.alike.others t.alike.entries t.alike.alike.b t.alike.alike.a grows leaves t.q_below
+        (λ same. t.apart (sym same)) not_beside not_several t.alike.second t.alike.first t.alike.alike.b_some (λ j. sym (t.alike.alike.is j))
+surely_told form asked left beside several sets leaves (inr (set, among, s)) grown grows = inr (
+  set,
+  among,
+  beside_by_lists form asked grown left several set s.own s.row s.entries s.others s.alike.a s.alike.b grows leaves s.below s.single s.inside s.other s.first
+      s.second s.alike.a_some s.alike.is,
+)

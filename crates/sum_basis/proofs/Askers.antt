@@ -79,6 +79,12 @@ module _ (old : Echelon) (row : List ℤ) (people : Headcount) (sets : List (Lis
   told_silent (first, grows, safe) silent =
       (first, grows, λ tells. elim tells [ inl spans ↦ safe spans | inr asker ↦ silent first grows asker.1 ])
 
+  -- it is told if it is sure that it tells one of them
+  pub told_surely : ForeseesApart old row (shared_in people) sets prospect.Open →
+      ((new : Echelon) → GrowsTo old row new → TellsAsker new (beside_in people) (several_in people) sets) →
+      ForeseesAmong old row people sets prospect.Fixing
+  told_surely (first, grows, safe) tells = (first, grows, inr (inside, tells first grows))
+
   -- what it spans is told whoever asks
   pub told_anyway : (p : Prospect) → (p ≡ prospect.Open → ⊥) → ForeseesApart old row (shared_in people) sets p → ForeseesAmong old row people sets p
   told_anyway prospect.Wide not is = is

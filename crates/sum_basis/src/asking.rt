@@ -80,6 +80,9 @@ impl Basis {
         if self.tells_surely_none(rows, beside, several, apart) {
             return Ok(Prospect::Open);
         }
+        if self.tells_surely(rows, beside, several, apart)? {
+            return Ok(Prospect::Fixing);
+        }
         // What every form is: its rows are a form, and narrow.
         let _ = self.form().columns();
         let mut grown = self.copy()?;
