@@ -1,13 +1,11 @@
 -- Sets whose keys are apart from those of columns, by those that were seen.
-use Rattle.std.proofs.Common.{◌≡◌, ◌≢◌, ℕ, ◌<◌, List, [], ◌∷◌, length, get_or, map, refl, sym, subst, inl, inr, arith}
-use Rattle.std.specs.Prelude.{Bool, true, false, All}
-use Rattle.std.proofs.lemmas.Bool.{cases_lt}
+use Rattle.std.proofs.Common.{◌≡◌, ℕ, ◌<◌, List, get_or, map, subst}
+use Rattle.std.specs.Prelude.{false, All}
 use Rattle.std.proofs.lemmas.List.Elements.{All-contains, All-map}
 use Rattle.audit_types.specs.Rows.{has_row}
 use Rattle.sum_basis.specs.Basis.{Echelon}
-use Rattle.sum_basis.specs.Ties.{MayTell}
 use Rattle.sum_basis.specs.Points.{AreSetsApart}
-use Rattle.sum_basis.specs.Keys.{IsSeen, AreColumnsApart, HasUnseenKey}
+use Rattle.sum_basis.specs.Keys.{IsSeen, HasUnseenKey}
 use Rattle.sum_basis.specs.declared.keeping.KeptSet.{KeptSet}
 use Rattle.sum_basis.specs.declared.points.Point.{Point}
 use Rattle.sum_basis.specs.declared.seen.Seen.{Seen}

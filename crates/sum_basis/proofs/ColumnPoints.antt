@@ -1,7 +1,6 @@
 -- The points of columns: of free ones by their own entry, of pivots by their rows' free lists.
-use Rattle.std.proofs.Common.{◌≡◌, ◌≢◌, ℕ, ◌<◌, ◌*◌, ℤ, pos, List, [], ◌∷◌, length, get_or, refl, sym, ap, ◌∙◌, subst, inl, inr, arith}
-use Rattle.std.specs.Prelude.{◌+ℤ◌, ◌*ℤ◌, Option}
-use Rattle.std.specs.List.{AllByRecursion}
+use Rattle.std.proofs.Common.{◌≡◌, ◌≢◌, ℕ, ◌<◌, ℤ, pos, List, [], ◌∷◌, length, get_or, refl, sym, ap, ◌∙◌, inl, inr, arith}
+use Rattle.std.specs.Prelude.{◌+ℤ◌, ◌*ℤ◌}
 use Rattle.std.proofs.lemmas.Int.{ints}
 use Rattle.std.proofs.lemmas.List.{get_or_default}
 use Rattle.std.proofs.lemmas.List.Elements.{recursion_from_All}
@@ -11,7 +10,7 @@ use Rattle.audit_types.specs.Form.{pivot}
 use Rattle.audit_types.specs.ListLaws.{all-get_or, all-weaker}
 use Rattle.sum_basis.specs.Basis.{Echelon, IsFreeList, unit_row}
 use Rattle.sum_basis.specs.Elimination.{IsSmallForm}
-use Rattle.sum_basis.specs.Points.{modulus, IsLeftModulo, IsPointAfter, first_weight, second_weight}
+use Rattle.sum_basis.specs.Points.{modulus, IsLeftModulo, IsPointAfter}
 use Rattle.sum_basis.specs.Reach.{IsLeftOverOrNone, times_of}
 use Rattle.sum_basis.specs.Sparse.{entry_at, row_of}
 use Rattle.sum_basis.specs.Keys.{AreWeights, IsRowPoint, HasPoint}

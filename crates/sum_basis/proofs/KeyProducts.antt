@@ -1,9 +1,9 @@
 -- Keys by one inverse: that of a product, times all but one of its factors, is that of the factor.
-use Rattle.std.proofs.Common.{◌≡◌, ℕ, ◌+◌, ◌*◌, ◌<◌, ℤ, pos, List, get_or, refl, sym, ap, ◌∙◌, subst, add-one, arith}
+use Rattle.std.proofs.Common.{ℕ, ◌+◌, ◌*◌, pos, List, get_or, refl, sym, ap, subst, add-one, arith}
 use Rattle.sum_basis.specs.Points.{modulus, IsLeftModulo, IsKey}
 use Rattle.sum_basis.specs.Keys.{product_before}
 use Rattle.sum_basis.specs.declared.points.Point.{Point}
-use Rattle.sum_basis.proofs.SameModulo.{IsSame, same_equal, same_back, same_then}
+use Rattle.sum_basis.proofs.SameModulo.{same_equal, same_back, same_then}
 use Rattle.sum_basis.proofs.LeftModulo.{left_same, same_naturals}
 
 abbrev pub no_point : Point

@@ -1,5 +1,5 @@
 -- Lists of which a multiple is what a new list leaves of entries.
-use Rattle.std.proofs.Common.{◌≡◌, ◌≢◌, ℕ, ◌≤◌, ◌<◌, ◌^◌, ℤ, pos, List, [], ◌∷◌, length, get_or, map, refl, sym, subst, ap, ◌∙◌, arith}
+use Rattle.std.proofs.Common.{◌≡◌, ◌≢◌, ℕ, ◌≤◌, ◌^◌, ℤ, pos, List, [], ◌∷◌, get_or, sym, subst, ap, ◌∙◌, arith}
 use Rattle.std.specs.Prelude.{◌-ℤ◌, ◌*ℤ◌, unsigned_abs}
 use Rattle.std.specs.List.{AllByRecursion}
 use Rattle.std.proofs.lemmas.Int.{ints}
@@ -9,7 +9,7 @@ use Rattle.audit_types.specs.Numbers.{product_small}
 use Rattle.audit_types.specs.Products.{one-times, times_assoc, product_not_zero}
 use Rattle.sum_basis.specs.Alike.{IsMultipleOf, AreAlikeAfter}
 use Rattle.sum_basis.specs.Reach.{AreSmallEntries, times_of, without_new}
-use Rattle.sum_basis.specs.Sparse.{entry_at, scaled, IsListed, IsMadeList}
+use Rattle.sum_basis.specs.Sparse.{entry_at, IsListed, IsMadeList}
 use Rattle.sum_basis.specs.declared.sparse.FreeEntry.{FreeEntry}
 use Rattle.sum_basis.proofs.ClearedLists.{values_from}
 use Rattle.sum_basis.proofs.ListContents.{entry_at-scaled}

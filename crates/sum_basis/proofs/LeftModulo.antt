@@ -1,11 +1,11 @@
 -- What is left of sums and of products, modulo the modulus.
-use Rattle.std.proofs.Common.{◌≡◌, ℕ, ◌+◌, ◌-◌, ◌*◌, ◌/◌, ◌%◌, ◌<◌, ◌≤◌, ◌^◌, ℤ, pos, refl, sym, ap, ◌∙◌, arith}
-use Rattle.std.specs.Prelude.{◌+ℤ◌, ◌-ℤ◌, ◌*ℤ◌, neg_ℤ, unsigned_abs}
+use Rattle.std.proofs.Common.{◌≡◌, ℕ, ◌+◌, ◌*◌, ◌/◌, ◌%◌, ◌<◌, ℤ, pos, refl, sym, ap, arith}
+use Rattle.std.specs.Prelude.{◌+ℤ◌, ◌-ℤ◌, ◌*ℤ◌, neg_ℤ}
 use Rattle.std.proofs.lemmas.Int.{ints}
-use Rattle.std.proofs.Math.IntN.{*ℤ_comm, zero-*ℤ, pos-*ℤ-pos}
-use Rattle.audit_types.specs.Products.{neg-times, add-times, times-add, times_assoc}
+use Rattle.std.proofs.Math.IntN.{pos-*ℤ-pos}
+use Rattle.audit_types.specs.Products.{neg-times, add-times}
 use Rattle.sum_basis.specs.Points.{modulus, IsLeftModulo}
-use Rattle.sum_basis.proofs.SameModulo.{IsSame, same_equal, same_back, same_then, same_times, same_products, product_is}
+use Rattle.sum_basis.proofs.SameModulo.{IsSame, same_equal, same_then, same_products}
 
 same_plus : (m : ℕ) (x y u v : ℤ) → IsSame m x y → IsSame m u v → IsSame m (x +ℤ u) (y +ℤ v)
 same_plus m x y u v (k, is) (l, too) = (k +ℤ l, let sum = add-times k l (pos m) in omega (arith, ints))

@@ -2,10 +2,9 @@
 -- if it is alone.
 use Rattle.std.proofs.Common.{◌≡◌, ◌≢◌, ◌↔◌, ℕ, ◌<◌, ◌≤◌, Bool, IsTrue, false, ℤ, pos, List, [], ◌∷◌, ◌++◌, length, map, get_or, refl, sym, ap, ◌∙◌, subst, arith, inl, inr}
 use Rattle.std.specs.Prelude.{Option, None, Some}
-use Rattle.std.specs.List.{AllByRecursion}
-use Rattle.std.proofs.lemmas.Bool.{cases_eq, cases_lt, false≢true}
+use Rattle.std.proofs.lemmas.Bool.{cases_eq, cases_lt}
 use Rattle.std.proofs.lemmas.List.Elements.{All-from_recursion}
-use Rattle.audit_types.specs.Form.{InSpan, IsPrimitive, IsReducedForm, pivot, pivot_entry}
+use Rattle.audit_types.specs.Form.{InSpan, IsPrimitive, IsReducedForm, pivot}
 use Rattle.audit_types.specs.FormRows.{pivot_below}
 use Rattle.audit_types.specs.Numbers.{positive_not_zero}
 use Rattle.audit_types.specs.Rows.{has_row, IsLeast}

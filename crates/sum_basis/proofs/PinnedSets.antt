@@ -1,8 +1,7 @@
 -- The least row that isn't shared whose unit row lies in the span of the form of some sets with one more.
-use Rattle.std.proofs.Common.{◌≡◌, ℕ, ◌<◌, ◌≤◌, ◌^◌, false, ℤ, List, [], ◌∷◌, ◌++◌, map, sym, ap, ◌∙◌, subst}
+use Rattle.std.proofs.Common.{◌≡◌, ℕ, ◌<◌, ◌≤◌, ◌^◌, false, ℤ, List, [], ◌∷◌, ◌++◌, map, sym, subst}
 use Rattle.std.specs.Prelude.{Option, None, Some, Vec}
 use Rattle.std.specs.declared.alloc.Global.{Global}
-use Rattle.std.specs.List.{AllByRecursion}
 use Rattle.std.proofs.lemmas.List.{map-append}
 use Rattle.audit_types.specs.Form.{set_row, InSpan, IsNarrow, IsReducedForm, Reduced}
 use Rattle.audit_types.specs.ListLaws.{all-push, all-front}

@@ -1,4 +1,4 @@
-use Rattle.std.proofs.Common.{◌≤◌, ◌^◌, ℤ, get_or, refl, sym, subst, arith, rules}
+use Rattle.std.proofs.Common.{◌≤◌, ◌^◌, ℤ, get_or, refl, sym, subst, rules}
 use Rattle.std.specs.Prelude.{FitsSigned, unsigned_abs}
 use Rattle.std.specs.Int.{w128}
 use Rattle.std.proofs.lemmas.Int.{to_z-of_z}

@@ -1,12 +1,12 @@
-use Rattle.std.proofs.Common.{◌≡◌, ◌<◌, ℕ, ℤ, pos, List, [], length, get_or, sym, ap, ◌∙◌, subst}
+use Rattle.std.proofs.Common.{◌≡◌, pos, List, sym, ap, ◌∙◌, subst}
 use Rattle.audit_types.specs.Truth.{number_at}
 use Rattle.audit_types.specs.Form.{IsPrimitive, pivot}
 use Rattle.sum_basis.specs.Elimination.{IsCleared, IsSmall}
 use Rattle.sum_basis.specs.RowsWith.{IsRowAt}
-use Rattle.sum_basis.specs.Sparse.{entry_at, row_of, rows_of, entries_of, IsKept, IsNew}
+use Rattle.sum_basis.specs.Sparse.{entry_at, row_of, rows_of, entries_of, IsKept}
 use Rattle.sum_basis.specs.declared.sparse.FreeEntry.{FreeEntry}
 use Rattle.sum_basis.specs.declared.sparse.SparseRow.{SparseRow}
-use Rattle.sum_basis.proofs.KeptRows.{of_row, of_whole_row, nothing_at, cleared_at, row_is, row_within}
+use Rattle.sum_basis.proofs.KeptRows.{of_row, of_whole_row, nothing_at, cleared_at, row_within}
 use Rattle.sum_basis.proofs.RowsWith.{new_among, made_among}
 use Rattle.sum_basis.proofs.SparseMultiples.{kept_pivot}
 use Rattle.sum_basis.proofs.SpansWithOneMore.{first_place}

@@ -1,9 +1,5 @@
-use Rattle.std.proofs.Common.{◌≡◌, ℕ, List, sym, subst}
-use Rattle.std.specs.Prelude.{Bool, IsTrue}
-use Rattle.std.proofs.lemmas.Result.{IfOk-weaker}
-use Rattle.sum_basis.specs.Alike.{AreAlikeAfter, AreColumnsAlike}
+use Rattle.std.proofs.Common.{ℕ, sym, subst}
 use Rattle.sum_basis.specs.Reach.{AreSmallEntries}
-use Rattle.sum_basis.specs.declared.sparse.FreeEntry.{FreeEntry}
 use Rattle.sum_basis.proofs.SmallEntries.{new_small}
 use Rattle.sum_basis.proofs.suspects.are_columns_alike.Goals as goal
 

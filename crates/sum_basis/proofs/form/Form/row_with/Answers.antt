@@ -1,11 +1,11 @@
-use Rattle.std.proofs.Common.{◌≡◌, ℤ, List, pos, map, subst, length, sym, ap, ◌∙◌, arith}
+use Rattle.std.proofs.Common.{ℤ, List, pos, subst, length, sym, ap, ◌∙◌, arith}
 use Rattle.std.specs.List.{AllByRecursion}
 use Rattle.std.specs.Prelude.{IfOk}
 use Rattle.std.proofs.lemmas.List.{length-map, length-take-le}
 use Rattle.std.proofs.lemmas.Result.{IfOk-weaker}
 use Rattle.sum_basis.specs.Basis.{Echelon}
 use Rattle.sum_basis.specs.Elimination.{IsSmallForm, IsZeroAtPivots}
-use Rattle.sum_basis.specs.Growth.{Foresees, IsNewRow}
+use Rattle.sum_basis.specs.Growth.{Foresees}
 use Rattle.sum_basis.specs.RowsWith.{IsRowGrown, IsRowWith}
 use Rattle.sum_basis.specs.Sparse.{row_of, rows_of, IsKept, IsNew}
 use Rattle.sum_basis.specs.declared.Prospect.{Prospect}
