@@ -53,7 +53,7 @@ pub point_cleared : (new : NewPoint) (point next : Point) (value : ℤ) (left : 
     IsLeftModulo (pos (new.value * point.second) -ℤ pos (left * new.point.second)) next.second →
     (weights : List Point) (list entries : List FreeEntry) → IsNewPoint weights list (Some new) → IsPointAfter weights [] entries point →
     value ≡ times_of list (entry_at entries) → IsPointAfter weights list entries next
-point_cleared new point next value left value_is first second weights [] entries none is there = absurd none
+point_cleared new point next value left value_is first second weights [] entries unknown is there = absurd unknown
 point_cleared new point next value left value_is first second weights (e ∷ list) entries known is there = record {
   first =
       subst (λ z. IsLeftModulo (e.value *ℤ weighted (first_weight weights) entries -ℤ z *ℤ weighted (first_weight weights) (e ∷ list)) next.first) there
