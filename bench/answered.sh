@@ -4,7 +4,6 @@
 # names another one, such as the plain program.
 #
 #   bench/answered.sh [--by-chance] KEY=VALUE ..     such as width=4 reach=50
-# A sync is free in a folder that is kept in memory.
-[ -d /dev/shm ] && export TMPDIR=/dev/shm
+. "$(dirname "$0")/in_memory.sh"
 . "$(dirname "$0")/setup.sh"
 python3 "$here/answered.py" "$program" "$@"

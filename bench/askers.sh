@@ -6,7 +6,6 @@
 #
 #   bench/askers.sh [--lines] [QUESTIONS [SEED]]     2,000 questions if none is given, from seed 1 on; with --lines a third of the rows are
 #                                                    two or three people's
-# A sync is free in a folder that is kept in memory.
-[ -d /dev/shm ] && export TMPDIR=/dev/shm
+. "$(dirname "$0")/in_memory.sh"
 . "$(dirname "$0")/setup.sh"
 python3 "$here/askers.py" "$program" "$@"

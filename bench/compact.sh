@@ -5,8 +5,7 @@
 # Build the program first: demo/run.sh does.
 #
 #   bench/compact.sh
-# A sync is free in a folder that is kept in memory.
-[ -d /dev/shm ] && export TMPDIR=/dev/shm
+. "$(dirname "$0")/in_memory.sh"
 . "$(dirname "$0")/setup.sh"
 slow=0
 

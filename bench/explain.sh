@@ -5,8 +5,7 @@
 # 64 MiB, or if a line differs. Build the program first: demo/run.sh does. The plain one is built here, with cargo.
 #
 #   bench/explain.sh [--only maxima] [--lines 200]
-# A sync is free in a folder that is kept in memory.
-[ -d /dev/shm ] && export TMPDIR=/dev/shm
+. "$(dirname "$0")/in_memory.sh"
 . "$(dirname "$0")/setup.sh"
-cargo build --quiet --release --offline --manifest-path "$here/plain/Cargo.toml" || exit 1
-python3 "$here/explain.py" "$program" "$here/plain/target/release/plain" "$@"
+build_plain
+python3 "$here/explain.py" "$program" "$plain" "$@"

@@ -5,8 +5,7 @@
 #
 #   bench/floor.sh            compares
 #   bench/floor.sh --write    writes floor.txt anew, once a change is meant
-# A sync is free in a folder that is kept in memory.
-[ -d /dev/shm ] && export TMPDIR=/dev/shm
+. "$(dirname "$0")/in_memory.sh"
 . "$(dirname "$0")/setup.sh"
 command -v valgrind >/dev/null || { echo "floor: valgrind is missing" >&2; exit 2; }
 python3 "$here/floor.py" "$program" "$here/floor.txt" "$@"

@@ -4,10 +4,9 @@
 # gate. Build the program first: demo/run.sh does. The plain one is built here, with cargo.
 #
 #   bench/minima.sh [QUESTIONS [SEED]]     10,000 if none is given, from seed 1 on
-# A sync is free in a folder that is kept in memory.
-[ -d /dev/shm ] && export TMPDIR=/dev/shm
+. "$(dirname "$0")/in_memory.sh"
 questions=${1:-10000}
 seed=${2:-1}
 . "$(dirname "$0")/setup.sh"
-cargo build --quiet --release --offline --manifest-path "$here/plain/Cargo.toml" || exit 1
-python3 "$here/minima.py" "$program" "$here/plain/target/release/plain" "$questions" "$seed"
+build_plain
+python3 "$here/minima.py" "$program" "$plain" "$questions" "$seed"

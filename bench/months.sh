@@ -4,7 +4,6 @@
 # answered where more than one person makes the difference. It isn't in the gate. Build the program first: demo/run.sh does.
 #
 #   bench/months.sh
-# A sync is free in a folder that is kept in memory.
-[ -d /dev/shm ] && export TMPDIR=/dev/shm
+. "$(dirname "$0")/in_memory.sh"
 . "$(dirname "$0")/setup.sh"
 python3 "$here/months.py" "$program"

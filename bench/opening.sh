@@ -7,8 +7,7 @@
 # long. Build the program first: demo/run.sh does.
 #
 #   bench/opening.sh
-# A sync is free in a folder that is kept in memory.
-[ -d /dev/shm ] && export TMPDIR=/dev/shm
+. "$(dirname "$0")/in_memory.sh"
 . "$(dirname "$0")/setup.sh"
 
 # A pair's number, two secrets, and twelve bits of each row, by which the groups are named.

@@ -3,8 +3,7 @@
 # their times. Build the program first: demo/run.sh does. The plain one is built here, with cargo.
 #
 #   bench/pace.sh [--rounds 3] [--only 1024-intervals-max] [--opening] [KEY=VALUE ..]     such as width=4 reach=50
-# A sync is free in a folder that is kept in memory.
-[ -d /dev/shm ] && export TMPDIR=/dev/shm
+. "$(dirname "$0")/in_memory.sh"
 . "$(dirname "$0")/setup.sh"
-cargo build --quiet --release --offline --manifest-path "$here/plain/Cargo.toml" || exit 1
-python3 "$here/pace.py" "$program" "$here/plain/target/release/plain" "$@"
+build_plain
+python3 "$here/pace.py" "$program" "$plain" "$@"

@@ -5,7 +5,6 @@
 # one, as the plain program's. It needs Debian's python3-scipy, which front/check.sh installs.
 #
 #   bench/range.sh [--held] [KEY=VALUE ..]     further keys of the schema; with --held those attacks alone that they hold off
-# A sync is free in a folder that is kept in memory.
-[ -d /dev/shm ] && export TMPDIR=/dev/shm
+. "$(dirname "$0")/in_memory.sh"
 . "$(dirname "$0")/setup.sh"
 /usr/bin/python3 "$here/range.py" "$program" "$@"

@@ -8,6 +8,7 @@
 #   bench/serve.sh [QUESTIONS]        2,000 if none is given; a quarter of them of maxima alone
 most=${1:-2000}
 . "$(dirname "$0")/setup.sh"
+given=questions.jsonl
 echo '{"columns":[{"name":"band","is":"number"},{"name":"age","is":"number"},{"name":"pay","is":"sum"},{"name":"best","is":"max"}]}' >schema.json
 
 # A table of so many rows. Ages are spread over four times as many numbers.
@@ -42,21 +43,12 @@ plain() {
 }
 
 # Runs a command on the questions and prints its seconds, its questions a second, and its peak of memory.
-measure() {
+timed() {
     name=$1
     shift
-    begin=$(date +%s.%N)
-    "$@" <questions.jsonl >"$name.replies" &
-    peak=0
-    while kill -0 $! 2>/dev/null; do
-        now=$(awk '/^VmHWM/ { print $2 }' /proc/$!/status 2>/dev/null)
-        [ "${now:-0}" -gt "$peak" ] && peak=$now
-        sleep 0.02
-    done
-    wait $! || exit 1
-    end=$(date +%s.%N)
-    echo "$name $begin $end $peak $(wc -l <questions.jsonl)" |
-        awk '{ printf "  %-8s %8.2f s %8.0f questions/s %8.1f MiB\n", $1, $3 - $2, $5 / ($3 - $2), $4 / 1024 }'
+    measure "$@" >"$name.replies" || exit 1
+    echo "$name $begin $end $mebibytes $(wc -l <questions.jsonl)" |
+        awk '{ printf "  %-8s %8.2f s %8.0f questions/s %8.1f MiB\n", $1, $3 - $2, $5 / ($3 - $2), $4 }'
 }
 
 for rows in 200 1024; do
@@ -66,14 +58,14 @@ for rows in 200 1024; do
         rm -f answers.journal
         "$program" init || exit 1
         echo "$rows rows, $kind"
-        measure auditor "$program" serve
+        timed auditor "$program" serve
         rm answers.journal
         "$program" init || exit 1
-        measure groups "$program" serve --batch 64
+        timed groups "$program" serve --batch 64
         cmp auditor.replies groups.replies || exit 1
-        measure plain plain
+        timed plain plain
         : >questions.jsonl
-        measure opening "$program" serve
+        timed opening "$program" serve
         awk '/sum|max/ { answers++ } /unsafe/ { unsafe++ } /wide/ { wide++ } END { printf "  answered %d, unsafe %d, wide %d\n", answers, unsafe, wide }' auditor.replies
     done
 done

@@ -12,10 +12,10 @@ folder=$(mktemp -d) || exit 1
 trap 'rm -rf "$folder"' EXIT
 cd "$folder" || exit 1
 
-# Runs a command over no input, and sets `seconds`, and `mebibytes` to its peak of memory.
+# Runs a command over the file that `given` names, or over no input, and sets `seconds`, and `mebibytes` to its peak of memory.
 measure() {
     begin=$(date +%s.%N)
-    "$@" </dev/null &
+    "$@" <"${given:-/dev/null}" &
     peak=0
     while kill -0 $! 2>/dev/null; do
         now=$(awk '/^VmHWM/ { print $2 }' /proc/$!/status 2>/dev/null)

@@ -4,7 +4,6 @@
 # reply. Build the program first: demo/run.sh does.
 #
 #   bench/simulate.sh
-# A sync is free in a folder that is kept in memory.
-[ -d /dev/shm ] && export TMPDIR=/dev/shm
+. "$(dirname "$0")/in_memory.sh"
 . "$(dirname "$0")/setup.sh"
 python3 "$here/simulate.py" "$program"

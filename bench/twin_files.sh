@@ -5,8 +5,7 @@
 # with cargo.
 #
 #   bench/twin_files.sh [ROUNDS [SEED]]        500 rounds if none is given
-# A sync is free in a folder that is kept in memory.
-[ -d /dev/shm ] && export TMPDIR=/dev/shm
+. "$(dirname "$0")/in_memory.sh"
 . "$(dirname "$0")/setup.sh"
-cargo build --quiet --release --offline --manifest-path "$here/plain/Cargo.toml" || exit 1
-python3 "$here/twin_files.py" "$program" "${CARGO_TARGET_DIR:-$here/plain/target}/release/plain" "${1:-500}" "${2:-1}"
+build_plain
+python3 "$here/twin_files.py" "$program" "$plain" "${1:-500}" "${2:-1}"

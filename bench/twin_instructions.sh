@@ -4,8 +4,7 @@
 # if the lines take more over one table than over the other. Build the program first: demo/run.sh does.
 #
 #   bench/twin_instructions.sh
-# A sync is free in a folder that is kept in memory.
-[ -d /dev/shm ] && export TMPDIR=/dev/shm
+. "$(dirname "$0")/in_memory.sh"
 . "$(dirname "$0")/setup.sh"
 command -v valgrind >/dev/null || { echo "twin_instructions: valgrind is missing" >&2; exit 2; }
 python3 "$here/twin_instructions.py" "$program"

@@ -5,7 +5,7 @@
 #
 #   bench/twins.sh
 # A sync is as slow as it is made in a folder that is kept in memory.
-[ -d /dev/shm ] && export TMPDIR=/dev/shm
+. "$(dirname "$0")/in_memory.sh"
 . "$(dirname "$0")/setup.sh"
 command -v valgrind >/dev/null || { echo "twins: valgrind is missing" >&2; exit 2; }
 cc -shared -fPIC -o slow_sync.so "$here/../front/tests/slow_sync.c" || exit 2

@@ -33,7 +33,7 @@ import time
 
 from nearing.columns import Sums, ends_of, read_column, single_rows
 from nearing.ranges import Range, for_each, is_open, need_inside, shown_by
-from preparing.faults import Fault, counted, first_numbers, os_words
+from preparing.faults import Fault, counted, first_numbers, status_of
 
 EVERY = 5  # seconds between two lines on how far the search is
 
@@ -133,17 +133,7 @@ def shown_words(number, shown):
 
 
 def main(words):
-    try:
-        return 0 if look(arguments(words)) else 1
-    except Fault as fault:
-        print(f"near: {fault}", file=sys.stderr)
-    except OSError as fault:
-        print(f"near: {os_words(fault)}", file=sys.stderr)
-    except MemoryError:
-        print("near: out of memory", file=sys.stderr)
-    except KeyboardInterrupt:
-        print("near: stopped", file=sys.stderr)
-    return 2
+    return status_of("near", lambda: 0 if look(arguments(words)) else 1, 2)
 
 
 if __name__ == "__main__":

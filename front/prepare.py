@@ -39,7 +39,7 @@ import sys
 from preparing.adding import add
 from preparing.choosing import choose
 from preparing.comparing import check
-from preparing.faults import Fault, os_words, shown
+from preparing.faults import Fault, shown, status_of
 from preparing.lines import add_lines, make_lines, stands_for_people
 from preparing.looking import look
 from preparing.making import make
@@ -106,17 +106,7 @@ def run(words):
 
 def main(words):
     """Does what the arguments say; what can't be done ends with a sentence and status 1."""
-    try:
-        return run(words)
-    except Fault as fault:
-        print(f"prepare: {fault}", file=sys.stderr)
-    except OSError as fault:
-        print(f"prepare: {os_words(fault)}", file=sys.stderr)
-    except MemoryError:
-        print("prepare: out of memory", file=sys.stderr)
-    except KeyboardInterrupt:
-        print("prepare: stopped", file=sys.stderr)
-    return 1
+    return status_of("prepare", lambda: run(words), 1)
 
 
 if __name__ == "__main__":

@@ -1,5 +1,7 @@
 """Why something can't be done, as a sentence for the person who asked for it."""
 
+import sys
+
 MOST_SHOWN = 20
 
 
@@ -36,3 +38,19 @@ def counted(number, noun):
 def os_words(fault):
     """What the system refused, in its words, after the name of the file."""
     return f"{fault.filename}: {fault.strerror}" if fault.filename and fault.strerror else str(fault)
+
+
+def status_of(name, do, failed):
+    """The status that a command ends with: what `do` gives, or `failed` once a sentence says why it can't be done."""
+    try:
+        return do()
+    except Fault as fault:
+        why = fault
+    except OSError as fault:
+        why = os_words(fault)
+    except MemoryError:
+        why = "out of memory"
+    except KeyboardInterrupt:
+        why = "stopped"
+    print(f"{name}: {why}", file=sys.stderr)
+    return failed

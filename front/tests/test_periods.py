@@ -293,6 +293,13 @@ class Renewed(DoorCase):
         shutil.copy(self.folder.path / "answers.journal", self.folder.public)
         (self.folder.public / "renewed").touch()
 
+    async def second_period(self, session):
+        """Everybody of the last 30 rows moved, the door is told so and starts over the table as it is then."""
+        self.move()
+        self.tell()
+        self.door.start()
+        await self.door.ready(session)
+
     async def first_period(self, session):
         self.door.start()
         await self.door.ready(session)
@@ -345,10 +352,7 @@ class Renewed(DoorCase):
         kept = (self.folder.path / "answers.journal").read_bytes()
         async with self.door.session() as session:
             await self.first_period(session)
-            self.move()
-            self.tell()
-            self.door.start()
-            await self.door.ready(session)
+            await self.second_period(session)
             await ask(session, self.ALL)
             self.assertEqual(self.door.stop(), 0)
             (self.folder.path / "answers.journal").write_bytes(kept)
@@ -359,10 +363,7 @@ class Renewed(DoorCase):
     async def test_what_would_be_goes_by_the_answers_of_before(self):
         async with self.door.session() as session:
             await self.first_period(session)
-            self.move()
-            self.tell()
-            self.door.start()
-            await self.door.ready(session)
+            await self.second_period(session)
             # The first 30 rows alone are meant now, and their sum was told. With one row less the difference would be one number.
             self.assertEqual(await ask(session, self.ALL, "/would"), (200, b'{"verdict":"released","new":false}\n'))
             self.assertEqual(await ask(session, self.REST, "/would"), (200, b'{"verdict":"unsafe"}\n'))
