@@ -1,4 +1,3 @@
-pub mod Greatest
 pub mod UpperBounds
 pub mod LoneRowsAreFixed
 pub mod OtherRowsAreFree

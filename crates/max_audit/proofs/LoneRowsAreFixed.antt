@@ -12,8 +12,9 @@ use Rattle.audit_types.specs.Column.{Answer, IsOneOf, known_max}
 use Rattle.audit_types.specs.Extremes.{upper_bound, is_bound, extremes, IsLone}
 use Rattle.max_audit.specs.Laws.{IsFixed}
 use Rattle.max_bounds.specs.AnswerLaws.{all_at}
-use Rattle.max_bounds.specs.RowListLaws.{first_or_later, has-filter}
-use Rattle.max_audit.proofs.Greatest.{reached}
+use Rattle.audit_types.specs.GreatestLaws.{bound_and_reached}
+use Rattle.audit_types.specs.WalkLaws.{first_or_later}
+use Rattle.max_bounds.specs.RowListLaws.{has-filter}
 use Rattle.max_bounds.specs.BoundLaws.{bound_below, bound_is}
 use Rattle.max_audit.proofs.UpperBounds.{Gives, below_bound}
 
@@ -21,7 +22,7 @@ use Rattle.max_audit.proofs.UpperBounds.{Gives, below_bound}
 pub extreme_row : (w : List ℤ) (answers : List Answer) (a : Answer) → Gives w answers → IsOneOf a answers → a.rows ≢ [] →
     (q : ℕ) × (has_row (extremes answers a) q ≡ true) × (number_at w q ≡ a.value)
 extreme_row w answers a gives one some =
-    let hit = reached w a.rows some in
+    let hit = (bound_and_reached w a.rows some).1 in
     let q = hit.0 in
     let value = all_at (λ b. greatest_over w b.rows ≡ b.value) answers a gives one in
     let bound = bound_below answers a q one hit.1 in

@@ -16,7 +16,7 @@ use Rattle.max_audit.specs.HighestLaws.{length-highest, number_at-highest}
 use Rattle.max_audit.specs.Laws.{PossibleByExtremes, FixedByLoneRows, HighestAgrees, LoneOrLowered, LoneOrFree}
 use Rattle.max_bounds.specs.AnswerLaws.{all_at, all_from, one_or_none}
 use Rattle.max_bounds.specs.RowListLaws.{row_below, filter-has, filter-ascends, only_or_not, other_row, some_row, not_empty}
-use Rattle.max_audit.proofs.Greatest.{greatest_is}
+use Rattle.audit_types.specs.GreatestLaws.{greatest_is}
 use Rattle.max_bounds.specs.BoundLaws.{bound_below}
 use Rattle.max_audit.proofs.UpperBounds.{bound_from, some_is}
 use Rattle.max_audit.proofs.LoneRowsAreFixed.{extreme_row, lone_rows_are_fixed}

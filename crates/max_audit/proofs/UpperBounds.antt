@@ -1,5 +1,5 @@
 -- Upper bounds: a number that gives the answers is at most its row's bound.
-use Rattle.std.proofs.Common.{◌≡◌, ℕ, ℤ, Bool, true, false, cond, List, [], ◌∷◌, refl, sym, subst, arith, Option, Some, None}
+use Rattle.std.proofs.Common.{◌≡◌, ℕ, ℤ, Bool, true, false, cond, List, [], ◌∷◌, refl, sym, ap, ◌∙◌, subst, arith, Option, Some, None}
 use Rattle.std.specs.Prelude.{◌≤ℤ◌}
 use Rattle.std.specs.Int.{int_min}
 use Rattle.std.specs.List.{AllByRecursion}
@@ -10,8 +10,8 @@ use Rattle.audit_types.specs.Rows.{has_row}
 use Rattle.audit_types.specs.Truth.{number_at, greatest_over}
 use Rattle.audit_types.specs.Column.{Answer}
 use Rattle.audit_types.specs.Extremes.{least_of, upper_bound, is_bound}
+use Rattle.audit_types.specs.GreatestLaws.{bound_and_reached}
 use Rattle.max_audit.specs.Witnesses.{bound_or_zero}
-use Rattle.max_audit.proofs.Greatest.{at_most}
 
 -- a list of numbers that gives the answers
 abbrev pub Gives : List ℤ → List Answer → Type 0
@@ -30,7 +30,9 @@ pub below_bound : (w : List ℤ) (answers : List Answer) (q : ℕ) (b : ℤ) →
 below_bound w [] q b gives e = absurd cc
 below_bound w (a ∷ answers) q b gives e =
     below_step (has_row a.rows q) (upper_bound answers q) a.value b (number_at w q)
-    (λ there. let most = at_most w a.rows q there in subst (λ z. number_at w q ≤ℤ z) gives.0 most)
+    (λ there.
+    let most = (bound_and_reached w a.rows (λ none. true≢false (sym there ∙ ap (λ l. has_row l q) none))).0 q there in
+    subst (λ z. number_at w q ≤ℤ z) gives.0 most)
     (λ c f. below_bound w answers q c gives.1 f) e
 
 -- if the bound is this number, it is the number that stands for it

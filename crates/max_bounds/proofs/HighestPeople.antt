@@ -12,9 +12,9 @@ use Rattle.max_bounds.specs.Outside.{IsBelowBound}
 use Rattle.audit_types.specs.Headcount.{Headcount, count_at, people_behind}
 use Rattle.max_bounds.specs.Few.{is_below_bound, not_below, HasFewHighest}
 use Rattle.max_bounds.specs.PeopleAmong.{people_grow, people_together}
-use Rattle.max_bounds.specs.RowListLaws.{first_or_later}
 use Rattle.std.proofs.lemmas.List.Elements.{filter-append}
-use Rattle.max_bounds.proofs.Walks.{has-push, has-front, has-last, filter-push, filter-none, equal_bounds, other_bounds}
+use Rattle.audit_types.specs.WalkLaws.{first_or_later, has-push, has-front, has-last}
+use Rattle.max_bounds.proofs.Walks.{filter-push, filter-none, equal_bounds, other_bounds}
 use Rattle.max_bounds.proofs.HighestBounds.{never_below, not_both, below_higher, below_or_not}
 
 -- bounds that are equal pass the test, and others don't

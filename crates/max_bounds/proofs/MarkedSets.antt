@@ -1,12 +1,12 @@
 -- Sets and their marks: what a mark shows, and lists of sets with their marks.
-use Rattle.std.proofs.Common.{◌≡◌, ◌≢◌, ℕ, zero, suc, ◌+◌, ◌*◌, ◌/◌, ◌%◌, ◌^◌, ◌<◌, ◌≤◌, Bool, true, false, cond, not, List, [], ◌∷◌, ◌++◌, length, ◌⊎◌, add-one, take, drop, set, get_or, refl, sym, ap, ◌∙◌, subst, arith, inl, inr}
+use Rattle.std.proofs.Common.{◌≡◌, ◌≢◌, ℕ, zero, suc, ◌+◌, ◌*◌, ◌/◌, ◌%◌, ◌^◌, ◌<◌, ◌≤◌, true, false, cond, not, List, [], ◌∷◌, ◌++◌, length, ◌⊎◌, add-one, take, drop, set, get_or, refl, sym, ap, ◌∙◌, subst, arith, inl, inr}
 use Rattle.std.specs.Prelude.{nat_lt, bit_and, bit_or}
 use Rattle.std.specs.Int.{bit_at, bit_not, w64}
 use Rattle.std.specs.List.{filter}
 use Rattle.std.specs.Int.Count.{ones, ones_cat}
 use Rattle.std.proofs.lemmas.Nat.{mod-pow-add, pow_pos, and_le_l}
 use Rattle.std.proofs.lemmas.Nat.Bits.{bit_at-zero, bit_at_set_same, bit_at_set_other, bit_at-lt, bit_at_and, bit_at_or, bit_at_not, bit_at-trailing_zeros}
-use Rattle.std.proofs.lemmas.Bool.{true≢false, cases_eq, cases_lt, lt-ltb, le-ltb}
+use Rattle.std.proofs.lemmas.Bool.{true≢false, not-true, cases_eq, cases_lt, lt-ltb, le-ltb}
 use Rattle.audit_types.specs.Rows.{Rows, has_row, complement}
 use Rattle.audit_types.specs.RowLaws.{has-rows_that}
 use Rattle.max_bounds.specs.Marks.{group_of, AreGroups, IsMark, AreAsked, AreMarked}
@@ -45,11 +45,7 @@ groups_more rows groups row g are is below = record {
 
 -- a row of those that a set lacks isn't in it
 pub in_others : (n : ℕ) (rows : List ℕ) (r : ℕ) → r < n → has_row (complement n rows) r ≡ true → has_row rows r ≡ false
-in_others n rows r below there = turned (has_row rows r) (sym (has-rows_that (λ q. not (has_row rows q)) n r below) ∙ there)
-  where
-    turned : (b : Bool) → not b ≡ true → b ≡ false
-    turned true e = absurd (true≢false (sym e))
-    turned false e = refl
+in_others n rows r below there = not-true (has_row rows r) (sym (has-rows_that (λ q. not (has_row rows q)) n r below) ∙ there)
 
 -- ---- what a mark shows
 

@@ -8,7 +8,8 @@ use Rattle.audit_types.specs.Extremes.{is_bound}
 use Rattle.max_bounds.specs.declared.counts.Range.{Range}
 use Rattle.max_bounds.specs.Kept.{falls_of, IsRange, Widens}
 use Rattle.max_bounds.specs.BoundLaws.{exact_bound}
-use Rattle.max_bounds.proofs.Walks.{has-push, filter-none}
+use Rattle.audit_types.specs.WalkLaws.{has-push}
+use Rattle.max_bounds.proofs.Walks.{filter-none}
 
 -- one row more
 pub range_more : (bound : ℕ → Option ℤ) (yielded : List ℕ) (r : ℕ) (range wider : Range) → IsRange bound yielded range → Widens range (bound r) wider →

@@ -6,7 +6,8 @@ use Rattle.std.proofs.lemmas.Bool.{cases_eq}
 use Rattle.audit_types.specs.Rows.{has_row}
 use Rattle.max_bounds.specs.Reaching.{bound_at}
 use Rattle.max_bounds.specs.Kept.{is_at_least, is_above, rows_at_least, rows_above, AreSettled}
-use Rattle.max_bounds.proofs.Walks.{has-push, has-front, has-last, filter-all, filter-none}
+use Rattle.audit_types.specs.WalkLaws.{has-push, has-front, has-last}
+use Rattle.max_bounds.proofs.Walks.{filter-all, filter-none}
 
 -- one row more has its new bound
 pub settled_step : (x : ℤ) (yielded : List ℕ) (before bounds : List (Option ℤ)) (q : ℕ) → q < length bounds →

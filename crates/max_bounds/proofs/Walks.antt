@@ -1,50 +1,18 @@
 -- Walks over the rows of a set, row by row.
-use Rattle.std.proofs.Common.{◌≡◌, ℕ, ◌+◌, ◌≤◌, Bool, true, false, cond, not, ◌||◌, ◌==◌, ℤ, List, [], ◌∷◌, ◌++◌, length, length-append, refl, sym, ap, ◌∙◌, subst, arith, inl, inr, ◌⊎◌, append-nil, Option, Some, None}
+use Rattle.std.proofs.Common.{◌≡◌, ℕ, ◌+◌, ◌≤◌, Bool, true, false, cond, not, ◌||◌, ◌==◌, ℤ, List, [], ◌∷◌, ◌++◌, length, length-append, refl, sym, ap, ◌∙◌, subst, arith, inl, inr, append-nil, Option, Some, None}
 use Rattle.std.specs.Option.{option_eq, is_some}
 use Rattle.std.specs.Ordering.{int_eq}
 use Rattle.std.specs.List.{filter}
 use Rattle.std.proofs.lemmas.List.Elements.{filter-append}
 use Rattle.std.proofs.lemmas.List.Filters.{length-filter_both}
 use Rattle.std.proofs.lemmas.List.Folds.{list_any-append}
-use Rattle.std.proofs.lemmas.Bool.{or_cases, or_left, or_right, eqb-true, eq-eqb, ne_eqb, cases_lt}
+use Rattle.std.proofs.lemmas.Bool.{or_left, cases_lt}
 use Rattle.std.proofs.lemmas.Bool.Decides.{nat_tests, Decides-int_eq}
 use Rattle.audit_types.specs.Rows.{has_row, with_row, AscendsFrom, AreRows}
 use Rattle.audit_types.specs.RowLaws.{ascending_same, AreRows-rows_that, has-rows_that, has-rows_that_above, none_above, walk_more}
+use Rattle.audit_types.specs.WalkLaws.{has_more, not_before}
 use Rattle.max_bounds.specs.OneMoreLaws.{filters_agree_on}
 use Rattle.max_bounds.specs.RowListLaws.{filter-ascends}
-
--- whether a list with one row more has a row
-has_more : (rows : List ℕ) (r q : ℕ) → has_row (rows ++ r ∷ []) q ≡ (has_row rows q || ((r == q) || false))
-has_more rows r q = list_any-append (λ x. x == q) rows (r ∷ [])
-
--- a row of a list with one row more
-pub has-push : (rows : List ℕ) (r q : ℕ) → has_row (rows ++ r ∷ []) q ≡ true → (has_row rows q ≡ true) ⊎ (r ≡ q)
-has-push rows r q there = elim (or_cases (has_row rows q) ((r == q) || false) (sym (has_more rows r q) ∙ there)) [
-  | inl front ↦ inl front
-  | inr last ↦ elim (or_cases (r == q) false last) [ inl same ↦ inr (eqb-true r q same) | inr none ↦ absurd cc ]
-]
-
--- the rows before are still there
-pub has-front : (rows : List ℕ) (r q : ℕ) → has_row rows q ≡ true → has_row (rows ++ r ∷ []) q ≡ true
-has-front rows r q there = has_more rows r q ∙ or_left (has_row rows q) ((r == q) || false) there
-
--- and so is the last
-pub has-last : (rows : List ℕ) (r : ℕ) → has_row (rows ++ r ∷ []) r ≡ true
-has-last rows r = has_more rows r r ∙ or_right (has_row rows r) ((r == r) || false) (or_left (r == r) false (eq-eqb r r refl))
-
--- a row in the middle of ascending rows is not below them
-from_low : (low n : ℕ) (before later : List ℕ) (r : ℕ) → AscendsFrom low n (before ++ r ∷ later) → low ≤ r
-from_low low n [] later r h = h.0
-from_low low n (x ∷ before) later r h = let after = from_low (x + 1) n before later r h.2 in omega (arith, h.0)
-
--- and not among those before it
-not_before : (low n : ℕ) (before later : List ℕ) (r : ℕ) → AscendsFrom low n (before ++ r ∷ later) → has_row before r ≡ false
-not_before low n [] later r h = refl
-not_before low n (x ∷ before) later r h =
-    let after = from_low (x + 1) n before later r h.2 in
-    let apart : (x == r) ≡ false = ne_eqb x r (λ e. omega arith) in
-    let rest = not_before (x + 1) n before later r h.2 in
-    rw (apart, rest) refl
 
 -- the first rows of an ascending list ascend
 pub ascends_front : (low n : ℕ) (rows later : List ℕ) → AscendsFrom low n (rows ++ later) → AscendsFrom low n rows

@@ -14,7 +14,8 @@ use Rattle.audit_types.specs.Column.{Answer, IsOneOf}
 use Rattle.audit_types.specs.Extremes.{least_of, upper_bound, is_bound, extremes}
 use Rattle.audit_types.specs.RowLaws.{has_first}
 use Rattle.max_bounds.specs.Outside.{outside}
-use Rattle.max_bounds.specs.RowListLaws.{has_later, filter-has, has-filter}
+use Rattle.audit_types.specs.WalkLaws.{has_later}
+use Rattle.max_bounds.specs.RowListLaws.{filter-has, has-filter}
 use Rattle.max_bounds.specs.BoundLaws.{upper_bound-push, bound_below}
 
 -- filters by tests that agree on the rows

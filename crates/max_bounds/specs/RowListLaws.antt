@@ -1,30 +1,15 @@
 -- Laws of ascending lists of rows, filtered.
 use Rattle.std.proofs.Common.{◌≡◌, ◌≢◌, ℕ, ◌+◌, ◌<◌, Bool, true, false, cond, ◌==◌, List, [], ◌∷◌, length, refl, sym, ap, ◌∙◌, arith, inl, inr, ◌⊎◌}
 use Rattle.std.specs.List.{filter}
-use Rattle.std.proofs.lemmas.Bool.{eqb-true, or_cases, eq-eqb, or_left, or_right, cases_eq, true≢false}
+use Rattle.std.proofs.lemmas.Bool.{eq-eqb, or_left, cases_eq, true≢false}
 use Rattle.audit_types.specs.Rows.{has_row, AscendsFrom, AreRows}
 use Rattle.audit_types.specs.FilteredRows.{from_lower}
 use Rattle.audit_types.specs.RowLaws.{has_first}
-
--- and the rows after it
-pub has_later : (x r : ℕ) (rows : List ℕ) → has_row rows r ≡ true → has_row (x ∷ rows) r ≡ true
-has_later x r rows h = or_right (x == r) (has_row rows r) h
-
--- a row of a list is its first or a later one
-pub first_or_later : (x r : ℕ) (rows : List ℕ) → has_row (x ∷ rows) r ≡ true → (x ≡ r) ⊎ (has_row rows r ≡ true)
-first_or_later x r rows h = elim (or_cases (x == r) (has_row rows r) h) [ inl e ↦ inl (eqb-true x r e) | inr later ↦ inr later ]
-
--- what a list ascends below, its rows are below
-below_end : (low n : ℕ) (rows : List ℕ) (r : ℕ) → AscendsFrom low n rows → has_row rows r ≡ true → r < n
-below_end low n [] r are there = absurd (true≢false (sym there))
-below_end low n (x ∷ rows) r are there = elim (first_or_later x r rows there) [
-  | inl e ↦ let below = are.1 in omega arith
-  | inr later ↦ below_end (x + 1) n rows r are.2 later
-]
+use Rattle.audit_types.specs.WalkLaws.{has_later, first_or_later, row_within}
 
 -- the rows of a table are below their number
 pub row_below : (n : ℕ) (rows : List ℕ) (r : ℕ) → AreRows n rows → has_row rows r ≡ true → r < n
-row_below n rows r are there = below_end 0 n rows r are there
+row_below = row_within
 
 -- what a filter leaves passes, and was there
 pub filter-has : (test : ℕ → Bool) (rows : List ℕ) (q : ℕ) → has_row (filter test rows) q ≡ true → (has_row rows q ≡ true) × (test q ≡ true)

@@ -5,7 +5,8 @@ use Rattle.std.proofs.lemmas.Int.{to_z-of_z}
 use Rattle.audit_types.specs.RowLaws.{walk_row, walk_more}
 use Rattle.max_bounds.specs.Kept.{is_at_least}
 use Rattle.max_bounds.specs.Reaching.{bound_at}
-use Rattle.max_bounds.proofs.Walks.{has-last, seen_before}
+use Rattle.audit_types.specs.WalkLaws.{has-last}
+use Rattle.max_bounds.proofs.Walks.{seen_before}
 use Rattle.max_bounds.proofs.high_rows.has_at_least.Goals as goal
 
 pub bounds-upper-row : goal.bounds-upper-row

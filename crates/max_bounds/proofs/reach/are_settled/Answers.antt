@@ -5,7 +5,8 @@ use Rattle.std.proofs.lemmas.Int.{to_z-of_z}
 use Rattle.audit_types.specs.RowLaws.{walk_row, walk_more}
 use Rattle.max_bounds.specs.Reaching.{bound_at}
 use Rattle.max_bounds.specs.Kept.{AreSettled}
-use Rattle.max_bounds.proofs.Walks.{has-push, equal_bounds, walk_ends}
+use Rattle.audit_types.specs.WalkLaws.{has-push}
+use Rattle.max_bounds.proofs.Walks.{equal_bounds, walk_ends}
 use Rattle.std.proofs.lemmas.Bool.{true≢false}
 use Rattle.max_bounds.proofs.reach.are_settled.Goals as goal
 
