@@ -15,11 +15,7 @@ use Rattle.schema_json.specs.declared.roles.Role.TheVariants as role
 prefix_of_entry : (es : List (String Global × Role)) →
     prefix_len (λ c. not (is_count c.role)) (map column_of_entry es) ≡ prefix_len (λ (e : String Global × Role). not (is_count e.1)) es
 prefix_of_entry [] = refl
-prefix_of_entry (e ∷ es) = by (is_count e.1) _ _ (prefix_of_entry es)
-  where
-    by : (b : Bool) (m n : ℕ) → m ≡ n → cond (not b) (1 + m) 0 ≡ cond (not b) (1 + n) 0
-    by true m n h = refl
-    by false m n h = ap (λ k. 1 + k) h
+prefix_of_entry (e ∷ es) = ap (λ k. cond (not (is_count e.1)) (1 + k) 0) (prefix_of_entry es)
 
 -- the place of the count is that of the entry that is one
 pub people_of_entry : (es : List (String Global × Role)) → people_place (map column_of_entry es) ≡ position (λ (e : String Global × Role). is_count e.1) es

@@ -45,11 +45,7 @@ repeats_next es e name some is same =
 prefix_of_entry : (name : List ℕ) (es : List (String Global × Role)) →
     prefix_len (λ c. not (has_name name c)) (columns_of_entries es) ≡ prefix_len (λ (e : String Global × Role). not (bytes_eq name (string_bytes e.0))) es
 prefix_of_entry name [] = refl
-prefix_of_entry name (e ∷ es) = by (bytes_eq name (string_bytes e.0)) _ _ (prefix_of_entry name es)
-  where
-    by : (b : Bool) (m n : ℕ) → m ≡ n → cond (not b) (1 + m) 0 ≡ cond (not b) (1 + n) 0
-    by true m n h = refl
-    by false m n h = ap (λ k. 1 + k) h
+prefix_of_entry name (e ∷ es) = ap (λ k. cond (not (bytes_eq name (string_bytes e.0))) (1 + k) 0) (prefix_of_entry name es)
 
 -- the place of a name is that of the entry with it
 pub place_of_entry : (name : List ℕ) (es : List (String Global × Role)) →

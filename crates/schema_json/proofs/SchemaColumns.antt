@@ -1,7 +1,7 @@
 -- What bytes mean is a schema.
 use Rattle.std.proofs.Common.{◌≡◌, ℕ, ◌<◌, ◌≤◌, ◌&&◌, Bool, true, false, List, [], length, Option, Some, None, refl, sym, ◌∙◌, subst, arith}
 use Rattle.std.specs.Prelude.{if◌then◌else◌, option_and_then, option_map, unwrap_or, codes, nat_le, Result, Ok, Err, nat_lt, not, ◌||◌}
-use Rattle.std.proofs.lemmas.Bool.{leb-true, ltb-false, true≢false}
+use Rattle.std.proofs.lemmas.Bool.{leb-true, ltb-false, or_parts}
 use Rattle.std.specs.Str.{bytes_eq}
 use Rattle.audit_types.specs.Limits.{most_groups, most_rows, most_width}
 use Rattle.serde_json.specs.Data.{Data}
@@ -23,11 +23,6 @@ record AreBounds (guards : Guards) : Type 0 where
 no_schema : (f : SchemaFault) (r : Result SchemaView SchemaFault) (schema : SchemaView) → r ≡ Err f → r ≡ Ok schema → IsSchema schema
 no_schema f r schema fault is = absurd (cc)
 
--- too many of one or the other
-or_none : (a b : Bool) → (a || b) ≡ false → (a ≡ false) × (b ≡ false)
-or_none true b e = absurd (true≢false e)
-or_none false b e = (refl, e)
-
 -- columns of which some are public, and that pass the tests of their names and numbers, with a width and a reach that may be
 passed : (s schema : SchemaView) (good again many : Bool) → has_public s.columns ≡ true → AreBounds s.guards
     → has_good_names s.columns ≡ good → repeats s.columns ≡ again → (too_many s.columns || nat_lt most_groups (length s.guards.groups)) ≡ many
@@ -37,7 +32,7 @@ passed s schema true true many public bounds names once within is = absurd (cc)
 passed s schema true false true public bounds names once within is = absurd (cc)
 passed s schema true false false public bounds names once within is =
     let same : s ≡ schema = cc in
-    let parts = or_none (too_many s.columns) (nat_lt most_groups (length s.guards.groups)) within in
+    let parts = or_parts (too_many s.columns) (nat_lt most_groups (length s.guards.groups)) within in
     subst IsSchema same (record {
       columns = record { public = public; good = names; once = once; within = parts.0 };
       guards = record {
