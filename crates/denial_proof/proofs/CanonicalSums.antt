@@ -27,7 +27,7 @@ use Rattle.denial_proof.specs.Kept.{AreKept, kept_sets, marked_rows}
 use Rattle.denial_proof.specs.Numbers.{terms_of, AreMultipliers, ComeTo}
 use Rattle.denial_proof.specs.Canonical.{IsFirstTarget, sets_with_asked, IsCanonicalSum}
 use Rattle.denial_proof.proofs.TotalsFollow.{chosen}
-use Rattle.denial_proof.proofs.Independence.{combined-none, combined-push}
+use Rattle.audit_types.specs.Totals.{combined-none, combined-push}
 use Rattle.denial_proof.proofs.KeptIndependent.{all_held}
 use Rattle.denial_proof.specs.Kept.{AreIndependent}
 use Rattle.denial_proof.proofs.ReadOff.{read_off}

@@ -16,7 +16,7 @@ use Rattle.max_bounds.specs.Maxima.{and_answer}
 use Rattle.max_bounds.specs.OneMoreLaws.{IsAtLeast, lower_keeps, higher_loses, asked_has, has_asked, filters_agree_on}
 use Rattle.max_bounds.specs.Outside.{outside}
 use Rattle.max_bounds.specs.RowListLaws.{filter-has, has-filter, filter-ascends}
-use Rattle.denial_proof.proofs.FewWalks.{same_test}
+use Rattle.denial_proof.proofs.Tests.{same_test}
 
 -- a bound that is at least a number
 pub at_least : (x : ℤ) (bound : Option ℤ) → is_at_least x bound ≡ true → IsAtLeast x bound
@@ -65,12 +65,13 @@ module _ (n : ℕ) (answers : List Answer) where
   extremes_reach a one =
       filters_agree_on (λ r. is_bound (upper_bound answers r) a.value) (λ r. is_at_least a.value (upper_bound answers r)) a.rows (λ r there.
       let bound = bound_below answers a r one there in
-      same_test (is_bound (upper_bound answers r) a.value) (is_at_least a.value (upper_bound answers r))
-      (λ extreme. is_least a.value (upper_bound answers r) (rw (exact_bound (upper_bound answers r) a.value extreme) (omega (arith, ints))))
-      (λ reaches.
-      let most = bound.2 in
-      let least : a.value ≤ℤ bound.0 = at_least a.value (Some bound.0) (ap (is_at_least a.value) (sym bound.1) ∙ reaches) in
-      bound_is (upper_bound answers r) bound.0 a.value bound.1 (omega (arith, ints))))
+      same_test (is_bound (upper_bound answers r) a.value) (is_at_least a.value (upper_bound answers r)) (
+        λ extreme. is_least a.value (upper_bound answers r) (rw (exact_bound (upper_bound answers r) a.value extreme) (omega (arith, ints))),
+        λ reaches.
+            let most = bound.2 in
+            let least : a.value ≤ℤ bound.0 = at_least a.value (Some bound.0) (ap (is_at_least a.value) (sym bound.1) ∙ reaches) in
+            bound_is (upper_bound answers r) bound.0 a.value bound.1 (omega (arith, ints)),
+      ))
 
   -- those outside the asked set
   pub outside_reach : (asked : List ℕ) (a : Answer) → IsOneOf a answers → AreRows n a.rows →
@@ -95,10 +96,11 @@ module _ (n : ℕ) (answers : List Answer) where
     pub asked_left : extremes (and_answer answers asked x) (record { rows = asked; value = x }) ≡ rows_at_least (upper_bound answers) x asked
     asked_left =
         filters_agree_on (λ r. is_bound (upper_bound (and_answer answers asked x) r) x) (λ r. is_at_least x (upper_bound answers r)) asked (λ r there.
-        same_test (is_bound (upper_bound (and_answer answers asked x) r) x) (is_at_least x (upper_bound answers r))
-        (λ extreme.
-        let here = has-filter (λ q. is_bound (upper_bound (and_answer answers asked x) q) x) asked r there extreme in
-        is_least x (upper_bound answers r) (has_asked answers asked x r here).1)
-        (λ reaches.
-        (filter-has (λ q. is_bound (upper_bound (and_answer answers asked x) q) x) asked r
-        (asked_has answers asked x r there (at_least x (upper_bound answers r) reaches))).1))
+        same_test (is_bound (upper_bound (and_answer answers asked x) r) x) (is_at_least x (upper_bound answers r)) (
+          λ extreme.
+              let here = has-filter (λ q. is_bound (upper_bound (and_answer answers asked x) q) x) asked r there extreme in
+              is_least x (upper_bound answers r) (has_asked answers asked x r here).1,
+          λ reaches.
+              (filter-has (λ q. is_bound (upper_bound (and_answer answers asked x) q) x) asked r
+              (asked_has answers asked x r there (at_least x (upper_bound answers r) reaches))).1,
+        ))

@@ -5,13 +5,8 @@ use Rattle.audit_types.specs.Rows.{has_row, with_row, AreRows}
 use Rattle.audit_types.specs.RowLaws.{has-rows_that, has-rows_that_above, AreRows-rows_that, ascending_same}
 use Rattle.audit_types.specs.WalkLaws.{has-push, has-front, has-last, first_or_later, row_within}
 use Rattle.denial_proof.specs.FewRows.{in_order}
+use Rattle.denial_proof.proofs.Tests.{same_test}
 use Rattle.denial_proof.proofs.FewNames.{ascending_two, descending_two}
-
--- tests that pass alike are one
-pub same_test : (a b : Bool) → (a ≡ true → b ≡ true) → (b ≡ true → a ≡ true) → a ≡ b
-same_test true b first second = sym (first refl)
-same_test false true first second = second refl
-same_test false false first second = refl
 
 -- rows that are those of a list and one more are the set with that row
 pub with_is : (n : ℕ) (rows : List ℕ) (r : ℕ) (list : List ℕ) → AreRows n list → has_row list r ≡ true →
@@ -19,7 +14,7 @@ pub with_is : (n : ℕ) (rows : List ℕ) (r : ℕ) (list : List ℕ) → AreRow
     ((q : ℕ) → has_row list q ≡ true → (has_row rows q ≡ true) ⊎ (r ≡ q)) → with_row n rows r ≡ list
 with_is n rows r list are last front others =
     ascending_same 0 n n (with_row n rows r) list (AreRows-rows_that test n) are
-    (λ q. same_test (has_row (with_row n rows r) q) (has_row list q) (there q) (here q))
+    (λ q. same_test (has_row (with_row n rows r) q) (has_row list q) (there q, here q))
   where
     test : ℕ → Bool
     test q = has_row rows q || (q == r)

@@ -1,11 +1,11 @@
 -- What is told first: a row that all would know, a row that one asker would, a group that all would know, a group that one would.
-use Rattle.std.proofs.Common.{◌≡◌, ◌≢◌, ℕ, ℤ, ◌<◌, ◌≤◌, Bool, true, false, not, ◌||◌, ◌==◌, ◌++◌, Option, None, Some, List, [], ◌∷◌, refl, sym, ap, ◌∙◌, subst, arith, inl, inr, ◌⊎◌}
+use Rattle.std.proofs.Common.{◌≡◌, ◌≢◌, ℕ, ℤ, ◌<◌, ◌≤◌, Bool, true, false, not, ◌++◌, Option, None, Some, List, [], ◌∷◌, refl, sym, ap, ◌∙◌, subst, arith, inl, inr, ◌⊎◌}
 use Rattle.std.specs.Prelude.{slice_get, ◌↔◌, Result, Ok, Err, IfOk, IfNone}
 use Rattle.audit_types.specs.declared.NoMemory.{NoMemory}
-use Rattle.std.proofs.lemmas.Bool.{cases_eq, cases_lt, eq-eqb, ne_eqb, true≢false}
+use Rattle.std.proofs.lemmas.Bool.{cases_eq, cases_lt, ne_eqb, true≢false}
 use Rattle.std.specs.List.{AllByRecursion}
-use Rattle.audit_types.specs.Rows.{complement, has_row, with_row, IsLeast}
-use Rattle.audit_types.specs.RowLaws.{ascending_same, AreRows-rows_that, has_first, has-rows_that, has-rows_that_above}
+use Rattle.audit_types.specs.Rows.{complement, has_row, IsLeast}
+use Rattle.audit_types.specs.RowLaws.{has_first, has-rows_that}
 use Rattle.audit_types.specs.declared.records.Protected.{Protected}
 use Rattle.audit_types.specs.Form.{set_row, InSpan}
 use Rattle.audit_types.specs.Headcount.{CountPeople, shared_in, beside_in, several_in}
@@ -306,22 +306,3 @@ module _ (n : ℕ) (protected : Protection) (column : ℕ) (rows : List (List �
         nothing_told no_teller (Row i) (Some p) tells = no_pair i p tells
         nothing_told no_teller (Group g) None tells = no_group g tells
         nothing_told no_teller (Group g) (Some p) tells = no_teller g p tells
-
--- the set of one row
-pub only_row : (n row : ℕ) → row < n → with_row n [] row ≡ row ∷ []
-only_row n row below = ascending_same 0 n n (with_row n [] row) (row ∷ []) (AreRows-rows_that (λ r. has_row [] r || (r == row)) n) (omega arith, below, tt) same
-  where
-    same : (r : ℕ) → has_row (with_row n [] row) r ≡ has_row (row ∷ []) r
-    same r = elim (cases_eq r row) [
-      | inl here ↦
-          let one : (r == row) ≡ true = eq-eqb r row here in
-          let other : (row == r) ≡ true = eq-eqb row r (sym here) in
-          has-rows_that (λ q. has_row [] q || (q == row)) n r (omega arith) ∙ rw (one, other) refl
-      | inr apart ↦
-          let one : (r == row) ≡ false = ne_eqb r row apart in
-          let other : (row == r) ≡ false = ne_eqb row r (λ e. apart (sym e)) in
-          elim (cases_lt r n) [
-            | inl inside ↦ has-rows_that (λ q. has_row [] q || (q == row)) n r inside ∙ rw (one, other) refl
-            | inr past ↦ has-rows_that_above (λ q. has_row [] q || (q == row)) n r past ∙ rw other refl
-          ]
-    ]

@@ -43,3 +43,5 @@ pub mod PeopleCounted
 pub mod FewLeft
 pub mod LeastFew
 mod Tests
+pub mod OneRowRead
+pub mod RowsAtOnce

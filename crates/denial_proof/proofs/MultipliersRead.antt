@@ -1,5 +1,5 @@
 -- The common multiple and the numbers at the marks, read off a form and divided.
-use Rattle.std.proofs.Common.{◌≡◌, ℕ, suc, ◌+◌, ◌<◌, ◌≤◌, ◌^◌, ℤ, pos, List, [], ◌∷◌, ◌++◌, length, take, drop, refl, sym, ap, ◌∙◌, subst, arith, inl, inr, add-one, length-append}
+use Rattle.std.proofs.Common.{◌≡◌, ℕ, suc, ◌+◌, ◌≤◌, ◌^◌, ℤ, pos, List, [], ◌∷◌, ◌++◌, length, take, drop, refl, sym, ap, ◌∙◌, subst, arith, inl, inr, add-one, length-append}
 use Rattle.std.specs.Prelude.{◌*ℤ◌, ◌<ℤ◌, unsigned_abs}
 use Rattle.std.specs.List.{AllByRecursion}
 use Rattle.std.proofs.lemmas.Bool.{cases_eq}
@@ -7,20 +7,13 @@ use Rattle.std.proofs.lemmas.List.{get_or_append_left, get_or-append-add, length
 use Rattle.audit_types.specs.ListLaws.{all-push}
 use Rattle.audit_types.specs.Truth.{number_at}
 use Rattle.audit_types.specs.Form.{combined}
-use Rattle.denial_proof.specs.Numbers.{AreTaken, IsTakenSmall, IsDivided, AreMultipliers}
+use Rattle.denial_proof.specs.Numbers.{AreReadSoFar, AreTaken, IsTakenSmall, IsDivided, AreMultipliers}
 
 -- a row for each row is taken
 pub length_taken : (common : ℤ) (f : ℕ → ℤ) (form : List (List ℤ)) (taken : List ℤ) → AreTaken common f form taken → length taken ≡ length form
 length_taken common f [] taken are = ap length are
 length_taken common f (row ∷ form) [] are = absurd are
 length_taken common f (row ∷ form) (c ∷ taken) are = ap suc (length_taken common f form taken are.1)
-
--- the common multiple, and after it the numbers of the first marks
-pub record AreReadSoFar (common : ℤ) (f : ℕ → ℤ) (mark : ℕ) (numbers : List ℤ) : Type 0 where
-  pub one_each : length numbers ≡ mark + 1
-  pub first : number_at numbers 0 ≡ common
-  pub exact : (k : ℕ) → k < mark → number_at numbers (k + 1) ≡ f k
-  pub small : AllByRecursion (λ x. unsigned_abs x ≤ 2 ^ 123) numbers
 
 pub read_push : (common : ℤ) (f : ℕ → ℤ) (mark : ℕ) (numbers : List ℤ) (x : ℤ) → AreReadSoFar common f mark numbers → x ≡ f mark → unsigned_abs x ≤ 2 ^ 123 →
     AreReadSoFar common f (mark + 1) (numbers ++ x ∷ [])

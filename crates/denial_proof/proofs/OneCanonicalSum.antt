@@ -1,6 +1,6 @@
 -- A question has at most one canonical proof of a sum. The kept sets are independent, so two lists of numbers with which they come
 -- to the target lie on one line, and a line has one list without a common divisor.
-use Rattle.std.proofs.Common.{◌≡◌, ◌≢◌, ℕ, zero, suc, ◌+◌, ◌<◌, Bool, true, false, ◌==◌, ℤ, pos, List, [], ◌∷◌, ◌++◌, map, length, Option, None, Some, refl, sym, ap, ◌∙◌, subst, arith, inl, inr}
+use Rattle.std.proofs.Common.{◌≡◌, ◌≢◌, ℕ, zero, suc, ◌+◌, ◌<◌, true, false, ◌==◌, ℤ, pos, List, [], ◌∷◌, ◌++◌, map, length, Option, None, Some, refl, sym, ap, ◌∙◌, subst, arith, inl, inr}
 use Rattle.std.specs.Prelude.{◌+ℤ◌, ◌*ℤ◌, neg_ℤ, unsigned_abs, Result, Ok, Err, IfOk}
 use Rattle.std.specs.Int.{◌∣◌}
 use Rattle.std.specs.List.{AllByRecursion}
@@ -36,6 +36,7 @@ use Rattle.denial_proof.specs.Certificates.{IsSmall, IsTerm, rows_of}
 use Rattle.denial_proof.specs.Kept.{AreKept, AreIndependent, AreMarks, HasWideMarks, kept_sets, marks_for}
 use Rattle.denial_proof.specs.Numbers.{terms_of, ComeTo}
 use Rattle.denial_proof.specs.Canonical.{IsCanonicalSum, IsFirstTarget, IsNoLater, IsPlaceNoLater, IsSumProof, IsSumTooWide, sets_with_asked}
+use Rattle.denial_proof.proofs.Tests.{same_test}
 use Rattle.denial_proof.proofs.CanonicalSums.{adds_by_numbers, count_sets, divides_opposite, parts_from_all}
 
 -- ---- numbers that come to a target
@@ -217,12 +218,7 @@ same_kept : (n column : ℕ) (history : List Answered) (places others : List ℕ
 same_kept n column history places others first second =
     ascending_same 0 (length history) (length history) places others first.ascending second.ascending
     (λ place. same_test (has_row places place) (has_row others place)
-    (λ there. (second.each place).1 ((first.each place).0 there)) (λ there. (first.each place).1 ((second.each place).0 there)))
-  where
-    same_test : (p q : Bool) → (p ≡ true → q ≡ true) → (q ≡ true → p ≡ true) → p ≡ q
-    same_test true q there back = sym (there refl)
-    same_test false true there back = back refl
-    same_test false false there back = refl
+    (λ there. (second.each place).1 ((first.each place).0 there), λ there. (first.each place).1 ((second.each place).0 there)))
 
 -- two canonical proofs for one target and one asker are the same
 pub same_parts : (n : ℕ) (history : List Answered) (protected : Protection) (asked : Asked) (target : Target) (share another : Option OwnShare)

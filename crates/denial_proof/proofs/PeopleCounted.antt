@@ -8,14 +8,10 @@ use Rattle.std.proofs.lemmas.List.Elements.{filter-append}
 use Rattle.audit_types.specs.Rows.{Rows, with_row, AscendsFrom, AreRows}
 use Rattle.audit_types.specs.RowLaws.{walk_more}
 use Rattle.audit_types.specs.Headcount.{Headcount, count_at, people_behind, AreFew}
+use Rattle.max_bounds.specs.PeopleAmong.{people_together}
 use Rattle.max_bounds.specs.RowListLaws.{filter-ascends}
 use Rattle.denial_proof.specs.FewRows.{AreFoundFew}
 use Rattle.denial_proof.proofs.FewWalks.{with_next}
-
--- the people behind two lists of rows
-pub people_append : (counts rows others : List ℕ) → people_behind counts (rows ++ others) ≡ people_behind counts rows + people_behind counts others
-people_append counts [] others = omega arith
-people_append counts (r ∷ rows) others = let rest = people_append counts rows others in omega (arith, rest)
 
 -- the first rows of ascending ones ascend
 ascends_front : (low n : ℕ) (rows later : List ℕ) → AscendsFrom low n (rows ++ later) → AscendsFrom low n rows
@@ -26,13 +22,13 @@ ascends_front low n (r ∷ rows) later are = (are.0, are.1, ascends_front (r + 1
 module _ (n : ℕ) (people : Headcount) (rows yielded left later : List ℕ) (r : ℕ) (together : yielded ++ left ≡ rows) (first : left ≡ r ∷ later) where
   -- the people behind the rows so far and the next one
   pub people_push : people_behind people.counts (yielded ++ r ∷ []) ≡ people_behind people.counts yielded + count_at people.counts r
-  people_push = people_append people.counts yielded (r ∷ []) ∙ omega arith
+  people_push = people_together people.counts yielded (r ∷ []) ∙ omega arith
 
   -- if these aren't few, all aren't
   pub not_few : people.fewest + people.own ≤ people_behind people.counts yielded + count_at people.counts r → ¬ (AreFew people [] rows)
   not_few most few =
       let all = ap (people_behind people.counts) (sym (walk_more yielded left later rows r together first))
-      ∙ people_append people.counts (yielded ++ r ∷ []) later in
+      ∙ people_together people.counts (yielded ++ r ∷ []) later in
       omega (arith, most, few, all, people_push)
 
   module _ (test : ℕ → Bool) where
@@ -51,7 +47,7 @@ module _ (n : ℕ) (people : Headcount) (rows yielded left later : List ℕ) (r 
 
     pub taken_people : test r ≡ true →
         people_behind people.counts (filter test (yielded ++ r ∷ [])) ≡ people_behind people.counts (filter test yielded) + count_at people.counts r
-    taken_people passes = ap (people_behind people.counts) (passing passes) ∙ people_append people.counts (filter test yielded) (r ∷ []) ∙ omega arith
+    taken_people passes = ap (people_behind people.counts) (passing passes) ∙ people_together people.counts (filter test yielded) (r ∷ []) ∙ omega arith
 
     -- one that doesn't changes nothing
     pub passed : test r ≡ false → filter test (yielded ++ r ∷ []) ≡ filter test yielded
@@ -63,7 +59,7 @@ module _ (n : ℕ) (people : Headcount) (rows yielded left later : List ℕ) (r 
     too_many passes most few =
         let all = ap (λ list. people_behind people.counts (filter test list)) (sym (walk_more yielded left later rows r together first))
         ∙ ap (people_behind people.counts) (filter-append test (yielded ++ r ∷ []) later)
-        ∙ people_append people.counts (filter test (yielded ++ r ∷ [])) (filter test later) in
+        ∙ people_together people.counts (filter test (yielded ++ r ∷ [])) (filter test later) in
         let last = taken_people passes in
         omega (arith, most, few, all, last)
 

@@ -25,19 +25,14 @@ use Rattle.denial_proof.specs.Certificates.{IsSmall, IsAsker, IsTerm, IsTarget, 
 use Rattle.denial_proof.specs.Kept.{AreMarks, AreIndependent, kept_sets, marks_for}
 use Rattle.denial_proof.specs.Numbers.{terms_of, AreMultipliers, ComeTo}
 use Rattle.denial_proof.specs.Canonical.{IsFirstTarget, sets_with_asked, IsCanonicalSum, MayBeLarge, AreNumbersWide}
+use Rattle.denial_proof.proofs.CombinedSoFar.{small_at}
 use Rattle.denial_proof.proofs.CanonicalSums.{come_to, canonical_sum, count_sets, own_of_share, terms_few, terms_numbers, all_from_parts}
 use Rattle.denial_proof.proofs.KeptFew.{independent_few}
 use Rattle.denial_proof.proofs.MarkedFronts.{enough_marks}
 use Rattle.denial_proof.proofs.OneRowTaken.{zero_elsewhere, number_small}
 use Rattle.denial_proof.proofs.ReadOff.{pivots_among_columns}
 
--- an entry of a list of small numbers is small, and so is 0 past it
-small_at : (xs : List ℤ) (j : ℕ) → AllByRecursion (λ x. unsigned_abs x ≤ 2 ^ 56) xs → unsigned_abs (number_at xs j) ≤ 2 ^ 56
-small_at [] j h = omega arith
-small_at (x ∷ xs) zero h = h.0
-small_at (x ∷ xs) (suc j) h = small_at xs j h.1
-
--- so is each of small multipliers
+-- a number of a list of small multipliers is small
 pub last_small : (xs : List ℤ) (j : ℕ) → AllByRecursion IsSmall xs → IsSmall (number_at xs j)
 last_small [] j h = omega arith
 last_small (x ∷ xs) zero h = h.0

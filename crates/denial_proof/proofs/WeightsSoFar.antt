@@ -3,6 +3,7 @@ use Rattle.std.proofs.Common.{◌≡◌, ℕ, ◌+◌, ◌*◌, ◌^◌, ◌<◌
 use Rattle.std.specs.Prelude.{◌+ℤ◌, map, unsigned_abs, FitsSigned}
 use Rattle.std.specs.Int.{w128}
 use Rattle.std.proofs.lemmas.Int.{ints, to_z-of_z, fits_signed_from_abs}
+use Rattle.audit_types.specs.Numbers.{size_of_sum}
 use Rattle.audit_types.specs.declared.records.Answered.{Answered}
 use Rattle.denial_proof.specs.declared.proof_parts.Term.{Term}
 use Rattle.denial_proof.specs.Weights.{adds, rows_at, sum_at, weight_of, weights_of}
@@ -15,9 +16,6 @@ pub record IsSumSoFar (history : List Answered) (rows : List ℕ) (own : ℤ) (t
 -- the term at a place
 abbrev pub term_at : List Term → ℕ → Term
 term_at terms i = get_or terms i (record { place = 0; times = pos 0 })
-
-size_of_sum : (a b : ℤ) (x y : ℕ) → unsigned_abs a ≤ x → unsigned_abs b ≤ y → unsigned_abs (a +ℤ b) ≤ x + y
-size_of_sum a b x y p q = omega (arith, ints)
 
 -- one term more
 pub sum_step : (history : List Answered) (rows : List ℕ) (own : ℤ) (terms : List Term) (row i : ℕ) (sum added : ℤ) → i < length terms →

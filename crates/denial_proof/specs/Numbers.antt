@@ -1,9 +1,15 @@
 -- The numbers that a marked form gives for a target.
-use Rattle.std.specs.Prelude.{◌≡◌, ℕ, ◌+◌, ◌<◌, ◌≤◌, ◌^◌, ℤ, pos, ◌*ℤ◌, ◌<ℤ◌, cond, List, [], ◌∷◌, map, length, unsigned_abs}
+use Rattle.std.specs.Prelude.{◌≡◌, ℕ, suc, Option, ◌+◌, ◌<◌, ◌≤◌, ◌^◌, ℤ, pos, ◌*ℤ◌, ◌<ℤ◌, cond, List, [], ◌∷◌, map, length, unsigned_abs}
 use Rattle.std.specs.List.{AllByRecursion}
 use Rattle.audit_types.specs.Truth.{number_at, is_zero}
 use Rattle.audit_types.specs.Form.{set_row, combined, pivot, pivot_entry, IsContent}
+use Rattle.audit_types.specs.declared.records.Answered.{Answered}
+use Rattle.audit_types.specs.declared.records.Asked.{Asked}
+use Rattle.sum_basis.specs.Basis.{Echelon}
+use Rattle.sum_basis.specs.Elimination.{IsSmall}
 use Rattle.denial_proof.specs.declared.proof_parts.Term.{Term}
+use Rattle.denial_proof.specs.Kept.{AreMarks}
+use Rattle.denial_proof.specs.Weights.{own_rows}
 
 -- how often each row of a form is taken, so that `common` times the target's row comes out at its pivots
 abbrev pub AreTaken : ℤ → (ℕ → ℤ) → List (List ℤ) → List ℤ → Type 0
@@ -30,6 +36,13 @@ pub record AreRead (form : List (List ℤ)) (target : List ℤ) (n m : ℕ) (com
   pub one_each : length numbers ≡ m
   pub exact : (k : ℕ) → k < m → number_at numbers k ≡ combined taken form (n + k)
 
+-- a number, and after it those of the first marks
+pub record AreReadSoFar (common : ℤ) (f : ℕ → ℤ) (mark : ℕ) (numbers : List ℤ) : Type 0 where
+  pub one_each : length numbers ≡ mark + 1
+  pub first : number_at numbers 0 ≡ common
+  pub exact : (k : ℕ) → k < mark → number_at numbers (k + 1) ≡ f k
+  pub small : AllByRecursion (λ x. unsigned_abs x ≤ 2 ^ 123) numbers
+
 -- the common multiple and these numbers after it, all over their greatest common divisor
 pub record AreMultipliers (form : List (List ℤ)) (target : List ℤ) (n m : ℕ) (list : List ℤ) : Type 0 where
   pub common : ℤ
@@ -51,3 +64,10 @@ pub record ComeTo (n : ℕ) (sets : List (List ℕ)) (target : List ℤ) (times 
   pub one_each : length numbers ≡ length sets
   pub add_up : (j : ℕ) → j < n → combined numbers (map (set_row n) sets) j ≡ times *ℤ number_at target j
   pub content : IsContent (times ∷ numbers) 1
+
+-- numbers for a target that are read off the form of all marked rows of a question
+pub record AreNumbersFor (n : ℕ) (history : List Answered) (asked : Asked) (more : ℕ) (own : Option ℕ) (places : List ℕ) (target : List ℤ) (numbers : List ℤ) : Type 0 where
+  pub form : Echelon
+  pub marks : AreMarks n history asked more own places form
+  pub small : AllByRecursion IsSmall form.rows
+  pub are : AreMultipliers form.rows target n (length places + suc (length (own_rows own))) numbers

@@ -4,7 +4,8 @@ ghost use Rattle.std.specs.List.{AllByRecursion};
 ghost use Rattle.audit_types.specs.Limits.{most_rows, most_width};
 ghost use Rattle.audit_types.specs.Form.{set_row, InSpan, Reduced, IsReducedForm, IsNarrow};
 ghost use Rattle.sum_basis.specs.Growth.{GrowsWide};
-ghost use Rattle.denial_proof.specs.Kept.{AreKept, MarksNext, IsMarked, HasWideFormOf, HasWideMarks};
+ghost use Rattle.sum_basis.specs.RowsWith.{IsRowWith};
+ghost use Rattle.denial_proof.specs.Kept.{AreKept, MarksNext, IsMarked, HasWideFormOf, HasWideMarks, marked_row};
 ghost use Rattle.denial_proof.specs.Denied.{AreNarrowSums};
 ghost use Rattle.denial_proof.specs.Weights.{rows_at};
 
@@ -12,7 +13,7 @@ use crate::marking::write_marked;
 use audit_types::{Answered, MOST_WIDTH, NoMemory, RowSet};
 use std::alloc::Global;
 use sum_basis::laws::{forms_are_unique, one_more_set};
-use sum_basis::{Basis, Form, Grown};
+use sum_basis::{Basis, Form, Grown, RowWith};
 
 // Adds the set of a record of the column to the form, and reports whether it was outside the span. A record of another column
 // changes nothing.
@@ -111,6 +112,22 @@ pub(crate) fn mark_all(
         }
     }
     Ok(Some(form))
+}
+
+/// The row that has its pivot at a row of the table, of the form with the marked row of the asked set. The form stays as it is.
+pub(crate) fn marked_row_at(
+    form: &Form,
+    rows: &RowSet,
+    mark: u16,
+    pivot: u16,
+) -> Result<RowWith, NoMemory>
+    requires mark { rows.now.n + mark < form.now.n }
+    ensures { IfOk result (λ told. (m : ℕ) → form.now.n ≡ rows.now.n + m → IsRowWith form.now (marked_row rows.now.n m mark rows.now.list) pivot told) }
+{
+    let mut room = [0; 2048];
+    let bits = &mut room[..form.columns() as usize];
+    write_marked(bits, rows, mark);
+    form.row_with(bits, pivot)
 }
 
 /// The form with the marked row of the asked set, unless it isn't narrow.

@@ -1,21 +1,24 @@
 //! The marks of a column of sums: its kept records, and the form of their marked rows.
-ghost use Rattle.std.specs.Prelude.{◌≡◌, ◌≤◌, ◌<◌, ◌+◌, ℕ, suc, List, Err, None, Some, Option, IfOk, IfSome, length};
+ghost use Rattle.std.specs.Prelude.{◌≡◌, ◌≤◌, ◌<◌, ◌+◌, ℕ, suc, List, [], ◌∷◌, Err, None, Some, Option, IfOk, IfSome, length};
 ghost use Rattle.audit_types.specs.Headcount.{own_of};
 ghost use Rattle.std.specs.List.{AllByRecursion};
 ghost use Rattle.audit_types.specs.declared.records.Answered.{Answered};
 ghost use Rattle.audit_types.specs.Limits.{most_rows, most_width};
 ghost use Rattle.denial_proof.specs.Kept.{AreMarks, AreMarksOf, marks_for};
+ghost use Rattle.audit_types.specs.Form.{set_row};
+ghost use Rattle.denial_proof.specs.Numbers.{AreNumbersFor};
 ghost use Rattle.denial_proof.specs.Weights.{own_rows};
 ghost use Rattle.denial_proof.specs.Canonical.{AreMarksWide};
 ghost use Rattle.denial_proof.specs.Denied.{AreNarrowSums};
 
-use crate::kept::{kept_places, mark_all, mark_asked, mark_own};
+use crate::kept::{kept_places, mark_all, mark_asked, mark_own, marked_row_at};
+use crate::numbers::multipliers_of_row;
 use crate::proof_parts::ProveFault;
 use crate::targets::only_row;
 use audit_types::{Answered, Asked, Askers, NoMemory};
 use std::alloc::Global;
-use sum_basis::Form;
 use sum_basis::laws::forms_are_unique;
+use sum_basis::{Form, RowWith};
 
 /// The places of the kept records, and the form of their marked rows, with a mark more for the set of a question, and one for the row whose number
 /// an asker knows if some may know one. There is no form if that of some front of the marked rows isn't narrow, nor if there are as many kept
@@ -127,5 +130,36 @@ impl Marks {
             Some(own) => self.with_own(asked, own, with_asked),
             None => Ok(with_asked),
         }
+    }
+
+    /// The numbers for a row of the table that all would know, read off one row of the form with the marked row of the asked set, unless that isn't narrow, or
+    /// that of some front of them isn't. None if there is no row with its pivot there.
+    pub(crate) fn numbers_for(
+        &self,
+        alloc: Global,
+        asked: &Asked,
+        row: u16,
+    ) -> Result<Option<Vec<i128>>, ProveFault>
+        requires row { row < asked.now.rows.n }
+        requires room { IfSome self.now.form (λ form. asked.now.rows.n + length self.now.places.items < form.n) }
+        requires width { IfSome self.now.form (λ form. form.width ≡ most_width) }
+        requires few { length self.now.places.items < asked.now.rows.n }
+        ensures numbers { IfOk result (λ found. IfSome found (λ list. (history : List Answered) (more : ℕ) → AreMarksOf asked.now.rows.n asked.now.column history more self.now.places.items self.now.form → AreNumbersFor asked.now.rows.n history asked.now more None self.now.places.items (set_row asked.now.rows.n (row ∷ [])) list.items)) }
+        ensures wide { result ≡ Err ProveFault.Wide → (history : List Answered) (more : ℕ) → AreMarksOf asked.now.rows.n asked.now.column history more self.now.places.items self.now.form → AreMarksWide asked.now.rows.n history more asked.now None }
+    {
+        forms_are_unique();
+        let Some(form) = &self.form else {
+            return Err(ProveFault::Wide);
+        };
+        // A form says of itself how many columns it has at most.
+        let _ = form.columns();
+        let mark = self.places.len() as u16;
+        let whole = match marked_row_at(form, &asked.rows, mark, row)? {
+            RowWith::Wide => return Err(ProveFault::Wide),
+            RowWith::Nothing => return Ok(None),
+            RowWith::Row(whole) => whole,
+        };
+        let numbers = multipliers_of_row(alloc, &whole, row, asked.rows.n(), mark + 1)?;
+        Ok(Some(numbers))
     }
 }

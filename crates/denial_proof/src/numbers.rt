@@ -3,13 +3,14 @@ ghost use Rattle.std.specs.Prelude.{◌≡◌, ◌≢◌, ℕ, ◌+◌, ◌≤�
 ghost use Rattle.std.specs.Int.{◌∣◌};
 ghost use Rattle.std.specs.List.{AllByRecursion};
 ghost use Rattle.audit_types.specs.Truth.{number_at};
-ghost use Rattle.audit_types.specs.Form.{set_row, combined, pivot, pivot_entry, pivot_entries, IsLeastCommonMultiple};
-ghost use Rattle.denial_proof.specs.Numbers.{AreTaken, IsTakenSmall, IsDivided, AreMultipliers};
+ghost use Rattle.audit_types.specs.Form.{set_row, combined, pivot, pivot_entry, pivot_entries, IsEchelon, IsLeastCommonMultiple};
+ghost use Rattle.sum_basis.specs.RowsWith.{IsRowAt};
+ghost use Rattle.denial_proof.specs.Numbers.{AreReadSoFar, AreTaken, IsTakenSmall, IsDivided, AreMultipliers};
 
 use audit_types::{NoMemory, RowSet};
 use int_rows::{make_primitive, quotient};
 use std::alloc::Global;
-use sum_basis::Form;
+use sum_basis::{Form, WholeRow};
 
 // How often a row of the form is taken: as often as makes its pivot entry the common multiple, if the target holds its pivot.
 fn take_row(form: &Form, common: i128, target: &RowSet, k: u16) -> i128
@@ -110,6 +111,26 @@ fn read_marks(
     Ok(numbers)
 }
 
+// What a row has at a column, and after it what it has at the m marks after n columns.
+fn read_row(
+    alloc: Global,
+    row: &WholeRow,
+    pivot: u16,
+    n: u16,
+    m: u16,
+) -> Result<Vec<i128>, NoMemory>
+    requires columns { n + m ≤ 2048 }
+    requires small { (j : ℕ) → unsigned_abs (number_at row.now j) ≤ 2 ^ 56 }
+    ensures { IfOk result (λ numbers. AreReadSoFar (number_at row.now pivot) (λ k. number_at row.now (n + k)) m numbers.items) }
+{
+    let mut numbers = Vec::new(alloc);
+    numbers.push(row.entry(pivot))?;
+    for mark in 0..m {
+        numbers.push(row.entry(n + mark))?;
+    }
+    Ok(numbers)
+}
+
 // Divides numbers, of which the first is positive, by their greatest common divisor.
 fn divide(numbers: &mut [i128])
     requires first { pos 0 <ℤ number_at numbers.old 0 }
@@ -138,4 +159,23 @@ pub(crate) fn multipliers(
     let mut numbers = read_marks(alloc, form, common, &taken, target.n(), m)?;
     divide(&mut numbers);
     Ok(numbers)
+}
+
+/// The same for a row of the table, from the row of the form that has its pivot there.
+pub(crate) fn multipliers_of_row(
+    alloc: Global,
+    row: &WholeRow,
+    pivot: u16,
+    n: u16,
+    m: u16,
+) -> Result<Vec<i128>, NoMemory>
+    requires columns { n + m ≤ 2048 }
+    requires pivot { pivot < n }
+    requires small { (j : ℕ) → unsigned_abs (number_at row.now j) ≤ 2 ^ 56 }
+    requires positive { pos 0 <ℤ number_at row.now pivot }
+    ensures { IfOk result (λ list. (form : List (List ℤ)) → IsEchelon form → IsRowAt form pivot row.now → AreMultipliers form (set_row n (pivot ∷ [])) n m list.items) }
+{
+    let mut list = read_row(alloc, row, pivot, n, m)?;
+    divide(&mut list);
+    Ok(list)
 }

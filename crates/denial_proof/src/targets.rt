@@ -1,5 +1,5 @@
 //! What a sum would give away.
-ghost use Rattle.std.specs.Prelude.{slice_get, ◌≡◌, ◌↔◌, ◌≤◌, ◌<◌, ◌∷◌, ◌++◌, [], ℕ, true, false, List, length, Option, None, Some, IsTrue, IfOk, IfSome, IfNone};
+ghost use Rattle.std.specs.Prelude.{slice_get, ◌≡◌, ◌↔◌, ◌≤◌, ◌<◌, ◌∷◌, ◌++◌, [], ℕ, true, false, List, map, length, Option, None, Some, IsTrue, IfOk, IfSome, IfNone};
 ghost use Rattle.std.specs.List.{AllByRecursion};
 ghost use Rattle.audit_types.specs.Limits.{most_groups, most_rows};
 ghost use Rattle.audit_types.specs.Form.{set_row, InSpan, Reduced, HasNarrowForm};
@@ -30,6 +30,21 @@ pub(crate) fn basis_with(sums: &SumColumn, rows: &RowSet) -> Result<Basis, NoMem
     let mut basis = sums.basis().copy()?;
     basis.insert(rows)?;
     Ok(basis)
+}
+
+/// The least row whose number all would know with the asked set. No form is made.
+pub(crate) fn told_row(
+    sums: &SumColumn,
+    protected: &Guard,
+    rows: &RowSet,
+) -> Result<Option<u16>, NoMemory>
+    requires same_n { rows.now.n ≡ sums.now.n }
+    requires people { CountPeople sums.now.n protected.now.people }
+    requires narrow { HasNarrowForm sums.now.width sums.now.n (sets_of sums.now.answers ++ rows.now.list ∷ []) }
+    ensures { IfOk result (λ found. IfSome found (λ row. (column : ℕ) → IsFirstTarget sums.now.n protected.now column (map (set_row sums.now.n) (sets_of sums.now.answers ++ rows.now.list ∷ [])) (Row row) None)) }
+{
+    let shared = protected.rows().shared().over(sums.n());
+    sums.basis().unshared_unit_row_with(&shared, rows)
 }
 
 /// What a sum would give away, and the row whose number one has to know for it, if all wouldn't know it.

@@ -7,6 +7,7 @@ use Rattle.std.proofs.lemmas.Int.{ints, to_z-of_z, fits_signed_from_abs}
 use Rattle.std.proofs.Math.IntN.{+ℤ_idl}
 use Rattle.audit_types.specs.Rows.{Rows, AreRows}
 use Rattle.audit_types.specs.RowLaws.{length-rows}
+use Rattle.audit_types.specs.Numbers.{size_of_sum}
 use Rattle.audit_types.specs.FilteredRows.{rows_within}
 use Rattle.audit_types.specs.Truth.{number_at, sum_over}
 use Rattle.audit_types.specs.Direction.{IsSmall}
@@ -29,9 +30,6 @@ sum_begins w n rows are few most = record {
   total = +ℤ_idl (sum_over w rows);
   size = let length_within = length-rows n rows are in omega arith;
 }
-
-size_of_sum : (a b : ℤ) (x y : ℕ) → unsigned_abs a ≤ x → unsigned_abs b ≤ y → unsigned_abs (a +ℤ b) ≤ x + y
-size_of_sum a b x y p q = omega (arith, ints)
 
 pub sum_step : (w : List ℤ) (rows : List ℕ) (q : ℕ) (rest : List ℕ) (sum : ℤ) → IsSmall w → IsSumSoFar w rows (q ∷ rest) sum →
     IsSumSoFar w rows rest (sum +ℤ number_at w q)

@@ -2,7 +2,8 @@ use Rattle.std.proofs.Common.{◌^◌, ◌≤◌, ap, ◌∙◌, arith}
 use Rattle.std.specs.Prelude.{unsigned_abs, ◌*ℤ◌}
 use Rattle.std.specs.Int.{w128}
 use Rattle.std.proofs.lemmas.Int.{to_z-of_z, fits_signed_from_abs}
-use Rattle.denial_proof.proofs.CombinedSoFar.{product_small, entry_small}
+use Rattle.audit_types.specs.Numbers.{product_small}
+use Rattle.denial_proof.proofs.CombinedSoFar.{entry_small}
 use Rattle.denial_proof.proofs.numbers.taken_at.Goals as goal
 
 pub overflow_mul-result : goal.overflow_mul-result

@@ -1,25 +1,12 @@
-use Rattle.std.proofs.Common.{◌≡◌, ◌∙◌, ◌++◌, ◌∷◌, [], ◌<◌, ℕ, List, map, sym, subst, arith}
+use Rattle.std.proofs.Common.{◌∙◌, ◌<◌, ℕ, sym, subst, arith}
 use Rattle.std.specs.List.{AllByRecursion}
-use Rattle.audit_types.specs.declared.records.Protected.{Protected}
-use Rattle.audit_types.specs.Column.{Answer}
-use Rattle.audit_types.specs.Form.{HasNarrowForm}
 use Rattle.audit_types.specs.ListLaws.{all-weaker}
 use Rattle.denial_proof.specs.Weights.{own_rows}
 use Rattle.denial_proof.specs.Certificates.{IsAsker}
-use Rattle.denial_proof.specs.Canonical.{IsFirstTarget, Tells}
 use Rattle.denial_proof.proofs.KeptFew.{kept_few}
-use Rattle.denial_proof.proofs.SumParts.{few_askers, few_sets, first_found, told_by_form, independent_for, room_for, target_spanned}
+use Rattle.denial_proof.proofs.SumParts.{few_askers, few_sets, independent_for, room_for, target_spanned}
 use Rattle.denial_proof.proofs.Tests.{some_weaker}
 use Rattle.denial_proof.proofs.sums.prove_sum.Goals as goal
-
-pub basis_with-requires-clause-narrow : goal.basis_with-requires-clause-narrow
-basis_with-requires-clause-narrow c =
-    subst (λ (answers : List Answer). HasNarrowForm c.args.sums.now.width c.args.sums.now.n
-    (map (λ a. a.rows) answers ++ c.args.facts.now.asked.now.rows.list ∷ [])) (sym c.requires.answers) c.requires.denied.narrow
-
-pub first_target-requires-clause-same_n : goal.first_target-requires-clause-same_n
-first_target-requires-clause-same_n c = subst (λ (k : ℕ). AllByRecursion (λ (p : Protected). p.rows.n ≡ k) c.args.facts.now.protected.now.groups)
-    (c.requires.same_n ∙ sym c.in_ok-basis.ensures.n) c.args.facts.now.entries
 
 pub prove_told-requires-clause-own : goal.prove_told-requires-clause-own
 prove_told-requires-clause-own c =
@@ -30,10 +17,7 @@ prove_told-requires-clause-own c =
     let places = c.args.marks.now.places.items in
     let target = c.in-Some.told.target in
     let own = c.in-Some.told.own in
-    let found = subst (λ (k : ℕ). IsFirstTarget k protected asked.column c.in_ok-basis.basis.rows target own) c.requires.same_n
-    (rw c.in-Some.is at c.in_ok-told.ensures.some) in
-    let first = first_found n history protected asked c.args.sums.now.answers c.requires.answers c.in_ok-basis.basis.rows c.in_ok-basis.ensures.form target own
-    found in
+    let first = rw c.in-Some.is at c.in_ok-told.ensures.some in
     let below = all-weaker (IsAsker n protected.people) (λ q. q < n) (λ q is. is.below) (own_rows own) first.told.askers in
     subst (λ (k : ℕ). AllByRecursion (λ q. q < k) (own_rows own)) (sym (c.args.facts.now.same_n ∙ c.requires.same_n)) below
 
@@ -46,10 +30,7 @@ prove_told-requires-clause-room c =
     let places = c.args.marks.now.places.items in
     let target = c.in-Some.told.target in
     let own = c.in-Some.told.own in
-    let found = subst (λ (k : ℕ). IsFirstTarget k protected asked.column c.in_ok-basis.basis.rows target own) c.requires.same_n
-    (rw c.in-Some.is at c.in_ok-told.ensures.some) in
-    let first = first_found n history protected asked c.args.sums.now.answers c.requires.answers c.in_ok-basis.basis.rows c.in_ok-basis.ensures.form target own
-    found in
+    let first = rw c.in-Some.is at c.in_ok-told.ensures.some in
     let independent = independent_for c.pinned_rows.ensures.spanned_or_moved n history asked c.requires.rows places c.requires.marks.kept protected
     c.requires.people c.requires.denied.new target own first in
     rw (c.args.facts.now.same_n, c.requires.same_n)
@@ -72,10 +53,7 @@ prove_told-requires-clause-first c =
     let places = c.args.marks.now.places.items in
     let target = c.in-Some.told.target in
     let own = c.in-Some.told.own in
-    let found = subst (λ (k : ℕ). IsFirstTarget k protected asked.column c.in_ok-basis.basis.rows target own) c.requires.same_n
-    (rw c.in-Some.is at c.in_ok-told.ensures.some) in
-    let first = first_found n history protected asked c.args.sums.now.answers c.requires.answers c.in_ok-basis.basis.rows c.in_ok-basis.ensures.form target own
-    found in
+    let first = rw c.in-Some.is at c.in_ok-told.ensures.some in
     first
 
 pub prove_told-requires-clause-independent : goal.prove_told-requires-clause-independent
@@ -87,10 +65,7 @@ prove_told-requires-clause-independent c =
     let places = c.args.marks.now.places.items in
     let target = c.in-Some.told.target in
     let own = c.in-Some.told.own in
-    let found = subst (λ (k : ℕ). IsFirstTarget k protected asked.column c.in_ok-basis.basis.rows target own) c.requires.same_n
-    (rw c.in-Some.is at c.in_ok-told.ensures.some) in
-    let first = first_found n history protected asked c.args.sums.now.answers c.requires.answers c.in_ok-basis.basis.rows c.in_ok-basis.ensures.form target own
-    found in
+    let first = rw c.in-Some.is at c.in_ok-told.ensures.some in
     let independent = independent_for c.pinned_rows.ensures.spanned_or_moved n history asked c.requires.rows places c.requires.marks.kept protected
     c.requires.people c.requires.denied.new target own first in
     independent
@@ -104,10 +79,7 @@ prove_told-requires-clause-askers c =
     let places = c.args.marks.now.places.items in
     let target = c.in-Some.told.target in
     let own = c.in-Some.told.own in
-    let found = subst (λ (k : ℕ). IsFirstTarget k protected asked.column c.in_ok-basis.basis.rows target own) c.requires.same_n
-    (rw c.in-Some.is at c.in_ok-told.ensures.some) in
-    let first = first_found n history protected asked c.args.sums.now.answers c.requires.answers c.in_ok-basis.basis.rows c.in_ok-basis.ensures.form target own
-    found in
+    let first = rw c.in-Some.is at c.in_ok-told.ensures.some in
     few_askers n protected.people own first.told.askers
 
 pub prove_told-requires-clause-spanned : goal.prove_told-requires-clause-spanned
@@ -119,19 +91,9 @@ prove_told-requires-clause-spanned c =
     let places = c.args.marks.now.places.items in
     let target = c.in-Some.told.target in
     let own = c.in-Some.told.own in
-    let found = subst (λ (k : ℕ). IsFirstTarget k protected asked.column c.in_ok-basis.basis.rows target own) c.requires.same_n
-    (rw c.in-Some.is at c.in_ok-told.ensures.some) in
-    let first = first_found n history protected asked c.args.sums.now.answers c.requires.answers c.in_ok-basis.basis.rows c.in_ok-basis.ensures.form target own
-    found in
+    let first = rw c.in-Some.is at c.in_ok-told.ensures.some in
     (target_spanned c.pinned_rows.ensures.spanned_or_moved n history asked c.requires.rows places c.requires.marks.kept protected c.requires.people
     c.requires.denied.new target own first)
 
 pub unreachable-requires : goal.unreachable-requires
-unreachable-requires c =
-    let n = c.args.sums.now.n in
-    let protected = c.args.facts.now.protected.now in
-    let asked = c.args.facts.now.asked.now in
-    let told = told_by_form n c.args.facts.now.history.now protected asked c.args.sums.now.answers c.requires.answers
-    c.in_ok-basis.basis.rows c.in_ok-basis.ensures.form c.requires.denied.target c.requires.denied.own c.requires.denied.told in
-    (rw c.in-None.is at c.in_ok-told.ensures.none) c.requires.denied.target c.requires.denied.own
-    (subst (λ (k : ℕ). Tells k protected asked.column c.in_ok-basis.basis.rows c.requires.denied.own c.requires.denied.target) (sym c.requires.same_n) told)
+unreachable-requires c = rw c.in-None.is at c.in_ok-told.ensures.none
