@@ -1,5 +1,5 @@
 -- The two bytes of a growth's number.
-use Rattle.std.proofs.Common.{◌≡◌, ℕ, ◌+◌, ◌*◌, ◌/◌, ◌<◌, ◌≤◌, inl, inr, List, [], ◌∷◌, length, get_or, take, refl, ap, arith}
+use Rattle.std.proofs.Common.{◌≡◌, ℕ, ◌+◌, ◌*◌, ◌/◌, ◌<◌, ◌≤◌, inl, inr, arith}
 use Rattle.std.proofs.lemmas.Bool.{cases_lt}
 use Rattle.audit_types.specs.Limits.{most_rows}
 use Rattle.journal_form.specs.Group.{IsMoreRows}
@@ -14,13 +14,3 @@ high_of rows high may from to = elim (cases_lt ((rows + 1) / 256) high) [
 -- and no other
 pub high_is : (rows high more : ℕ) → IsMoreRows rows more → high ≡ more / 256 → ((rows + 1) / 256 ≤ high) × (high ≤ 4)
 high_is rows high more is e = (omega (arith, is.0, e), omega (arith, is.1, e))
-
--- bytes that begin with two
-pub two_bytes : (bytes : List ℕ) → 2 ≤ length bytes → take 2 bytes ≡ get_or bytes 0 0 ∷ get_or bytes 1 0 ∷ []
-two_bytes [] long = absurd (omega (arith, long))
-two_bytes (a ∷ []) long = absurd (omega (arith, long))
-two_bytes (a ∷ b ∷ bytes) long = ap (λ l. a ∷ b ∷ l) (none bytes)
-  where
-    none : (xs : List ℕ) → take 0 xs ≡ []
-    none [] = refl
-    none (x ∷ xs) = refl
