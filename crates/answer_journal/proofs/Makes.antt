@@ -1,9 +1,8 @@
 -- What a crash leaves while a journal is made.
-use Rattle.std.proofs.Common.{◌≡◌, ℕ, ◌+◌, ◌<◌, ◌≤◌, inl, inr, nat_lt, Result, Ok, Err, List, [], ◌∷◌, ◌++◌, length, get_or, take, drop, refl, sym, ap, subst, ◌∙◌, arith, append_assoc, append-nil, length-append}
+use Rattle.std.proofs.Common.{◌≡◌, ℕ, ◌+◌, ◌<◌, ◌≤◌, inl, inr, Result, Ok, Err, List, [], ◌∷◌, ◌++◌, length, get_or, take, drop, refl, sym, ap, subst, ◌∙◌, arith, append_assoc, append-nil, length-append}
 use Rattle.std.specs.Prelude.{if◌then◌else◌, IsErrOf}
 use Rattle.std.specs.Result.{IsErr, IsErrAnd}
 use Rattle.std.proofs.lemmas.Bool.{cases_lt, false≢true}
-use Rattle.std.proofs.lemmas.Grind.{common_steps}
 use Rattle.std.proofs.lemmas.List.{take_all, drop_all}
 use Rattle.audit_types.specs.declared.shapes.Shape.{Shape}
 use Rattle.journal_form.specs.Header.{header, named, IsWholeShape}
@@ -12,7 +11,7 @@ use Rattle.bench_core.specs.declared.bench.Bench.{Ghosts}
 use Rattle.bench_core.specs.Calls.{LeavesOnly, IsUntouched}
 use Rattle.bench_core.specs.Moments.{weakens}
 use Rattle.answer_journal.specs.Append.{appended}
-use Rattle.answer_journal.specs.Make.{empty_journal, calls_to_make}
+use Rattle.answer_journal.specs.Make.{empty_journal}
 use Rattle.answer_journal.specs.Moments.{IsAlready, IsFound, IsUnmadeOrEmpty, IsUnmadeOrOpened}
 use Rattle.answer_journal.specs.declared.make.Found.TheVariants.{Closed, Short}
 use Rattle.answer_journal.specs.declared.make.MakeFault.{MakeFault}
@@ -82,17 +81,6 @@ closed_not_already file found (inr made) = found.1 made.1
 pub short_not_already : (file : List ℕ) → IsFound Short file → IsAlready file → ⊥
 short_not_already file found (inl long) = absurd (omega (arith, found, long))
 short_not_already file found (inr made) = absurd (omega (arith, found, made.0))
-
--- how many calls it takes if the header gate is closed, and if the file is short
-pub closed_calls : (file : List ℕ) (before mid now : ℕ) → IsFound Closed file → mid ≡ before + 2 → now ≡ mid + 4 → now ≡ before + calls_to_make file
-closed_calls file before mid now found look opening =
-    let calls : calls_to_make file ≡ 6 = ap (λ (n : ℕ). if nat_lt n 21 then 7 else 6) found.0 in
-    omega (arith, look, opening, calls)
-
-pub short_calls : (file : List ℕ) (before mid now : ℕ) → IsFound Short file → mid ≡ before + 1 → now ≡ mid + 6 → now ≡ before + calls_to_make file
-short_calls file before mid now found look make =
-    let calls : calls_to_make file ≡ 7 = grind (arith, common_steps, found) in
-    omega (arith, look, make, calls)
 
 -- a refusal has one fault
 pub failed_no_already : {X P : Type 0} (answer : Result X MakeFault) → IsErr answer × IsErrAnd answer (λ e. e ≡ fault.Failed) →

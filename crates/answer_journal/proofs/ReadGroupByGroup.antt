@@ -10,12 +10,13 @@ use Rattle.audit_types.specs.Shapes.{IsShape}
 use Rattle.audit_types.specs.Widening.{over, widened}
 use Rattle.journal_form.specs.Group.{IsWritten, GroupBreaks}
 use Rattle.journal_form.specs.Journal.{Written, AreGroups, rows_after, texts, records, gate_behind, Begins, StandsAt, BreaksBehind}
+use Rattle.journal_form.specs.GroupLaws.{AreGroups-push, rows_after-push, texts-push, records-push, after_groups}
 use Rattle.answer_journal.specs.declared.journal.BackFault.{BackFault}
 use Rattle.answer_journal.specs.declared.journal.BackFault.TheVariants.{NotMade, Damaged, Failed, NoMemory}
 use Rattle.answer_journal.specs.Moments.{IsMade}
 use Rattle.answer_journal.specs.Faults.{IsFaultOf, IsFaultBehind}
-use Rattle.answer_journal.proofs.Histories.{stands_by, groups_push, rows_push, texts_push, records_push}
-use Rattle.answer_journal.proofs.RecordsFit.{groups_below, after_groups}
+use Rattle.answer_journal.proofs.Histories.{stands_by}
+use Rattle.answer_journal.proofs.RecordsFit.{groups_below}
 
 -- the bytes before the gate are the header and whole groups of these records, after which the shape is this one
 pub record IsReadSoFar (bytes : List ℕ) (first shape : Shape) (list : List Answered) (gate : ℕ) : Type 0 where
@@ -122,14 +123,14 @@ module _ (bytes : List ℕ) (first shape : Shape) (list : List Answered) (gate :
       let text = take size (drop (gate + 1) bytes) in
       let added : Written = record { text = text; list = more; rows = rows } in
       let all : List Written = read.groups ++ added ∷ [] in
-      let texts_are : texts all ≡ texts read.groups ++ (1 ∷ text) = texts_push read.groups added in
-      let records_are : records all ≡ records read.groups ++ more = records_push read.groups added in
+      let texts_are : texts all ≡ texts read.groups ++ (1 ∷ text) = texts-push read.groups added in
+      let records_are : records all ≡ records read.groups ++ more = records-push read.groups added in
       let behind : take (1 + size) (drop gate bytes) ≡ 1 ∷ text = ap (take (1 + size)) (at_gate lt ∙ ap (λ b. b ∷ drop (gate + 1) bytes) open_gate)
       ∙ take-more size (drop (gate + 1) bytes) in
       record {
         groups = all;
         shaped = read.shaped;
-        whole = groups_push first read.groups added read.whole (subst (λ (s : Shape). IsWritten s text more rows) read.shape_is group);
+        whole = AreGroups-push first read.groups added read.whole (subst (λ (s : Shape). IsWritten s text more rows) read.shape_is group);
         front =
             take-add gate (1 + size) bytes ∙ ap (λ t. t ++ take (1 + size) (drop gate bytes)) read.front
             ∙ ap (λ t. (header first ++ texts read.groups) ++ t) behind ∙ append_assoc (header first) (texts read.groups) (1 ∷ text)
@@ -137,7 +138,7 @@ module _ (bytes : List ℕ) (first shape : Shape) (list : List Answered) (gate :
         inside = omega (arith, inside, lt, length-drop (gate + 1) bytes);
         gate_is =
             omega (arith, read.gate_is, ap length texts_are, length-append (texts read.groups) (1 ∷ text), length-take size (drop (gate + 1) bytes), inside);
-        shape_is = ap (over rows) read.shape_is ∙ ap (λ k. over k first) (sym (rows_push first.rows read.groups added));
+        shape_is = ap (over rows) read.shape_is ∙ ap (λ k. over k first) (sym (rows_after-push first.rows read.groups added));
         list_is = ap (λ l. l ++ more) read.list_is ∙ sym records_are;
         few = omega (arith, length-append list more, few, read.few);
       }

@@ -13,6 +13,7 @@ use Rattle.audit_types.specs.History.{FitsShape}
 use Rattle.journal_form.specs.Record.{IsRecord, holds_row, rows_in, set_in}
 use Rattle.journal_form.specs.Group.{AreRecords, IsGroup, IsWritten}
 use Rattle.journal_form.specs.Journal.{Written, AreGroups, rows_after, records, StandsAt}
+use Rattle.journal_form.specs.GroupLaws.{after_groups}
 
 -- the record fits
 abbrev Fits : Shape → Answered → Type 0
@@ -46,22 +47,7 @@ record FitsWider (shape : Shape) (r : Answered) : Type 0 where
   some : r.rows.list ≢ []
   below : r.rows.n ≤ shape.rows
 
--- a valid shape stays one over the rows that a group leaves, which are no fewer
-after_group : (shape : Shape) (text : List ℕ) (list : List Answered) (rows : ℕ) → IsShape shape → IsWritten shape text list rows →
-    IsShape (over rows shape) × (shape.rows ≤ rows)
-after_group shape text list rows shaped (inl group) = (
-  record { some_rows = omega (arith, group.1, shaped.some_rows); at_most = omega (arith, group.1, shaped.at_most); kinds = shaped.kinds },
-  omega (arith, group.1),
-)
-after_group shape text list rows shaped (inr growth) = (
-  record { some_rows = omega (arith, growth.0.0.0); at_most = growth.0.0.1; kinds = shaped.kinds },
-  omega (arith, growth.0.0.0),
-)
-
-pub after_groups : (shape : Shape) (gs : List Written) → IsShape shape → AreGroups shape gs → IsShape (over (rows_after shape.rows gs) shape)
-after_groups shape [] shaped whole = shaped
-after_groups shape (g ∷ gs) shaped whole = after_groups (over g.rows shape) gs (after_group shape g.text g.list g.rows shaped whole.0).0 whole.1
-
+-- a group leaves no fewer rows
 no_fewer : (shape : Shape) (text : List ℕ) (list : List Answered) (rows : ℕ) → IsWritten shape text list rows → shape.rows ≤ rows
 no_fewer shape text list rows (inl group) = omega (arith, group.1)
 no_fewer shape text list rows (inr growth) = omega (arith, growth.0.0.0)
