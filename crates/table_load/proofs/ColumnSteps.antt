@@ -18,6 +18,7 @@ use Rattle.table_load.specs.Reading.{Fields, is_in_file, has_numbers, file_colum
 use Rattle.table_load.specs.Tables.{HasCell, is_number, field_of, number_of_field, number_column, kept_as, kept_number, cells_of, place_after, cells_from, secrets_from}
 use Rattle.table_load.specs.declared.layout.FileColumns.{FileColumns}
 use Rattle.table_load.specs.declared.layout.FileColumns.TheVariants as file
+use Rattle.table_load.specs.MeaningLaws.{all_columns}
 use Rattle.table_load.specs.SchemaPlaces.{here, role_is}
 use Rattle.table_load.proofs.GoodCells.{records_hold}
 
@@ -51,11 +52,6 @@ secrets_step k cs place r rows within is =
     ∙ ap (λ x. cond (is_secret x) (kept_as x (number_column k rows) ∷ secrets_from (k + 1) (drop (place + 1) cs) rows)
     (secrets_from (k + 1) (drop (place + 1) cs) rows))
     (sym (role_is cs place h r is))
-
--- a file with all columns has the schema's
-all_columns : (cs : List Column) → file_columns file.All cs ≡ cs
-all_columns [] = refl
-all_columns (c ∷ cs) = ap (λ xs. c ∷ xs) (all_columns cs)
 
 -- the roles from a place on are those of the columns from there on
 drop-roles : (k : ℕ) (cs : List Column) → drop k (roles_of cs) ≡ roles_of (drop k cs)

@@ -3,6 +3,7 @@ use Rattle.std.proofs.Common.{◌≡◌, ◌≢◌, ℕ, zero, suc, ◌+◌, ◌
 use Rattle.std.specs.Prelude.{ℤ, pos, neg_ℤ, ◌+ℤ◌, unsigned_abs, nat_lt}
 use Rattle.std.specs.List.{fold}
 use Rattle.std.specs.Int.{int_max}
+use Rattle.std.proofs.Math.Bool.{and-false, or-false}
 use Rattle.std.proofs.lemmas.Int.{ints, clamps}
 use Rattle.std.proofs.lemmas.List.{map-append}
 use Rattle.std.proofs.lemmas.List.Sums.{fold-append}
@@ -75,12 +76,8 @@ block_is : (n : ℕ) (rows : List ℕ) (block : ℕ) → ((r : ℕ) → r / 64 �
     rows_that (λ r. has_row rows r && (r / 64 == block)) n ≡ block_rows n block
 block_is n rows block whole = rows_that_agree _ _ n (λ r l. elim (cases_eq (r / 64) block) [
   | inl here ↦ ap (λ b. b && (r / 64 == block)) (whole r here)
-  | inr other ↦ rw (ne_eqb (r / 64) block other) (none (has_row rows r))
+  | inr other ↦ rw (ne_eqb (r / 64) block other) (and-false (has_row rows r))
 ])
-  where
-    none : (b : Bool) → (b && false) ≡ false
-    none true = refl
-    none false = refl
 
 module _ (n : ℕ) (w : List ℤ) (rows : List ℕ) (block : ℕ) (are : AreRows n rows) (whole : (r : ℕ) → r / 64 ≡ block → has_row rows r ≡ true) where
   -- a sum over a set is that over a block and that over the rows that are left
@@ -97,17 +94,13 @@ module _ (n : ℕ) (w : List ℤ) (rows : List ℕ) (block : ℕ) (are : AreRows
       ap (λ l. fold int_max a (map (number_at w) l)) (sym (rows-again n rows are)) ∙ greatest_split (number_at w) a (has_row rows) (λ r. r / 64 == block) n
       ∙ ap (λ l. fold int_max (fold int_max a (map (number_at w) l)) (map (number_at w) (rows_left n rows block))) (block_is n rows block whole)
 
--- a number before the greatest of a list
-fold_early : (a b : ℤ) (l : List ℤ) → fold int_max (int_max a b) l ≡ int_max a (fold int_max b l)
-fold_early a b [] = refl
-fold_early a b (y ∷ l) =
-    let turned : int_max (int_max a b) y ≡ int_max a (int_max b y) = omega (arith, ints, clamps) in
-    ap (λ z. fold int_max z l) turned ∙ fold_early a (int_max b y) l
-
 -- a number and the greatest over some rows
 pub greatest_joined : (a : ℤ) (w : List ℤ) (rows : List ℕ) → rows ≢ [] → fold int_max a (map (number_at w) rows) ≡ int_max a (greatest_over w rows)
 greatest_joined a w [] some = absurd (some refl)
-greatest_joined a w (r ∷ rows) some = fold_early a (number_at w r) (map (number_at w) rows)
+greatest_joined a w (r ∷ rows) some =
+    let turned : (x y : ℤ) → int_max x y ≡ int_max y x = λ x y. omega (arith, ints, clamps) in
+    let late = fold_late (number_at w r) a (map (number_at w) rows) in
+    ap (λ z. fold int_max z (map (number_at w) rows)) (turned a (number_at w r)) ∙ late ∙ turned (greatest_over w (r ∷ rows)) a
 
 -- the greatest over some rows, looked for from the least number on
 pub greatest_from_least : (n : ℕ) (w : List ℤ) (rows : List ℕ) → AreNumbers n w → AreRows n rows → rows ≢ [] →
@@ -137,15 +130,11 @@ next_below n block row rows from to are = rows_that_agree _ _ n (λ r l.
       | inl same ↦
           let here : r / 64 ≡ block = omega arith in
           rw (eq-eqb r row same, eq-eqb (r / 64) block here, le-ltb r row (omega arith), lt-ltb r (row + 1) (omega arith)) refl
-      | inr other ↦ rw (ne_eqb r row other) (or_false ((r / 64 == block) && nat_lt r row) ∙ ap (λ b. (r / 64 == block) && b) (elim (cases_lt r row) [
+      | inr other ↦ rw (ne_eqb r row other) (or-false ((r / 64 == block) && nat_lt r row) ∙ ap (λ b. (r / 64 == block) && b) (elim (cases_lt r row) [
         | inl before ↦ lt-ltb r row before ∙ sym (lt-ltb r (row + 1) (omega arith))
         | inr behind ↦ le-ltb r row behind ∙ sym (le-ltb r (row + 1) (omega arith))
       ]))
     ])
-  where
-    or_false : (b : Bool) → (b || false) ≡ b
-    or_false true = refl
-    or_false false = refl
 
 -- all are below the first of the next block
 pub all_below : (n block row : ℕ) → 64 * block + 64 ≤ row → rows_below n block row ≡ block_rows n block

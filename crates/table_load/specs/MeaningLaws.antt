@@ -23,7 +23,7 @@ use Rattle.table_load.specs.declared.layout.FileColumns.TheVariants as file
 -- ---- all columns
 
 -- a file with all columns has those of the schema
-all_columns : (columns : List Column) → file_columns file.All columns ≡ columns
+pub all_columns : (columns : List Column) → file_columns file.All columns ≡ columns
 all_columns [] = refl
 all_columns (c ∷ columns) = ap (λ cs. c ∷ cs) (all_columns columns)
 
