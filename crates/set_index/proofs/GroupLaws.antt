@@ -1,5 +1,5 @@
 -- Laws of the entries of groups: they are one list, there is one if no group has a fault, and they fit the table.
-use Rattle.std.proofs.Common.{◌+◌, ◌≡◌, ◌≢◌, ℕ, suc, ◌<◌, ◌≤◌, List, [], ◌∷◌, ◌++◌, length, Option, Some, None, unwrap_or, refl, sym, ap, ◌∙◌, subst, arith}
+use Rattle.std.proofs.Common.{◌+◌, ◌≡◌, ◌≢◌, ℕ, suc, ◌<◌, ◌≤◌, List, [], ◌∷◌, ◌++◌, length, Option, Some, None, refl, sym, ap, ◌∙◌, subst, arith}
 use Rattle.std.specs.Prelude.{option_and_then, slice_get, All}
 use Rattle.std.proofs.lemmas.List.{length-append}
 use Rattle.std.proofs.lemmas.List.Elements.{All-append, All-nil, All-cons}
@@ -28,16 +28,13 @@ use Rattle.set_index.proofs.PeopleCounts.{counts_few}
 
 -- ---- one list
 
-some_one : (a b : ℕ) (o : Option ℕ) → o ≡ Some a → o ≡ Some b → a ≡ b
-some_one a b o first second = ap (λ x. unwrap_or x a) (sym first ∙ second)
-
 -- groups have at most one list of entries
 one_list : OneMeaning → (columns : List Column) (public : PublicView) (from : ℕ) (groups : List Group) (a b : List Protected) →
     AreEntries columns public from groups a →
     AreEntries columns public from groups b → a ≡ b
 one_list means columns public from [] a b x y = x ∙ sym y
 one_list means columns public from (g ∷ gs) a b (c, t, rest, is, a_is, more) (d, u, others, was, b_is, again) =
-    let place = some_one c d (option_and_then (secret_place columns) (place_of g.column columns)) is.place was.place in
+    let place : c ≡ d = same_Some c d (sym is.place ∙ was.place) in
     let tree = means.tree columns g.condition t u is.means was.means in
     a_is
     ∙ ap (λ k. entry_of k from public.rows (meaning public t) ++ rest) place

@@ -1,5 +1,6 @@
 -- The rows between two places of an order: walked, and as the first rows of one count without those of another.
 use Rattle.std.proofs.Common.{◌≡◌, ℕ, zero, suc, ◌+◌, ◌-◌, ◌*◌, ◌<◌, ◌≤◌, Bool, true, false, ◌&&◌, ◌||◌, not, List, [], ◌∷◌, ◌++◌, length, take, drop, get_or, refl, sym, ap, ◌∙◌, arith, inl, inr, All, IsPermutation, length-append, take-append-drop, take-add, get_or-take, get_or-drop, length-take, length-drop}
+use Rattle.std.proofs.Math.Bool.{or-false}
 use Rattle.std.proofs.lemmas.Bool.{false≢true, or_cases, eqb-true, cases_lt}
 use Rattle.std.proofs.lemmas.Bool.Decides.{nat_tests}
 use Rattle.std.specs.Prelude.{◌==◌}
@@ -153,11 +154,7 @@ added_more n old list i row low is =
 -- nothing is added at the start
 pub added_none : (n : ℕ) (old : List ℕ) → AreRows n old → union n old [] ≡ old
 added_none n old are =
-    rows_that_agree (λ r. has_row old r || false) (has_row old) n (λ r low. or_none (has_row old r)) ∙ rows-again n old are
-  where
-    or_none : (b : Bool) → (b || false) ≡ b
-    or_none true = refl
-    or_none false = refl
+    rows_that_agree (λ r. has_row old r || false) (has_row old) n (λ r low. or-false (has_row old r)) ∙ rows-again n old are
 
 -- ---- the rows of a table are below its number of rows
 
