@@ -97,7 +97,7 @@ module _ (laws : ColumnLaws) (small : SpannedOrMovedBySmall) (beside : StillOrMo
     abbrev sets : List (List ℕ)
     sets = map (λ a. a.rows) known.answers
 
-    are_rows : AllByRecursion (AreRows known.n) sets
+    are_rows : AllByRecursion (AreRows known.n) (map (λ (a : Answer). a.rows) known.answers)
     are_rows = all-map (λ a. a.rows) (AreRows known.n) known.answers well.are_rows
 
     as_sum : (w : List ℤ) → Agrees known w → Agrees (known_sum known.n known.answers) w

@@ -5,7 +5,6 @@ pub mod KindColumns
 pub mod FrontLaws
 pub mod Outcomes
 pub mod WideningLaws
-pub mod FirstGroups
 pub mod Blame
 pub mod OneDecision
 pub mod GroupEntries
