@@ -39,9 +39,6 @@ next_group at end all groups are lt is = elim are.whole [
   | inr done ↦ absurd (omega (arith, done, lt))
 ]
 
-pub all_groups : (all groups : ℕ) → AreGroupsUpTo all all groups → 4 * groups ≡ 4 * ((all + 63) / 64)
-all_groups all groups are = omega (arith, are.enough, are.no_more)
-
 -- if nothing is called the file stands for the history before
 pub nothing_brought_up : {D : Type 0} (bench : Ghosts D) (missing : List Answered) (at : D) (shape : Shape) (history : List Answered) (gate : ℕ)
     → ((image sent : List ℕ) → bench.since at (bench.moment at) image sent → bench.leaves at image × (sent ≡ bench.sent at)) → IsQuiet bench at

@@ -30,16 +30,6 @@ pub memory_no_call : {X P : Type 0} (answer : Result X StoreFault) → Refuses a
 memory_no_call (Ok x) refuses is = absurd (false≢true refuses.0)
 memory_no_call (Err e) refuses is = let none : ⊥ = cc in absurd none
 
--- what refuses after a failed call has that fault
-pub is_failed : {X : Type 0} (answer : Result X StoreFault) → Refuses answer Failed → IsErrOf answer Failed
-is_failed (Ok x) refuses = absurd (false≢true refuses.0)
-is_failed (Err e) refuses = cc
-
--- nor is a failed call running out of memory
-pub failed_no_memory : {X P : Type 0} (answer : Result X StoreFault) → Refuses answer Failed → IsErrOf answer NoMemory → P
-failed_no_memory (Ok x) refuses is = absurd (false≢true refuses.0)
-failed_no_memory (Err e) refuses is = let none : ⊥ = cc in absurd none
-
 -- the fault that was given is the answer's
 pub given_is : {X Y : Type 0} (given fault : StoreFault) (answer : Result X StoreFault) → Refuses answer given → IsErrOf answer fault →
     IsErrOf {T = Y} (Err given) fault

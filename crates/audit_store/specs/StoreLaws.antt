@@ -60,20 +60,7 @@ nothing_appended bench at shape history group gate only_now quiet stands =
     let now = only_now image sent was in
     (now.1, inl (subst (λ (file : List ℕ). StandsFor file shape history) (sym (quiet image now.0)) (gate, stands))))
 
--- a group of no length has no record, and any other has some
-pub no_record : (group : List Answered) → (length group == 0) ≡ true → group ≡ []
-no_record [] is = refl
-no_record (r ∷ group) is = let none : length (r ∷ group) ≡ 0 = grind (arith, common_steps, is) in absurd (omega (arith, none))
-
-pub some_record : (group : List Answered) → (length group == 0) ≡ false → 0 < length group
-some_record group is = grind (arith, common_steps, is)
-
--- a group with a record stands behind the gate, and took four calls
-pub has_group : (shape : Shape) (group : List Answered) (gate : ℕ) (old new : List ℕ) → 0 < length group → AppendsGroup shape group gate old new →
-    HasGroup shape group gate old new
-has_group shape [] gate old new some appends = absurd (omega (arith, some))
-has_group shape (r ∷ group) gate old new some appends = appends
-
+-- a group with a record takes four calls
 pub four_calls : (group : List Answered) → 0 < length group → calls_for group ≡ 4
 four_calls [] some = absurd (omega (arith, some))
 four_calls (r ∷ group) some = refl
@@ -114,10 +101,6 @@ module _ (secret : SecretView) (protected : Protection) (journal : JournalConten
       all = λ _. found.counted;
     },
   )
-
-  -- and the file is as it left it
-  pub recovered_left : (file : List ℕ) → StandsAt file secret.shape core.history journal.gate → IsAsLeft file (store_in secret core journal.count journal true)
-  recovered_left file stands = subst (λ (h : List Answered). StandsAt file secret.shape h journal.gate) (sym all_released) stands
 
 -- a core that goes on over the same setting audits the same table
 same_table : (secret : SecretView) (old new : Audited) → new.setting ≡ old.setting → old.setting ≡ (table_by secret old).setting
