@@ -4,13 +4,13 @@ use Rattle.std.specs.List.{AllByRecursion}
 use Rattle.std.proofs.Math.Seq.{take-append-add, take-append_seam}
 use Rattle.std.proofs.lemmas.Bool.{cases_lt}
 use Rattle.std.proofs.lemmas.List.{take-append-drop, take_all}
-use Rattle.std.proofs.lemmas.List.Concat.{flat_map-append}
 use Rattle.audit_types.specs.ListLaws.{all-push}
 use Rattle.audit_types.specs.declared.shapes.Shape.{Shape}
 use Rattle.audit_types.specs.declared.records.Answered.{Answered}
 use Rattle.journal_form.specs.Header.{named, IsWholeShape}
 use Rattle.journal_form.specs.Group.{IsGroup}
 use Rattle.journal_form.specs.Journal.{Written, texts, records}
+use Rattle.journal_form.specs.GroupLaws.{texts-push, records-push}
 use Rattle.journal_compact.specs.Whole.{AreBehindGate, IsOfRecords}
 
 -- the first records stand in groups, each full but for the last of all
@@ -25,12 +25,6 @@ pub record IsSoFar (shape : Shape) (list : List Answered) (at : ℕ) (bytes : Li
 pub nothing_yet : (shape : Shape) (list : List Answered) (bytes : List ℕ) → bytes ≡ named shape → IsSoFar shape list 0 bytes
 nothing_yet shape list bytes is = record
     { within = omega arith; groups = []; of_records = tt; list_is = refl; full = inl refl; bytes_are = is ∙ sym (append-nil (named shape)) }
-
-texts-push : (groups : List Written) (w : Written) → texts (groups ++ w ∷ []) ≡ texts groups ++ 1 ∷ w.text
-texts-push groups w = flat_map-append (λ (group : Written). 1 ∷ group.text) groups (w ∷ []) ∙ ap (λ l. texts groups ++ l) (append-nil (1 ∷ w.text))
-
-records-push : (groups : List Written) (w : Written) → records (groups ++ w ∷ []) ≡ records groups ++ w.list
-records-push groups w = flat_map-append (λ (group : Written). group.list) groups (w ∷ []) ∙ ap (λ l. records groups ++ l) (append-nil w.list)
 
 take-more : (list : List Answered) (at k : ℕ) → at ≤ length list → take (at + k) list ≡ take at list ++ take k (drop at list)
 take-more list at k within =

@@ -81,10 +81,7 @@ held_low false least x e = refl
 
 module _ (greatest : GreatestIsBoundAndReached) (bounds : UpperBoundIsLeast) where
   module _ (n : ℕ) (answers : List Answer) (well : IsWellFormed (known_max n answers)) where
-    -- the rows of an answer are rows of the table, and some
-    rows_of : (p : Answer) → IsOneOf p answers → AreRows n p.rows
-    rows_of p one = all_at (λ b. AreRows n b.rows) answers p well.are_rows one
-
+    -- an answer has some rows
     some_of : (p : Answer) → IsOneOf p answers → p.rows ≢ []
     some_of p one = all_at (λ b. b.rows ≢ []) answers p well.some one
 
@@ -104,6 +101,9 @@ module _ (greatest : GreatestIsBoundAndReached) (bounds : UpperBoundIsLeast) whe
         let value = by.3 in
         omega (arith, ints)
 
+    number_in : (f : ℕ → ℤ) (r : ℕ) → r < n → number_at (map f (range_with_len 0 n)) r ≡ f r
+    number_in f r below = get_or-map-range_with_len f 0 n r r (pos 0) below (omega arith)
+
     -- numbers below the bounds, of which each answer has one at an extreme row, agree
     agrees_below : (f : ℕ → ℤ) → ((r : ℕ) (b : ℤ) → upper_bound answers r ≡ Some b → f r ≤ℤ b) →
         ((p : Answer) → IsOneOf p answers → (q : ℕ) × (has_row (extremes answers p) q ≡ true) × (f q ≡ p.value)) →
@@ -112,22 +112,17 @@ module _ (greatest : GreatestIsBoundAndReached) (bounds : UpperBoundIsLeast) whe
       one_each = length-map-range_with_len f 0 n;
       same = all_from (λ p. greatest_over (map f (range_with_len 0 n)) p.rows ≡ p.value) answers (λ p one.
           let hit = hits p one in
+          let rows : AreRows n p.rows = all_at (λ b. AreRows n b.rows) answers p well.are_rows one in
           let at = extreme_at p hit.0 hit.1 in
           greatest_is (map f (range_with_len 0 n)) p.rows p.value hit.0 (some_of p one)
           (λ r there.
           let bound = (bounds answers r).0 p one there in
           let under = low r bound.0 bound.1 in
           let least = bound.2 in
-          let is = number_is f r (row_within n p.rows r (rows_of p one) there) in
+          let is = number_in f r (row_within n p.rows r rows there) in
           omega (arith, ints))
-          at.0 (number_is f hit.0 (row_within n p.rows hit.0 (rows_of p one) at.0) ∙ hit.2));
+          at.0 (number_in f hit.0 (row_within n p.rows hit.0 rows at.0) ∙ hit.2));
     }
-      where
-        number_is : (f : ℕ → ℤ) (r : ℕ) → r < n → number_at (map f (range_with_len 0 n)) r ≡ f r
-        number_is f r below = get_or-map-range_with_len f 0 n r r (pos 0) below (omega arith)
-
-    number_in : (f : ℕ → ℤ) (r : ℕ) → r < n → number_at (map f (range_with_len 0 n)) r ≡ f r
-    number_in f r below = get_or-map-range_with_len f 0 n r r (pos 0) below (omega arith)
 
     module _ (a : Answer) (are : AreRows n a.rows) (some : a.rows ≢ []) where
       -- what bounds and extreme rows force is implied

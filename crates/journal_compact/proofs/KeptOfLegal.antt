@@ -31,7 +31,7 @@ use Rattle.audit_core.specs.Laws.{LegalGrows}
 use Rattle.journal_compact.specs.Kept.{IsKeptOf, IsImplied, IsImpliedBy, no_groups}
 use Rattle.journal_compact.specs.Kept.IsKeptOf.{none, left_out, stays}
 use Rattle.journal_compact.specs.Laws.{ImpliedBySpan, SameForms, SameDecisions, KeptIsLegal, sets_in}
-use Rattle.journal_compact.proofs.Pushes.{own_answers, other_answers, all_answers, legal_front, legal_last, room_before}
+use Rattle.journal_compact.proofs.Pushes.{own_answers, other_answers, all_answers, legal_before, legal_last, room_before}
 use Rattle.journal_compact.proofs.KeptRecords.{same_lists, no_more}
 
 -- two lists of sets have the same reduced forms
@@ -236,7 +236,7 @@ module _ (laws : LegalLaws) (table : Table) (secrets : AreSecrets table.setting.
       let fits = (legal_last table before r legal).fits in
       let of_column = subst (λ c. IsImplied (known_of (setting_of table.setting.shape no_groups) before c) (answer_in r)) own implied in
       let of_sums = subst (λ (k : Kind). IsImplied (knows rows_in no_groups [] k (answers_of column before)) (answer_in r)) is of_column in
-      (laws.spanned rows_in (answers_of column before) (answer_in r) (sets_are column before (legal_front table before r legal))
+      (laws.spanned rows_in (answers_of column before) (answer_in r) (sets_are column before (legal_before table before r legal))
       (subst (λ m. AreRows m r.rows.list) fits.same_n fits.are_rows) (sums_possible column before r legal below is own)).0 of_sums
 
   module _ (column : ℕ) (below : column < columns table.setting.shape) (is : kind_at table.setting.shape column ≡ Sum) where
@@ -244,7 +244,7 @@ module _ (laws : LegalLaws) (table : Table) (secrets : AreSecrets table.setting.
         AreAlike rows_in (sets_in column history) (sets_in column kept)
     forms none legal form = (λ f. f, λ f. f)
     forms (left_out {before} {kept} r so_far implied) legal form =
-        let rest = forms so_far (legal_front table before r legal) form in
+        let rest = forms so_far (legal_before table before r legal) form in
         elim (cases_eq r.column column) [
           | inl own ↦
               let span = span_alike laws.forms rows_in (sets_in column before) r.rows.list (in_span column before r legal below is own implied) form in
@@ -254,7 +254,7 @@ module _ (laws : LegalLaws) (table : Table) (secrets : AreSecrets table.setting.
               (sym (other_answers column before r apart)) rest
         ]
     forms (stays {before} {kept} r so_far new) legal form =
-        let rest = forms so_far (legal_front table before r legal) in
+        let rest = forms so_far (legal_before table before r legal) in
         elim (cases_eq r.column column) [
           | inl own ↦ subst (λ l. Reduced rows_in l form ↔ Reduced rows_in (sets_in column (kept ++ r ∷ [])) form) (sym (sets_push column before r own))
               (subst (λ l. Reduced rows_in (sets_in column before ++ r.rows.list ∷ []) form ↔ Reduced rows_in l form) (sym (sets_push column kept r own))
@@ -269,9 +269,9 @@ module _ (laws : LegalLaws) (table : Table) (secrets : AreSecrets table.setting.
   kept_are : (column : ℕ) {history kept : List Answered} → IsKeptOf table.setting.shape history kept → IsLegal table history →
       AllByRecursion (λ b. AreRows rows_in b.rows) (answers_of column kept)
   kept_are column none legal = tt
-  kept_are column (left_out {before} {kept} r so_far implied) legal = kept_are column so_far (legal_front table before r legal)
+  kept_are column (left_out {before} {kept} r so_far implied) legal = kept_are column so_far (legal_before table before r legal)
   kept_are column (stays {before} {kept} r so_far new) legal =
-      let rest = kept_are column so_far (legal_front table before r legal) in
+      let rest = kept_are column so_far (legal_before table before r legal) in
       let fits = (legal_last table before r legal).fits in
       elim (cases_eq r.column column) [
         | inl own ↦ subst (AllByRecursion (λ b. AreRows rows_in b.rows)) (sym (own_answers column kept r own))
@@ -308,9 +308,9 @@ module _ (laws : LegalLaws) (table : Table) (secrets : AreSecrets table.setting.
 
   kept_legal : {history kept : List Answered} → IsKeptOf table.setting.shape history kept → IsLegal table history → IsLegal table kept
   kept_legal none legal = legal
-  kept_legal (left_out {before} {kept} r so_far implied) legal = kept_legal so_far (legal_front table before r legal)
+  kept_legal (left_out {before} {kept} r so_far implied) legal = kept_legal so_far (legal_before table before r legal)
   kept_legal (stays {before} {kept} r so_far new) legal =
-      let front = legal_front table before r legal in
+      let front = legal_before table before r legal in
       let last = legal_last table before r legal in
       laws.grows table kept r (kept_legal so_far front) (omega (arith, no_more table.setting.shape so_far, room_before table before r legal)) (record {
         fits = last.fits;

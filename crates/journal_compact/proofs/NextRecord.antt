@@ -1,8 +1,6 @@
 -- The next record of a legal history, after what is kept of those before it.
-use Rattle.std.proofs.Common.{◌≡◌, ℕ, zero, suc, ◌+◌, ◌<◌, ◌≤◌, List, [], ◌∷◌, ◌++◌, length, take, get_or, Some, refl, sym, ap, ◌∙◌, subst, arith, length-take}
-use Rattle.std.specs.Prelude.{slice_get}
+use Rattle.std.proofs.Common.{◌≡◌, ℕ, ◌+◌, ◌<◌, ◌≤◌, List, [], ◌∷◌, ◌++◌, length, take, get_or, sym, ap, ◌∙◌, subst, arith}
 use Rattle.std.proofs.lemmas.List.{take_more}
-use Rattle.std.proofs.lemmas.Option.{none-some}
 use Rattle.audit_types.specs.declared.shapes.Shape.{Shape}
 use Rattle.audit_types.specs.declared.records.Answered.{Answered}
 use Rattle.audit_types.specs.declared.records.Verdict.TheVariants.{Released}
@@ -11,27 +9,13 @@ use Rattle.audit_types.specs.Limits.{most_rows}
 use Rattle.audit_types.specs.History.{Setting, Table, FitsShape, IsLegal, IsLegalRecord, IsPossibleHistory, setting_of, known_of}
 use Rattle.audit_types.specs.Judgement.{IsWithinWidth}
 use Rattle.audit_core.specs.Laws.{LegalGrows}
+use Rattle.audit_core.specs.LegalFronts.{legal_front}
 use Rattle.journal_compact.specs.Kept.{IsKeptOf, IsImpliedBy, no_groups}
 use Rattle.journal_compact.specs.Kept.IsKeptOf.{left_out, stays}
 use Rattle.journal_compact.specs.Laws.{SameDecisions, KeptIsLegal, IsLegalForSome}
-use Rattle.journal_compact.proofs.Pushes.{legal_front, legal_last, room_before}
+use Rattle.journal_compact.proofs.Pushes.{legal_before, legal_last, room_before}
 use Rattle.journal_compact.proofs.KeptRecords.{same_lists, no_more}
 use Rattle.journal_compact.proofs.GreatestBounds.{within_greatest, possible_still}
-
--- what stands among the first records stands there in all, after the same
-get-take : (h : List Answered) (k i : ℕ) (x : Answered) → slice_get (take k h) i ≡ Some x → (slice_get h i ≡ Some x) × (take i (take k h) ≡ take i h)
-get-take [] zero i x here = absurd (none-some x here)
-get-take [] (suc k) i x here = absurd (none-some x here)
-get-take (y ∷ h) zero i x here = absurd (none-some x here)
-get-take (y ∷ h) (suc k) zero x here = (here, refl)
-get-take (y ∷ h) (suc k) (suc i) x here = let rest = get-take h k i x here in (rest.0, ap (λ l. y ∷ l) rest.1)
-
--- the first records of a legal history are legal
-legal_take : (table : Table) (h : List Answered) (k : ℕ) → IsLegal table h → IsLegal table (take k h)
-legal_take table h k legal = record {
-  few = omega (arith, legal.few, length-take k h);
-  each = λ i x here. let there = get-take h k i x here in subst (λ l. IsLegalRecord table l x) (sym there.1) (legal.each i x there.0);
-}
 
 -- one record more was taken
 pub taken : (h : List Answered) (k : ℕ) (r : Answered) → k < length h → r ≡ get_or h k r → take (k + 1) h ≡ take k h ++ r ∷ []
@@ -63,7 +47,7 @@ module _ (laws : NextLaws) (shape : Shape) (h : List Answered) (some : IsLegalFo
   same_setting = ap (λ s. setting_of s no_groups) some.same_shape ∙ sym setting_is
 
   with_it : IsLegal table (take k h ++ r ∷ [])
-  with_it = subst (IsLegal table) (taken h k r inside is) (legal_take table h (k + 1) some.legal)
+  with_it = subst (IsLegal table) (taken h k r inside is) (legal_front table h (k + 1) some.legal)
 
   kept_of_table : IsKeptOf table.setting.shape (take k h) kept
   kept_of_table = subst (λ s. IsKeptOf s (take k h) kept) (sym some.same_shape) keeps
@@ -71,7 +55,7 @@ module _ (laws : NextLaws) (shape : Shape) (h : List Answered) (some : IsLegalFo
   -- it may follow the kept ones
   may_follow : IsLegalRecord table kept r
   may_follow =
-      let front = legal_front table (take k h) r with_it in
+      let front = legal_before table (take k h) r with_it in
       let last = legal_last table (take k h) r with_it in
       record {
         fits = last.fits;
@@ -92,7 +76,7 @@ module _ (laws : NextLaws) (shape : Shape) (h : List Answered) (some : IsLegalFo
 
   pub possible : IsPossibleHistory setting (kept ++ r ∷ [])
   possible =
-      let front = legal_front table (take k h) r with_it in
+      let front = legal_before table (take k h) r with_it in
       let kept_legal = laws.legal table (take k h) kept some.are_secrets front kept_of_table in
       let few : length kept < 65536 = omega (arith, no_more table.setting.shape kept_of_table, room_before table (take k h) r with_it) in
       subst (λ s. IsPossibleHistory s (kept ++ r ∷ [])) same_setting

@@ -1,7 +1,6 @@
 -- What a crash leaves while a journal is written whole.
 use Rattle.std.proofs.Common.{◌≡◌, ℕ, ◌+◌, ◌≤◌, inl, inr, List, length, get_or, drop, sym, ap, ◌∙◌, arith}
 use Rattle.std.specs.Prelude.{All}
-use Rattle.std.proofs.lemmas.Grind.{common_steps}
 use Rattle.audit_types.specs.declared.shapes.Shape.{Shape}
 use Rattle.audit_types.specs.declared.records.Answered.{Answered}
 use Rattle.audit_types.specs.History.{FitsShape}
@@ -10,7 +9,6 @@ use Rattle.bench_core.specs.Calls.{IsQuiet, IsUntouched, LeavesOnly, OnlyReads}
 use Rattle.bench_core.specs.Moments.{weakens}
 use Rattle.answer_journal.specs.Append.{appended}
 use Rattle.answer_journal.specs.FileCalls.{after_reads}
-use Rattle.answer_journal.specs.Make.{calls_to_make}
 use Rattle.answer_journal.specs.Moments.{IsMade, IsUnmadeOrOpened}
 use Rattle.journal_form.specs.Journal.{StandsFor}
 use Rattle.journal_compact.specs.Whole.{AreBehindGate, IsFound, IsUnmadeOrWhole}
@@ -50,14 +48,3 @@ module _ (shape : Shape) (list : List Answered) (behind : List ℕ) (few : lengt
   -- what is appended to a closed gate at the front stands for the list
   pub stands_appended : (file new : List ℕ) → new ≡ appended 0 behind file → StandsFor new shape list
   stands_appended file new is = stands_whole shape list behind new few fit are (record { rest = drop (0 + 1 + length behind) file; file_is = is })
-
--- how many calls it takes over a closed header gate, and over a short file
-pub closed_calls : (file : List ℕ) (before mid now : ℕ) → IsFound Closed file → mid ≡ before + 2 → now ≡ mid + 4 → now ≡ before + calls_to_make file
-closed_calls file before mid now found look opening =
-    let calls : calls_to_make file ≡ 6 = grind (arith, common_steps, found.0) in
-    omega (arith, look, opening, calls)
-
-pub short_calls : (file : List ℕ) (before mid now : ℕ) → IsFound Short file → mid ≡ before + 1 → now ≡ mid + 6 → now ≡ before + calls_to_make file
-short_calls file before mid now found look opening =
-    let calls : calls_to_make file ≡ 7 = grind (arith, common_steps, found) in
-    omega (arith, look, opening, calls)

@@ -1,15 +1,16 @@
-use Rattle.std.proofs.Common.{◌≡◌, Result, Ok, Err, refl, sym, subst, ap, ◌∙◌}
+use Rattle.std.proofs.Common.{◌≡◌, Result, Ok, Err, refl, sym, subst, ap, ◌∙◌, arith}
 use Rattle.std.specs.Prelude.{IsErrOf}
 use Rattle.std.proofs.lemmas.Result.{IfOk-from_err}
 use Rattle.bench_core.specs.Moments.{still_quiet, then_tells, weakens}
 use Rattle.bench_core.specs.Reports.{done_call, failed_call, is_refusal, not_called, not_written}
 use Rattle.bench_core.specs.declared.source.Failed.{Failed}
 use Rattle.answer_journal.specs.Append.{appended}
+use Rattle.answer_journal.specs.Make.{calls_over_closed, calls_over_short}
 use Rattle.answer_journal.specs.Moments.{IsMade}
 use Rattle.journal_compact.specs.Whole.{AreBehindGate, IsFound}
 use Rattle.journal_compact.specs.declared.whole.Found.{Found}
 use Rattle.journal_compact.specs.declared.whole.WholeFault.TheVariants as whole
-use Rattle.journal_compact.proofs.WholeMoments.{all_moments, closed_calls, never_closed, never_short, short_calls, stands_appended, untouched_unmade}
+use Rattle.journal_compact.proofs.WholeMoments.{all_moments, never_closed, never_short, stands_appended, untouched_unmade}
 use Rattle.journal_compact.proofs.whole.write_whole.Goals as goal
 
 abbrev found : Found → Result Found Failed
@@ -156,8 +157,9 @@ returns-in-Closed g c =
             ∙ ap (λ file. appended 0 behind file) read.file;
       };
       ticks = λ told.
-          closed_calls file _ _ _ (subst (λ (what : Found). IsFound what file) c.in-Closed.is (c.in_ok-look.ensures.found told))
-          (c.in_ok-look.ensures.closed told (ap found c.in-Closed.is)) (c.in_ok-open_over_closed-in-Closed.ensures.ticks told);
+          let is = subst (λ (what : Found). IsFound what file) c.in-Closed.is (c.in_ok-look.ensures.found told) in
+          let calls = calls_over_closed file is.0 in
+          omega (arith, calls, c.in_ok-look.ensures.closed told (ap found c.in-Closed.is), c.in_ok-open_over_closed-in-Closed.ensures.ticks told);
       quiet = λ told. c.in_ok-open_over_closed-in-Closed.ensures.quiet told;
       sent = c.open_over_closed.ensures.sent ∙ read.sent;
       fault =
@@ -232,8 +234,8 @@ returns g c =
             ∙ ap (λ file. appended 0 behind file) read.file;
       };
       ticks = λ told.
-          short_calls file _ _ _ (subst (λ (what : Found). IsFound what file) c.in-Short.is (c.in_ok-look.ensures.found told))
-          (c.in_ok-look.ensures.short told (ap found c.in-Short.is)) (c.in_ok-open_over_short-in-Short.ensures.ticks told);
+          let calls = calls_over_short file (subst (λ (what : Found). IsFound what file) c.in-Short.is (c.in_ok-look.ensures.found told)) in
+          omega (arith, calls, c.in_ok-look.ensures.short told (ap found c.in-Short.is), c.in_ok-open_over_short-in-Short.ensures.ticks told);
       quiet = λ told. c.in_ok-open_over_short-in-Short.ensures.quiet told;
       sent = c.open_over_short.ensures.sent ∙ read.sent;
       fault =
