@@ -11,7 +11,7 @@ use Rattle.predicate_lang.specs.Laws.{OneMeaning}
 use Rattle.set_index.specs.Asked.{meaning}
 use Rattle.line_wire.specs.Lines.{CountedLine, text, long}
 use Rattle.line_wire.specs.Questions.{Written, counted, taken, text_of, question_of}
-use Rattle.line_wire.specs.Requests.{Requests, Refuses, HasBadCondition, column_fault, IsRequest, secret_of}
+use Rattle.line_wire.specs.Requests.{Requests, Refuses, HasBadCondition, column_fault, IsRequest}
 use Rattle.line_wire.specs.declared.question.Take.{Take}
 use Rattle.line_wire.specs.declared.question.Take.TheVariants.{Sum, Avg, Max, Min}
 use Rattle.line_wire.specs.declared.request.Request.{Request}
@@ -40,25 +40,22 @@ module _ (columns : List Column) (counts : List ℕ) (public : PublicView) where
       ap (λ (c : ℕ). question_over take c public.rows counts (meaning public t)) one
       ∙ ap (λ (v : Tree). question_over take other public.rows counts (meaning public v)) tree
 
-  some_same : (x y : ℕ) (o : Option ℕ) → o ≡ Some x → o ≡ Some y → x ≡ y
-  some_same x y o first second = let both : Some x ≡ Some y = sym first ∙ second in cc
-
   requests_same : (w : Written) (t : Tree) (r q : Request) → IsRequest columns w t r → IsRequest columns w t q →
       plan_of counts public r ≡ plan_of counts public q
   requests_same (counted condition) t (request.Count p) (request.Count q) r_is q_is =
       ap (λ (u : Tree). Ready (reply.Count (people_behind counts (meaning public u)))) (r_is ∙ sym q_is)
   requests_same (counted condition) t (request.Count p) q r_is q_is = absurd q_is
   requests_same (taken Sum name condition) t (request.Sum c p) (request.Sum d q) r_is q_is =
-      over_same Sum c d (tree_of p) (tree_of q) (some_same c d (secret_of columns name) r_is.0 q_is.0) (r_is.1 ∙ sym q_is.1)
+      over_same Sum c d (tree_of p) (tree_of q) (same_Some c d (sym r_is.0 ∙ q_is.0)) (r_is.1 ∙ sym q_is.1)
   requests_same (taken Sum name condition) t (request.Sum c p) q r_is q_is = absurd q_is
   requests_same (taken Avg name condition) t (request.Avg c p) (request.Avg d q) r_is q_is =
-      over_same Avg c d (tree_of p) (tree_of q) (some_same c d (secret_of columns name) r_is.0 q_is.0) (r_is.1 ∙ sym q_is.1)
+      over_same Avg c d (tree_of p) (tree_of q) (same_Some c d (sym r_is.0 ∙ q_is.0)) (r_is.1 ∙ sym q_is.1)
   requests_same (taken Avg name condition) t (request.Avg c p) q r_is q_is = absurd q_is
   requests_same (taken Max name condition) t (request.Max c p) (request.Max d q) r_is q_is =
-      over_same Max c d (tree_of p) (tree_of q) (some_same c d (secret_of columns name) r_is.0 q_is.0) (r_is.1 ∙ sym q_is.1)
+      over_same Max c d (tree_of p) (tree_of q) (same_Some c d (sym r_is.0 ∙ q_is.0)) (r_is.1 ∙ sym q_is.1)
   requests_same (taken Max name condition) t (request.Max c p) q r_is q_is = absurd q_is
   requests_same (taken Min name condition) t (request.Min c p) (request.Min d q) r_is q_is =
-      over_same Min c d (tree_of p) (tree_of q) (some_same c d (secret_of columns name) r_is.0 q_is.0) (r_is.1 ∙ sym q_is.1)
+      over_same Min c d (tree_of p) (tree_of q) (same_Some c d (sym r_is.0 ∙ q_is.0)) (r_is.1 ∙ sym q_is.1)
   requests_same (taken Min name condition) t (request.Min c p) q r_is q_is = absurd q_is
   requests_same question t r q r_is q_is = absurd r_is
 
