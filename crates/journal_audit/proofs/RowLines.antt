@@ -1,6 +1,6 @@
 -- The lines on the rows of a column of sums.
 use Rattle.std.proofs.Common.{◌≡◌, ℕ, ◌+◌, ◌<◌, ℤ, List, [], ◌∷◌, ◌++◌, ap, ◌∙◌, subst, sym, refl, arith, inl, inr, ◌⊎◌, ◌||◌, ◌==◌, Bool, true, false, not}
-use Rattle.std.proofs.lemmas.Bool.{true≢false}
+use Rattle.std.proofs.lemmas.Bool.{true≢false, not-true}
 use Rattle.std.specs.Prelude.{◌↔◌}
 use Rattle.std.proofs.lemmas.Bool.Decides.{nat_tests}
 use Rattle.audit_types.specs.Headcount.{Headcount, CountPeople, AreFew, shared_in}
@@ -74,10 +74,6 @@ guarded n people count row rows shared same told =
     let is : shared ≡ has_row (shared_in people) row = told ∙ ap (λ l. has_row l row) same in
     (λ few. is ∙ by.0 few, λ out. by.1 (sym is ∙ out))
 
-was_false : (b : Bool) → not b ≡ true → b ≡ false
-was_false true e = absurd (true≢false (sym e))
-was_false false e = refl
-
 not_so : (b : Bool) → ¬ (b ≡ true) → not b ≡ true
 not_so true never = absurd (never refl)
 not_so false never = refl
@@ -85,7 +81,7 @@ not_so false never = refl
 module _ (people : Headcount) (n : ℕ) (sets : List (List ℕ)) (row : ℕ) (shared : Bool) (few : AreFew people [] (row ∷ []) ↔ (shared ≡ false)) where
   -- outside a row has a line exactly if it isn't shared
   pub outside_line : people.own ≡ 0 → (not shared ≡ true) ↔ RowHasLine people n sets row
-  outside_line none = (λ yes. inl (few.1 (was_false shared yes)), back)
+  outside_line none = (λ yes. inl (few.1 (not-true shared yes)), back)
     where
       back : RowHasLine people n sets row → not shared ≡ true
       back (inl guarded) = ap not (few.0 guarded)
@@ -94,7 +90,7 @@ module _ (people : Headcount) (n : ℕ) (sets : List (List ℕ)) (row : ℕ) (sh
   -- inside a shared one does exactly if it isn't pinned
   pub inside_line : shared ≡ true → 0 < people.own → (pinned : Bool) → ((pinned ≡ true) ↔ IsPinned n sets row) →
       (not pinned ≡ true) ↔ RowHasLine people n sets row
-  inside_line same inside pinned tells = (λ yes. inr (inside, λ is. true≢false (sym (tells.1 is) ∙ was_false pinned yes)), back)
+  inside_line same inside pinned tells = (λ yes. inr (inside, λ is. true≢false (sym (tells.1 is) ∙ not-true pinned yes)), back)
     where
       back : RowHasLine people n sets row → not pinned ≡ true
       back (inl guarded) = absurd (true≢false (sym same ∙ few.0 guarded))
