@@ -1,5 +1,5 @@
 -- Histories of which one begins the other, and journals that are brought up to the longer one.
-use Rattle.std.proofs.Common.{◌≡◌, ◌≢◌, inl, inr, ℕ, zero, suc, ◌-◌, ◌<◌, ◌≤◌, List, [], ◌∷◌, ◌++◌, length, take, drop, Some, refl, sym, ap, subst, ◌∙◌, arith, append-nil, append_assoc, length-append, length-drop}
+use Rattle.std.proofs.Common.{◌≡◌, ◌≢◌, inl, inr, ℕ, zero, suc, ◌-◌, ◌<◌, ◌≤◌, List, [], ◌∷◌, ◌++◌, length, take, drop, Some, refl, sym, ap, subst, ◌∙◌, arith, append-nil, append_assoc, length-drop}
 use Rattle.std.specs.Prelude.{slice_get}
 use Rattle.std.proofs.Math.Seq.{take-length}
 use Rattle.std.proofs.lemmas.List.{take-append-drop, take_all}
@@ -11,6 +11,7 @@ use Rattle.bench_core.specs.Calls.{IsQuiet, LeavesOnly}
 use Rattle.bench_core.specs.Moments.{started, weakens}
 use Rattle.journal_form.specs.Journal.{StandsAt}
 use Rattle.audit_store.specs.Twice.{IsBroughtUp, StandsWithSome, calls_to_bring_up}
+use Rattle.audit_session.specs.HistoryFacts.{fronts_meet}
 use Rattle.audit_session.specs.Stops.{IsFront}
 use Rattle.twin_journal.specs.Twins.{CatchesUp, DifferFirst, Meet, StandsBetween, missing}
 
@@ -20,28 +21,17 @@ use Rattle.twin_journal.specs.Twins.{CatchesUp, DifferFirst, Meet, StandsBetween
 pub own_front : (history : List Answered) → IsFront history history
 own_front history = record { rest = []; is = sym (append-nil history) }
 
--- what is left of an empty rest
-no_rest : (history rest : List Answered) → length (history ++ rest) ≤ length history → rest ≡ []
-no_rest history [] le = refl
-no_rest history (r ∷ rest) le = absurd (omega (arith, length-append history (r ∷ rest), le))
-
--- two histories that begin each other are one
-pub fronts_of_each_other : (first second : List Answered) → IsFront first second → IsFront second first → first ≡ second
-fronts_of_each_other first second one other =
-    let none : one.rest ≡ [] = no_rest first one.rest (omega (arith, ap length (sym one.is), ap length other.is, length-append second other.rest)) in
-    sym (one.is ∙ ap (λ (l : List Answered). first ++ l) none ∙ append-nil first)
-
 -- if the other history begins the main one, the whole is that
 pub whole_is_main : (main other whole : List Answered) → Meet main other whole → IsFront other main → whole ≡ main
 whole_is_main main other whole meet front = elim meet.longer [
   | inl is ↦ sym is
-  | inr is ↦ sym is ∙ fronts_of_each_other other main front (subst (λ (h : List Answered). IsFront main h) (sym is) meet.main_front)
+  | inr is ↦ sym is ∙ fronts_meet other main front (subst (λ (h : List Answered). IsFront main h) (sym is) meet.main_front)
 ]
 
 pub whole_is_other : (main other whole : List Answered) → Meet main other whole → IsFront main other → whole ≡ other
 whole_is_other main other whole meet front = elim meet.longer [
   | inr is ↦ sym is
-  | inl is ↦ sym is ∙ fronts_of_each_other main other front (subst (λ (h : List Answered). IsFront other h) (sym is) meet.other_front)
+  | inl is ↦ sym is ∙ fronts_meet main other front (subst (λ (h : List Answered). IsFront other h) (sym is) meet.other_front)
 ]
 
 -- the first records begin a history, and the rest follows them

@@ -14,7 +14,8 @@ use Rattle.audit_session.specs.Stops.{IsFront}
 use Rattle.twin_journal.specs.declared.starting.TwinFault.{TwinFault}
 use Rattle.twin_journal.specs.declared.starting.TwinFault.TheVariants.{Main, Spare, Differ, MainFailed, SpareFailed, NoMemory}
 use Rattle.twin_journal.specs.Twins.{CatchesUp, DifferFirst, HoldApart, KeepApart, KeepTogether, KeepWhole, Meet, StandsBetween, TwinCause, TwinGivesUp, calls_to_open, missing}
-use Rattle.twin_journal.proofs.CatchingUp.{fronts_of_each_other, own_front, still_between}
+use Rattle.audit_session.specs.HistoryFacts.{fronts_meet}
+use Rattle.twin_journal.proofs.CatchingUp.{own_front, still_between}
 use Rattle.twin_journal.proofs.TwinCauses.{OneHistory, differ_once, left_due, meet_or_differ, meet_together, same_main, same_other, same_place, together_meet}
 
 -- while a file is only read it stands for its own history
@@ -43,13 +44,13 @@ meet_once main other one two first second = elim first.longer [
   | inl is ↦ elim second.longer [
     | inl are ↦ sym is ∙ are
     | inr are ↦
-        sym is ∙ fronts_of_each_other main other (subst (λ (h : List Answered). IsFront main h) (sym are) second.main_front)
+        sym is ∙ fronts_meet main other (subst (λ (h : List Answered). IsFront main h) (sym are) second.main_front)
         (subst (λ (h : List Answered). IsFront other h) (sym is) first.other_front) ∙ are
   ]
   | inr is ↦ elim second.longer [
     | inr are ↦ sym is ∙ are
     | inl are ↦
-        sym is ∙ fronts_of_each_other other main (subst (λ (h : List Answered). IsFront other h) (sym are) second.other_front)
+        sym is ∙ fronts_meet other main (subst (λ (h : List Answered). IsFront other h) (sym are) second.other_front)
         (subst (λ (h : List Answered). IsFront main h) (sym is) first.main_front) ∙ are
   ]
 ]
