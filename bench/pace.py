@@ -1,12 +1,12 @@
 #!/usr/bin/env python3
 """Times the built program beside the plain one on the same workloads. bench/pace.sh builds the plain one and calls this.
 
-    pace.py AUDITOR PLAIN [--rounds 3] [--only 1024-intervals-max] [--opening] [KEY=VALUE ..]
+    pace.py AUDITOR PLAIN [--rounds 3] [--only 1024-intervals-max] [--opening] [--shared] [KEY=VALUE ..]
 
 Runs both in turn in the folder that it is called in, and prints for each workload the least processor time of each, the
 auditor's peak of memory, and the ratio of the two times: 1 is as fast as the plain program, 2 twice as fast. With --opening
-it times a run without questions over the journal that the workload left, which decides each record again. KEY=VALUE are
-further keys of the schema. The exit status is 1 if replies differ."""
+it times a run without questions over the journal that the workload left, which decides each record again. With --shared every
+other row stands for three people. KEY=VALUE are further keys of the schema. The exit status is 1 if replies differ."""
 import argparse
 import json
 import os
@@ -67,17 +67,20 @@ def write_schema(columns, groups, keys):
         json.dump({"columns": columns, **guarded, **keys}, schema)
 
 
-def write_table(rows, groups, **keys):
+def write_table(rows, groups, shared=False, **keys):
     draw = random.Random(29)
     halves = [f"h{k}" for k in range(12)]
     roles = {"k": "number", "g": "number", **dict.fromkeys(halves, "number"), "v": "sum", "m": "max"}
+    if shared:
+        roles["people"] = "count"
     columns = [{"name": name, "is": role} for name, role in roles.items()]
     write_schema(columns, protected(rows, groups), keys)
     with open("table.csv", "w") as table:
         print(*roles, sep=",", file=table)
         for row in range(rows):
             bits = [draw.randrange(8)] + [draw.randrange(2) for _ in halves]
-            print(row, *bits, draw.randrange(10**6), draw.randrange(10**4), sep=",", file=table)
+            people = [3 if row % 2 else 1] if shared else []
+            print(row, *bits, draw.randrange(10**6), draw.randrange(10**4), *people, sep=",", file=table)
 
 
 def run(program, command, questions, replies):
@@ -118,6 +121,7 @@ def main():
     words.add_argument("--rounds", type=int, default=3)
     words.add_argument("--only", default="")
     words.add_argument("--opening", action="store_true")
+    words.add_argument("--shared", action="store_true")
     words.add_argument("keys", nargs="*", metavar="KEY=VALUE")
     given = words.parse_intermixed_args()
     keys = {key: json.loads(value) for key, value in (word.split("=", 1) for word in given.keys)}
@@ -129,7 +133,7 @@ def main():
             name = f"{rows}-{sets}-{ask}" + (f"-{groups}-protected" if groups else "")
             if given.only not in name:
                 continue
-            write_table(rows, groups, **keys)
+            write_table(rows, groups, given.shared, **keys)
             write_questions(sets, ask, rows, count)
             best, equal = compare(programs, given.rounds, given.opening)
             (auditor, peak), (plain, _) = best["auditor"], best["plain"]

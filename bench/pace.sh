@@ -2,7 +2,7 @@
 # Times the built program on sixteen workloads beside the plain, unproved program of bench/plain, and prints the ratio of
 # their times. Build the program first: demo/run.sh does. The plain one is built here, with cargo.
 #
-#   bench/pace.sh [--rounds 3] [--only 1024-intervals-max] [--opening] [KEY=VALUE ..]     such as width=4 reach=50
+#   bench/pace.sh [--rounds 3] [--only 1024-intervals-max] [--opening] [--shared] [KEY=VALUE ..]     such as width=4 askers=inside
 . "$(dirname "$0")/in_memory.sh"
 . "$(dirname "$0")/setup.sh"
 build_plain
