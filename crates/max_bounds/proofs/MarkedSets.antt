@@ -1,5 +1,5 @@
 -- Sets and their marks: what a mark shows, and lists of sets with their marks.
-use Rattle.std.proofs.Common.{◌≡◌, ◌≢◌, ℕ, zero, suc, ◌+◌, ◌*◌, ◌/◌, ◌%◌, ◌^◌, ◌<◌, ◌≤◌, true, false, cond, not, List, [], ◌∷◌, ◌++◌, length, ◌⊎◌, add-one, take, drop, set, get_or, refl, sym, ap, ◌∙◌, subst, arith, inl, inr}
+use Rattle.std.proofs.Common.{◌≡◌, ◌≢◌, ℕ, zero, suc, ◌+◌, ◌-◌, ◌*◌, ◌/◌, ◌%◌, ◌^◌, ◌<◌, ◌≤◌, true, false, cond, not, List, [], ◌∷◌, ◌++◌, length, ◌⊎◌, add-one, take, drop, set, get_or, refl, sym, ap, ◌∙◌, subst, arith, inl, inr}
 use Rattle.std.specs.Prelude.{nat_lt, bit_and, bit_or}
 use Rattle.std.specs.Int.{bit_at, bit_not, w64}
 use Rattle.std.specs.List.{filter}
@@ -42,6 +42,22 @@ groups_more rows groups row g are is below = record {
         (found.0, has-front rows row found.0 found.1, found.2)
   ];
 }
+
+-- there are 64 groups
+pub group_below : (r : ℕ) → group_of r < 64
+unfolding group_of
+group_below r = elim (cases_lt r 28) [
+  | inl first ↦ subst (λ b. cond b r (28 + (r - 28) % 36) < 64) (sym (lt-ltb r 28 first)) (omega (arith, first))
+  | inr later ↦ subst (λ b. cond b r (28 + (r - 28) % 36) < 64) (sym (le-ltb r 28 later)) (omega arith)
+]
+
+-- a mark of which no bit is unset has each group
+pub all_groups : (groups : ℕ) → groups < 2 ^ 64 → bit_not w64 groups ≡ 0 → (g : ℕ) → g < 64 → bit_at groups g ≡ 1
+all_groups groups fits none g below =
+    let turned = bit_at_not w64 groups g fits below in
+    let same = ap (λ x. bit_at x g) none ∙ bit_at-zero g in
+    let bit = bit_at-lt groups g in
+    omega arith
 
 -- a row of those that a set lacks isn't in it
 pub in_others : (n : ℕ) (rows : List ℕ) (r : ℕ) → r < n → has_row (complement n rows) r ≡ true → has_row rows r ≡ false

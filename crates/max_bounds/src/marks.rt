@@ -2,8 +2,9 @@
 //!
 //! Rows are in 64 groups, and bit g of a mark is set if the set lacks a row of group g. So a set whose mark lacks the bit of a group that
 //! a question's set lacks a row of has this row.
-ghost use Rattle.std.specs.Prelude.{◌≡◌, ◌≢◌, ◌<◌, ◌≤◌, ◌^◌, ℕ, List, [], IsTrue, length};
-ghost use Rattle.audit_types.specs.Rows.{Rows, complement};
+ghost use Rattle.std.specs.Prelude.{◌≡◌, ◌≢◌, ◌<◌, ◌≤◌, ◌^◌, ℕ, true, List, [], IsTrue, length};
+ghost use Rattle.std.specs.Int.{bit_at};
+ghost use Rattle.audit_types.specs.Rows.{Rows, complement, has_row};
 ghost use Rattle.max_bounds.specs.Marks.{group_of, AreGroups, IsMark, AreAsked};
 ghost use Rattle.max_bounds.specs.Outside.{outside};
 
@@ -39,13 +40,27 @@ pub(crate) fn groups_of(rows: &RowSet) -> u64
     groups
 }
 
+// Groups among which are those that the rows are in. The walk ends once each group is there.
+fn cover_of(rows: &RowSet) -> u64
+    ensures { (r : ℕ) → has_row rows.now.list r ≡ true → bit_at result (group_of r) ≡ 1 }
+{
+    let mut groups: u64 = 0;
+    for row in rows.iter() {
+        groups |= 1 << group_of(row);
+        if groups == u64::MAX {
+            return groups;
+        }
+    }
+    groups
+}
+
 /// The mark of a set.
 pub(crate) fn mark_of(rows: &RowSet) -> u64
     ensures { IsMark rows.now result }
 {
     let mut others = *rows;
     others.flip();
-    groups_of(&others)
+    cover_of(&others)
 }
 
 /// Groups of the rows that a question's set lacks, to compare with the marks of so many sets.
