@@ -1,13 +1,19 @@
--- What a form with a new list leaves of two columns, if these are multiples of one list.
-use Rattle.std.specs.Prelude.{◌≡◌, ◌≢◌, ℕ, ◌<◌, ℤ, pos, ◌*ℤ◌, true, false, List, Contains}
+-- What a form with a new list leaves of two columns, if these are multiples of one list, and what it surely tells.
+use Rattle.std.specs.Prelude.{◌≡◌, ◌≢◌, ◌⊎◌, ℕ, ◌<◌, ℤ, pos, ◌*ℤ◌, true, false, List, Contains}
 use Rattle.audit_types.specs.Form.{set_row}
 use Rattle.audit_types.specs.Rows.{has_row}
+use Rattle.sum_basis.specs.Asking.{TellsAsker}
 use Rattle.sum_basis.specs.Basis.{Echelon, unit_row}
+use Rattle.sum_basis.specs.Growth.{GrowsTo}
+use Rattle.sum_basis.specs.Keys.{TellSurelyNone}
 use Rattle.sum_basis.specs.Points.{IsResidue}
 use Rattle.sum_basis.specs.Reach.{without_new}
 use Rattle.sum_basis.specs.Sparse.{entry_at}
 use Rattle.sum_basis.specs.Ties.{MayTell}
+use Rattle.sum_basis.specs.declared.points.Point.{Point}
 use Rattle.sum_basis.specs.declared.sparse.FreeEntry.{FreeEntry}
+use Rattle.sum_basis.specs.declared.told.Told.{Told}
+use Rattle.sum_basis.specs.declared.told.Told.TheVariants as told
 
 -- the numbers are the others times a number other than 0
 pub record IsMultipleOf (numbers others : ℕ → ℤ) : Type 0 where
@@ -59,3 +65,15 @@ pub record IsSetAlike (form : Echelon) (new : List FreeEntry) (several set : Lis
 -- so it is with one of these sets
 abbrev pub SpansSurely : Echelon → List FreeEntry → List ℕ → List (List ℕ) → Type 0
 SpansSurely form new several sets = (set : List ℕ) × Contains sets set × IsSetAlike form new several set
+
+-- what is surely told of the form with the new list
+abbrev pub IsSurelyTold : Echelon → List Point → List FreeEntry → List ℕ → List ℕ → List (List ℕ) → Told → Type 0
+IsSurelyTold form weights new beside several sets told.Nothing = TellSurelyNone form weights new beside several sets
+IsSurelyTold form weights new beside several sets told.Something = TiesSurely form new beside several ⊎ SpansSurely form new several sets
+IsSurelyTold form weights new beside several sets told.Unsure = Unit {0}
+
+-- and of the grown form itself
+abbrev pub TellsGrown : Echelon → List ℤ → List ℕ → List ℕ → List (List ℕ) → Told → Type 0
+TellsGrown old row beside several sets told.Nothing = (new : Echelon) → GrowsTo old row new → ¬ (TellsAsker new beside several sets)
+TellsGrown old row beside several sets told.Something = (new : Echelon) → GrowsTo old row new → TellsAsker new beside several sets
+TellsGrown old row beside several sets told.Unsure = Unit {0}

@@ -4,11 +4,11 @@ use Rattle.std.specs.declared.alloc.Global.{Global}
 use Rattle.audit_types.specs.Form.{set_row, InSpan}
 use Rattle.sum_basis.specs.Basis.{Echelon}
 use Rattle.sum_basis.specs.Growth.{IsLeft}
-use Rattle.sum_basis.specs.Keys.{AreRowPoints}
+use Rattle.sum_basis.specs.Keys.{AreColumnKeys}
 use Rattle.sum_basis.specs.Reach.{AreCounts}
 use Rattle.sum_basis.specs.declared.basis.Held.{Held}
+use Rattle.sum_basis.specs.declared.column_keys.ColumnKeys.{ColumnKeys}
 use Rattle.sum_basis.specs.declared.keeping.KeptSet.{KeptSet}
-use Rattle.sum_basis.specs.declared.row_points.RowPoints.{RowPoints}
 use Rattle.sum_basis.specs.declared.sparse.FreeEntry.{FreeEntry}
 use Rattle.sum_basis.specs.declared.form.Left.TheVariants.{Entries}
 use Rattle.sum_basis.specs.Sparse.{entry_at}
@@ -34,6 +34,6 @@ AreKeptCounts form counts = IfSome counts (λ c. AreCounts form.n form.rows c.it
 abbrev pub IsKeptWithout : ℕ → KeptSet → Type 0
 IsKeptWithout place kept = IfSome kept.list (λ list. entry_at list.items place ≡ pos 0)
 
--- kept points are those of the form's rows
-abbrev pub AreKeptPoints : Echelon → Option RowPoints → Type 0
-AreKeptPoints form points = IfSome points (AreRowPoints form)
+-- kept keys are those of the form's columns
+abbrev pub AreKeptKeys : Echelon → Option ColumnKeys → Type 0
+AreKeptKeys form keys = IfSome keys (AreColumnKeys form)

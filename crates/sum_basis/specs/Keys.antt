@@ -1,13 +1,18 @@
 -- What is kept of points, and how keys are found to be apart.
-use Rattle.std.specs.Prelude.{◌≡◌, ℕ, zero, suc, ◌<◌, ◌*◌, ◌/◌, ◌%◌, ℤ, true, bit_xor, List, [], ◌∷◌, ◌≢◌, Option, None, Some, length, slice_index_or}
+use Rattle.std.specs.Prelude.{◌≡◌, ◌≢◌, ◌⊎◌, ℕ, zero, suc, ◌<◌, ◌*◌, ◌/◌, ◌%◌, ℤ, pos, true, false, bit_xor, List, [], ◌∷◌, Contains, Option, None, Some, length, slice_index_or}
 use Rattle.std.specs.List.{AllByRecursion}
 use Rattle.audit_types.specs.Words.{has_bit}
 use Rattle.sum_basis.specs.declared.seen.Seen.{Seen}
-use Rattle.sum_basis.specs.declared.row_points.RowPoints.{RowPoints}
-use Rattle.sum_basis.specs.Basis.{Echelon, IsFreeList}
-use Rattle.sum_basis.specs.Points.{modulus, IsLeftModulo, IsPointAfter, IsResidue, HasKey, AreKeysApart, AreSetsApart}
+use Rattle.sum_basis.specs.declared.column_keys.ColumnKeys.{ColumnKeys}
+use Rattle.sum_basis.specs.declared.column_keys.SomePoints.{SomePoints}
+use Rattle.audit_types.specs.Rows.{has_row}
+use Rattle.sum_basis.specs.Basis.{Echelon, IsFreeList, unit_row}
+use Rattle.audit_types.specs.Truth.{number_at}
+use Rattle.sum_basis.specs.Reach.{times_of}
+use Rattle.sum_basis.specs.Sparse.{entry_at}
+use Rattle.sum_basis.specs.Points.{modulus, IsLeftModulo, IsPointAfter, IsKey, IsResidue, HasKey, Matters, AreKeysApart, AreSetsApart}
 use Rattle.sum_basis.specs.Ties.{MayTell}
-use Rattle.audit_types.specs.Form.{set_row}
+use Rattle.audit_types.specs.Form.{set_row, pivot}
 use Rattle.sum_basis.specs.declared.points.Point.{Point}
 use Rattle.sum_basis.specs.declared.points.NewPoint.{NewPoint}
 use Rattle.sum_basis.specs.declared.sparse.FreeEntry.{FreeEntry}
@@ -41,18 +46,83 @@ pub record AreWeights (n : ℕ) (weights : List Point) : Type 0 where
   pub one_each : length weights ≡ n
   pub below : AllByRecursion (λ (p : Point). (p.first < modulus) × (p.second < modulus)) weights
 
--- the point of a row of the form: that of its free list
-pub record IsRowPoint (form : Echelon) (weights : List Point) (row : List ℤ) (point : Point) : Type 0 where
+-- the point at a place
+abbrev pub point_at : List Point → ℕ → Point
+point_at points k = slice_index_or points k (record { first = 0; second = 0 })
+
+-- the one entry of a column's unit row
+abbrev pub own_entry : ℕ → List FreeEntry
+own_entry q = record { place = q; value = pos 1 } ∷ []
+
+-- what the form leaves of the unit row of a column: of a pivot its row's free list, of another column its own entry
+abbrev pub IsListOfColumn : Echelon → ℕ → List FreeEntry → Type 0
+IsListOfColumn form q entries =
+    ((k : ℕ) × (k < length form.rows) × (pivot (slice_index_or form.rows k []) ≡ q) × IsFreeList form.n form.rows (slice_index_or form.rows k []) entries) ⊎
+    (AllByRecursion (λ row. pivot row ≢ q) form.rows × (entries ≡ own_entry q))
+
+-- its point
+pub record IsColumnPoint (form : Echelon) (weights : List Point) (q : ℕ) (point : Point) : Type 0 where
   pub entries : List FreeEntry
-  pub free : IsFreeList form.n form.rows row entries
+  pub left : IsListOfColumn form q entries
   pub is : IsPointAfter weights [] entries point
 
--- kept points are those of the form's rows, in order
-pub record AreRowPoints (form : Echelon) (points : RowPoints) : Type 0 where
-  pub weights : AreWeights form.n points.weights.items
-  pub room : length points.rows.items ≡ form.n
-  pub each : (k : ℕ) → k < length form.rows →
-      IsRowPoint form points.weights.items (slice_index_or form.rows k []) (slice_index_or points.rows.items k (record { first = 0; second = 0 }))
+-- the point and the key that are kept of a column are its own
+pub record IsKnown (form : Echelon) (kept : ColumnKeys) (q : ℕ) : Type 0 where
+  pub point : IsColumnPoint form kept.weights.items q (point_at kept.points.items q)
+  pub key : IsKey (point_at kept.points.items q) (slice_index_or kept.keys.items q 0)
+
+-- so it is with each column that isn't unknown, and the points of those that are no pivots are kept
+pub record AreColumnKeys (form : Echelon) (kept : ColumnKeys) : Type 0 where
+  pub weights : AreWeights form.n kept.weights.items
+  pub points_each : length kept.points.items ≡ form.n
+  pub keys_each : length kept.keys.items ≡ form.n
+  pub columns : kept.unknown.n ≡ form.n
+  pub own : (q : ℕ) → q < form.n → AllByRecursion (λ row. pivot row ≢ q) form.rows →
+      IsPointAfter kept.weights.items [] (own_entry q) (point_at kept.points.items q)
+  pub known : (q : ℕ) → q < form.n → has_row kept.unknown.list q ≡ false → IsKnown form kept q
+
+-- the points of all columns are kept
+abbrev pub AreColumnPoints : Echelon → ColumnKeys → Type 0
+AreColumnPoints form kept = (q : ℕ) → q < form.n → IsColumnPoint form kept.weights.items q (point_at kept.points.items q)
+
+-- the form leaves nothing of the column at the first place of the new list
+abbrev pub IsUntouched : Echelon → List FreeEntry → ℕ → Type 0
+IsUntouched form new q = (entries : List FreeEntry) → IsListOfColumn form q entries → times_of new (entry_at entries) ≡ pos 0
+
+-- so it is with each column that isn't unknown
+abbrev pub AreUntouched : Echelon → List FreeEntry → ColumnKeys → Type 0
+AreUntouched form new kept = (q : ℕ) → q < form.n → has_row kept.unknown.list q ≡ false → IsUntouched form new q
+
+-- the key is that of a point of the column
+abbrev pub IsKeyAmong : SomePoints → ℕ → ℕ → Type 0
+IsKeyAmong some q key = (k : ℕ) × (k < length some.columns.items) × (slice_index_or some.columns.items k 0 ≡ q) × IsKey (point_at some.points.items k) key
+
+-- a row has 0 at the first place of the new list
+abbrev pub IsZeroAtFirst : List FreeEntry → List ℤ → Type 0
+IsZeroAtFirst new row = times_of new (number_at row) ≡ pos 0
+
+-- the column is known, or its point may have a key
+abbrev pub MayHaveKey : ColumnKeys → ℕ → Type 0
+MayHaveKey kept q = (has_row kept.unknown.list q ≡ false) ⊎ ((point_at kept.points.items q).second ≢ 0)
+
+-- of the columns up to one those that are unknown and whose points may have a key, with these points
+pub record AreUnknownPoints (kept : ColumnKeys) (upto : ℕ) (columns : List ℕ) (points : List Point) : Type 0 where
+  pub each : length columns ≡ length points
+  pub below : AllByRecursion (λ q. q < kept.unknown.n) columns
+  pub are : (k : ℕ) → k < length columns →
+      (has_row kept.unknown.list (slice_index_or columns k 0) ≡ true) × (point_at points k ≡ point_at kept.points.items (slice_index_or columns k 0))
+  pub all : (q : ℕ) → q < upto → has_row kept.unknown.list q ≡ true → (point_at kept.points.items q).second ≢ 0 → Contains columns q
+
+-- of the first rows the pivots that matter of which the form leaves something at the first place of the new list, and the column of that place
+-- itself, with their points once the form has the list
+pub record AreTouchedPoints (form : Echelon) (weights : List Point) (new : List FreeEntry) (beside several : List ℕ) (upto : ℕ) (columns : List ℕ)
+    (points : List Point) : Type 0 where
+  pub each : length columns ≡ length points
+  pub below : AllByRecursion (λ q. q < form.n) columns
+  pub are : (k : ℕ) → k < length columns → HasPoint form weights new (unit_row form.n (slice_index_or columns k 0)) (point_at points k)
+  pub own : (q : ℕ) → Matters beside several q → times_of new (entry_at (own_entry q)) ≢ pos 0 → Contains columns q
+  pub rows : (k : ℕ) → k < upto → Matters beside several (pivot (slice_index_or form.rows k [])) →
+      ¬ (IsZeroAtFirst new (slice_index_or form.rows k [])) → Contains columns (pivot (slice_index_or form.rows k []))
 
 -- columns of which the one may tell the other have different keys
 abbrev pub AreColumnsApart : ℕ → List ℕ → List ℕ → List ℕ → Type 0

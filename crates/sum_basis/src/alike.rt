@@ -4,24 +4,18 @@ ghost use Rattle.std.specs.List.{AllByRecursion};
 ghost use Rattle.audit_types.specs.Form.{pivot};
 ghost use Rattle.audit_types.specs.Limits.{most_rows};
 ghost use Rattle.sum_basis.specs.Basis.{unit_row};
-ghost use Rattle.sum_basis.specs.Keys.{AreRowPoints};
 ghost use Rattle.sum_basis.specs.Alike.{IsMultipleOf, AreAlikeAfter, AreColumnsAlike, TiesSurely};
 ghost use Rattle.sum_basis.specs.Points.{IsResidue};
 ghost use Rattle.sum_basis.specs.Reach.{AreSmallEntries, IsLeftOverOrNone, times_of, without_new};
 ghost use Rattle.sum_basis.specs.Sparse.{entry_at, IsListed};
 ghost use Rattle.sum_basis.specs.Ties.{MayTell};
 
-use crate::counting::times_at;
+use crate::counting::{is_zero, times_at};
 use crate::form::Form;
 use crate::keeping::same_list;
 use crate::merging::combine_into;
-use crate::points::new_point;
 use crate::primitive_list::make_primitive;
-use crate::row_points::RowPoints;
-use crate::seen::Seen;
 use crate::sparse::{FreeEntry, copy_list};
-use crate::telling::write_keys;
-use crate::ties::may_tell;
 use audit_types::{NoMemory, RowSet};
 use std::alloc::Global;
 
@@ -46,13 +40,6 @@ fn cleared_after(
     let by = new[0].value;
     combine_into(&mut list, columns, &by, entries, &times, new);
     Ok(list)
-}
-
-fn is_zero(x: i128) -> bool
-    ensures some { ¬ (IsTrue result) → x ≢ pos 0 }
-    ensures none { IsTrue result → x ≡ pos 0 }
-{
-    x == 0
 }
 
 // A list of which a multiple is what is left of entries once the form has the new list.

@@ -10,6 +10,7 @@ use crate::Prospect;
 use crate::basis::Basis;
 use crate::beside::spans_with_one;
 use crate::laws::ties_but;
+use crate::told::Told;
 use audit_types::{Askers, CountedRows, NoMemory, RowSet};
 
 impl Basis {
@@ -77,11 +78,10 @@ impl Basis {
         };
         let beside = people.beside();
         let several = people.several();
-        if self.tells_surely_none(rows, beside, several, apart) {
-            return Ok(Prospect::Open);
-        }
-        if self.tells_surely(rows, beside, several, apart)? {
-            return Ok(Prospect::Fixing);
+        match self.surely_told(rows, beside, several, apart)? {
+            Told::Nothing => return Ok(Prospect::Open),
+            Told::Something => return Ok(Prospect::Fixing),
+            Told::Unsure => {}
         }
         // What every form is: its rows are a form, and narrow.
         let _ = self.form().columns();
@@ -114,12 +114,12 @@ impl Basis {
         }
     }
 
-    // Keeps the points of the form's rows if nothing is told of it yet, so that keys are asked first.
-    fn keep_points_if_open(&mut self, told: Prospect) -> Result<(), NoMemory>
+    // Keeps the keys of the form's columns if nothing is told of it yet, so that they are asked first.
+    fn keep_keys_if_open(&mut self, told: Prospect) -> Result<(), NoMemory>
         ensures { self.new ≡ self.old }
     {
         match told {
-            Prospect::Open => self.keep_points(),
+            Prospect::Open => self.keep_keys(),
             _ => Ok(()),
         }
     }
@@ -141,7 +141,7 @@ impl Basis {
         match people.askers() {
             Askers::Outside => Ok(told),
             Askers::Inside => {
-                self.keep_points_if_open(told)?;
+                self.keep_keys_if_open(told)?;
                 self.told_inside(told, rows, people, apart)
             }
         }

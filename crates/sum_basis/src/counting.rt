@@ -49,7 +49,7 @@ pub(crate) fn times_at(entries: &[FreeEntry], new: &[FreeEntry]) -> i128
     value_at(entries, new[0].place)
 }
 
-fn is_zero(x: i128) -> bool
+pub(crate) fn is_zero(x: i128) -> bool
     ensures { IsTrue result ↔ (x ≡ pos 0) }
 {
     x == 0

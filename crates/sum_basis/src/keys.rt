@@ -24,6 +24,13 @@ pub(crate) fn inverse_of(number: u32) -> Option<u32>
     }
 }
 
+/// Whether a number has an inverse.
+pub(crate) fn has_inverse(number: u32) -> bool
+    ensures { IsTrue result → (inverse : ℕ) × IsLeftModulo (pos (number * inverse)) 1 }
+{
+    number == 1 || inverse_of(number).is_some()
+}
+
 // Writes the product of the second sums before each point, and answers that of all.
 fn multiply_seconds(points: &[Point], products: &mut [u32]) -> u32
     requires { length products.old ≡ length points.now }

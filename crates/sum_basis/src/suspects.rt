@@ -8,18 +8,17 @@ ghost use Rattle.audit_types.specs.Limits.{most_rows};
 ghost use Rattle.audit_types.specs.Rows.{has_row};
 ghost use Rattle.sum_basis.specs.Alike.{AreColumnsAlike, IsSetAlike, TiesSurely, SpansSurely};
 ghost use Rattle.sum_basis.specs.Holding.{IsKeptOf};
-ghost use Rattle.sum_basis.specs.Keys.{AreRowPoints, IsNewPoint};
+ghost use Rattle.sum_basis.specs.Keys.{IsNewPoint};
 ghost use Rattle.sum_basis.specs.Reach.{IsLeftOverOrNone};
 ghost use Rattle.sum_basis.specs.Ties.{MayTell};
 
 use crate::alike::{are_alike, list_of_column};
 use crate::form::Form;
 use crate::keeping::KeptSet;
-use crate::points::{NewPoint, Point, new_point};
-use crate::row_points::RowPoints;
+use crate::points::{NewPoint, Point};
 use crate::seen::Seen;
 use crate::sparse::FreeEntry;
-use crate::telling::{key_of, write_keys};
+use crate::telling::key_of;
 use crate::ties::may_tell;
 use audit_types::{NoMemory, RowSet};
 use std::alloc::Global;
@@ -220,33 +219,31 @@ fn are_two_columns_alike(
     are_columns_alike(form, alloc, list, p, q)
 }
 
-/// Whether it is sure that the form with the list tells somebody who knows the number of a row that isn't in the second set that of another one
-/// that isn't in the first, or the total of one of the sets.
+/// Whether it is sure, by rows with one key, that the form with the list tells somebody who knows the number of a row that isn't in the second
+/// set that of another one that isn't in the first, or the total of one of the sets.
 pub(crate) fn tells_surely(
     form: &Form,
     alloc: Global,
-    kept: &RowPoints,
+    weights: &[Point],
     list: &[FreeEntry],
+    new: &Option<NewPoint>,
     beside: &RowSet,
     several: &RowSet,
+    keys: &[u32],
     sets: &[KeptSet],
 ) -> Result<bool, NoMemory>
     requires at_most { form.now.n ≤ most_rows }
-    requires kept { AreRowPoints form.now kept.now }
+    requires weights { length weights.now ≡ form.now.n }
     requires list { IsLeftOverOrNone form.now list.now }
+    requires new { IsNewPoint weights.now list.now new.now }
     requires beside { beside.now.n ≡ form.now.n }
     requires several { several.now.n ≡ form.now.n }
+    requires keys { length keys.now ≡ form.now.n }
     requires sets { AllByRecursion (IsKeptOf form.now) sets.now }
     ensures { IfOk result (λ tells. IsTrue tells → TiesSurely form.now list.now beside.now.list several.now.list ⊎ SpansSurely form.now list.now several.now.list (map (λ s. s.rows.list) sets.now)) }
 {
-    let new = new_point(&kept.weights, list);
-    let mut room = [0; 1024];
-    let keys = &mut room[..form.columns() as usize];
-    if !write_keys(form, kept, list, &new, beside, several, keys) {
-        return Ok(false);
-    }
     if are_two_columns_alike(form, alloc, list, beside, several, keys)? {
         return Ok(true);
     }
-    is_one_set_alike(form, alloc, &kept.weights, list, &new, several, keys, sets)
+    is_one_set_alike(form, alloc, weights, list, new, several, keys, sets)
 }

@@ -1,8 +1,9 @@
 //! Whether it is sure, by keys alone, that a form with a new list tells no asker anything.
 //!
 //! A column whose number can neither be told to an asker nor be an asker's own is left out. Of each other one there is a key, and a bit
-//! pattern that no other's has: so the columns are tied by nothing. Where that isn't so, it may still be that they are tied by nothing.
-ghost use Rattle.std.specs.Prelude.{◌≡◌, ◌≢◌, ℕ, ◌<◌, ◌≤◌, ◌^◌, false, true, pos, List, [], ◌∷◌, length, map, All, IsTrue, IfSome, slice_index_or, unsigned_abs};
+//! pattern that no other's has: so the columns are tied by nothing. Where that isn't so, it may still be that they are tied by nothing. The
+//! keys are those that are kept, but for the columns of which the form leaves something where the list begins.
+ghost use Rattle.std.specs.Prelude.{◌≡◌, ◌≢◌, ◌↔◌, ℕ, ◌+◌, ◌<◌, ◌≤◌, false, true, List, [], length, map, All, IfOk, OnOk, IfSome, IsTrue, slice_index_or};
 ghost use Rattle.std.specs.List.{AllByRecursion};
 ghost use Rattle.audit_types.specs.Rows.{has_row};
 ghost use Rattle.audit_types.specs.Limits.{most_rows};
@@ -11,90 +12,135 @@ ghost use Rattle.sum_basis.specs.Holding.{IsKeptOf};
 ghost use Rattle.sum_basis.specs.Points.{IsPointAfter, IsKey, HasKey, Matters};
 ghost use Rattle.sum_basis.specs.Reach.{AreSmallEntries, IsLeftOverOrNone, times_of};
 ghost use Rattle.sum_basis.specs.Sparse.{entry_at};
-ghost use Rattle.sum_basis.specs.Keys.{IsNewPoint, HasPoint, IsSeen, AreWeights, AreRowPoints, AreColumnsApart, HasUnseenKey, TellSurelyNone};
+ghost use Rattle.sum_basis.specs.Keys.{IsNewPoint, IsSeen, AreColumnKeys, AreColumnsApart, AreTouchedPoints, HasUnseenKey, TellSurelyNone};
+ghost use Rattle.sum_basis.specs.Growth.{IsLeftOver};
 
-use crate::counting::times_at;
+use crate::column_keys::{ColumnKeys, SomePoints, write_keys_of};
+use crate::counting::{is_zero, times_at};
 use crate::form::Form;
 use crate::keeping::KeptSet;
-use crate::keys::{inverse_of, keys_of};
-use crate::points::{NewPoint, Point, new_point, point_after, point_of, times};
-use crate::row_points::RowPoints;
+use crate::keys::{has_inverse, inverse_of};
+use crate::points::{NewPoint, Point, point_after, point_of, times};
 use crate::seen::Seen;
 use crate::sparse::FreeEntry;
-use audit_types::RowSet;
+use audit_types::{NoMemory, RowSet};
+use std::alloc::Global;
 
-// What a free column's unit row has at the first place of the new list, 0 if there is none.
-fn unit_at(new: &Option<NewPoint>, column: u16) -> i128
-    ensures small { unsigned_abs result ≤ 2 ^ 56 }
-    ensures is { (weights : List Point) (list : List FreeEntry) → IsNewPoint weights list new.now → result ≡ times_of list (entry_at (record { place = column; value = pos 1 } ∷ [])) }
+// Whether the number at the column can be told to an asker, or be her own.
+fn matters(beside: &RowSet, several: &RowSet, column: u16) -> bool
+    requires beside { column < beside.now.n }
+    requires several { column < several.now.n }
+    ensures { IsTrue result ↔ Matters beside.now.list several.now.list column }
 {
-    match new {
-        Some(new) if new.place == column => 1,
-        _ => 0,
-    }
+    !beside.has(column) || !several.has(column)
 }
 
-// Writes the points of the unit rows of free columns. At the pivots they are of nothing.
-fn write_unit_points(weights: &[Point], new: &Option<NewPoint>, points: &mut [Point])
-    requires weights { AreWeights (length points.old) weights.now }
-    requires few { length points.old ≤ most_rows }
-    ensures { (list : List FreeEntry) → IsNewPoint weights.now list new.now → (q : ℕ) → q < length points.new → IsPointAfter weights.now list (record { place = q; value = pos 1 } ∷ []) (slice_index_or points.new q (record { first = 0; second = 0 })) }
+// Whether no column that matters is unknown.
+fn are_all_known(unknown: &RowSet, beside: &RowSet, several: &RowSet) -> bool
+    requires beside { beside.now.n ≡ unknown.now.n }
+    requires several { several.now.n ≡ unknown.now.n }
+    ensures { IsTrue result → (q : ℕ) → q < unknown.now.n → Matters beside.now.list several.now.list q → has_row unknown.now.list q ≡ false }
 {
-    for q in 0..points.len() {
-        let value = unit_at(new, q as u16);
-        points[q] = point_after(new, weights[q], value);
+    if unknown.is_empty() {
+        return true;
     }
+    for column in 0..unknown.n() {
+        if unknown.has(column) && matters(beside, several, column) {
+            return false;
+        }
+    }
+    true
 }
 
-// Writes the points of the unit rows of pivots, by those of the form's rows, over others.
-fn write_row_points(
+// Adds a pivot that matters, of which the form leaves something at the first place of the new list, with its point once the form has the list.
+fn push_if_touched(
     form: &Form,
-    kept: &RowPoints,
+    k: u16,
+    kept: &ColumnKeys,
     list: &[FreeEntry],
     new: &Option<NewPoint>,
-    points: &mut [Point],
-)
-    requires length { length points.old ≡ form.now.n }
-    requires kept { AreRowPoints form.now kept.now }
-    requires list { IsLeftOverOrNone form.now list.now }
+    beside: &RowSet,
+    several: &RowSet,
+    some: &mut SomePoints,
+) -> Result<(), NoMemory>
+    requires k { k < length form.now.rows }
+    requires at_most { form.now.n ≤ most_rows }
+    requires kept { AreColumnKeys form.now kept.now }
+    requires list { IsLeftOver form.now list.now }
     requires new { IsNewPoint kept.now.weights.items list.now new.now }
-    requires units { (q : ℕ) → q < form.now.n → IsPointAfter kept.now.weights.items list.now (record { place = q; value = pos 1 } ∷ []) (slice_index_or points.old q (record { first = 0; second = 0 })) }
-    ensures { (q : ℕ) → q < form.now.n → HasPoint form.now kept.now.weights.items list.now (unit_row form.now.n q) (slice_index_or points.new q (record { first = 0; second = 0 })) }
+    requires beside { beside.now.n ≡ form.now.n }
+    requires several { several.now.n ≡ form.now.n }
+    requires known { (q : ℕ) → q < form.now.n → Matters beside.now.list several.now.list q → has_row kept.now.unknown.list q ≡ false }
+    requires some { AreTouchedPoints form.now kept.now.weights.items list.now beside.now.list several.now.list k some.old.columns.items some.old.points.items }
+    ensures { OnOk result (AreTouchedPoints form.now kept.now.weights.items list.now beside.now.list several.now.list (k + 1) some.new.columns.items some.new.points.items) }
 {
     // What every form is: its rows are a form.
     let _ = form.columns();
+    let pivot = form.pivot(k);
+    let value = times_at(form.free(k), list);
+    if is_zero(value) {
+        return Ok(());
+    }
+    if !matters(beside, several, pivot) {
+        return Ok(());
+    }
+    some.push(pivot, point_after(new, kept.points[pivot as usize], value))
+}
+
+// Adds the column of the first place of the new list, if it matters, with its point once the form has the list.
+fn push_first(
+    form: &Form,
+    kept: &ColumnKeys,
+    list: &[FreeEntry],
+    new: &Option<NewPoint>,
+    beside: &RowSet,
+    several: &RowSet,
+    some: &mut SomePoints,
+) -> Result<(), NoMemory>
+    requires at_most { form.now.n ≤ most_rows }
+    requires kept { AreColumnKeys form.now kept.now }
+    requires list { IsLeftOver form.now list.now }
+    requires new { IsNewPoint kept.now.weights.items list.now new.now }
+    requires beside { beside.now.n ≡ form.now.n }
+    requires several { several.now.n ≡ form.now.n }
+    requires columns { some.old.columns.items ≡ [] }
+    requires points { some.old.points.items ≡ [] }
+    ensures { OnOk result (AreTouchedPoints form.now kept.now.weights.items list.now beside.now.list several.now.list 0 some.new.columns.items some.new.points.items) }
+{
+    // What every form is: its rows are a form.
+    let _ = form.columns();
+    let place = list[0].place;
+    if !matters(beside, several, place) {
+        return Ok(());
+    }
+    some.push(place, point_after(new, kept.weights[place as usize], 1))
+}
+
+// The columns that matter of which the form leaves something at the first place of the new list, with their points once the form has the list.
+fn touched_points(
+    form: &Form,
+    alloc: Global,
+    kept: &ColumnKeys,
+    list: &[FreeEntry],
+    new: &Option<NewPoint>,
+    beside: &RowSet,
+    several: &RowSet,
+) -> Result<SomePoints, NoMemory>
+    requires at_most { form.now.n ≤ most_rows }
+    requires kept { AreColumnKeys form.now kept.now }
+    requires list { IsLeftOver form.now list.now }
+    requires new { IsNewPoint kept.now.weights.items list.now new.now }
+    requires beside { beside.now.n ≡ form.now.n }
+    requires several { several.now.n ≡ form.now.n }
+    requires known { (q : ℕ) → q < form.now.n → Matters beside.now.list several.now.list q → has_row kept.now.unknown.list q ≡ false }
+    ensures { IfOk result (λ some. AreTouchedPoints form.now kept.now.weights.items list.now beside.now.list several.now.list (length form.now.rows) some.columns.items some.points.items) }
+{
+    let mut some = SomePoints::new(alloc);
+    push_first(form, kept, list, new, beside, several, &mut some)?;
     for k in 0..form.rank() {
-        let value = times_at(form.free(k), list);
-        points[form.pivot(k) as usize] = point_after(new, kept.rows[k as usize], value);
+        push_if_touched(form, k, kept, list, new, beside, several, &mut some)?;
     }
-}
-
-// The point of a column. If it is in both sets, it is left out: its point becomes one that has a key.
-fn point_kept(beside: &RowSet, several: &RowSet, column: u16, point: Point) -> Point
-    requires beside { column < beside.now.n }
-    requires several { column < several.now.n }
-    ensures { Matters beside.now.list several.now.list column → result ≡ point }
-{
-    if beside.has(column) && several.has(column) {
-        Point {
-            first: 0,
-            second: 1,
-        }
-    } else {
-        point
-    }
-}
-
-// Leaves out the columns that are in both sets.
-fn leave_out(beside: &RowSet, several: &RowSet, points: &mut [Point])
-    requires beside { beside.now.n ≡ length points.old }
-    requires several { several.now.n ≡ length points.old }
-    ensures { (q : ℕ) → q < length points.new → Matters beside.now.list several.now.list q → slice_index_or points.new q (record { first = 0; second = 0 }) ≡ slice_index_or points.old q (record { first = 0; second = 0 }) }
-{
-    for q in 0..beside.n() {
-        let point = points[q as usize];
-        points[q as usize] = point_kept(beside, several, q, point);
-    }
+    Ok(some)
 }
 
 // Whether the key of a column that isn't in the set was surely not seen. It is seen then. Of a column in the set nothing is asked.
@@ -226,62 +272,65 @@ fn are_sets_unseen(
     true
 }
 
-/// Writes the keys of the columns that aren't in both sets, if all have one. At the others are numbers that say nothing.
+/// Writes the keys of the columns that aren't in both sets, if all are known. At the others are numbers that say nothing.
 pub(crate) fn write_keys(
     form: &Form,
-    kept: &RowPoints,
+    alloc: Global,
+    kept: &ColumnKeys,
     list: &[FreeEntry],
     new: &Option<NewPoint>,
     beside: &RowSet,
     several: &RowSet,
     keys: &mut [u32],
-) -> bool
+) -> Result<bool, NoMemory>
     requires at_most { form.now.n ≤ most_rows }
-    requires kept { AreRowPoints form.now kept.now }
+    requires kept { AreColumnKeys form.now kept.now }
     requires list { IsLeftOverOrNone form.now list.now }
     requires new { IsNewPoint kept.now.weights.items list.now new.now }
     requires beside { beside.now.n ≡ form.now.n }
     requires several { several.now.n ≡ form.now.n }
     requires keys { length keys.old ≡ form.now.n }
-    ensures { IsTrue result → (j : ℕ) → j < form.now.n → Matters beside.now.list several.now.list j → HasKey form.now kept.now.weights.items list.now (unit_row form.now.n j) (slice_index_or keys.new j 0) }
+    ensures { IfOk result (λ written. IsTrue written → (j : ℕ) → j < form.now.n → Matters beside.now.list several.now.list j → HasKey form.now kept.now.weights.items list.now (unit_row form.now.n j) (slice_index_or keys.new j 0)) }
 {
-    let nowhere = Point {
-        first: 0,
-        second: 0,
+    // What every form is: its rows are a form.
+    let _ = form.columns();
+    if !are_all_known(&kept.unknown, beside, several) {
+        return Ok(false);
+    }
+    keys.copy_from_slice(&kept.keys);
+    let Some(first) = new else {
+        return Ok(true);
     };
-    let mut room = [nowhere; 1024];
-    let points = &mut room[..form.columns() as usize];
-    write_unit_points(&kept.weights, new, points);
-    write_row_points(form, kept, list, new, points);
-    leave_out(beside, several, points);
-    keys_of(points, keys)
+    if !has_inverse(first.value) {
+        return Ok(false);
+    }
+    let touched = touched_points(form, alloc, kept, list, new, beside, several)?;
+    write_keys_of(&touched, keys, alloc)
 }
 
-/// Whether it is sure that the form with the list tells nobody who knows the number of a row that isn't in the second set that of another one
-/// that isn't in the first, or the total of one of the sets.
+/// Whether the keys show for sure that the form with the list tells nobody who knows the number of a row that isn't in the second set that of
+/// another one that isn't in the first, or the total of one of the sets.
 pub(crate) fn tells_surely_none(
     form: &Form,
-    kept: &RowPoints,
+    weights: &[Point],
     list: &[FreeEntry],
+    new: &Option<NewPoint>,
     beside: &RowSet,
     several: &RowSet,
+    keys: &[u32],
     sets: &[KeptSet],
 ) -> bool
     requires at_most { form.now.n ≤ most_rows }
-    requires kept { AreRowPoints form.now kept.now }
-    requires list { IsLeftOverOrNone form.now list.now }
+    requires weights { length weights.now ≡ form.now.n }
+    requires new { IsNewPoint weights.now list.now new.now }
     requires beside { beside.now.n ≡ form.now.n }
     requires several { several.now.n ≡ form.now.n }
+    requires keys { length keys.now ≡ form.now.n }
+    requires each { (j : ℕ) → j < form.now.n → Matters beside.now.list several.now.list j → HasKey form.now weights.now list.now (unit_row form.now.n j) (slice_index_or keys.now j 0) }
     requires sets { AllByRecursion (IsKeptOf form.now) sets.now }
-    ensures { IsTrue result → TellSurelyNone form.now kept.now.weights.items list.now beside.now.list several.now.list (map (λ s. s.rows.list) sets.now) }
+    ensures { IsTrue result → TellSurelyNone form.now weights.now list.now beside.now.list several.now.list (map (λ s. s.rows.list) sets.now) }
 {
-    let new = new_point(&kept.weights, list);
-    let mut room = [0; 1024];
-    let keys = &mut room[..form.columns() as usize];
-    if !write_keys(form, kept, list, &new, beside, several, keys) {
-        return false;
-    }
     let mut seen = Seen::new();
     are_columns_apart(keys, beside, several, &mut seen)
-        && are_sets_unseen(form, &kept.weights, list, &new, sets, &seen)
+        && are_sets_unseen(form, weights, list, new, sets, &seen)
 }

@@ -28,7 +28,7 @@ returns-then-is_zero-clause-left c =
     IfOk-weaker c.copy_list.result (λ (l : Vec FreeEntry Global). l.items ≡ c.args.entries.now)
     (λ (l : Vec FreeEntry Global). IsMultipleOf (without_new c.args.new.now (entry_at c.args.entries.now)) (entry_at l.items))
     (λ l same. stays_after c.args.columns c.args.new.now c.args.entries.now l.items c.requires.new
-    (sym c.times_at-times.ensures ∙ sym (to_z-of_z w128 c.times_at-times.result fits) ∙ c.if-is_zero.ensures.none refl) same) c.copy_list.ensures.same
+    (sym c.times_at-times.ensures ∙ sym (to_z-of_z w128 c.times_at-times.result fits) ∙ c.if-is_zero.ensures.0 refl) same) c.copy_list.ensures.same
 
 pub returns-else-is_zero-clause-left : goal.returns-else-is_zero-clause-left
 returns-else-is_zero-clause-left c =

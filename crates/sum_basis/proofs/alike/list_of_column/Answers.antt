@@ -8,7 +8,7 @@ use Rattle.sum_basis.specs.Basis.{unit_row}
 use Rattle.sum_basis.specs.Points.{IsResidue}
 use Rattle.sum_basis.specs.Reach.{AreSmallEntries}
 use Rattle.sum_basis.specs.declared.sparse.FreeEntry.{FreeEntry}
-use Rattle.sum_basis.proofs.ColumnPoints.{own_entry}
+use Rattle.sum_basis.specs.Keys.{own_entry}
 use Rattle.sum_basis.proofs.Residues.{residue_of_pivot, residue_of_free}
 use Rattle.sum_basis.proofs.SmallEntries.{free_small}
 use Rattle.sum_basis.proofs.alike.list_of_column.Goals as goal

@@ -1,36 +1,55 @@
-use Rattle.std.proofs.Common.{◌≡◌, List, length, get_or, sym, ◌∙◌, subst, arith}
-use Rattle.std.proofs.lemmas.List.{length-take-le}
-use Rattle.sum_basis.specs.Points.{IsPointAfter}
-use Rattle.sum_basis.specs.Keys.{IsNewPoint}
+use Rattle.std.proofs.Common.{◌≡◌, ◌<◌, ℕ, List, [], length, get_or, refl, sym, ap, ◌∙◌, subst, inl, inr, arith}
+use Rattle.std.specs.Prelude.{Contains, IsTrue, None}
+use Rattle.std.specs.List.{AllByRecursion}
+use Rattle.std.proofs.lemmas.Result.{IfOk-weaker}
+use Rattle.sum_basis.specs.Basis.{unit_row}
+use Rattle.sum_basis.specs.Keys.{IsKeyAmong, IsNewPoint}
+use Rattle.sum_basis.specs.Points.{HasKey, Matters}
 use Rattle.sum_basis.specs.declared.points.Point.{Point}
-use Rattle.sum_basis.proofs.ColumnPoints.{own_entry}
-use Rattle.sum_basis.proofs.KeyProducts.{no_point}
+use Rattle.sum_basis.specs.declared.sparse.FreeEntry.{FreeEntry}
+use Rattle.sum_basis.proofs.ColumnLists.{in_or_not, known_key, new_is_left, none_is_new, not_among, touched_key, untouched_key}
 use Rattle.sum_basis.proofs.telling.write_keys.Goals as goal
 
-pub write_row_points-requires-clause-units : goal.write_row_points-requires-clause-units
-write_row_points-requires-clause-units c = λ q below.
-    let long : length c.write_unit_points.new.points ≡ c.args.form.now.n =
-    c.write_unit_points.auto.points ∙ length-take-le c.columns.result _ (omega (arith, c.columns.ensures.columns, c.requires.at_most))
-    ∙ c.columns.ensures.columns in
-    let list = c.args.list.now in
-    let known = subst (λ (w : List Point). IsNewPoint w list c.args.new.now) (sym c.deref.ensures.value) c.requires.new in
-    subst (λ (w : List Point). IsPointAfter w list (own_entry q) (get_or c.write_unit_points.new.points q no_point)) c.deref.ensures.value
-    (c.write_unit_points.ensures list known q (omega arith))
+pub returns-in_default : goal.returns-in_default
+returns-in_default c = λ yes j below matters.
+    let form = c.args.form.now in
+    let kept = c.args.kept.now in
+    let weights = kept.weights.items in
+    let none = none_is_new weights c.args.list.now (rw c.in_default.is at c.requires.new) in
+    let stays : get_or c.copy_from_slice.new.self j 0 ≡ get_or kept.keys.items j 0 =
+    ap (λ (l : List ℕ). get_or l j 0) (c.copy_from_slice.ensures.after ∙ c.deref.ensures.value) in
+    subst (λ (l : List FreeEntry). HasKey form weights l (unit_row form.n j) (get_or c.copy_from_slice.new.self j 0)) (sym none)
+    (subst (HasKey form weights [] (unit_row form.n j)) (sym stays)
+    (known_key form c.columns.ensures.form kept j below
+    (c.requires.kept.known j below (c.if-not-are_all_known.ensures refl j (omega (arith, below, c.requires.kept.columns)) matters))))
+
+pub write_keys_of-requires-clause-below : goal.write_keys_of-requires-clause-below
+write_keys_of-requires-clause-below c =
+    subst (λ (m : ℕ). AllByRecursion (λ q. q < m) c.in_ok-touched.touched.columns.items) (sym (c.copy_from_slice.auto.self ∙ c.requires.keys))
+    c.in_ok-touched.ensures.below
 
 pub returns : goal.returns
-returns c = λ yes j below matters.
+returns c =
     let form = c.args.form.now in
-    let long : length c.write_unit_points.new.points ≡ form.n =
-    c.write_unit_points.auto.points ∙ length-take-le c.columns.result _ (omega (arith, c.columns.ensures.columns, c.requires.at_most))
-    ∙ c.columns.ensures.columns in
-    let whole : length c.leave_out.new.points ≡ form.n = c.leave_out.auto.points ∙ c.write_row_points.auto.points ∙ long in
-    let has = c.write_row_points.ensures j below in
-    record {
-      entries = has.entries;
-      residue = has.residue;
-      point = get_or c.leave_out.new.points j no_point;
-      point_is =
-          subst (λ (p : Point). IsPointAfter c.args.kept.now.weights.items c.args.list.now has.entries p)
-          (sym (c.leave_out.ensures j (omega arith) matters)) has.is;
-      key_is = c.keys_of.ensures yes j (omega arith);
-    }
+    let kept = c.args.kept.now in
+    let weights = kept.weights.items in
+    let list = c.args.list.now in
+    let beside = c.args.beside.now.list in
+    let several = c.args.several.now.list in
+    let touched = c.in_ok-touched.touched in
+    let new = rw c.in-Some.is at c.requires.new in
+    let left = new_is_left form weights list c.in-Some.first c.requires.list new in
+    let keys = c.write_keys_of.new.keys in
+    IfOk-weaker c.write_keys_of.result
+    (λ written. IsTrue written → (q : ℕ) → Contains touched.columns.items q → IsKeyAmong touched q (get_or keys q 0))
+    (λ written. IsTrue written → (j : ℕ) → j < form.n → Matters beside several j → HasKey form weights list (unit_row form.n j) (get_or keys j 0))
+    (λ written h yes j below matters. elim (in_or_not touched.columns.items j) [
+      | inl found ↦ touched_key form weights list touched j (get_or keys j 0) c.in_ok-touched.ensures.are (h yes j found)
+      | inr none ↦
+          let stays : get_or keys j 0 ≡ get_or kept.keys.items j 0 = c.write_keys_of.ensures.others j none
+          ∙ ap (λ (l : List ℕ). get_or l j 0) (c.copy_from_slice.ensures.after ∙ c.deref.ensures.value) in
+          subst (HasKey form weights list (unit_row form.n j)) (sym stays)
+          (untouched_key form c.columns.ensures.form kept j below list c.in-Some.first new (c.if-not-has_inverse.ensures refl)
+          (c.requires.kept.known j below (c.if-not-are_all_known.ensures refl j (omega (arith, below, c.requires.kept.columns)) matters))
+          (not_among form weights list beside several touched.columns.items touched.points.items j left c.in_ok-touched.ensures matters none))
+    ]) c.write_keys_of.ensures.written

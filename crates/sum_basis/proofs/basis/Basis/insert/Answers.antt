@@ -58,7 +58,7 @@ invariant_of-self c = (
   rw c.take-held.ensures.after tt,
   c.join_held.ensures.kept,
   c.join_held.ensures.counts,
-  c.join_held.ensures.points,
+  c.join_held.ensures.keys,
 )
 
 pub returns-in-Some : goal.returns-in-Some

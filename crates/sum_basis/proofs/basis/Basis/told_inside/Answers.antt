@@ -11,8 +11,8 @@ use Rattle.sum_basis.specs.Growth.{ForeseesApart, Grows, GrowsTo}
 use Rattle.sum_basis.proofs.Askers.{told_fixing, told_open, told_silent, told_surely, grows_as_told}
 use Rattle.sum_basis.proofs.basis.Basis.told_inside.Goals as goal
 
-pub returns-then-branch-2 : goal.returns-then-branch-2
-returns-then-branch-2 c =
+pub returns-then-branch : goal.returns-then-branch
+returns-then-branch c =
     let old = c.args.self.now in
     let row = set_row old.n c.args.rows.now.list in
     let people = c.args.people.now.people in
@@ -27,7 +27,7 @@ returns-then-branch-2 c =
     (subst (λ (l : List ℕ). IsTrue c.in_ok-tells_asker.field-0 ↔ TellsAsker new c.beside-beside.result.now.list l sets) c.several-several.ensures.rows
     c.in_ok-tells_asker.ensures) in
     told_fixing old row people sets c.requires.inside new not_yet
-    (λ first told. grows_as_told old row f narrow first new c.in_ok-extend.field-0 told grows) (tells.0 c.if-branch-2.true)
+    (λ first told. grows_as_told old row f narrow first new c.in_ok-extend.field-0 told grows) (tells.0 c.if-branch.true)
 
 pub returns : goal.returns
 returns c =
@@ -46,10 +46,10 @@ returns c =
     c.in_ok-tells_asker.ensures) in
     told_open old row people sets c.requires.inside new not_yet
     (λ first told. grows_as_told old row f narrow first new c.in_ok-extend.field-0 told grows)
-    (λ asker. true≢false (sym (tells.1 asker) ∙ c.if-branch-2.false))
+    (λ asker. true≢false (sym (tells.1 asker) ∙ c.if-branch.false))
 
-pub returns-then-tells_surely_none : goal.returns-then-tells_surely_none
-returns-then-tells_surely_none c =
+pub returns-in-Nothing : goal.returns-in-Nothing
+returns-in-Nothing c =
     let old = c.args.self.now in
     let row = set_row old.n c.args.rows.now.list in
     let people = c.args.people.now.people in
@@ -57,10 +57,10 @@ returns-then-tells_surely_none c =
     told_silent old row people sets c.requires.inside (subst (ForeseesApart old row (shared_in people) sets) c.in-Open.is c.requires.told)
     (subst (λ (l : List ℕ). (new : Echelon) → GrowsTo old row new → ¬ (TellsAsker new l (several_in people) sets)) c.beside-beside.ensures.rows
     (subst (λ (l : List ℕ). (new : Echelon) → GrowsTo old row new → ¬ (TellsAsker new c.beside-beside.result.now.list l sets)) c.several-several.ensures.rows
-    (c.tells_surely_none.ensures c.if-tells_surely_none.true)))
+    (rw c.in-Nothing.is at c.in_ok-surely_told.ensures)))
 
-pub returns-then-branch : goal.returns-then-branch
-returns-then-branch c =
+pub returns-in-Something : goal.returns-in-Something
+returns-in-Something c =
     let old = c.args.self.now in
     let row = set_row old.n c.args.rows.now.list in
     let people = c.args.people.now.people in
@@ -68,4 +68,4 @@ returns-then-branch c =
     told_surely old row people sets c.requires.inside (subst (ForeseesApart old row (shared_in people) sets) c.in-Open.is c.requires.told)
     (subst (λ (l : List ℕ). (new : Echelon) → GrowsTo old row new → TellsAsker new l (several_in people) sets) c.beside-beside.ensures.rows
     (subst (λ (l : List ℕ). (new : Echelon) → GrowsTo old row new → TellsAsker new c.beside-beside.result.now.list l sets) c.several-several.ensures.rows
-    (c.in_ok-tells_surely.ensures c.if-branch.true)))
+    (rw c.in-Something.is at c.in_ok-surely_told.ensures)))
