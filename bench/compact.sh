@@ -24,4 +24,6 @@ compact_full sums 'sums over intervals'
 compact_full maxima 'maxima over intervals'
 compact_full alike 'maxima of one number over random halves'
 compact_full late 'maxima of one number over sets that differ in the last 64 rows'
+compact_full intervals 'maxima of one number over sets of twelve intervals'
+compact_full threes 'maxima of one number over three rows each'
 exit $slow

@@ -10,7 +10,9 @@ of 64 as docs/FORMATS.md has them:
     grown             sums and maxima in turn, over 24 rows at first and one more after each 65 or 66 records: 1,000 growths
     widened           the same records over the same rows, and no growth
     alike             maxima, all 9, each over two rows and a random half of the others: none says what another said
-    late              maxima, all 9, each over 960 rows and half of the last 64: the sets differ in these alone"""
+    late              maxima, all 9, each over 960 rows and half of the last 64: the sets differ in these alone
+    intervals         maxima, all 9, each over twelve intervals of the first 960 rows and half of the last 64
+    threes            maxima, all 9, each over three rows, of which no other set has two"""
 import itertools
 import json
 import random
@@ -115,16 +117,44 @@ def late(draw):
     return nines(front | half << ROWS - 64 for half in halves)
 
 
+def coded(number):
+    """Half of the last 64 rows: of two numbers each has two rows that the other one lacks."""
+    return sum(3 << ROWS - 64 + 4 * bit + 2 * (number >> bit & 1) for bit in range(16))
+
+
+def intervals(draw):
+    def cut(number):
+        ends = sorted(draw.sample(range(ROWS - 64), 24))
+        return coded(number) | sum((1 << end) - (1 << begin) for begin, end in zip(ends[::2], ends[1::2]))
+
+    return nines(cut(number) for number in range(RECORDS - 1))
+
+
+def threes(draw):
+    pairs, masks = set(), []
+    while len(masks) < RECORDS - 1:
+        rows = sorted(draw.sample(range(ROWS), 3))
+        new = set(itertools.combinations(rows, 2))
+        if new.isdisjoint(pairs):
+            pairs |= new
+            masks.append(sum(1 << row for row in rows))
+    return nines(masks)
+
+
+# Of one number, over sets of which none is within another.
+NINES = {"alike": alike, "late": late, "intervals": intervals, "threes": threes}
+
+
 def main():
     kind = sys.argv[1]
     draw = random.Random(1)
-    table = Table(draw, kind in ("alike", "late"))
+    table = Table(draw, kind in NINES)
     table.write()
     if kind in ("grown", "widened"):
         widened = kind == "widened"
         write_journal(ROWS if widened else FIRST_ROWS, growing(draw, table, widened))
-    elif kind in ("alike", "late"):
-        write_journal(ROWS, groups({"alike": alike, "late": late}[kind](draw)))
+    elif kind in NINES:
+        write_journal(ROWS, groups(NINES[kind](draw)))
     else:
         kinds = [{"sums": SUM, "maxima": MAX}[kind]] * RECORDS
         write_journal(ROWS, groups(over_pairs(draw, table, kinds, ROWS, ROWS)))

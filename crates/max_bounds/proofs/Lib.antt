@@ -1,5 +1,7 @@
 pub mod Lowering
+pub mod MarkedGroups
 pub mod MarkedSets
+pub mod SeenSets
 pub mod Surveys
 pub mod Walks
 pub mod HighestBounds

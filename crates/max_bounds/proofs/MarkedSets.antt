@@ -1,149 +1,126 @@
 -- Sets and their marks: what a mark shows, and lists of sets with their marks.
 use Rattle.std.proofs.Common.{◌≡◌, ◌≢◌, ℕ, zero, suc, ◌+◌, ◌-◌, ◌*◌, ◌/◌, ◌%◌, ◌^◌, ◌<◌, ◌≤◌, true, false, cond, not, List, [], ◌∷◌, ◌++◌, length, ◌⊎◌, add-one, take, drop, set, get_or, refl, sym, ap, ◌∙◌, subst, arith, inl, inr}
-use Rattle.std.specs.Prelude.{nat_lt, bit_and, bit_or}
+use Rattle.std.specs.Prelude.{nat_lt, bit_and}
 use Rattle.std.specs.Int.{bit_at, bit_not, w64}
-use Rattle.std.specs.List.{filter}
+use Rattle.std.specs.List.{filter, AllByRecursion}
 use Rattle.std.specs.Int.Count.{ones, ones_cat}
-use Rattle.std.proofs.lemmas.Nat.{mod-pow-add, pow_pos, and_le_l}
-use Rattle.std.proofs.lemmas.Nat.Bits.{bit_at-zero, bit_at_set_same, bit_at_set_other, bit_at-lt, bit_at_and, bit_at_or, bit_at_not, bit_at-trailing_zeros}
-use Rattle.std.proofs.lemmas.Bool.{true≢false, not-true, cases_eq, cases_lt, lt-ltb, le-ltb}
-use Rattle.audit_types.specs.Rows.{Rows, has_row, complement}
+use Rattle.std.proofs.lemmas.Nat.{mod-pow-add, pow_pos, and_le_l, div-mul-add, zero_from_ones}
+use Rattle.std.proofs.lemmas.Nat.Bits.{bit_at-zero, bit_at-lt, bit_at_and, bit_at_not}
+use Rattle.std.proofs.lemmas.Bool.{true≢false, not-true, not-false, cases_lt, lt-ltb, le-ltb}
+use Rattle.audit_types.specs.Rows.{Rows, AreRows, has_row, complement}
 use Rattle.audit_types.specs.RowLaws.{has-rows_that}
-use Rattle.max_bounds.specs.Marks.{group_of, AreGroups, IsMark, AreAsked, AreMarked}
+use Rattle.audit_types.specs.WalkLaws.{first_or_later, row_within}
+use Rattle.audit_types.specs.ListLaws.{all-get_or}
+use Rattle.max_bounds.specs.Groups.{step_of, IsSample, IsInGroup, AreGroups}
+use Rattle.max_bounds.specs.Marks.{IsMark, AreLacking, ShowsLeft, lost_by, AreMarkedBy}
 use Rattle.max_bounds.specs.Outside.{outside}
-use Rattle.audit_types.specs.WalkLaws.{first_or_later, has-push, has-front, has-last}
 use Rattle.max_bounds.specs.RowListLaws.{has-filter}
 use Rattle.max_bounds.specs.declared.answered.AnsweredMax.{AnsweredMax}
-
--- ---- the groups of rows
-
--- no row is in a group
-pub no_groups : AreGroups [] 0
-no_groups = record {
-  has = λ r there. absurd (true≢false (sym there));
-  only = λ g small one. let none = bit_at-zero g in absurd (omega arith);
-}
-
--- one row more adds its group
-pub groups_more : (rows : List ℕ) (groups row g : ℕ) → AreGroups rows groups → g ≡ group_of row → g < 64 →
-    AreGroups (rows ++ row ∷ []) (bit_or groups (1 * 2 ^ g % 2 ^ 64))
-groups_more rows groups row g are is below = record {
-  has = λ r there. elim (cases_eq (group_of r) g) [
-    | inl same ↦ ap (bit_at (bit_or groups (1 * 2 ^ g % 2 ^ 64))) same ∙ bit_at_set_same w64 groups g below
-    | inr apart ↦ bit_at_set_other w64 groups g below (group_of r) apart ∙ elim (has-push rows row r there) [
-      | inl front ↦ are.has r front
-      | inr last ↦ absurd (apart (ap group_of (sym last) ∙ sym is))
-    ]
-  ];
-  only = λ q small one. elim (cases_eq q g) [
-    | inl same ↦ (row, has-last rows row, sym is ∙ sym same)
-    | inr apart ↦
-        let found = are.only q small (sym (bit_at_set_other w64 groups g below q apart) ∙ one) in
-        (found.0, has-front rows row found.0 found.1, found.2)
-  ];
-}
-
--- there are 64 groups
-pub group_below : (r : ℕ) → group_of r < 64
-unfolding group_of
-group_below r = elim (cases_lt r 28) [
-  | inl first ↦ subst (λ b. cond b r (28 + (r - 28) % 36) < 64) (sym (lt-ltb r 28 first)) (omega (arith, first))
-  | inr later ↦ subst (λ b. cond b r (28 + (r - 28) % 36) < 64) (sym (le-ltb r 28 later)) (omega arith)
-]
-
--- a mark of which no bit is unset has each group
-pub all_groups : (groups : ℕ) → groups < 2 ^ 64 → bit_not w64 groups ≡ 0 → (g : ℕ) → g < 64 → bit_at groups g ≡ 1
-all_groups groups fits none g below =
-    let turned = bit_at_not w64 groups g fits below in
-    let same = ap (λ x. bit_at x g) none ∙ bit_at-zero g in
-    let bit = bit_at-lt groups g in
-    omega arith
-
--- a row of those that a set lacks isn't in it
-pub in_others : (n : ℕ) (rows : List ℕ) (r : ℕ) → r < n → has_row (complement n rows) r ≡ true → has_row rows r ≡ false
-in_others n rows r below there = not-true (has_row rows r) (sym (has-rows_that (λ q. not (has_row rows q)) n r below) ∙ there)
+use Rattle.max_bounds.specs.declared.marks.Lost.{Lost}
+use Rattle.max_bounds.specs.declared.marks.Marking.{Marking}
+use Rattle.max_bounds.specs.declared.marks.Marking.TheVariants.{Samples, Touched, Filled}
 
 -- ---- what a mark shows
 
--- a group that the mark lacks, of a row that a question's set lacks, shows a row outside
-pub shown : (set : Rows) (rows : List ℕ) (mark asked g : ℕ) → IsMark set mark → AreAsked set.n rows asked → g < 64 → mark < 2 ^ 64 →
-    bit_at (bit_and asked (bit_not w64 mark)) g ≡ 1 → (r : ℕ) × (has_row (outside rows set.list) r ≡ true) × (group_of r ≡ g)
-shown set rows mark asked g is are below fits one =
-    let both = bit_at_and asked (bit_not w64 mark) g in
-    let turned = bit_at_not w64 mark g fits below in
-    let a = bit_at-lt asked g in
-    let m = bit_at-lt mark g in
-    let found = are.row g below (omega arith) in
-    let r = found.0 in
-    let there : has_row set.list r ≡ true = elim (has_row set.list r) as (λ b. has_row set.list r ≡ b → has_row set.list r ≡ true) [
-      | true ↦ λ e. e
-      | false ↦ λ e. absurd (let lacks = is.lacks r found.1 e in let here = ap (bit_at mark) found.3 in omega arith)
-    ] refl in
-    (r, has-filter (λ q. not (has_row rows q)) set.list r there (ap not found.2), found.3)
+-- a bit of two numbers is one of each
+in_both : (a b g : ℕ) → bit_at (bit_and a b) g ≡ 1 → (bit_at a g ≡ 1) × (bit_at b g ≡ 1)
+in_both a b g one =
+    let both = bit_at_and a b g in
+    let x = bit_at-lt a g in
+    let y = bit_at-lt b g in
+    (omega arith, omega arith)
 
--- so if there is one, something is left
-pub some_left : (set : Rows) (rows : List ℕ) (mark asked : ℕ) → IsMark set mark → AreAsked set.n rows asked → mark < 2 ^ 64 → asked < 2 ^ 64 →
-    bit_and asked (bit_not w64 mark) ≢ 0 → outside rows set.list ≢ []
-some_left set rows mark asked is are fits asked_fits some none =
-    let x = bit_and asked (bit_not w64 mark) in
-    let low = and_le_l asked (bit_not w64 mark) in
-    let lowest = bit_at-trailing_zeros w64 x (omega (arith, some)) (omega (arith, low, asked_fits)) in
-    let found = shown set rows mark asked _ is are lowest.0 fits lowest.1 in
-    true≢false (sym found.1 ∙ ap (λ l. has_row l found.0) none)
+-- a row of the set that a question's set lacks is outside it
+left_there : (set : Rows) (rows : List ℕ) (r : ℕ) → has_row set.list r ≡ true → has_row rows r ≡ false → has_row (outside rows set.list) r ≡ true
+left_there set rows r there missing = has-filter (λ q. not (has_row rows q)) set.list r there (ap not missing)
+
+-- what is in a mark and is lacking shows rows outside
+pub shows : (marking : Marking) (set : Rows) (rows : List ℕ) (mark lacking : ℕ) → IsMark marking set mark → AreLacking marking set.n rows lacking →
+    ShowsLeft set rows (bit_and mark lacking)
+shows Samples set rows mark lacking is are = record {
+  group_of = λ r. r / step_of set.n;
+  row = λ g small one.
+      let both = in_both mark lacking g one in
+      let found = is g small both.0 in
+      let whole : g * step_of set.n ≡ g * step_of set.n + 0 = omega arith in (
+        found.0,
+        left_there set rows found.0 found.1 (are g found.0 small both.1 found.2),
+        ap (λ k. k / step_of set.n) (found.2 ∙ whole) ∙ div-mul-add g (step_of set.n) 0 (omega arith),
+      );
+}
+shows Touched set rows mark lacking is are = record {
+  group_of = λ r. r % 64;
+  row = λ g small one.
+      let both = in_both mark lacking g one in
+      let found = is g small both.0 in
+      (found.0, left_there set rows found.0 found.1 (are g found.0 small both.1 found.2), found.2);
+}
+shows Filled set rows mark lacking is are = record {
+  group_of = λ r. r % 64;
+  row = λ g small one.
+      let both = in_both mark lacking g one in
+      let found = are g small both.1 in
+      (found.0, left_there set rows found.0 (is g found.0 small both.0 found.1 found.3) found.2, found.3);
+}
 
 -- ---- how many groups a mark shows
 
 -- the rows of a list whose groups are below a number
-abbrev below : ℕ → List ℕ → List ℕ
-below i rows = filter (λ r. nat_lt (group_of r) i) rows
+abbrev below : (ℕ → ℕ) → ℕ → List ℕ → List ℕ
+below group i rows = filter (λ r. nat_lt (group r) i) rows
 
 -- with one group more there are at least as many, and one more if a row is in it
-more_below : (i : ℕ) (rows : List ℕ) → length (below i rows) ≤ length (below (i + 1) rows)
-more_below i [] = omega arith
-more_below i (x ∷ rows) = go (cases_lt (group_of x) i) (more_below i rows)
+more_below : (group : ℕ → ℕ) (i : ℕ) (rows : List ℕ) → length (below group i rows) ≤ length (below group (i + 1) rows)
+more_below group i [] = omega arith
+more_below group i (x ∷ rows) = go (cases_lt (group x) i) (more_below group i rows)
   where
-    go : ((group_of x < i) ⊎ (i ≤ group_of x)) → length (below i rows) ≤ length (below (i + 1) rows) →
-        length (below i (x ∷ rows)) ≤ length (below (i + 1) (x ∷ rows))
-    go (inl less) h = let wide : group_of x < i + 1 = omega arith in rw (lt-ltb (group_of x) i less, lt-ltb (group_of x) (i + 1) wide) (omega (arith, h))
-    go (inr late) h = rw (le-ltb (group_of x) i late)
-        (elim (nat_lt (group_of x) (i + 1)) as (λ b. length (below i rows) ≤ length (cond b (x ∷ below (i + 1) rows) (below (i + 1) rows))) [
+    go : ((group x < i) ⊎ (i ≤ group x)) → length (below group i rows) ≤ length (below group (i + 1) rows) →
+        length (below group i (x ∷ rows)) ≤ length (below group (i + 1) (x ∷ rows))
+    go (inl less) h = let wide : group x < i + 1 = omega arith in rw (lt-ltb (group x) i less, lt-ltb (group x) (i + 1) wide) (omega (arith, h))
+    go (inr late) h = rw (le-ltb (group x) i late)
+        (elim (nat_lt (group x) (i + 1)) as (λ b. length (below group i rows) ≤ length (cond b (x ∷ below group (i + 1) rows) (below group (i + 1) rows))) [
           | true ↦ omega (arith, h)
           | false ↦ h
         ])
 
-one_below : (i : ℕ) (rows : List ℕ) (r : ℕ) → has_row rows r ≡ true → group_of r ≡ i → length (below i rows) + 1 ≤ length (below (i + 1) rows)
-one_below i [] r there is = absurd (true≢false (sym there))
-one_below i (x ∷ rows) r there is = go (cases_lt (group_of x) i) (first_or_later x r rows there) (λ later. one_below i rows r later is)
+one_below : (group : ℕ → ℕ) (i : ℕ) (rows : List ℕ) (r : ℕ) → has_row rows r ≡ true → group r ≡ i →
+    length (below group i rows) + 1 ≤ length (below group (i + 1) rows)
+one_below group i [] r there is = absurd (true≢false (sym there))
+one_below group i (x ∷ rows) r there is = go (cases_lt (group x) i) (first_or_later x r rows there) (λ later. one_below group i rows r later is)
   where
-    go : ((group_of x < i) ⊎ (i ≤ group_of x)) → ((x ≡ r) ⊎ (has_row rows r ≡ true)) →
-        (has_row rows r ≡ true → length (below i rows) + 1 ≤ length (below (i + 1) rows)) →
-        length (below i (x ∷ rows)) + 1 ≤ length (below (i + 1) (x ∷ rows))
-    go (inl less) (inl same) rest = absurd (let e = ap group_of same in omega (arith, less, e, is))
+    go : ((group x < i) ⊎ (i ≤ group x)) → ((x ≡ r) ⊎ (has_row rows r ≡ true)) →
+        (has_row rows r ≡ true → length (below group i rows) + 1 ≤ length (below group (i + 1) rows)) →
+        length (below group i (x ∷ rows)) + 1 ≤ length (below group (i + 1) (x ∷ rows))
+    go (inl less) (inl same) rest = absurd (let e = ap group same in omega (arith, less, e, is))
     go (inl less) (inr later) rest =
-        let wide : group_of x < i + 1 = omega arith in
+        let wide : group x < i + 1 = omega arith in
         let h = rest later in
-        rw (lt-ltb (group_of x) i less, lt-ltb (group_of x) (i + 1) wide) (omega (arith, h))
+        rw (lt-ltb (group x) i less, lt-ltb (group x) (i + 1) wide) (omega (arith, h))
     go (inr late) (inl same) rest =
-        let wide : group_of x < i + 1 = let e = ap group_of same in omega (arith, e, is) in
-        let h = more_below i rows in
-        rw (le-ltb (group_of x) i late, lt-ltb (group_of x) (i + 1) wide) (omega (arith, h))
+        let wide : group x < i + 1 = let e = ap group same in omega (arith, e, is) in
+        let h = more_below group i rows in
+        rw (le-ltb (group x) i late, lt-ltb (group x) (i + 1) wide) (omega (arith, h))
     go (inr late) (inr later) rest =
         let h = rest later in
-        rw (le-ltb (group_of x) i late)
-        (elim (nat_lt (group_of x) (i + 1)) as (λ b. length (below i rows) + 1 ≤ length (cond b (x ∷ below (i + 1) rows) (below (i + 1) rows))) [
+        rw (le-ltb (group x) i late)
+        (elim (nat_lt (group x) (i + 1)) as (λ b. length (below group i rows) + 1 ≤ length (cond b (x ∷ below group (i + 1) rows) (below group (i + 1) rows))) [
           | true ↦ omega (arith, h)
           | false ↦ h
         ])
 
 -- there are at most as many as in the list
-below_all : (i : ℕ) (rows : List ℕ) → length (below i rows) ≤ length rows
-below_all i [] = omega arith
-below_all i (x ∷ rows) =
-    let h = below_all i rows in
-    elim (nat_lt (group_of x) i) as (λ b. length (cond b (x ∷ below i rows) (below i rows)) ≤ suc (length rows)) [
+below_all : (group : ℕ → ℕ) (i : ℕ) (rows : List ℕ) → length (below group i rows) ≤ length rows
+below_all group i [] = omega arith
+below_all group i (x ∷ rows) =
+    let h = below_all group i rows in
+    elim (nat_lt (group x) i) as (λ b. length (cond b (x ∷ below group i rows) (below group i rows)) ≤ suc (length rows)) [
       | true ↦ omega (arith, h)
       | false ↦ omega (arith, h)
     ]
+
+-- a number that isn't 0 has a bit
+pub some_bit : (x : ℕ) → x ≢ 0 → 1 ≤ ones x
+some_bit x some = elim (cases_lt (ones x) 1) [ inl none ↦ absurd (some (zero_from_ones x (omega (arith, none)))) | inr one ↦ one ]
 
 -- a bit is no more than one
 ones_of_bit : (b : ℕ) → b < 2 → ones b ≤ b
@@ -153,91 +130,173 @@ ones_of_bit (suc zero) h = omega arith
 ones_of_bit (suc (suc b)) h = absurd (omega arith)
 
 -- if each bit of a number is that of a group with one of these rows, its first bits are no more than the rows of the first groups
-first_bits : (x : ℕ) (rows : List ℕ) → ((g : ℕ) → g < 64 → bit_at x g ≡ 1 → (r : ℕ) × (has_row rows r ≡ true) × (group_of r ≡ g)) → (i : ℕ) → i ≤ 64 →
-    ones (x % 2 ^ i) ≤ length (below i rows)
-first_bits x rows each zero within = let none : x % 2 ^ 0 ≡ 0 = omega arith in let low = ones_of_bit 0 (omega arith) in rw none (omega (arith, low))
-first_bits x rows each (suc i) within =
+first_bits : (group : ℕ → ℕ) (x : ℕ) (rows : List ℕ) → ((g : ℕ) → g < 64 → bit_at x g ≡ 1 → (r : ℕ) × (has_row rows r ≡ true) × (group r ≡ g)) →
+    (i : ℕ) → i ≤ 64 →
+    ones (x % 2 ^ i) ≤ length (below group i rows)
+first_bits group x rows each zero within = let none : x % 2 ^ 0 ≡ 0 = omega arith in let low = ones_of_bit 0 (omega arith) in rw none (omega (arith, low))
+first_bits group x rows each (suc i) within =
     let next : i + 1 ≡ 1 + i = omega arith in
     let split : x % 2 ^ (i + 1) ≡ (x / 2 ^ i % 2 ^ 1) * 2 ^ i + x % 2 ^ i = ap (λ m. x % 2 ^ m) next ∙ mod-pow-add x 1 i in
     let positive : 0 < 2 ^ i = pow_pos i in
     let apart : ones ((x / 2 ^ i % 2 ^ 1) * 2 ^ i + x % 2 ^ i) ≡ ones (x / 2 ^ i % 2 ^ 1) + ones (x % 2 ^ i) =
     ones_cat i (x / 2 ^ i % 2 ^ 1) (x % 2 ^ i) (omega arith) in
     let last : ones (x / 2 ^ i % 2 ^ 1) ≤ bit_at x i = ones_of_bit (bit_at x i) (bit_at-lt x i) in
-    let front = first_bits x rows each i (omega arith) in
+    let front = first_bits group x rows each i (omega arith) in
     let whole : ones (x % 2 ^ (i + 1)) ≡ ones (x / 2 ^ i % 2 ^ 1) + ones (x % 2 ^ i) = ap ones split ∙ apart in
-    subst (λ k. ones (x % 2 ^ k) ≤ length (below k rows)) (add-one i) (elim (cases_lt (bit_at x i) 1) [
-      | inl none ↦ let more = more_below i rows in omega (arith, whole, last, front, more, none)
+    subst (λ k. ones (x % 2 ^ k) ≤ length (below group k rows)) (add-one i) (elim (cases_lt (bit_at x i) 1) [
+      | inl none ↦ let more = more_below group i rows in omega (arith, whole, last, front, more, none)
       | inr some ↦
           let bit = bit_at-lt x i in
           let found = each i (omega arith) (omega arith) in
-          let more = one_below i rows found.0 found.1 found.2 in omega (arith, whole, last, front, more, bit)
+          let more = one_below group i rows found.0 found.1 found.2 in omega (arith, whole, last, front, more, bit)
     ])
 
--- so no more groups are shown than rows are left
-pub many_left : (set : Rows) (rows : List ℕ) (mark asked : ℕ) → IsMark set mark → AreAsked set.n rows asked → mark < 2 ^ 64 → asked < 2 ^ 64 →
-    ones (bit_and asked (bit_not w64 mark)) ≤ length (outside rows set.list)
-many_left set rows mark asked is are fits asked_fits =
-    let x = bit_and asked (bit_not w64 mark) in
+-- so no more bits are shown than rows are left
+pub many_left : (set : Rows) (rows : List ℕ) (bits : ℕ) → ShowsLeft set rows bits → bits < 2 ^ 64 → ones bits ≤ length (outside rows set.list)
+many_left set rows bits are fits =
     let left = outside rows set.list in
-    let low = and_le_l asked (bit_not w64 mark) in
-    let whole : x % 2 ^ 64 ≡ x = omega (arith, low, asked_fits) in
-    let first = first_bits x left (λ g below one. shown set rows mark asked g is are below fits one) 64 (omega arith) in
-    let all = below_all 64 left in
+    let whole : bits % 2 ^ 64 ≡ bits = omega (arith, fits) in
+    let first = first_bits are.group_of bits left are.row 64 (omega arith) in
+    let all = below_all are.group_of 64 left in
     let same = ap ones whole in omega (arith, first, all, same)
 
--- ---- sets and their marks
+-- ---- what a question's set lacks, and what marks say of their sets
+
+-- none is lacking if nothing is asked
+pub lacks_none : (n : ℕ) (rows : List ℕ) → AreLacking Samples n rows 0
+lacks_none n rows = λ g r small one is. let none = bit_at-zero g in absurd (omega arith)
+
+-- a row of those that a set lacks isn't in it
+in_others : (n : ℕ) (rows : List ℕ) (r : ℕ) → r < n → has_row (complement n rows) r ≡ true → has_row rows r ≡ false
+in_others n rows r below there = not-true (has_row rows r) (sym (has-rows_that (λ q. not (has_row rows q)) n r below) ∙ there)
+
+-- and one that isn't among them is in the set
+not_others : (n : ℕ) (rows : List ℕ) (r : ℕ) → r < n → has_row (complement n rows) r ≡ false → has_row rows r ≡ true
+not_others n rows r below missing = not-false (has_row rows r) (sym (has-rows_that (λ q. not (has_row rows q)) n r below) ∙ missing)
+
+-- the samples of the rows that a set lacks
+pub lacks_samples : (n : ℕ) (rows others : List ℕ) (samples : ℕ) → AreRows n others → others ≡ complement n rows → AreGroups (IsSample n) others samples →
+    AreLacking Samples n rows samples
+lacks_samples n rows others samples within flipped are = λ g r small one is.
+    let found = are.only g small one in
+    let same : r ≡ found.0 = is ∙ sym found.2 in
+    let below = row_within n others found.0 within found.1 in
+    ap (has_row rows) same ∙ in_others n rows found.0 below (sym (ap (λ l. has_row l found.0) flipped) ∙ found.1)
+
+-- the groups that a set has no row of
+pub lacks_touched : (n : ℕ) (rows : List ℕ) (groups : ℕ) → groups < 2 ^ 64 → AreGroups IsInGroup rows groups → AreLacking Touched n rows (bit_not w64 groups)
+lacks_touched n rows groups fits are = λ g r small one is. elim (has_row rows r) as (λ b. has_row rows r ≡ b → has_row rows r ≡ false) [
+  | true ↦ λ there. absurd (let here = are.has r g there small is in let turned = bit_at_not w64 groups g fits small in omega arith)
+  | false ↦ λ missing. missing
+] refl
+
+-- the groups that it lacks a row of
+pub lacks_filled : (n : ℕ) (rows others : List ℕ) (groups : ℕ) → AreRows n others → others ≡ complement n rows → AreGroups IsInGroup others groups →
+    AreLacking Filled n rows groups
+lacks_filled n rows others groups within flipped are = λ g small one.
+    let found = are.only g small one in
+    let below = row_within n others found.0 within found.1 in
+    (found.0, below, in_others n rows found.0 below (sym (ap (λ l. has_row l found.0) flipped) ∙ found.1), found.2)
+
+-- the groups that it has whole are those that it lacks no row of
+pub fills : (set : Rows) (others : List ℕ) (groups : ℕ) → groups < 2 ^ 64 → others ≡ complement set.n set.list → AreGroups IsInGroup others groups →
+    IsMark Filled set (bit_not w64 groups)
+fills set others groups fits flipped are = λ g r small one below is. elim (has_row others r) as (λ b. has_row others r ≡ b → has_row set.list r ≡ true) [
+  | true ↦ λ there. absurd (let here = are.has r g there small is in let turned = bit_at_not w64 groups g fits small in omega arith)
+  | false ↦ λ missing. not_others set.n set.list r below (sym (ap (λ l. has_row l r) flipped) ∙ missing)
+] refl
+
+-- a lost row has its bit among the lost ones
+not_lost : (is_in : ℕ → ℕ → Type 0) (rows : List ℕ) (mark lost r g : ℕ) → lost < 2 ^ 64 → g < 64 → AreGroups is_in rows lost → is_in r g →
+    bit_at (bit_and mark (bit_not w64 lost)) g ≡ 1 → has_row rows r ≡ false
+not_lost is_in rows mark lost r g fits small are is one = elim (has_row rows r) as (λ b. has_row rows r ≡ b → has_row rows r ≡ false) [
+  | true ↦ λ there. absurd (
+      let here = are.has r g there small is in
+      let turned = bit_at_not w64 lost g fits small in
+      let both = in_both mark (bit_not w64 lost) g one in omega (arith, here, turned, both.1))
+  | false ↦ λ missing. missing
+] refl
+
+-- a set that loses rows loses their bits
+pub mark_lowered : (marking : Marking) (set after : Rows) (rows : List ℕ) (mark : ℕ) (lost : Lost) → lost_by marking lost < 2 ^ 64 → IsMark marking set mark →
+    AreGroups (IsSample set.n) rows lost.samples → AreGroups IsInGroup rows lost.groups → after ≡ record { n = set.n; list = outside rows set.list } →
+    IsMark marking after (bit_and mark (bit_not w64 (lost_by marking lost)))
+mark_lowered Samples set after rows mark lost fits is samples groups same =
+    subst (λ (s : Rows). IsMark Samples s (bit_and mark (bit_not w64 lost.samples))) (sym same) (λ g small one.
+    let found = is g small (in_both mark (bit_not w64 lost.samples) g one).0 in
+    (found.0, left_there set rows found.0 found.1 (not_lost (IsSample set.n) rows mark lost.samples found.0 g fits small samples found.2 one), found.2))
+mark_lowered Touched set after rows mark lost fits is samples groups same =
+    subst (λ (s : Rows). IsMark Touched s (bit_and mark (bit_not w64 lost.groups))) (sym same) (λ g small one.
+    let found = is g small (in_both mark (bit_not w64 lost.groups) g one).0 in
+    (found.0, left_there set rows found.0 found.1 (not_lost IsInGroup rows mark lost.groups found.0 g fits small groups found.2 one), found.2))
+mark_lowered Filled set after rows mark lost fits is samples groups same =
+    subst (λ (s : Rows). IsMark Filled s (bit_and mark (bit_not w64 lost.groups))) (sym same) (λ g r small one below inside.
+    left_there set rows r (is g r small (in_both mark (bit_not w64 lost.groups) g one).0 below inside)
+    (not_lost IsInGroup rows mark lost.groups r g fits small groups inside one))
+
+-- what is lost fits, of each kind
+pub lost_fits : (marking : Marking) (lost : Lost) → lost.samples < 2 ^ 64 → lost.groups < 2 ^ 64 → lost_by marking lost < 2 ^ 64
+lost_fits Samples lost samples groups = samples
+lost_fits Touched lost samples groups = groups
+lost_fits Filled lost samples groups = groups
+
+-- ---- lists of sets and their marks
 
 -- a set by its parts
 pub same_set : (set : Rows) (n : ℕ) (rows : List ℕ) → set.n ≡ n → set.list ≡ rows → set ≡ record { n = n; list = rows }
 same_set set n rows e f = ap (λ m. record { n = m; list = set.list }) e ∙ ap (λ l. record { n = n; list = l }) f
 
--- a set that loses the rows of some groups has the groups in its mark
-pub mark_lowered : (set after : Rows) (rows : List ℕ) (mark groups : ℕ) → IsMark set mark → AreGroups rows groups →
-    after ≡ record { n = set.n; list = outside rows set.list } → IsMark after (bit_or mark groups)
-mark_lowered set after rows mark groups is are same = subst (λ (s : Rows). IsMark s (bit_or mark groups)) (sym same) (record {
-  lacks = λ r below out.
-      let either = bit_at_or mark groups (group_of r) in
-      let m = bit_at-lt mark (group_of r) in
-      let g = bit_at-lt groups (group_of r) in
-      elim (has_row set.list r) as (λ b. has_row set.list r ≡ b → bit_at (bit_or mark groups) (group_of r) ≡ 1) [
-        | false ↦ λ e. let here = is.lacks r below e in omega arith
-        | true ↦ λ e. elim (has_row rows r) as (λ b. has_row rows r ≡ b → bit_at (bit_or mark groups) (group_of r) ≡ 1) [
-          | true ↦ λ f. let here = are.has r f in omega arith
-          | false ↦ λ f. absurd (true≢false (sym (has-filter (λ q. not (has_row rows q)) set.list r e (ap not f)) ∙ out))
-        ] refl
-      ] refl;
-})
-
 -- there are as many marks as sets
-pub marks_length : (sets : List AnsweredMax) (marks : List ℕ) → AreMarked sets marks → length marks ≡ length sets
-marks_length [] [] h = refl
-marks_length [] (m ∷ marks) h = absurd h
-marks_length (s ∷ sets) [] h = absurd h
-marks_length (s ∷ sets) (m ∷ marks) h = ap suc (marks_length sets marks h.1)
+pub marks_length : (marking : Marking) (sets : List AnsweredMax) (marks : List ℕ) → AreMarkedBy marking sets marks → length marks ≡ length sets
+marks_length marking [] [] h = refl
+marks_length marking [] (m ∷ marks) h = absurd h
+marks_length marking (s ∷ sets) [] h = absurd h
+marks_length marking (s ∷ sets) (m ∷ marks) h = ap suc (marks_length marking sets marks h.1)
 
 -- the mark at a place is that of the set there
-pub mark_at : (sets : List AnsweredMax) (marks : List ℕ) (k : ℕ) (d : AnsweredMax) (e : ℕ) → AreMarked sets marks → k < length sets →
-    IsMark (get_or sets k d).rows (get_or marks k e)
-mark_at [] marks k d e h within = absurd (omega arith)
-mark_at (s ∷ sets) [] k d e h within = absurd h
-mark_at (s ∷ sets) (m ∷ marks) zero d e h within = h.0
-mark_at (s ∷ sets) (m ∷ marks) (suc k) d e h within = mark_at sets marks k d e h.1 (omega (arith, within))
+pub mark_at : (marking : Marking) (sets : List AnsweredMax) (marks : List ℕ) (k : ℕ) (d : AnsweredMax) (e : ℕ) → AreMarkedBy marking sets marks →
+    k < length sets → IsMark marking (get_or sets k d).rows (get_or marks k e)
+mark_at marking [] marks k d e h within = absurd (omega arith)
+mark_at marking (s ∷ sets) [] k d e h within = absurd h
+mark_at marking (s ∷ sets) (m ∷ marks) zero d e h within = h.0
+mark_at marking (s ∷ sets) (m ∷ marks) (suc k) d e h within = mark_at marking sets marks k d e h.1 (omega (arith, within))
 
 -- a set and a mark in place of others
-pub marked_set : (sets : List AnsweredMax) (marks : List ℕ) (k : ℕ) (s : AnsweredMax) (m : ℕ) → AreMarked sets marks → IsMark s.rows m →
-    AreMarked (set sets k s) (set marks k m)
-marked_set [] [] k s m h is = tt
-marked_set [] (n ∷ marks) k s m h is = absurd h
-marked_set (t ∷ sets) [] k s m h is = absurd h
-marked_set (t ∷ sets) (n ∷ marks) zero s m h is = (is, h.1)
-marked_set (t ∷ sets) (n ∷ marks) (suc k) s m h is = (h.0, marked_set sets marks k s m h.1 is)
+pub marked_set : (marking : Marking) (sets : List AnsweredMax) (marks : List ℕ) (k : ℕ) (s : AnsweredMax) (m : ℕ) → AreMarkedBy marking sets marks →
+    IsMark marking s.rows m → AreMarkedBy marking (set sets k s) (set marks k m)
+marked_set marking [] [] k s m h is = tt
+marked_set marking [] (n ∷ marks) k s m h is = absurd h
+marked_set marking (t ∷ sets) [] k s m h is = absurd h
+marked_set marking (t ∷ sets) (n ∷ marks) zero s m h is = (is, h.1)
+marked_set marking (t ∷ sets) (n ∷ marks) (suc k) s m h is = (h.0, marked_set marking sets marks k s m h.1 is)
+
+-- a set of the same rows has the same mark
+pub same_marked : (marking : Marking) (sets : List AnsweredMax) (marks : List ℕ) (k : ℕ) (d s : AnsweredMax) → AreMarkedBy marking sets marks →
+    s.rows ≡ (get_or sets k d).rows → AreMarkedBy marking (set sets k s) marks
+same_marked marking [] [] k d s h same = tt
+same_marked marking [] (n ∷ marks) k d s h same = absurd h
+same_marked marking (t ∷ sets) [] k d s h same = absurd h
+same_marked marking (t ∷ sets) (n ∷ marks) zero d s h same = (subst (λ (r : Rows). IsMark marking r n) (sym same) h.0, h.1)
+same_marked marking (t ∷ sets) (n ∷ marks) (suc k) d s h same = (h.0, same_marked marking sets marks k d s h.1 same)
+
+-- a set has as many rows outside a question's as its mark shows
+pub left_at : (marking : Marking) (sets : List AnsweredMax) (marks : List ℕ) (n : ℕ) (rows : List ℕ) (lacking k : ℕ) (d : AnsweredMax) →
+    AreMarkedBy marking sets marks → AllByRecursion (λ p. p.rows.n ≡ n) sets → AreLacking marking n rows lacking → get_or marks k 0 < 2 ^ 64 → k < length sets →
+    ones (bit_and (get_or marks k 0) lacking) ≤ length (outside rows (get_or sets k d).rows.list)
+left_at marking sets marks n rows lacking k d marked same_n are fits within =
+    let set = (get_or sets k d).rows in
+    let mark = get_or marks k 0 in
+    let same = all-get_or (λ (p : AnsweredMax). p.rows.n ≡ n) sets k d same_n within in
+    let low = and_le_l mark lacking in
+    many_left set rows (bit_and mark lacking) (shows marking set rows mark lacking (mark_at marking sets marks k d 0 marked within)
+    (subst (λ m. AreLacking marking m rows lacking) (sym same) are)) (omega (arith, low, fits))
 
 -- one more at a place
-pub marked_inserted : (sets : List AnsweredMax) (marks : List ℕ) (k : ℕ) (s : AnsweredMax) (m : ℕ) → AreMarked sets marks → IsMark s.rows m →
-    AreMarked (take k sets ++ s ∷ drop k sets) (take k marks ++ m ∷ drop k marks)
-marked_inserted [] [] zero s m h is = (is, tt)
-marked_inserted [] [] (suc k) s m h is = (is, tt)
-marked_inserted [] (n ∷ marks) k s m h is = absurd h
-marked_inserted (t ∷ sets) [] k s m h is = absurd h
-marked_inserted (t ∷ sets) (n ∷ marks) zero s m h is = (is, h)
-marked_inserted (t ∷ sets) (n ∷ marks) (suc k) s m h is = (h.0, marked_inserted sets marks k s m h.1 is)
+pub marked_inserted : (marking : Marking) (sets : List AnsweredMax) (marks : List ℕ) (k : ℕ) (s : AnsweredMax) (m : ℕ) → AreMarkedBy marking sets marks →
+    IsMark marking s.rows m → AreMarkedBy marking (take k sets ++ s ∷ drop k sets) (take k marks ++ m ∷ drop k marks)
+marked_inserted marking [] [] zero s m h is = (is, tt)
+marked_inserted marking [] [] (suc k) s m h is = (is, tt)
+marked_inserted marking [] (n ∷ marks) k s m h is = absurd h
+marked_inserted marking (t ∷ sets) [] k s m h is = absurd h
+marked_inserted marking (t ∷ sets) (n ∷ marks) zero s m h is = (is, h)
+marked_inserted marking (t ∷ sets) (n ∷ marks) (suc k) s m h is = (h.0, marked_inserted marking sets marks k s m h.1 is)

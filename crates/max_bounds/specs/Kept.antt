@@ -115,6 +115,6 @@ pub record IsKept (b : Inside) : Type 0 where
   pub bounds : (r : ℕ) → bound_at b.upper.items r ≡ upper_bound (answers_of b.pairs.items) r
   pub same_n_least : AllByRecursion (λ p. p.rows.n ≡ b.n) b.least.items
   pub descend : Descend (answers_of b.least.items)
-  pub marked : AreMarked b.least.items b.marks.items
+  pub marked : AreMarked b.least.items b.marks
   pub high : AllByRecursion (IsHigh b.n (bound_at b.upper.items)) b.high.items
   pub tells : TellsExtremes (extremes (answers_of b.pairs.items)) (answers_of b.pairs.items) b.counts.items b.fewest (answers_of b.least.items)

@@ -1,6 +1,7 @@
 pub mod Maxima
 pub mod Reaching
 pub mod Outside
+pub mod Groups
 pub mod Marks
 pub mod Kept
 pub mod Laws

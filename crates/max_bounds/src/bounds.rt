@@ -8,11 +8,14 @@ ghost use Rattle.max_bounds.specs.Maxima.{Maxima, answers_of, and_answer};
 ghost use Rattle.max_bounds.specs.Few.{HasFewPeople, IsFewByExtremes};
 ghost use Rattle.max_bounds.specs.Outside.{HasExtremesWithin, IsLeastOwnLone};
 ghost use Rattle.max_bounds.specs.Kept.{extreme_counts};
+ghost use Rattle.max_bounds.specs.Marks.{marks_of, HaveRoom};
+ghost use Rattle.max_bounds.specs.declared.marks.Marking.{Marking};
 
 use crate::answered::AnsweredMax;
 use crate::few::nearly_holds;
 use crate::high_rows::{HighRows, few_highest_of, reach_high, renew_high};
 use crate::kept::{fall, insert};
+use crate::marks::Marks;
 use crate::people::enough;
 use crate::reach::settle;
 use crate::survey::{Trial, survey, survey_with};
@@ -34,8 +37,8 @@ pub struct Bounds {
     // Extreme rows of pairs, with their answer, in descending order of answers. Each pair has such a set of its own answer and
     // with no other rows.
     least: Vec<AnsweredMax>,
-    // The mark of each of these sets.
-    marks: Vec<u64>,
+    // The marks of these sets.
+    marks: Marks,
     // The rows with high bounds, for cuts in descending order. Most questions are told by them alone.
     high: Vec<HighRows>,
 }
@@ -56,21 +59,21 @@ fn make_room(
     pairs: &mut Vec<AnsweredMax>,
     counts: &mut Vec<u16>,
     least: &mut Vec<AnsweredMax>,
-    marks: &mut Vec<u64>,
+    marks: &mut Marks,
 ) -> Result<(), NoMemory>
     ensures pairs { pairs.new.items ≡ pairs.old.items }
     ensures counts { counts.new.items ≡ counts.old.items }
     ensures least { least.new.items ≡ least.old.items }
-    ensures marks { marks.new.items ≡ marks.old.items }
+    ensures marks { (marking : Marking) → marks_of marking marks.new ≡ marks_of marking marks.old }
     ensures pairs_room { OnOk result (vec_len pairs.new < vec_capacity pairs.new) }
     ensures counts_room { OnOk result (vec_len counts.new < vec_capacity counts.new) }
     ensures least_room { OnOk result (vec_len least.new < vec_capacity least.new) }
-    ensures marks_room { OnOk result (vec_len marks.new < vec_capacity marks.new) }
+    ensures marks_room { OnOk result (HaveRoom marks.new) }
 {
     pairs.reserve(1)?;
     counts.reserve(1)?;
     least.reserve(1)?;
-    marks.reserve(1)?;
+    marks.reserve()?;
     Ok(())
 }
 
@@ -89,7 +92,7 @@ impl Bounds {
             counts: Vec::new(alloc),
             fewest: u16::MAX,
             least: Vec::new(alloc),
-            marks: Vec::new(alloc),
+            marks: Marks::new(alloc),
             high: Vec::new(alloc),
         })
     }

@@ -5,12 +5,13 @@ ghost use Rattle.audit_types.specs.Rows.{complement};
 ghost use Rattle.max_bounds.specs.Maxima.{answers_of};
 ghost use Rattle.max_bounds.specs.Outside.{outside};
 ghost use Rattle.max_bounds.specs.Kept.{Descend};
-ghost use Rattle.max_bounds.specs.Marks.{IsMark, AreAsked, AreMarked};
+ghost use Rattle.max_bounds.specs.Marks.{AreMarked};
 ghost use Rattle.max_bounds.specs.Few.{HasNearlyHeld, IsLeft};
 
 use crate::answered::AnsweredMax;
-use crate::marks::{asked_groups, has_many_left};
+use crate::marks::{Marks, lacking_of};
 use crate::people::{are_fewer, enough};
+use crate::unshown::next_maybe_few;
 use crate::within::has_within;
 use audit_types::{CountedRows, RowSet};
 
@@ -42,32 +43,10 @@ fn left_outside(extremes: &RowSet, others: &RowSet, people: &CountedRows, enough
     }
 }
 
-// What of a set is left outside a question's, told by its mark or from the rows that are not in the question's.
-fn left_of_marked(
-    set: &AnsweredMax,
-    mark: u64,
-    others: &RowSet,
-    asked: u64,
-    people: &CountedRows,
-    enough: u64,
-) -> Left
-    requires same_n { set.now.rows.n ≡ others.now.n }
-    requires marked { IsMark set.now.rows mark }
-    requires enough { enough ≡ people.now.people.fewest + people.now.people.own }
-    ensures { (rows : List ℕ) → others.now.list ≡ complement others.now.n rows → AreAsked set.now.rows.n rows asked → IsLeft people.now.people (outside rows set.now.rows.list) result }
-{
-    // The people say of themselves that somebody stands behind each row.
-    let _ = people.n();
-    if has_many_left(mark, asked, enough) {
-        return Left::Enough;
-    }
-    left_outside(&set.rows, others, people, enough)
-}
-
 /// Whether the question's rows leave of some set rows of few people, while each set that lies there whole has a lower answer.
 pub(crate) fn nearly_holds(
     least: &[AnsweredMax],
-    marks: &[u64],
+    marks: &Marks,
     rows: &RowSet,
     people: &CountedRows,
 ) -> bool
@@ -78,15 +57,21 @@ pub(crate) fn nearly_holds(
 {
     let mut others = *rows;
     others.flip();
-    let asked = asked_groups(&others, least.len());
+    let lacking = lacking_of(rows, &others, least.len());
+    let marked = marks.of(lacking.marking);
+    // The people say of themselves that somebody stands behind each row.
+    let _ = people.n();
     let enough = enough(people);
-    for (k, set) in least.iter().enumerate() {
-        match left_of_marked(set, marks[k], &others, asked, people, enough) {
+    let mut k = next_maybe_few(marked, 0, lacking.bits, enough);
+    while k < least.len() {
+        let set = &least[k];
+        match left_outside(&set.rows, &others, people, enough) {
             Left::Nothing => return false,
             // No set before it lies there whole, but one of its answer may.
             Left::Few => return !has_within(least, marks, rows, set.answer),
             Left::Enough => {}
         }
+        k = next_maybe_few(marked, k + 1, lacking.bits, enough);
     }
     false
 }

@@ -6,11 +6,11 @@ ghost use Rattle.audit_types.specs.Extremes.{upper_bound, extremes};
 ghost use Rattle.max_bounds.specs.Maxima.{answer_of, answers_of, and_answer};
 ghost use Rattle.max_bounds.specs.Reaching.{bound_at};
 ghost use Rattle.max_bounds.specs.Kept.{rows_above, AreLeast, Descend, TellsExtremes};
-ghost use Rattle.max_bounds.specs.Marks.{AreMarked};
+ghost use Rattle.max_bounds.specs.Marks.{HaveRoom, AreMarked};
 
 use crate::answered::AnsweredMax;
 use crate::counts::{fewest, lower_counts};
-use crate::marks::mark_of;
+use crate::marks::Marks;
 use crate::sets::{end_of, lower_sets};
 use crate::within::has_within;
 use audit_types::RowSet;
@@ -20,7 +20,7 @@ pub(crate) fn fall(
     counts: &mut [u16],
     least_count: u16,
     least: &mut [AnsweredMax],
-    marks: &mut [u64],
+    marks: &mut Marks,
     pairs: &[AnsweredMax],
     upper: &[Option<i64>],
     latest: &AnsweredMax,
@@ -39,6 +39,7 @@ pub(crate) fn fall(
     ensures same_n_least { AllByRecursion (λ p. p.rows.n ≡ latest.now.rows.n) least.new }
     ensures descend { Descend (answers_of least.new) }
     ensures marked { AreMarked least.new marks.new }
+    ensures room { HaveRoom marks.old → HaveRoom marks.new }
     ensures tells { TellsExtremes (extremes (and_answer (answers_of pairs.now) latest.now.rows.list latest.now.answer)) (answers_of pairs.now) counts.new result (answers_of least.new) }
 {
     if falling.is_empty() {
@@ -54,22 +55,22 @@ pub(crate) fn fall(
 /// Puts a new answer's own extreme rows among the least sets, unless one of this answer lies in its set.
 pub(crate) fn insert(
     least: &mut Vec<AnsweredMax>,
-    marks: &mut Vec<u64>,
+    marks: &mut Marks,
     own: &RowSet,
     latest: &AnsweredMax,
     pairs: &[AnsweredMax],
 )
     requires room { vec_len least.old < vec_capacity least.old }
-    requires marks_room { vec_len marks.old < vec_capacity marks.old }
+    requires marks_room { HaveRoom marks.old }
     requires same_n_least { AllByRecursion (λ p. p.rows.n ≡ latest.now.rows.n) least.old.items }
     requires same_n { own.now.n ≡ latest.now.rows.n }
     requires own { own.now.list ≡ extremes (and_answer (answers_of pairs.now) latest.now.rows.list latest.now.answer) (answer_of latest.now) }
     requires descend { Descend (answers_of least.old.items) }
-    requires marked { AreMarked least.old.items marks.old.items }
+    requires marked { AreMarked least.old.items marks.old }
     requires told { AreLeast (extremes (and_answer (answers_of pairs.now) latest.now.rows.list latest.now.answer)) (answers_of pairs.now) (answers_of least.old.items) }
     ensures same_n_least { AllByRecursion (λ p. p.rows.n ≡ latest.now.rows.n) least.new.items }
     ensures descend { Descend (answers_of least.new.items) }
-    ensures marked { AreMarked least.new.items marks.new.items }
+    ensures marked { AreMarked least.new.items marks.new }
     ensures tells { AreLeast (extremes (and_answer (answers_of pairs.now) latest.now.rows.list latest.now.answer))
         (and_answer (answers_of pairs.now) latest.now.rows.list latest.now.answer) (answers_of least.new.items) }
 {
@@ -79,8 +80,8 @@ pub(crate) fn insert(
             rows: *own,
             answer: latest.answer,
         };
-        // There is room for it, and for its mark.
+        // There is room for it.
         least.insert(place, set).unwrap();
-        marks.insert(place, mark_of(own)).unwrap();
+        marks.insert(place, own);
     }
 }

@@ -9,6 +9,7 @@ mod bounds;
 mod counts;
 mod extreme_rows;
 mod few;
+mod groups;
 mod high_rows;
 mod highest;
 mod kept;
@@ -18,6 +19,7 @@ mod people;
 mod reach;
 mod sets;
 mod survey;
+mod unshown;
 mod upper_bounds;
 mod within;
 

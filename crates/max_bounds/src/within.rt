@@ -5,11 +5,12 @@ ghost use Rattle.std.specs.List.{AllByRecursion};
 ghost use Rattle.max_bounds.specs.Maxima.{answer_of, answers_of};
 ghost use Rattle.max_bounds.specs.Outside.{outside, IsWithin, HasWithin};
 ghost use Rattle.max_bounds.specs.Kept.{Descend};
-ghost use Rattle.max_bounds.specs.Marks.{IsMark, AreAsked, AreMarked};
+ghost use Rattle.max_bounds.specs.Marks.{AreMarked};
 
 use crate::answered::AnsweredMax;
-use crate::marks::{asked_groups, has_left};
+use crate::marks::{Marks, lacking_of};
 use crate::sets::{end_of, place_of};
+use crate::unshown::next_maybe_within;
 use audit_types::RowSet;
 
 // Whether no row of a set is left outside another, told from the rows that are not in that.
@@ -24,24 +25,16 @@ fn none_left(extremes: &RowSet, others: &RowSet) -> bool
     left.is_empty()
 }
 
-// Whether a set has this answer and lies in the question's, told by its mark or from the rows that are not in the question's.
-fn is_within(set: &AnsweredMax, mark: u64, others: &RowSet, asked: u64, answer: i64) -> bool
+// Whether a set has this answer and lies in the question's, told from the rows that are not in that.
+fn is_within(set: &AnsweredMax, others: &RowSet, answer: i64) -> bool
     requires same_n { set.now.rows.n ≡ others.now.n }
-    requires marked { IsMark set.now.rows mark }
-    ensures { (rows : List ℕ) → others.now.list ≡ complement others.now.n rows → AreAsked set.now.rows.n rows asked → IsTrue result ↔ IsWithin rows answer (answer_of set.now) }
+    ensures { (rows : List ℕ) → others.now.list ≡ complement others.now.n rows → IsTrue result ↔ IsWithin rows answer (answer_of set.now) }
 {
-    // Most sets are told by their mark, and only the others are read.
-    if has_left(mark, asked) {
-        return false;
-    }
-    if set.answer != answer {
-        return false;
-    }
-    none_left(&set.rows, others)
+    set.answer == answer && none_left(&set.rows, others)
 }
 
-/// Whether some set with this answer lies in the question's.
-pub(crate) fn has_within(least: &[AnsweredMax], marks: &[u64], rows: &RowSet, answer: i64) -> bool
+/// Whether some set with this answer lies in the question's. Most are told by their marks, and only the others are read.
+pub(crate) fn has_within(least: &[AnsweredMax], marks: &Marks, rows: &RowSet, answer: i64) -> bool
     requires same_n { AllByRecursion (λ p. p.rows.n ≡ rows.now.n) least.now }
     requires descend { Descend (answers_of least.now) }
     requires marked { AreMarked least.now marks.now }
@@ -50,12 +43,15 @@ pub(crate) fn has_within(least: &[AnsweredMax], marks: &[u64], rows: &RowSet, an
     let mut others = *rows;
     others.flip();
     let first = place_of(least, answer);
-    let end = end_of(least, answer);
-    let asked = asked_groups(&others, end.saturating_sub(first));
-    for k in first..end {
-        if is_within(&least[k], marks[k], &others, asked, answer) {
+    let end = end_of(least, answer).max(first);
+    let lacking = lacking_of(rows, &others, end - first);
+    let marked = marks.of(lacking.marking);
+    let mut k = next_maybe_within(marked, first, end, lacking.bits);
+    while k < end {
+        if is_within(&least[k], &others, answer) {
             return true;
         }
+        k = next_maybe_within(marked, k + 1, end, lacking.bits);
     }
     false
 }

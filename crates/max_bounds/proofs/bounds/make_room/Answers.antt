@@ -8,11 +8,11 @@ returns c = record {
   pairs = c.in_ok-reserve.ensures.items;
   counts = c.in_ok-reserve-2.ensures.items;
   least = c.in_ok-reserve-3.ensures.items;
-  marks = c.in_ok-reserve-4.ensures.items;
+  marks = c.in_ok-reserve-4.ensures.same;
   pairs_room = omega (arith, c.in_ok-reserve.ensures);
   counts_room = omega (arith, c.in_ok-reserve-2.ensures);
   least_room = omega (arith, c.in_ok-reserve-3.ensures);
-  marks_room = omega (arith, c.in_ok-reserve-4.ensures);
+  marks_room = c.in_ok-reserve-4.ensures.room;
 }
 
 pub returns-in_err-reserve : goal.returns-in_err-reserve
@@ -22,7 +22,7 @@ returns-in_err-reserve c =
       pairs = c.in_err-reserve.ensures.items;
       counts = refl {A = List ℕ};
       least = refl {A = List AnsweredMax};
-      marks = refl {A = List ℕ};
+      marks = λ marking. refl;
       pairs_room = no_ok c.from_residual.result _ failed;
       counts_room = no_ok c.from_residual.result _ failed;
       least_room = no_ok c.from_residual.result _ failed;
@@ -36,7 +36,7 @@ returns-in_err-reserve-2 c =
       pairs = c.in_ok-reserve.ensures.items;
       counts = c.in_err-reserve-2.ensures.items;
       least = refl {A = List AnsweredMax};
-      marks = refl {A = List ℕ};
+      marks = λ marking. refl;
       pairs_room = no_ok c.from_residual-in_err-reserve-2.result _ failed;
       counts_room = no_ok c.from_residual-in_err-reserve-2.result _ failed;
       least_room = no_ok c.from_residual-in_err-reserve-2.result _ failed;
@@ -50,7 +50,7 @@ returns-in_err-reserve-3 c =
       pairs = c.in_ok-reserve.ensures.items;
       counts = c.in_ok-reserve-2.ensures.items;
       least = c.in_err-reserve-3.ensures.items;
-      marks = refl {A = List ℕ};
+      marks = λ marking. refl;
       pairs_room = no_ok c.from_residual-in_err-reserve-3.result _ failed;
       counts_room = no_ok c.from_residual-in_err-reserve-3.result _ failed;
       least_room = no_ok c.from_residual-in_err-reserve-3.result _ failed;
@@ -64,7 +64,7 @@ returns-in_err-reserve-4 c =
       pairs = c.in_ok-reserve.ensures.items;
       counts = c.in_ok-reserve-2.ensures.items;
       least = c.in_ok-reserve-3.ensures.items;
-      marks = c.in_err-reserve-4.ensures.items;
+      marks = c.in_err-reserve-4.ensures.same;
       pairs_room = no_ok c.from_residual-in_err-reserve-4.result _ failed;
       counts_room = no_ok c.from_residual-in_err-reserve-4.result _ failed;
       least_room = no_ok c.from_residual-in_err-reserve-4.result _ failed;

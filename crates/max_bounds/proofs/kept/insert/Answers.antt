@@ -6,6 +6,7 @@ use Rattle.audit_types.specs.Extremes.{extremes}
 use Rattle.max_bounds.specs.Maxima.{answers_of, and_answer}
 use Rattle.max_bounds.specs.Outside.{HasWithin}
 use Rattle.max_bounds.specs.Kept.{AreLeast, Descend, IsEndOf}
+use Rattle.max_bounds.specs.Marks.{marks_of}
 use Rattle.max_bounds.specs.declared.answered.AnsweredMax.{AnsweredMax}
 use Rattle.max_bounds.proofs.NextExtremes.{least_inserted, least_within}
 use Rattle.max_bounds.proofs.Descending.{answers_inserted, inserted_descend}
@@ -59,7 +60,7 @@ pub has_within-requires : goal.has_within-requires
 has_within-requires c = record {
   same_n = subst (AllByRecursion (λ (p : AnsweredMax). p.rows.n ≡ c.args.latest.now.rows.n)) (sym c.deref.ensures.value) c.requires.same_n_least;
   descend = subst (λ l. Descend (answers_of l)) (sym c.deref.ensures.value) c.requires.descend;
-  marked = rw (c.deref.ensures.value, c.deref-2.ensures.value) c.requires.marked;
+  marked = rw c.deref.ensures.value c.requires.marked;
 }
 
 pub end_of-place-requires : goal.end_of-place-requires
@@ -74,25 +75,18 @@ returns-else-not-has_within-clause-same_n_least c = c.requires.same_n_least
 pub returns-else-not-has_within-clause-descend : goal.returns-else-not-has_within-clause-descend
 returns-else-not-has_within-clause-descend c = c.requires.descend
 
-pub unwrap-requires-then-not-has_within : goal.unwrap-requires-then-not-has_within
-unwrap-requires-then-not-has_within c = c.insert-then-not-has_within.ensures.succeeds c.requires.marks_room
-
-pub insert-requires-then-not-has_within : goal.insert-requires-then-not-has_within
-insert-requires-then-not-has_within c =
-    let long = marks_length c.args.least.now.items c.args.marks.now.items c.requires.marked in
+pub insert-requires-then-not-has_within-clause-place : goal.insert-requires-then-not-has_within-clause-place
+insert-requires-then-not-has_within-clause-place c = λ marking.
+    let long = marks_length marking c.args.least.now.items (marks_of marking c.args.marks.now) (c.requires.marked marking) in
     omega (arith, long, c.end_of-place.ensures.at_most, c.deref-then-not-has_within.ensures.len, ap length c.deref-then-not-has_within.ensures.value)
 
 pub returns-then-not-has_within-clause-marked : goal.returns-then-not-has_within-clause-marked
-returns-then-not-has_within-clause-marked c =
+returns-then-not-has_within-clause-marked c = λ marking.
     let least = c.args.least.now.items in
-    let marks = c.args.marks.now.items in
+    let marks = marks_of marking c.args.marks.now in
     let place = c.end_of-place.result in
     let set : AnsweredMax = record { rows = c.args.own.now; answer = to_z w64 (of_z w64 c.args.latest.now.answer) } in
     let items_are : c.insert.new.self.items ≡ insert least place set = c.insert.ensures.items
     ∙ ap (λ b. cond b (insert least place set) least) (c.insert.ensures.succeeds c.requires.room) in
-    let marks_are : c.insert-then-not-has_within.new.self.items ≡ insert marks place c.mark_of.result = c.insert-then-not-has_within.ensures.items
-    ∙ ap (λ b. cond b (insert marks place c.mark_of.result) marks) (c.insert-then-not-has_within.ensures.succeeds c.requires.marks_room) in
-    rw (items_are, marks_are) (marked_inserted least marks place set c.mark_of.result c.requires.marked c.mark_of.ensures)
-
-pub returns-else-not-has_within-clause-marked : goal.returns-else-not-has_within-clause-marked
-returns-else-not-has_within-clause-marked c = c.requires.marked
+    let put = c.insert-then-not-has_within.ensures marking in
+    rw (items_are, put.2) (marked_inserted marking least marks place set put.0 (c.requires.marked marking) put.1)

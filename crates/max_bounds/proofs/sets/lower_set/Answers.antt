@@ -5,6 +5,12 @@ use Rattle.std.proofs.lemmas.Int.{to_z-of_z}
 use Rattle.max_bounds.proofs.LoweredSets.{lowered, left_is}
 use Rattle.max_bounds.proofs.sets.lower_set.Goals as goal
 
+pub returns-then-set-answer-clause-outside : goal.returns-then-set-answer-clause-outside
+returns-then-set-answer-clause-outside c = λ rows flipped yes.
+    same_set c.and_with.new.self _ _ c.and_with.ensures.n
+    (left_is c.args.set.now.rows.n c.args.others.now.n rows c.args.set.now.rows.list c.args.others.now.list c.and_with.new.self.list
+    c.requires.same_n c.n.ensures.are_rows flipped c.and_with.ensures.both)
+
 pub returns-then-set-answer-clause-lowered : goal.returns-then-set-answer-clause-lowered
 returns-then-set-answer-clause-lowered c = λ rows flipped.
     let fits : SFits w64 c.args.set.now.answer = search rules in
@@ -12,10 +18,3 @@ returns-then-set-answer-clause-lowered c = λ rows flipped.
     c.and_with.new.self.list
     c.requires.same_n c.n.ensures.are_rows flipped c.and_with.ensures.both
     (rw (to_z-of_z w64 c.args.answer c.ranges.answer, to_z-of_z w64 c.args.set.now.answer fits) at c.if-set-answer.true)
-
-pub returns-then-set-answer-clause-marked : goal.returns-then-set-answer-clause-marked
-returns-then-set-answer-clause-marked c = λ rows flipped are.
-    c.lowered_mark.ensures c.args.set.now.rows c.and_with.new.self rows c.requires.marked are
-    (same_set c.and_with.new.self _ _ c.and_with.ensures.n
-    (left_is c.args.set.now.rows.n c.args.others.now.n rows c.args.set.now.rows.list c.args.others.now.list c.and_with.new.self.list
-    c.requires.same_n c.n.ensures.are_rows flipped c.and_with.ensures.both))

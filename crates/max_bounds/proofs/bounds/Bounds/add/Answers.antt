@@ -11,8 +11,11 @@ use Rattle.audit_types.specs.Extremes.{upper_bound, extremes}
 use Rattle.max_bounds.specs.Maxima.{Maxima, answer_of, answers_of, and_answer}
 use Rattle.max_bounds.specs.Reaching.{bound_at}
 use Rattle.max_bounds.specs.Kept.{is_at_least, rows_at_least, rows_above, fewest_of, AreLeast, Descend, IsHigh, TellsExtremes, IsKept}
+use Rattle.max_bounds.specs.Marks.{marks_of}
 use Rattle.max_bounds.specs.declared.answered.AnsweredMax.{AnsweredMax}
 use Rattle.max_bounds.specs.declared.bounds.Bounds.TheInside.{Inside}
+use Rattle.max_bounds.specs.declared.marks.Marking.{Marking}
+use Rattle.max_bounds.specs.declared.marks.Marks.{Marks}
 use Rattle.audit_types.specs.ListLaws.{all-push}
 use Rattle.max_bounds.proofs.FailedCalls.{no_ok, at_err}
 use Rattle.max_bounds.proofs.FallingCounts.{fewest_of-push}
@@ -38,13 +41,13 @@ renew_high-requires-clause-low c =
     let x = to_z w64 (of_z w64 c.args.answer) in
     let bounds : bound_at c.deref-2.result.now ≡ upper_bound answers = ap bound_at c.deref-2.ensures.value ∙ fun_ext c.self.invariant.bounds in
     let upper_is : (with_items c.self.inside.upper c.settle.new.upper).items ≡ c.settle.new.upper =
-    with_items_is c.self.inside.upper c.settle.new.upper (c.settle.auto.upper ∙ c.deref_mut-4.ensures.len) in
+    with_items_is c.self.inside.upper c.settle.new.upper (c.settle.auto.upper ∙ c.deref_mut-3.ensures.len) in
     let reached : c.reach_high-affected.result.extremes.list ≡ rows_at_least (upper_bound answers) x rows = c.reach_high-affected.ensures.extremes
     ∙ ap (λ u. rows_at_least u x rows) bounds in
     λ r cut there higher. ap (is_at_least cut) (ap (λ l. bound_at l r) (c.deref-6.ensures.value ∙ upper_is) ∙ c.settle.ensures.settled r
-    ∙ ap (λ l. cond (has_row l r) (Some x) (bound_at c.deref_mut-4.result.now r)) reached
+    ∙ ap (λ l. cond (has_row l r) (Some x) (bound_at c.deref_mut-3.result.now r)) reached
     ∙ ap (λ o. cond (has_row (rows_at_least (upper_bound answers) x rows) r) (Some x) o)
-    (ap (λ l. bound_at l r) c.deref_mut-4.ensures.value ∙ c.self.invariant.bounds r)
+    (ap (λ l. bound_at l r) c.deref_mut-3.ensures.value ∙ c.self.invariant.bounds r)
     ∙ next_bounds answers rows x r ∙ bound_in_set answers rows x r there)
     ∙ least_low (upper_bound answers r) x cut higher
 
@@ -55,14 +58,14 @@ renew_high-requires-clause-high c =
     let upper = c.self.inside.upper.items in
     let same_n : c.args.rows.now.n ≡ c.self.inside.n = c.requires.same_n ∙ sym (ap (λ (m : Maxima). m.n) c.self.view_is) in
     let upper_is : (with_items c.self.inside.upper c.settle.new.upper).items ≡ c.settle.new.upper =
-    with_items_is c.self.inside.upper c.settle.new.upper (c.settle.auto.upper ∙ c.deref_mut-4.ensures.len) in
+    with_items_is c.self.inside.upper c.settle.new.upper (c.settle.auto.upper ∙ c.deref_mut-3.ensures.len) in
     let reached : c.reach_high-affected.result.extremes.list ≡ rows_at_least (bound_at upper) x rows = c.reach_high-affected.ensures.extremes
     ∙ ap (λ l. rows_at_least (bound_at l) x rows) c.deref-2.ensures.value in
     subst (λ n. AllByRecursion (IsHigh n (bound_at c.deref-6.result.now)) c.self.inside.high.items) (sym same_n)
     (all_stay c.self.inside.n (bound_at upper) (bound_at c.deref-6.result.now) x rows c.self.inside.high.items c.self.invariant.high (λ r.
     ap (λ l. bound_at l r) (c.deref-6.ensures.value ∙ upper_is) ∙ c.settle.ensures.settled r
-    ∙ ap (λ l. cond (has_row l r) (Some x) (bound_at c.deref_mut-4.result.now r)) reached
-    ∙ ap (λ l. cond (has_row (rows_at_least (bound_at upper) x rows) r) (Some x) (bound_at l r)) c.deref_mut-4.ensures.value))
+    ∙ ap (λ l. cond (has_row l r) (Some x) (bound_at c.deref_mut-3.result.now r)) reached
+    ∙ ap (λ l. cond (has_row (rows_at_least (bound_at upper) x rows) r) (Some x) (bound_at l r)) c.deref_mut-3.ensures.value))
 
 pub invariant_of-self-2 : goal.invariant_of-self-2
 invariant_of-self-2 c =
@@ -87,7 +90,7 @@ invariant_of-self-2 c =
     ∙ ap (λ l. l ++ c.len-count.result ∷ [])
     (with_items_is c.make_room.new.counts c.fall-fewest.new.counts (c.fall-fewest.auto.counts ∙ c.deref_mut.ensures.len)) in
     let upper_is : (with_items c.self.inside.upper c.settle.new.upper).items ≡ c.settle.new.upper =
-    with_items_is c.self.inside.upper c.settle.new.upper (c.settle.auto.upper ∙ c.deref_mut-4.ensures.len) in
+    with_items_is c.self.inside.upper c.settle.new.upper (c.settle.auto.upper ∙ c.deref_mut-3.ensures.len) in
     let small : c.len-count.result ≤ 65535 = omega (arith, c.len-count.type_inv) in
     record {
       at_most = c.self.invariant.at_most;
@@ -97,11 +100,11 @@ invariant_of-self-2 c =
           (record { rows = c.args.rows.now; answer = x }) c.self.invariant.same_n same_n);
       are_rows = subst (AllByRecursion (λ a. AreRows c.self.inside.n a.rows)) (sym answers_are)
           (all-push (λ a. AreRows c.self.inside.n a.rows) answers last c.self.invariant.are_rows (subst (λ n. AreRows n rows) same_n c.n.ensures.are_rows));
-      one_each = ap length upper_is ∙ c.settle.auto.upper ∙ ap length c.deref_mut-4.ensures.value ∙ c.self.invariant.one_each;
+      one_each = ap length upper_is ∙ c.settle.auto.upper ∙ ap length c.deref_mut-3.ensures.value ∙ c.self.invariant.one_each;
       bounds = λ r. ap (λ l. bound_at l r) upper_is ∙ c.settle.ensures.settled r
-          ∙ ap (λ l. cond (has_row l r) (Some x) (bound_at c.deref_mut-4.result.now r)) reached
+          ∙ ap (λ l. cond (has_row l r) (Some x) (bound_at c.deref_mut-3.result.now r)) reached
           ∙ ap (λ o. cond (has_row (rows_at_least (upper_bound answers) x rows) r) (Some x) o)
-          (ap (λ l. bound_at l r) c.deref_mut-4.ensures.value ∙ c.self.invariant.bounds r)
+          (ap (λ l. bound_at l r) c.deref_mut-3.ensures.value ∙ c.self.invariant.bounds r)
           ∙ next_bounds answers rows x r ∙ ap (λ l. upper_bound l r) (sym answers_are);
       same_n_least = subst (λ n. AllByRecursion (λ p. p.rows.n ≡ n) c.insert.new.least.items) same_n c.insert.ensures.same_n_least;
       descend = c.insert.ensures.descend;
@@ -134,8 +137,9 @@ returns-clause-ok c =
     ∙ ap (λ (m : Maxima). record { n = m.n; answers = and_answer m.answers rows c.args.answer }) c.self.view_is
 
 -- the same items are kept
-same_items : (b : Inside) (pairs : Vec AnsweredMax Global) (counts : Vec ℕ Global) (least : Vec AnsweredMax Global) (marks : Vec ℕ Global)
-    → pairs.items ≡ b.pairs.items → counts.items ≡ b.counts.items → least.items ≡ b.least.items → marks.items ≡ b.marks.items → IsKept b
+same_items : (b : Inside) (pairs : Vec AnsweredMax Global) (counts : Vec ℕ Global) (least : Vec AnsweredMax Global) (marks : Marks)
+    → pairs.items ≡ b.pairs.items → counts.items ≡ b.counts.items → least.items ≡ b.least.items
+    → ((marking : Marking) → marks_of marking marks ≡ marks_of marking b.marks) → IsKept b
     → IsKept (record { n = b.n; pairs = pairs; upper = b.upper; counts = counts; fewest = b.fewest; least = least; marks = marks; high = b.high })
 same_items b pairs counts least marks p q s t kept = record {
   at_most = kept.at_most;
@@ -145,7 +149,7 @@ same_items b pairs counts least marks p q s t kept = record {
   bounds = λ r. kept.bounds r ∙ ap (λ l. upper_bound (answers_of l) r) (sym p);
   same_n_least = subst (AllByRecursion (λ a. a.rows.n ≡ b.n)) (sym s) kept.same_n_least;
   descend = subst (λ l. Descend (answers_of l)) (sym s) kept.descend;
-  marked = rw (s, t) kept.marked;
+  marked = λ marking. rw (s, t marking) (kept.marked marking);
   high = kept.high;
   tells = rw (p, q, s) kept.tells;
 }
@@ -248,11 +252,11 @@ fall-fewest-requires-clause-within c =
 pub settle-requires-clause-within : goal.settle-requires-clause-within
 settle-requires-clause-within c =
     let same_n : c.args.rows.now.n ≡ c.self.inside.n = c.requires.same_n ∙ sym (ap (λ (m : Maxima). m.n) c.self.view_is) in
-    omega (arith, same_n, c.reach_high-affected.ensures.extremes_n, c.self.invariant.one_each, ap length c.deref_mut-4.ensures.value)
+    omega (arith, same_n, c.reach_high-affected.ensures.extremes_n, c.self.invariant.one_each, ap length c.deref_mut-3.ensures.value)
 
 pub settle-requires-clause-settled : goal.settle-requires-clause-settled
 settle-requires-clause-settled c = λ settled r there.
-    ap (λ l. bound_at l r) (c.deref_mut-4.ensures.value ∙ sym c.deref-2.ensures.value) ∙ c.reach_high-affected.ensures.settled settled r there
+    ap (λ l. bound_at l r) (c.deref_mut-3.ensures.value ∙ sym c.deref-2.ensures.value) ∙ c.reach_high-affected.ensures.settled settled r there
 
 pub push_reserved-requires : goal.push_reserved-requires
 push_reserved-requires c = c.in_ok-make_room.ensures.counts_room
@@ -270,14 +274,14 @@ pub renew_high-requires-clause-within : goal.renew_high-requires-clause-within
 renew_high-requires-clause-within c =
     let same_n : c.args.rows.now.n ≡ c.self.inside.n = c.requires.same_n ∙ sym (ap (λ (m : Maxima). m.n) c.self.view_is) in
     let upper_is : (with_items c.self.inside.upper c.settle.new.upper).items ≡ c.settle.new.upper =
-    with_items_is c.self.inside.upper c.settle.new.upper (c.settle.auto.upper ∙ c.deref_mut-4.ensures.len) in
+    with_items_is c.self.inside.upper c.settle.new.upper (c.settle.auto.upper ∙ c.deref_mut-3.ensures.len) in
     omega (
       arith,
       same_n,
       c.self.invariant.one_each,
       ap length (c.deref-6.ensures.value ∙ upper_is),
       c.settle.auto.upper,
-      ap length c.deref_mut-4.ensures.value,
+      ap length c.deref_mut-3.ensures.value,
     )
 
 pub returns-clause-err : goal.returns-clause-err
@@ -286,14 +290,13 @@ returns-clause-err c = tt
 -- ---- marks
 
 pub fall-fewest-requires-clause-marked : goal.fall-fewest-requires-clause-marked
-fall-fewest-requires-clause-marked c =
-    rw (c.deref_mut-2.ensures.value ∙ c.in_ok-make_room.ensures.least, c.deref_mut-3.ensures.value ∙ c.in_ok-make_room.ensures.marks) c.self.invariant.marked
+fall-fewest-requires-clause-marked c = λ marking.
+    rw (c.deref_mut-2.ensures.value ∙ c.in_ok-make_room.ensures.least, c.in_ok-make_room.ensures.marks marking) (c.self.invariant.marked marking)
 
 pub insert-requires-clause-marked : goal.insert-requires-clause-marked
 insert-requires-clause-marked c =
     let least_is = with_items_is c.make_room.new.least c.fall-fewest.new.least (c.fall-fewest.auto.least ∙ c.deref_mut-2.ensures.len) in
-    let marks_are = with_items_is c.make_room.new.marks c.fall-fewest.new.marks (c.fall-fewest.auto.marks ∙ c.deref_mut-3.ensures.len) in
-    rw (least_is, marks_are) c.fall-fewest.ensures.marked
+    rw least_is c.fall-fewest.ensures.marked
 
 pub insert-requires-clause-marks_room : goal.insert-requires-clause-marks_room
-insert-requires-clause-marks_room c = c.in_ok-make_room.ensures.marks_room
+insert-requires-clause-marks_room c = c.fall-fewest.ensures.room c.in_ok-make_room.ensures.marks_room

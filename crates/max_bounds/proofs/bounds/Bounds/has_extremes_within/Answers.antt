@@ -16,7 +16,7 @@ has_within-requires c =
       same_n = subst (AllByRecursion (λ p. p.rows.n ≡ c.args.rows.now.n)) (sym c.deref.ensures.value)
           (subst (λ n. AllByRecursion (λ p. p.rows.n ≡ n) c.self.inside.least.items) same_n c.self.invariant.same_n_least);
       descend = subst (λ l. Descend (answers_of l)) (sym c.deref.ensures.value) c.self.invariant.descend;
-      marked = rw (c.deref.ensures.value, c.deref-2.ensures.value) c.self.invariant.marked;
+      marked = rw c.deref.ensures.value c.self.invariant.marked;
     }
 
 pub returns : goal.returns

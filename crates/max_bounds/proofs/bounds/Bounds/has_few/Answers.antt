@@ -28,7 +28,7 @@ nearly_holds-requires c =
           (subst (λ n. AllByRecursion (λ p. p.rows.n ≡ n) c.self.inside.least.items)
           (same_n ∙ sym c.n-n.ensures.n ∙ sym c.new-none.ensures.n) c.self.invariant.same_n_least);
       descend = subst (λ l. Descend (answers_of l)) (sym c.deref.ensures.value) c.self.invariant.descend;
-      marked = rw (c.deref.ensures.value, c.deref-2.ensures.value) c.self.invariant.marked;
+      marked = rw c.deref.ensures.value c.self.invariant.marked;
     }
 
 pub returns : goal.returns

@@ -45,7 +45,7 @@ nearly_holds-requires c =
       same_n = subst (AllByRecursion (λ p. p.rows.n ≡ c.args.rows.now.n)) (sym c.deref-else-few_highest_of.ensures.value)
           (subst (λ n. AllByRecursion (λ p. p.rows.n ≡ n) c.self.inside.least.items) same_n c.self.invariant.same_n_least);
       descend = subst (λ l. Descend (answers_of l)) (sym c.deref-else-few_highest_of.ensures.value) c.self.invariant.descend;
-      marked = rw (c.deref-else-few_highest_of.ensures.value, c.deref-else-few_highest_of-2.ensures.value) c.self.invariant.marked;
+      marked = rw c.deref-else-few_highest_of.ensures.value c.self.invariant.marked;
     }
 
 pub returns-then-few_highest_of : goal.returns-then-few_highest_of
