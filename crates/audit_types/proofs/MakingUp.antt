@@ -44,10 +44,10 @@ at_most_greatest (x ∷ numbers) zero below = from_start x numbers
 at_most_greatest (x ∷ numbers) (suc place) below = each_at_most x numbers place (omega (arith, below))
 
 -- the greatest is what one has and none is above
-greatest_is : (numbers : List ℤ) (most : ℤ) (place : ℕ) → place < length numbers → number_at numbers place ≡ most →
+told_is : (numbers : List ℤ) (most : ℤ) (place : ℕ) → place < length numbers → number_at numbers place ≡ most →
     AreAtMost most numbers → told Max numbers ≡ most
-greatest_is [] most place below has all = absurd (omega arith)
-greatest_is (x ∷ numbers) most place below has all =
+told_is [] most place below has all = absurd (omega arith)
+told_is (x ∷ numbers) most place below has all =
     let low = fold_at_most most x numbers (all 0 (omega arith)) (λ k within. all (suc k) (omega (arith, within))) in
     let high = at_most_greatest (x ∷ numbers) place below in
     omega (arith, ints, low, high, has)
@@ -67,7 +67,7 @@ module _ (numbers : List ℤ) (person another : ℕ) (two : person ≢ another) 
   stays_greatest : (number : ℤ) → number_at numbers another ≡ told Max numbers → number ≤ℤ told Max numbers →
       told Max (slice_set numbers person number) ≡ told Max numbers
   stays_greatest number has low =
-      greatest_is (slice_set numbers person number) (told Max numbers) another (omega (arith, other_below, long))
+      told_is (slice_set numbers person number) (told Max numbers) another (omega (arith, other_below, long))
       (get_or-set_other numbers person another number (pos 0) (λ e. two (sym e)) ∙ has) below
     where
       long : length (slice_set numbers person number) ≡ length numbers

@@ -319,14 +319,11 @@ module _ (shape : Shape) (counts : List ℕ) (secrets : Secrets) (all : AreSecre
 module _ (shape : Shape) (counts : List ℕ) (secrets : Secrets) (everyone : List People) (column line person : ℕ)
     (behind : AreBehind shape counts secrets everyone) (rows : length counts ≡ shape.rows) (some : AllByRecursion (λ count. 0 < count) counts)
     (column_below : column < columns shape) (line_below : line < length counts) (person_below : person < count_at counts line) where
-  numbered : length (of_line (people_in everyone column) line) ≡ count_at counts line
-  numbered = as_many shape counts secrets everyone behind column line column_below line_below
-
   of_several : 1 < count_at counts line → HasOthersBehind shape counts secrets everyone column line person
   of_several more =
       let other = other_told (kind_at shape column) (count_at counts line) (told (kind_at shape column) (of_line (people_in everyone column) line))
       person (number_at (of_line (people_in everyone column) line) person) more person_below in
-      let same_length = other.long ∙ sym numbered in
+      let same_length = other.long ∙ sym (as_many shape counts secrets everyone behind column line column_below line_below) in
       record {
         others = others shape counts secrets everyone behind column line column_below line_below other.numbers same_length other.tells;
         behind = still_behind shape counts secrets everyone behind column line column_below line_below other.numbers same_length other.tells;
@@ -339,6 +336,7 @@ module _ (shape : Shape) (counts : List ℕ) (secrets : Secrets) (everyone : Lis
       HasOthersBehind shape counts other everyone column line person
   of_one other all one differs =
       let first : person ≡ 0 = omega arith in
+      let numbered = as_many shape counts secrets everyone behind column line column_below line_below in
       let tells = tells_line shape counts secrets everyone behind column line column_below line_below in
       let before = sym (single (kind_at shape column) (of_line (people_in everyone column) line) (numbered ∙ one)) ∙ tells in
       let after = single_there shape counts other all rows some column line column_below line_below one in

@@ -1,12 +1,13 @@
 -- Facts on the rows of a reduced form: their lengths, and what they are at each other's pivots.
-use Rattle.std.proofs.Common.{◌≡◌, ◌≢◌, ℕ, ◌<◌, true, ◌==◌, ℤ, pos, List, [], ◌∷◌, length, sym, ap, ◌∙◌, subst, arith, inl, inr}
+use Rattle.std.proofs.Common.{◌≡◌, ◌≢◌, ℕ, ◌<◌, true, not, ◌==◌, ℤ, pos, List, [], ◌∷◌, length, sym, ap, ◌∙◌, subst, arith, inl, inr}
 use Rattle.std.specs.List.{AllByRecursion}
-use Rattle.std.proofs.lemmas.Bool.{or_cases, eqb-true, cases_lt, true≢false}
+use Rattle.std.proofs.lemmas.Bool.{or_cases, eqb-true, cases_lt, not-false, true≢false}
 use Rattle.std.proofs.lemmas.List.{get_or_past}
-use Rattle.audit_types.specs.Truth.{number_at}
+use Rattle.std.proofs.lemmas.List.Sums.{fails_before_first}
+use Rattle.audit_types.specs.Truth.{number_at, is_zero}
 use Rattle.audit_types.specs.Form.{pivot, pivot_entry, IsPrimitive, IsEchelon, StandsBefore}
 use Rattle.audit_types.specs.Direction.{is_pivot}
-use Rattle.audit_types.specs.Numbers.{positive_not_zero}
+use Rattle.audit_types.specs.Numbers.{positive_not_zero, zero_from_test}
 
 -- primitive rows have one length
 pub lengths_of_form : (n : ℕ) (form : List (List ℤ)) → AllByRecursion (IsPrimitive n) form → AllByRecursion (λ r. length r ≡ n) form
@@ -19,6 +20,10 @@ pivot_below n row primitive = elim (cases_lt (pivot row) n) [
   | inl inside ↦ inside
   | inr outside ↦ let all = primitive.one_each in absurd (positive_not_zero (pivot_entry row) primitive.leading (get_or_past row (pivot row) (pos 0) (omega arith)))
 ]
+
+-- a row is 0 before its pivot
+pub zero_before : (row : List ℤ) (j : ℕ) → j < pivot row → number_at row j ≡ pos 0
+zero_before row j h = zero_from_test (number_at row j) (not-false (is_zero (number_at row j)) (fails_before_first (λ x. not (is_zero x)) row j (pos 0) h))
 
 -- what is said of each pivot holds at each column that is one
 pub at_pivot : (P : ℕ → Type 0) (rows : List (List ℤ)) (j : ℕ) → AllByRecursion (λ row. P (pivot row)) rows → is_pivot rows j ≡ true → P j

@@ -9,7 +9,7 @@ use Rattle.audit_types.specs.declared.shapes.Kind.{Kind}
 use Rattle.audit_types.specs.declared.shapes.Kind.TheVariants.{Sum, Max}
 use Rattle.audit_types.specs.Rows.{has_row, AscendsFrom, AreRows}
 use Rattle.audit_types.specs.Truth.{number_at, sum_over, greatest_over, truth}
-use Rattle.audit_types.specs.Column.{Answer, IsOneOf}
+use Rattle.audit_types.specs.Column.{Answer}
 
 -- the greatest of a number and those over some rows
 abbrev greatest_from : List ℤ → ℤ → List ℕ → ℤ
@@ -96,9 +96,3 @@ module _ (w v : List ℤ) (m : ℕ) (same : (r : ℕ) → r < m → number_at w 
       AllByRecursion (λ a. truth kind w a.rows ≡ a.value) answers → AllByRecursion (λ a. truth kind v a.rows ≡ a.value) answers
   same_answers kind [] are all = tt
   same_answers kind (a ∷ answers) are all = (sym (same_truth kind a.rows are.0) ∙ all.0, same_answers kind answers are.1 all.1)
-
--- what is so of all answers is so of each
-pub of_answer : (P : Answer → Type 0) (answers : List Answer) (a : Answer) → AllByRecursion P answers → IsOneOf a answers → P a
-of_answer P [] a all one = absurd one
-of_answer P (b ∷ answers) a all (inl same) = subst P same all.0
-of_answer P (b ∷ answers) a all (inr later) = of_answer P answers a all.1 later

@@ -76,7 +76,7 @@ same_size (negsuc m) y p q e = absurd (omega (arith, ints))
 same_size (pos m) (negsuc n) p q e = absurd (omega (arith, ints))
 
 -- a positive factor cancels
-cancelled : (x f g : ℤ) → pos 0 <ℤ x → x *ℤ f ≡ x *ℤ g → f ≡ g
+pub cancelled : (x f g : ℤ) → pos 0 <ℤ x → x *ℤ f ≡ x *ℤ g → f ≡ g
 cancelled x f g p e =
     let product = add-times f (neg_ℤ g) x in
     let minus = neg-times g x in

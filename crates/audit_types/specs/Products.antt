@@ -64,6 +64,10 @@ times_assoc (negsuc (suc n)) c r =
     let minus = neg-times c r in
     omega (arith, ints)
 
+-- the first two of three in the other order
+pub swapped : (x y z : ℤ) → x *ℤ (y *ℤ z) ≡ y *ℤ (x *ℤ z)
+swapped x y z = sym (times_assoc x y z) ∙ ap (λ k. k *ℤ z) (*ℤ_comm x y) ∙ times_assoc y x z
+
 -- a product with a positive number is 0 only if the other factor is
 pub zero_factor : (c p : ℤ) → c *ℤ p ≡ pos 0 → pos 0 <ℤ p → c ≡ pos 0
 zero_factor c p e h =

@@ -9,7 +9,7 @@ use Rattle.audit_types.specs.RowLaws.{ascends_more}
 use Rattle.audit_types.specs.Truth.{number_at, sum_over}
 use Rattle.audit_types.specs.Form.{set_row, combined, InSpan}
 use Rattle.audit_types.specs.RowNumbers.{number_at-set_row}
-use Rattle.audit_types.specs.Products.{add-times, times-add, times_assoc, zero_factor}
+use Rattle.audit_types.specs.Products.{add-times, times-add, times_assoc, swapped, zero_factor}
 
 -- the sum of the values below n
 abbrev pub total : (ℕ → ℤ) → ℕ → ℤ
@@ -65,14 +65,11 @@ pub product-combined_with : (row : List ℤ) (a : ℤ) (f : ℕ → ℤ) (b : �
     product row (λ i. a *ℤ f i +ℤ b *ℤ g i) n ≡ a *ℤ product row f n +ℤ b *ℤ product row g n
 product-combined_with row a f b g n =
     total-agree (λ i. number_at row i *ℤ (a *ℤ f i +ℤ b *ℤ g i)) (λ i. a *ℤ (number_at row i *ℤ f i) +ℤ b *ℤ (number_at row i *ℤ g i)) n
-    (λ i l. times-add (number_at row i) (a *ℤ f i) (b *ℤ g i) ∙ ap (λ z. z +ℤ number_at row i *ℤ (b *ℤ g i)) (turn (number_at row i) a (f i))
-    ∙ ap (λ z. a *ℤ (number_at row i *ℤ f i) +ℤ z) (turn (number_at row i) b (g i)))
+    (λ i l. times-add (number_at row i) (a *ℤ f i) (b *ℤ g i) ∙ ap (λ z. z +ℤ number_at row i *ℤ (b *ℤ g i)) (swapped (number_at row i) a (f i))
+    ∙ ap (λ z. a *ℤ (number_at row i *ℤ f i) +ℤ z) (swapped (number_at row i) b (g i)))
     ∙ total-add (λ i. a *ℤ (number_at row i *ℤ f i)) (λ i. b *ℤ (number_at row i *ℤ g i)) n
     ∙ ap (λ z. z +ℤ total (λ i. b *ℤ (number_at row i *ℤ g i)) n) (total-times a (λ i. number_at row i *ℤ f i) n)
     ∙ ap (λ z. a *ℤ product row f n +ℤ z) (total-times b (λ i. number_at row i *ℤ g i) n)
-  where
-    turn : (r c x : ℤ) → r *ℤ (c *ℤ x) ≡ c *ℤ (r *ℤ x)
-    turn r c x = sym (times_assoc r c x) ∙ ap (λ z. z *ℤ x) (*ℤ_comm r c) ∙ times_assoc c r x
 
 -- one or zero times a number
 chosen : (b : Bool) (x : ℤ) → cond b (pos 1) (pos 0) *ℤ x ≡ cond b x (pos 0)

@@ -6,8 +6,6 @@ use Rattle.std.specs.List.{filter}
 use Rattle.std.proofs.lemmas.Int.{ints}
 use Rattle.std.proofs.lemmas.Bool.{true≢false, cases_lt}
 use Rattle.audit_types.specs.Rows.{has_row, AreRows, intersection, complement}
-use Rattle.audit_types.specs.RowLaws.{ascending_same, has-rows_that, has-rows_that_above, none_above, AreRows-rows_that}
-use Rattle.audit_types.specs.FilteredRows.{has_filtered}
 use Rattle.audit_types.specs.Column.{Answer, IsOneOf}
 use Rattle.audit_types.specs.Extremes.{upper_bound, is_bound, extremes}
 use Rattle.max_bounds.specs.BoundLaws.{bound_below, bound_is, exact_bound}
@@ -15,7 +13,7 @@ use Rattle.max_bounds.specs.Kept.{is_at_least, rows_at_least}
 use Rattle.max_bounds.specs.Maxima.{and_answer}
 use Rattle.max_bounds.specs.OneMoreLaws.{IsAtLeast, lower_keeps, higher_loses, asked_has, has_asked, filters_agree_on}
 use Rattle.max_bounds.specs.Outside.{outside}
-use Rattle.max_bounds.specs.RowListLaws.{filter-has, has-filter, filter-ascends}
+use Rattle.max_bounds.specs.RowListLaws.{filter-has, has-filter, outside_is}
 use Rattle.denial_proof.proofs.Tests.{same_test}
 
 -- a bound that is at least a number
@@ -44,20 +42,6 @@ filter_swap p q (r ∷ rows) = step (p r) (q r) refl refl (filter_swap p q rows)
     step true false e f rest = rw (f, rest) refl
     step false true e f rest = rw (e, rest) refl
     step false false e f rest = rest
-
--- the rows of a set of the table that are among the others than the asked ones
-outside_is : (n : ℕ) (asked rows : List ℕ) → AreRows n rows → intersection n rows (complement n asked) ≡ outside asked rows
-outside_is n asked rows are = ascending_same 0 n n (intersection n rows (complement n asked)) (outside asked rows)
-    (AreRows-rows_that (λ r. has_row rows r && has_row (complement n asked) r) n) (filter-ascends 0 n (λ r. not (has_row asked r)) rows are)
-    (λ r. elim (cases_lt r n) [
-      | inl below ↦
-          has-rows_that (λ q. has_row rows q && has_row (complement n asked) q) n r below
-          ∙ ap (λ b. has_row rows r && b) (has-rows_that (λ q. not (has_row asked q)) n r below)
-          ∙ sym (has_filtered (λ q. not (has_row asked q)) rows r)
-      | inr above ↦
-          has-rows_that_above (λ q. has_row rows q && has_row (complement n asked) q) n r above
-          ∙ sym (none_above 0 n (outside asked rows) (filter-ascends 0 n (λ q. not (has_row asked q)) rows are) r above)
-    ])
 
 module _ (n : ℕ) (answers : List Answer) where
   -- the extreme rows of an answer are those of its set that can reach it

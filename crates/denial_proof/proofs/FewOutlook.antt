@@ -5,10 +5,9 @@ use Rattle.std.proofs.lemmas.Int.{ints, by_lt_z}
 use Rattle.audit_types.specs.Headcount.{Headcount, AreFew}
 use Rattle.audit_types.specs.Column.{Answer, IsOneOf, known_max, guarding}
 use Rattle.audit_types.specs.Extremes.{upper_bound, extremes}
-use Rattle.audit_types.specs.GreatestLaws.{of_answer}
 use Rattle.max_audit.specs.Candidates.{IsNearRange}
 use Rattle.max_audit.specs.Laws.{LeavesFewPeople}
-use Rattle.max_bounds.specs.AnswerLaws.{one_of_front, one_of_last, front_or_last}
+use Rattle.max_bounds.specs.AnswerLaws.{one_of_front, one_of_last, front_or_last, some_extreme, all_at}
 use Rattle.max_bounds.specs.Few.{HasFewPeople}
 use Rattle.max_bounds.specs.Kept.{is_at_least}
 use Rattle.max_bounds.specs.OneMoreLaws.{IsAtLeast, asked, with_asked, lower_keeps, higher_loses, has_asked}
@@ -34,10 +33,6 @@ lower_at_least low high bound less test = is_least low bound (by bound (at_least
 module _ (n : ℕ) (answers : List Answer) (people : Headcount) (rows : List ℕ) (outlook : Outlook) (x : ℤ) (near : IsNearRange x)
     (none_few : ¬ (HasFewPeople people answers)) (is : IsOutlook answers people rows outlook)
     (leaves : LeavesFewPeople (guarding (known_max n answers) people []) rows x) where
-  -- each answer has an extreme row
-  some_extreme : (a : Answer) → IsOneOf a (with_asked answers rows x) → 0 < length (extremes (with_asked answers rows x) a)
-  some_extreme a one = of_answer (λ (b : Answer). 0 < length (extremes (with_asked answers rows x) b)) (with_asked answers rows x) a leaves.possible one
-
   -- so none above it was held whole
   whole_below : outlook.holding.whole ≤ℤ x
   whole_below = elim is.holding.whole [
@@ -45,7 +40,7 @@ module _ (n : ℕ) (answers : List Answer) (people : Headcount) (rows : List ℕ
     | inr (a, one, held, value) ↦ by_lt_z x a.value
         (λ less.
         let some = subst (λ (l : List ℕ). 0 < length l) (higher_loses answers rows x a one less ∙ held)
-        (some_extreme a (one_of_front answers (asked answers rows x) a one)) in
+        (some_extreme (with_asked answers rows x) leaves.possible a (one_of_front answers (asked answers rows x) a one)) in
         absurd (omega (arith, some)))
         (λ more. omega (arith, ints))
   ]
@@ -54,7 +49,7 @@ module _ (n : ℕ) (answers : List Answer) (people : Headcount) (rows : List ℕ
   reached : x ≤ℤ outlook.reach.top
   reached =
       let found = some_row (extremes (with_asked answers rows x) (asked answers rows x))
-      (some_extreme (asked answers rows x) (one_of_last answers (asked answers rows x))) in
+      (some_extreme (with_asked answers rows x) leaves.possible (asked answers rows x) (one_of_last answers (asked answers rows x))) in
       let there = has_asked answers rows x found.0 found.1 in
       let most = is.reach.top found.0 there.0 in
       let least = reach_up x (upper_bound answers found.0) near there.1 in
@@ -66,7 +61,7 @@ module _ (n : ℕ) (answers : List Answer) (people : Headcount) (rows : List ℕ
   of_earlier a one few = by_lt_z x a.value
       (λ less.
       let left = subst (AreFew people []) (higher_loses answers rows x a one less) few in
-      elim (of_answer (λ (b : Answer). HasMoreOutside answers people rows b ⊎ (b.value ≤ℤ outlook.holding.stranded)) answers a is.holding.others one) [
+      elim (all_at (λ (b : Answer). HasMoreOutside answers people rows b ⊎ (b.value ≤ℤ outlook.holding.stranded)) answers a is.holding.others one) [
         | inl more ↦ absurd (more left)
         | inr most ↦ inl (omega (arith, ints))
       ])

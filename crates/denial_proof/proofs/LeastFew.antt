@@ -7,9 +7,7 @@ use Rattle.audit_types.specs.Column.{Answer, IsOneOf, IsWellFormed, known_max, g
 use Rattle.max_audit.specs.Laws.{LeavesFewPeople}
 use Rattle.max_bounds.specs.Maxima.{and_answer}
 use Rattle.audit_types.specs.Extremes.{upper_bound, is_bound, extremes, IsConsistent}
-use Rattle.audit_types.specs.GreatestLaws.{of_answer}
-use Rattle.max_bounds.specs.AnswerLaws.{one_of_front, one_of_last, front_or_last}
-use Rattle.max_bounds.specs.RowListLaws.{filter-ascends}
+use Rattle.max_bounds.specs.AnswerLaws.{one_of_front, one_of_last, front_or_last, extreme_rows, some_extreme}
 use Rattle.denial_proof.specs.declared.few_rows.FewRows.{FewRows}
 use Rattle.denial_proof.specs.FewRows.{AreFoundFew, name_of, ComesBefore, IsFirstName, IsFirstWith, IsLeastFew, IsLeastFewFound}
 use Rattle.denial_proof.proofs.FewNames.{not_itself_first, not_before_first, through_first, IsNameOf, name_is}
@@ -77,25 +75,21 @@ module _ (n : ℕ) (people : Headcount) (answers seen : List Answer) (x : Answer
       subst (IsLeastFewFound n people answers (seen ++ x ∷ [])) (sym found)
       (one_more first name (name_of rows.n people rows.list) before few (ap (λ (s : Rows). name_of s.n people s.list) rows_are) is)
 
--- the extreme rows of an answer are rows of the table, and some if it is possible
-module _ (n : ℕ) (answers : List Answer) (formed : IsWellFormed (known_max n answers)) where
-  pub extremes_ascend : (a : Answer) → IsOneOf a answers → AreRows n (extremes answers a)
-  extremes_ascend a one = filter-ascends 0 n (λ r. is_bound (upper_bound answers r) a.value) a.rows
-      (of_answer (λ (b : Answer). AreRows n b.rows) answers a formed.are_rows one)
+-- an answer has some extreme row if all are possible
+module _ (n : ℕ) (answers : List Answer) (formed : IsWellFormed (known_max n answers)) (consistent : IsConsistent answers) where
+  not_none : (a : Answer) → IsOneOf a answers → extremes answers a ≢ []
+  not_none a one none =
+      let some = some_extreme answers consistent a one in
+      let no = ap (λ rows. length rows) none in
+      omega (arith, some, no)
 
-  module _ (consistent : IsConsistent answers) where
-    pub some_extreme : (a : Answer) → IsOneOf a answers → extremes answers a ≢ []
-    some_extreme a one none =
-        let some = of_answer (λ (b : Answer). 0 < length (extremes answers b)) answers a consistent one in
-        let no = ap (λ rows. length rows) none in
-        omega (arith, some, no)
-
-    -- so the first name is one of the extreme rows of an answer
-    pub first_is_name : (people : Headcount) → CountPeople n people → (few : FewRows) (least : IsLeastFew n people answers answers few) →
-        IsNameOf n people (extremes answers least.answer) few
-    first_is_name people count few least =
-        subst (IsNameOf n people (extremes answers least.answer)) least.named
-        (name_is n people count (extremes answers least.answer) (extremes_ascend least.answer least.one) (some_extreme least.answer least.one))
+  -- so the first name is one of the extreme rows of an answer
+  pub first_is_name : (people : Headcount) → CountPeople n people → (few : FewRows) (least : IsLeastFew n people answers answers few) →
+      IsNameOf n people (extremes answers least.answer) few
+  first_is_name people count few least =
+      subst (IsNameOf n people (extremes answers least.answer)) least.named
+      (name_is n people count (extremes answers least.answer) (extreme_rows n answers formed.are_rows least.answer least.one)
+      (not_none least.answer least.one))
 
 -- what was found after a possible answer
 module _ (n : ℕ) (people : Headcount) (before : List Answer) (rows : List ℕ) (answer : ℤ) where

@@ -63,12 +63,6 @@ module _ (n : ℕ) (people : Headcount) (rows yielded left later : List ℕ) (r 
         let last = taken_people passes in
         omega (arith, most, few, all, last)
 
--- a set with this number of rows of the table, and these rows
-pub set_is : (set : Rows) (n : ℕ) (list : List ℕ) → set.n ≡ n → set.list ≡ list → set ≡ record { n = n; list = list }
-set_is set n list same_n same =
-    let made : ℕ → List ℕ → Rows = λ m rows. record { n = m; list = rows } in
-    ap (λ m. made m set.list) same_n ∙ ap (λ rows. made n rows) same
-
 -- if nothing was found, more than few people stand behind the rows
 pub none_found : (n : ℕ) (people : Headcount) (rows : List ℕ) (found : Option Rows) (b : Bool) → is_some found ≡ not b → AreFoundFew n people rows found →
     IsTrue b → ¬ (AreFew people [] rows)

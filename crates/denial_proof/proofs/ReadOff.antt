@@ -4,31 +4,25 @@
 -- the marks, and lies in the span of the marked form, which tells it by its numbers at the pivots. These stand among the columns, as the
 -- sets are independent, and there the combination is the target's row. So what the form gives at the marks are the coefficients, but for a
 -- common factor.
-use Rattle.std.proofs.Common.{◌≡◌, ℕ, ◌+◌, ◌<◌, ◌≤◌, ℤ, pos, List, [], ◌∷◌, map, length, sym, ap, ◌∙◌, arith, inl, inr, ◌-◌, not}
+use Rattle.std.proofs.Common.{◌≡◌, ℕ, ◌+◌, ◌<◌, ◌≤◌, ℤ, pos, List, [], ◌∷◌, map, length, sym, ap, ◌∙◌, arith, inl, inr, ◌-◌}
 use Rattle.std.specs.Prelude.{◌*ℤ◌, ◌<ℤ◌}
 use Rattle.std.specs.List.{AllByRecursion}
 use Rattle.std.proofs.lemmas.Int.{ints}
-use Rattle.std.proofs.lemmas.Bool.{cases_lt, not-false}
-use Rattle.std.proofs.lemmas.List.Sums.{fails_before_first}
+use Rattle.std.proofs.lemmas.Bool.{cases_lt}
 use Rattle.std.proofs.Math.IntN.{*ℤ-zero, *ℤ_comm}
-use Rattle.audit_types.specs.Truth.{number_at, is_zero}
-use Rattle.audit_types.specs.Numbers.{zero_from_test, positive_not_zero}
+use Rattle.audit_types.specs.Truth.{number_at}
+use Rattle.audit_types.specs.Numbers.{positive_not_zero}
 use Rattle.audit_types.specs.Form.{set_row, combined, InSpan, IsPrimitive, IsReducedForm, pivot, pivot_entry}
-use Rattle.audit_types.specs.FormRows.{pivot_below}
+use Rattle.audit_types.specs.FormRows.{pivot_below, zero_before}
 use Rattle.audit_types.specs.ListLaws.{all-weaker}
 use Rattle.audit_types.specs.Products.{times_assoc, zero_factor}
-use Rattle.audit_types.specs.PrimitiveLines.{times, number_at-times}
+use Rattle.audit_types.specs.PrimitiveLines.{cancelled, times, number_at-times}
 use Rattle.sum_basis.specs.Spans.{Spans, combined-times, spans_combined}
 use Rattle.denial_proof.specs.Kept.{AreIndependent, marked_rows}
 use Rattle.denial_proof.specs.Numbers.{AreTaken}
 use Rattle.std.proofs.lemmas.List.{length-map}
-use Rattle.denial_proof.proofs.TotalsFollow.{cancelled}
 use Rattle.denial_proof.proofs.MarkedRows.{combined_columns, coefficient_at, nothing_at_mark, same_combination}
 use Rattle.denial_proof.proofs.Expansion.{expansion, taken_times}
-
--- a row is 0 before its pivot
-zero_before : (row : List ℤ) (j : ℕ) → j < pivot row → number_at row j ≡ pos 0
-zero_before row j h = zero_from_test (number_at row j) (not-false (is_zero (number_at row j)) (fails_before_first (λ x. not (is_zero x)) row j (pos 0) h))
 
 -- a positive factor makes nothing 0
 not_lost : (m : ℕ) (x : ℤ) → 0 < m → pos m *ℤ x ≡ pos 0 → x ≡ pos 0

@@ -16,7 +16,7 @@ use Rattle.audit_types.specs.ListLaws.{all-push}
 use Rattle.max_bounds.specs.Outside.{outside}
 use Rattle.max_bounds.specs.Few.{HasFewPeople, is_below_bound, HasFewHighest, IsNearlyHeld, IsFewByExtremes}
 use Rattle.max_bounds.specs.PeopleAmong.{people_grow}
-use Rattle.max_bounds.specs.AnswerLaws.{all_at, all_from, one_of_front, one_of_last, front_or_last}
+use Rattle.max_bounds.specs.AnswerLaws.{all_from, one_of_front, one_of_last, front_or_last, some_extreme}
 use Rattle.max_bounds.specs.RowListLaws.{filter-has, has-filter, some_row, not_empty, some_length}
 use Rattle.max_bounds.specs.BoundLaws.{exact_bound}
 use Rattle.max_bounds.specs.OneMoreLaws.{IsAtLeast, asked, with_asked, lower_keeps, higher_loses, asked_has, has_asked}
@@ -36,12 +36,9 @@ not_true false e = refl
 
 module _ (people : Headcount) (answers : List Answer) (rows : List ℕ) where
   module _ (n : ℕ) (x : ℤ) (leaves : LeavesFewPeople (guarding (known_max n answers) people []) rows x) where
-    still : (a : Answer) → IsOneOf a (with_asked answers rows x) → 0 < length (extremes (with_asked answers rows x) a)
-    still a one = all_at (λ b. 0 < length (extremes (with_asked answers rows x) b)) (with_asked answers rows x) a leaves.possible one
-
     before : (a : Answer) → IsOneOf a answers → 0 < length (extremes answers a)
     before a one =
-        let now = still a (one_of_front answers (asked answers rows x) a one) in
+        let now = some_extreme (with_asked answers rows x) leaves.possible a (one_of_front answers (asked answers rows x) a one) in
         by_lt_z x a.value
         (λ less.
         let lost = higher_loses answers rows x a one less in
@@ -53,7 +50,7 @@ module _ (people : Headcount) (answers : List Answer) (rows : List ℕ) where
     highest_from : AreFew people [] (extremes (with_asked answers rows x) (asked answers rows x)) → HasFewHighest people (upper_bound answers) rows
     highest_from few =
         let hit = some_row (extremes (with_asked answers rows x) (asked answers rows x))
-        (still (asked answers rows x) (one_of_last answers (asked answers rows x))) in
+        (some_extreme (with_asked answers rows x) leaves.possible (asked answers rows x) (one_of_last answers (asked answers rows x))) in
         let own = has_asked answers rows x hit.0 hit.1 in
         let grows = people_grow people.counts (λ q. not (is_below_bound (upper_bound answers q) (upper_bound answers hit.0)))
         (λ q. is_bound (upper_bound (with_asked answers rows x) q) x) rows
@@ -70,11 +67,14 @@ module _ (people : Headcount) (answers : List Answer) (rows : List ℕ) where
           a,
           record {
             one = one;
-            some_left = λ none. let now = still a (one_of_front answers (asked answers rows x) a one) in let short = ap length (lost ∙ none) in
+            some_left = λ none.
+                let now = some_extreme (with_asked answers rows x) leaves.possible a (one_of_front answers (asked answers rows x) a one) in
+                let short = ap length (lost ∙ none) in
                 absurd (omega arith);
             few_left = subst (AreFew people []) lost few;
             lower = λ b among none. by_lt_z x b.value
-                (λ above. let now = still b (one_of_front answers (asked answers rows x) b among) in
+                (λ above.
+                let now = some_extreme (with_asked answers rows x) leaves.possible b (one_of_front answers (asked answers rows x) b among) in
                 let short = ap length (higher_loses answers rows x b among above ∙ none) in absurd (omega arith))
                 (λ no. omega (arith, ints));
           },
@@ -132,9 +132,6 @@ module _ (people : Headcount) (answers : List Answer) (rows : List ℕ) where
               has_row (extremes (with_asked answers rows x) (asked answers rows x)) q ≡ true
           has_filter_of q there reaches = has-filter (λ s. is_bound (upper_bound (with_asked answers rows x) s) x) rows q there reaches
 
-    had : (a : Answer) → IsOneOf a answers → 0 < length (extremes answers a)
-    had a one = all_at (λ b. 0 < length (extremes answers b)) answers a consistent one
-
     module _ (p : Answer) (held : IsNearlyHeld people (extremes answers) answers rows p) (e : ℕ) (extreme : has_row (extremes answers p) e ≡ true)
         (in_set : has_row rows e ≡ true) where
       x : ℤ
@@ -145,7 +142,7 @@ module _ (people : Headcount) (answers : List Answer) (rows : List ℕ) where
       still_some a one = by_lt_z x a.value
           (λ less. subst (λ l. 0 < length l) (sym (higher_loses answers rows x a one less))
           (some_length (outside rows (extremes answers a)) (λ none. let low = held.lower a one none in absurd (omega (arith, ints)))))
-          (λ no. subst (λ l. 0 < length l) (sym (lower_keeps answers rows x a one (omega (arith, ints)))) (had a one))
+          (λ no. subst (λ l. 0 < length l) (sym (lower_keeps answers rows x a one (omega (arith, ints)))) (some_extreme answers consistent a one))
 
       high_row : IsAtLeast x (upper_bound answers e)
       unfolding x

@@ -13,9 +13,9 @@ use Rattle.audit_types.specs.Truth.{greatest_over}
 use Rattle.audit_types.specs.Column.{Known, Answer, Agrees, IsOneOf, IsWellFormed, IsDangerous, IsGuarded, number, greatest, total, known_max, guarding}
 use Rattle.audit_types.specs.Extremes.{upper_bound, is_bound, extremes, IsConsistent}
 use Rattle.audit_types.specs.ListLaws.{all-push, all-front}
-use Rattle.max_bounds.specs.AnswerLaws.{all_at}
+use Rattle.max_bounds.specs.AnswerLaws.{all_at, extreme_rows}
 use Rattle.max_bounds.specs.OneMoreLaws.{asked, with_asked}
-use Rattle.max_bounds.specs.RowListLaws.{filter-has, filter-ascends}
+use Rattle.max_bounds.specs.RowListLaws.{filter-has}
 use Rattle.max_audit.specs.Witnesses.{highest}
 use Rattle.max_audit.specs.Laws.{LeavesFewPeople, DangerousByFewPeople, DangerousByCandidates}
 use Rattle.max_audit.proofs.LoneRowsAreFixed.{extreme_row}
@@ -106,7 +106,7 @@ module _ (n : ℕ) (answers : List Answer) (people : Headcount) (rows : List ℕ
           are_own = (tt, omega arith, tt);
           value = λ v. greatest_over v (extremes whole a);
           guarded = greatest (extremes whole a) refl
-              (filter-ascends 0 n (λ r. is_bound (upper_bound whole r) a.value) a.rows (all_at (λ b. AreRows n b.rows) whole a (still_well x).are_rows one))
+              (extreme_rows n whole (still_well x).are_rows a one)
               some_extreme tt few;
           disclosed = λ v alike also.
               greatest_there v (record {

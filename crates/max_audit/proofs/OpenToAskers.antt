@@ -19,7 +19,7 @@ use Rattle.audit_types.specs.Truth.{number_at, greatest_over}
 use Rattle.audit_types.specs.Column.{Known, Answer, Agrees, AreOwn, AreSameAt, IsGuarded, number, greatest, total, IsOneOf, IsWellFormed, known_max, guarding}
 use Rattle.audit_types.specs.Extremes.{least_of, upper_bound, is_bound, extremes}
 use Rattle.audit_types.specs.Numbers.{zero_or_not}
-use Rattle.max_bounds.specs.AnswerLaws.{all_at, all_from, one_or_none}
+use Rattle.max_bounds.specs.AnswerLaws.{all_at, all_from, one_or_none, rows_of, extreme_rows}
 use Rattle.max_bounds.specs.BoundLaws.{bound_below, exact_bound}
 use Rattle.max_bounds.specs.RowListLaws.{filter-has, filter-ascends}
 use Rattle.max_bounds.specs.Few.{HasFewPeople}
@@ -96,9 +96,6 @@ module _ (n : ℕ) (answers : List Answer) (people : Headcount) (w : List ℤ) (
   number_raised : (r : ℕ) → r < n → number_at raised r ≡ number_of r
   number_raised r l = get_or-map-range_with_len number_of 0 n r r (pos 0) l (omega arith)
 
-  rows_of : (a : Answer) → IsOneOf a answers → AreRows n a.rows
-  rows_of a one = all_at (λ b. AreRows n b.rows) answers a well.are_rows one
-
   full : (a : Answer) → IsOneOf a answers → a.rows ≢ []
   full a one = all_at (λ b. b.rows ≢ []) answers a well.some one
 
@@ -109,7 +106,7 @@ module _ (n : ℕ) (answers : List Answer) (people : Headcount) (w : List ℤ) (
   answer_under : (a : Answer) → IsOneOf a answers → a.value ≤ℤ high
   answer_under a one =
       let hit = (bound_and_reached w a.rows (full a one)).1 in
-      let top = free.under hit.0 (row_within n a.rows hit.0 (rows_of a one) hit.1) in
+      let top = free.under hit.0 (row_within n a.rows hit.0 (rows_of n answers well.are_rows a one) hit.1) in
       let is = gives a one in
       let same = hit.2 in
       omega (arith, ints)
@@ -130,7 +127,7 @@ module _ (n : ℕ) (answers : List Answer) (people : Headcount) (w : List ℤ) (
   stays a one e there out =
       let extreme = filter-has (λ r. is_bound (upper_bound answers r) a.value) a.rows e there in
       let not = not_either (has_row own e) (has_row rows e) out in
-      let below : (r : ℕ) → has_row a.rows r ≡ true → r < n = λ r in_set. row_within n a.rows r (rows_of a one) in_set in
+      let below : (r : ℕ) → has_row a.rows r ≡ true → r < n = λ r in_set. row_within n a.rows r (rows_of n answers well.are_rows a one) in_set in
       greatest_is raised a.rows a.value e (full a one)
       (λ r in_set. subst (λ z. z ≤ℤ a.value) (sym (number_raised r (below r in_set))) (no_number_above a one r in_set)) extreme.0
       (number_raised e (below e extreme.0)
@@ -143,7 +140,7 @@ module _ (n : ℕ) (answers : List Answer) (people : Headcount) (w : List ℤ) (
       AreFew people [] (extremes answers a)
   few_behind a one all =
       let among = no_more_people people.counts n (extremes answers a) own rows
-      (filter-ascends 0 n (λ r. is_bound (upper_bound answers r) a.value) a.rows (rows_of a one)) are_own.0 are all in
+      (extreme_rows n answers well.are_rows a one) are_own.0 are all in
       let mine = one_each people.counts own are_own.2 in
       omega (arith, among, mine, few)
 

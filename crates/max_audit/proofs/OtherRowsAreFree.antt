@@ -7,16 +7,17 @@ use Rattle.std.specs.Prelude.{◌≤ℤ◌, ◌-ℤ◌}
 use Rattle.std.proofs.lemmas.Int.{ints}
 use Rattle.std.proofs.lemmas.List.{get_or-set_same, get_or-set_other, length-set}
 use Rattle.std.proofs.lemmas.Bool.{cases_eq}
-use Rattle.audit_types.specs.Rows.{has_row, AreRows}
+use Rattle.audit_types.specs.Rows.{has_row}
 use Rattle.audit_types.specs.Truth.{number_at, greatest_over}
 use Rattle.audit_types.specs.Column.{Answer, Agrees, IsOneOf, IsWellFormed, known_max}
 use Rattle.audit_types.specs.Extremes.{upper_bound, is_bound, extremes, IsLone, IsConsistent}
 use Rattle.max_audit.specs.Witnesses.{bound_or_zero, highest, lowered_at}
 use Rattle.max_audit.specs.HighestLaws.{length-highest, number_at-highest}
 use Rattle.max_audit.specs.Laws.{PossibleByExtremes, FixedByLoneRows, HighestAgrees, LoneOrLowered, LoneOrFree}
-use Rattle.max_bounds.specs.AnswerLaws.{all_at, all_from, one_or_none}
-use Rattle.max_bounds.specs.RowListLaws.{row_below, filter-has, filter-ascends, only_or_not, other_row, some_row, not_empty}
+use Rattle.max_bounds.specs.AnswerLaws.{all_at, all_from, one_or_none, rows_of, extreme_rows, some_extreme}
+use Rattle.max_bounds.specs.RowListLaws.{filter-has, only_or_not, other_row, some_row, not_empty}
 use Rattle.audit_types.specs.GreatestLaws.{greatest_is}
+use Rattle.audit_types.specs.WalkLaws.{row_within}
 use Rattle.max_bounds.specs.BoundLaws.{bound_below}
 use Rattle.max_audit.proofs.UpperBounds.{bound_from, some_is}
 use Rattle.max_audit.proofs.LoneRowsAreFixed.{extreme_row, lone_rows_are_fixed}
@@ -26,10 +27,6 @@ same_is_below : (z y : ℤ) → z ≡ y → z ≤ℤ y
 same_is_below z y e = omega (arith, ints)
 
 module _ (n : ℕ) (answers : List Answer) (well : IsWellFormed (known_max n answers)) where
-  -- the rows of an answer are rows of the table
-  rows_of : (a : Answer) → IsOneOf a answers → AreRows n a.rows
-  rows_of a one = all_at (λ b. AreRows n b.rows) answers a well.are_rows one
-
   -- an extreme row is a row of the set, and has its bound there
   extreme_at : (a : Answer) (e : ℕ) → has_row (extremes answers a) e ≡ true → (has_row a.rows e ≡ true) × (is_bound (upper_bound answers e) a.value ≡ true)
   extreme_at a e there = filter-has (λ r. is_bound (upper_bound answers r) a.value) a.rows e there
@@ -40,24 +37,21 @@ module _ (n : ℕ) (answers : List Answer) (well : IsWellFormed (known_max n ans
   gives_one w below a one e there at =
       let found = extreme_at a e there in
       greatest_is w a.rows a.value e (all_at (λ b. b.rows ≢ []) answers a well.some one)
-      (λ r h. let under = below r (row_below n a.rows r (rows_of a one) h) in let bound = bound_below answers a r one h in let least = bound.2 in
+      (λ r h. let under = below r (row_within n a.rows r (rows_of n answers well.are_rows a one) h) in
+      let bound = bound_below answers a r one h in let least = bound.2 in
       let same = some_is (upper_bound answers r) bound.0 bound.1 in omega (arith, ints))
       found.0 (at ∙ bound_from (upper_bound answers e) a.value found.1)
 
   -- an extreme row of the table
   pub extreme_below : (a : Answer) → IsOneOf a answers → (e : ℕ) → has_row (extremes answers a) e ≡ true → e < n
-  extreme_below a one e there = row_below n a.rows e (rows_of a one) (extreme_at a e there).0
+  extreme_below a one e there = row_within n a.rows e (rows_of n answers well.are_rows a one) (extreme_at a e there).0
 
   module _ (consistent : IsConsistent answers) where
-    -- an answer has an extreme row
-    some_extreme : (a : Answer) → IsOneOf a answers → 0 < length (extremes answers a)
-    some_extreme a one = all_at (λ b. 0 < length (extremes answers b)) answers a consistent one
-
     highest_agrees : Agrees (known_max n answers) (highest n answers)
     highest_agrees = record {
       one_each = length-highest n answers;
       same = all_from (λ a. greatest_over (highest n answers) a.rows ≡ a.value) answers (λ a one.
-          let hit = some_row (extremes answers a) (some_extreme a one) in
+          let hit = some_row (extremes answers a) (some_extreme answers consistent a one) in
           gives_one (highest n answers) (λ r h. same_is_below _ _ (number_at-highest n answers r h)) a one hit.0 hit.1
           (number_at-highest n answers hit.0 (extreme_below a one hit.0 hit.1)));
     }
@@ -81,8 +75,8 @@ module _ (n : ℕ) (answers : List Answer) (well : IsWellFormed (known_max n ans
       lowered_agrees not = record {
         one_each = length-set (highest n answers) i (number_at (highest n answers) i -ℤ pos 1) ∙ length-highest n answers;
         same = all_from (λ a. greatest_over (lowered_at (highest n answers) i) a.rows ≡ a.value) answers (λ a one.
-            let hit = other_row n (extremes answers a) i (filter-ascends 0 n (λ r. is_bound (upper_bound answers r) a.value) a.rows (rows_of a one))
-            (some_extreme a one) (not a one) in
+            let hit = other_row n (extremes answers a) i (extreme_rows n answers well.are_rows a one)
+            (some_extreme answers consistent a one) (not a one) in
             gives_one (lowered_at (highest n answers) i) lowered_below a one hit.0 hit.1
             (lowered_other hit.0 hit.2 ∙ number_at-highest n answers hit.0 (extreme_below a one hit.0 hit.1)));
       }

@@ -13,7 +13,7 @@ use Rattle.audit_types.specs.Column.{Answer, IsOneOf}
 use Rattle.audit_types.specs.Extremes.{upper_bound, extremes, IsConsistent}
 use Rattle.audit_types.specs.ListLaws.{all-push}
 use Rattle.max_bounds.specs.Outside.{outside}
-use Rattle.max_bounds.specs.AnswerLaws.{all_at, all_from}
+use Rattle.max_bounds.specs.AnswerLaws.{all_from, some_extreme}
 use Rattle.max_bounds.specs.RowListLaws.{not_empty}
 use Rattle.max_bounds.specs.OneMoreLaws.{IsAtLeast, asked, with_asked, keeps_extremes, asked_has}
 
@@ -133,10 +133,6 @@ top_of answers (r ∷ rows) some = elim (free_or_greatest (upper_bound answers) 
 ]
 
 module _ (n : ℕ) (answers : List Answer) (rows : List ℕ) (are : AreRows n rows) (some : rows ≢ []) (consistent : IsConsistent answers) where
-  -- each answer had an extreme row
-  had : (a : Answer) → IsOneOf a answers → 0 < length (extremes answers a)
-  had a one = all_at (λ b. 0 < length (extremes answers b)) answers a consistent one
-
   module _ (x : ℤ) (top : IsTop answers rows x) where
     -- an earlier answer keeps its extreme rows
     pub top_keeps : (a : Answer) → IsOneOf a answers → extremes (with_asked answers rows x) a ≡ extremes answers a
@@ -145,5 +141,6 @@ module _ (n : ℕ) (answers : List Answer) (rows : List ℕ) (are : AreRows n ro
     -- the answer is possible
     pub top_possible : IsConsistent (with_asked answers rows x)
     top_possible = all-push (λ a. 0 < length (extremes (with_asked answers rows x) a)) answers (asked answers rows x)
-        (all_from (λ a. 0 < length (extremes (with_asked answers rows x) a)) answers (λ a one. subst (λ l. 0 < length l) (sym (top_keeps a one)) (had a one)))
+        (all_from (λ a. 0 < length (extremes (with_asked answers rows x) a)) answers (λ a one.
+        subst (λ l. 0 < length l) (sym (top_keeps a one)) (some_extreme answers consistent a one)))
         (not_empty (extremes (with_asked answers rows x) (asked answers rows x)) top.row (asked_has answers rows x top.row top.there top.high))

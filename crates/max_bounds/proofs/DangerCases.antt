@@ -5,14 +5,14 @@ use Rattle.std.proofs.lemmas.Int.{ints}
 use Rattle.std.proofs.lemmas.Bool.{cases_lt}
 use Rattle.audit_types.specs.Rows.{has_row, AreRows}
 use Rattle.audit_types.specs.Column.{Answer, IsOneOf}
-use Rattle.audit_types.specs.Extremes.{upper_bound, is_bound, extremes, IsConsistent, IsLone}
+use Rattle.audit_types.specs.Extremes.{upper_bound, extremes, IsConsistent, IsLone}
 use Rattle.audit_types.specs.Headcount.{Headcount, CountPeople, AreFew, people_behind}
 use Rattle.audit_types.specs.HeadcountLaws.{somebody_behind}
 use Rattle.max_bounds.specs.Few.{HasFewPeople, HasFewHighest, HasNearlyHeld, IsFewByExtremes}
 use Rattle.max_bounds.specs.PeopleAmong.{few_among}
 use Rattle.max_bounds.specs.Outside.{outside}
 use Rattle.max_bounds.specs.Kept.{fewest_of, TellsExtremes}
-use Rattle.max_bounds.specs.AnswerLaws.{all_at, all_from}
+use Rattle.max_bounds.specs.AnswerLaws.{all_from, extreme_rows, some_extreme}
 use Rattle.max_bounds.proofs.OutsideRows.{in_set, none_outside}
 use Rattle.max_bounds.specs.RowListLaws.{filter-has, has-filter, filter-ascends}
 
@@ -52,7 +52,7 @@ module _ (answers : List Answer) (counts : List ℕ) (fewest : ℕ) (sets : List
   not_consistent none all =
       let same = is in
       let found = fewest_reached (λ b. length (extremes answers b)) answers (omega arith) in
-      let some = all_at (λ a. 0 < length (extremes answers a)) answers found.0 all found.1 in
+      let some = some_extreme answers all found.0 found.1 in
       let short = found.2 in
       absurd (omega arith)
 
@@ -65,12 +65,9 @@ module _ (answers : List Answer) (counts : List ℕ) (fewest : ℕ) (sets : List
       absurd (omega arith)
 
   module _ (n : ℕ) (are : AllByRecursion (λ a. AreRows n a.rows) answers) (people : Headcount) where
-    -- the extreme rows of an answer ascend, and so do those of a kept set
-    extreme_rows : (a : Answer) → IsOneOf a answers → AreRows n (extremes answers a)
-    extreme_rows a one = filter-ascends 0 n (λ r. is_bound (upper_bound answers r) a.value) a.rows (all_at (λ b. AreRows n b.rows) answers a are one)
-
+    -- the rows of a kept set ascend, as the extreme rows of an answer do
     kept_rows : (e : Answer) → IsOneOf e sets → AreRows n e.rows
-    kept_rows e one = let source = tells.are_least.each e one in subst (AreRows n) source.3 (extreme_rows source.0 source.1)
+    kept_rows e one = let source = tells.are_least.each e one in subst (AreRows n) source.3 (extreme_rows n answers are source.0 source.1)
 
     -- if there are no fewer extreme rows than that, with somebody behind each, no answer has few people
     pub none_few : (m : ℕ) → CountPeople m people → people.fewest + people.own ≤ fewest → HasFewPeople people answers → ⊥
@@ -116,7 +113,7 @@ module _ (answers : List Answer) (counts : List ℕ) (fewest : ℕ) (sets : List
                   absurd (omega (arith, ints));
               few_left = few_among people n [] (outside rows e.rows) (outside rows (extremes answers a))
                   (filter-ascends 0 n (λ r. not (has_row rows r)) e.rows (kept_rows e cover.1))
-                  (filter-ascends 0 n (λ r. not (has_row rows r)) (extremes answers a) (extreme_rows a held.one))
+                  (filter-ascends 0 n (λ r. not (has_row rows r)) (extremes answers a) (extreme_rows n answers are a held.one))
                   (λ r there.
                   let found = filter-has (λ q. not (has_row rows q)) e.rows r there in
                   has-filter (λ q. not (has_row rows q)) (extremes answers a) r (cover.3 r found.0) found.1) held.few_left;
@@ -157,7 +154,7 @@ module _ (answers : List Answer) (counts : List ℕ) (fewest : ℕ) (sets : List
             one = cover.1;
             some_left = λ none. some_in_set e cover.1 (sym (outside_none e.rows) ∙ none);
             few_left = subst (AreFew people []) (sym (outside_none e.rows))
-                (few_among people n [] e.rows (extremes answers a) (kept_rows e cover.1) (extreme_rows a one) cover.3 few);
+                (few_among people n [] e.rows (extremes answers a) (kept_rows e cover.1) (extreme_rows n answers are a one) cover.3 few);
             lower = λ b among none. absurd (some_in_set b among (sym (outside_none b.rows) ∙ none));
           },
         )
@@ -165,6 +162,6 @@ module _ (answers : List Answer) (counts : List ℕ) (fewest : ℕ) (sets : List
         some_in_set : (e : Answer) → IsOneOf e sets → e.rows ≡ [] → ⊥
         some_in_set e one none =
             let source = tells.are_least.each e one in
-            let some = all_at (λ b. 0 < length (extremes answers b)) answers source.0 all source.1 in
+            let some = some_extreme answers all source.0 source.1 in
             let short : length (extremes answers source.0) ≡ 0 = ap length (source.3 ∙ none) in
             absurd (omega arith)

@@ -1,18 +1,15 @@
 -- Sets that lose the rows of a new answer.
-use Rattle.std.proofs.Common.{◌≡◌, ℕ, ◌<◌, ℤ, Bool, true, false, cond, not, ◌&&◌, List, [], ◌∷◌, ◌++◌, length, map, take, drop, set, get_or, ◌+◌, refl, sym, ap, ◌∙◌, inl, inr}
+use Rattle.std.proofs.Common.{◌≡◌, ℕ, ◌<◌, ℤ, Bool, true, false, cond, List, [], ◌∷◌, ◌++◌, length, map, take, drop, set, get_or, ◌+◌, refl, sym, ap, ◌∙◌}
 use Rattle.std.specs.Prelude.{int_lt}
 use Rattle.std.proofs.lemmas.List.{map_more, map-append, take_more_set}
-use Rattle.std.proofs.lemmas.Bool.{cases_lt}
-use Rattle.audit_types.specs.Rows.{has_row, AreRows, intersection, complement}
-use Rattle.audit_types.specs.RowLaws.{ascending_same, AreRows-rows_that, has-rows_that, has-rows_that_above, none_above}
+use Rattle.audit_types.specs.Rows.{AreRows, intersection, complement}
 use Rattle.audit_types.specs.Column.{Answer}
 use Rattle.max_bounds.specs.Outside.{outside}
 use Rattle.max_bounds.specs.Kept.{lowered_set}
 use Rattle.max_bounds.specs.Maxima.{answer_of, answers_of}
 use Rattle.max_bounds.specs.declared.answered.AnsweredMax.{AnsweredMax}
+use Rattle.max_bounds.specs.RowListLaws.{outside_is}
 use Rattle.max_bounds.proofs.FallingCounts.{same_here}
-use Rattle.max_bounds.specs.RowListLaws.{filter-ascends}
-use Rattle.audit_types.specs.FilteredRows.{has_filtered}
 
 -- tests that are true together are one
 pub same_test : (p q : Bool) → (p ≡ true → q ≡ true) → (q ≡ true → p ≡ true) → p ≡ q
@@ -20,21 +17,7 @@ same_test true q f g = sym (f refl)
 same_test false true f g = g refl
 same_test false false f g = refl
 
--- the rows of a list that are among the others than a set's are those outside the set
-pub outside_is : (n : ℕ) (set rows : List ℕ) → AreRows n rows → intersection n rows (complement n set) ≡ outside set rows
-outside_is n set rows are = ascending_same 0 n n (intersection n rows (complement n set)) (outside set rows)
-    (AreRows-rows_that (λ r. has_row rows r && has_row (complement n set) r) n) (filter-ascends 0 n (λ r. not (has_row set r)) rows are)
-    (λ r. elim (cases_lt r n) [
-      | inl below ↦
-          has-rows_that (λ q. has_row rows q && has_row (complement n set) q) n r below
-          ∙ ap (λ b. has_row rows r && b) (has-rows_that (λ q. not (has_row set q)) n r below)
-          ∙ sym (has_filtered (λ q. not (has_row set q)) rows r)
-      | inr above ↦
-          has-rows_that_above (λ q. has_row rows q && has_row (complement n set) q) n r above
-          ∙ sym (none_above 0 n (outside set rows) (filter-ascends 0 n (λ q. not (has_row set q)) rows are) r above)
-    ])
-
--- so what a set has in common with the others is what is left of it
+-- what a set has in common with the others is what is left of it
 pub left_is : (n m : ℕ) (rows set others after : List ℕ) → n ≡ m → AreRows n set → others ≡ complement m rows → after ≡ intersection n set others →
     after ≡ outside rows set
 left_is n m rows set others after same are flipped both =

@@ -5,7 +5,7 @@ use Rattle.std.specs.Int.{int_min}
 use Rattle.std.specs.Ordering.{int_eq}
 use Rattle.std.specs.List.{filter}
 use Rattle.std.proofs.lemmas.Int.{ints, clamps, by_lt_z}
-use Rattle.std.proofs.lemmas.Bool.{true≢false, and_parts, and_from}
+use Rattle.std.proofs.lemmas.Bool.{true≢false, and_parts, and_from, and_right}
 use Rattle.std.proofs.lemmas.Bool.Decides.{Decides-int_eq}
 use Rattle.std.proofs.lemmas.List.Filters.{length-filter_both}
 use Rattle.audit_types.specs.Rows.{has_row, AreRows}
@@ -130,11 +130,7 @@ module _ (answers : List Answer) (rows : List ℕ) (x : ℤ) where
     lower_falls : (a : Answer) → a.value ≤ℤ x → falls_of (upper_bound answers) (rows_above (upper_bound answers) x rows) a ≡ []
     lower_falls a low = filter-none (λ r. has_row a.rows r && is_bound (upper_bound answers r) a.value) (rows_above (upper_bound answers) x rows) (λ r there.
         let above = filter-has (λ q. is_above x (upper_bound answers q)) rows r there in
-        ap (λ b. has_row a.rows r && b) (not_it (upper_bound answers r) a.value x low above.1) ∙ never (has_row a.rows r))
-      where
-        never : (b : Bool) → (b && false) ≡ false
-        never true = refl
-        never false = refl
+        and_right (has_row a.rows r) (is_bound (upper_bound answers r) a.value) (not_it (upper_bound answers r) a.value x low above.1))
 
     -- the count of an answer less those that fall is its next count, and it is no less than they
     pub next_count : (a : Answer) → IsOneOf a answers → AreRows n a.rows →

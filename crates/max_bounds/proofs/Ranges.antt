@@ -1,7 +1,8 @@
 -- Numbers that the bounds of some rows are within.
-use Rattle.std.proofs.Common.{◌≡◌, ℕ, ℤ, Bool, true, false, ◌&&◌, List, [], ◌∷◌, ◌++◌, refl, ap, ◌∙◌, arith, inl, inr, ◌⊎◌, Option}
+use Rattle.std.proofs.Common.{◌≡◌, ℕ, ℤ, true, false, ◌&&◌, List, [], ◌∷◌, ◌++◌, refl, ap, ◌∙◌, arith, inl, inr, ◌⊎◌, Option}
 use Rattle.std.specs.Prelude.{◌<ℤ◌}
 use Rattle.std.proofs.lemmas.Int.{ints}
+use Rattle.std.proofs.lemmas.Bool.{and_right}
 use Rattle.audit_types.specs.Rows.{has_row}
 use Rattle.audit_types.specs.Column.{Answer}
 use Rattle.audit_types.specs.Extremes.{is_bound}
@@ -29,12 +30,8 @@ range_more bound yielded r range wider holds widens q b there is = elim (has-pus
 pub falls-outside : (bound : ℕ → Option ℤ) (falling : List ℕ) (range : Range) (a : Answer) → IsRange bound falling range →
     (a.value <ℤ range.low) ⊎ (range.high <ℤ a.value) → falls_of bound falling a ≡ []
 falls-outside bound falling range a holds beyond = filter-none (λ r. has_row a.rows r && is_bound (bound r) a.value) falling (λ r there.
-    ap (λ b. has_row a.rows r && b) (no_bound r there) ∙ never (has_row a.rows r))
+    and_right (has_row a.rows r) (is_bound (bound r) a.value) (no_bound r there))
   where
-    never : (b : Bool) → (b && false) ≡ false
-    never true = refl
-    never false = refl
-
     no_bound : (r : ℕ) → has_row falling r ≡ true → is_bound (bound r) a.value ≡ false
     no_bound r there = elim (is_bound (bound r) a.value) as (λ b. is_bound (bound r) a.value ≡ b → b ≡ false) [
       | true ↦ λ e.

@@ -2,10 +2,13 @@
 use Rattle.std.proofs.Common.{◌≡◌, List, [], ◌∷◌, ◌++◌, refl, subst, inl, inr, ◌⊎◌, ℕ, zero, suc, ◌<◌, length, get_or, ℤ, SFits, to_z, of_z, sym, ap, ◌∙◌, arith}
 use Rattle.std.specs.List.{AllByRecursion}
 use Rattle.audit_types.specs.Column.{Answer, IsOneOf}
+use Rattle.audit_types.specs.Rows.{AreRows}
+use Rattle.audit_types.specs.Extremes.{upper_bound, is_bound, extremes, IsConsistent}
 use Rattle.std.specs.Int.{w64, w128}
 use Rattle.std.proofs.lemmas.Int.{ints, to_z-of_z}
 use Rattle.max_bounds.specs.declared.answered.AnsweredMax.{AnsweredMax}
 use Rattle.max_bounds.specs.Maxima.{answer_of, answers_of}
+use Rattle.max_bounds.specs.RowListLaws.{filter-ascends}
 
 module _ (P : Answer → Type 0) where
   -- what holds of all answers holds of each
@@ -59,3 +62,16 @@ one_here (y ∷ pairs) (suc i) x within is = inr (one_here pairs i x (omega arit
 pub widened : (a : ℤ) → SFits w64 a → to_z w128 (of_z w128 (to_z w64 (of_z w64 a))) ≡ a
 widened a fits =
     ap (λ z. to_z w128 (of_z w128 z)) (to_z-of_z w64 a fits) ∙ to_z-of_z w128 a (let wide : SFits w128 a = omega (arith, ints) in wide)
+
+-- the rows of an answer are rows of the table
+pub rows_of : (n : ℕ) (answers : List Answer) → AllByRecursion (λ a. AreRows n a.rows) answers → (a : Answer) → IsOneOf a answers → AreRows n a.rows
+rows_of n answers are a one = all_at (λ b. AreRows n b.rows) answers a are one
+
+-- and so are its extreme rows
+pub extreme_rows : (n : ℕ) (answers : List Answer) → AllByRecursion (λ a. AreRows n a.rows) answers → (a : Answer) → IsOneOf a answers →
+    AreRows n (extremes answers a)
+extreme_rows n answers are a one = filter-ascends 0 n (λ r. is_bound (upper_bound answers r) a.value) a.rows (rows_of n answers are a one)
+
+-- of which it has one, if the answers are consistent
+pub some_extreme : (answers : List Answer) → IsConsistent answers → (a : Answer) → IsOneOf a answers → 0 < length (extremes answers a)
+some_extreme answers consistent a one = all_at (λ b. 0 < length (extremes answers b)) answers a consistent one

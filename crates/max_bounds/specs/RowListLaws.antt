@@ -1,15 +1,12 @@
 -- Laws of ascending lists of rows, filtered.
-use Rattle.std.proofs.Common.{◌≡◌, ◌≢◌, ℕ, ◌+◌, ◌<◌, Bool, true, false, cond, ◌==◌, List, [], ◌∷◌, length, refl, sym, ap, ◌∙◌, arith, inl, inr, ◌⊎◌}
+use Rattle.std.proofs.Common.{◌≡◌, ◌≢◌, ℕ, ◌+◌, ◌<◌, Bool, true, false, cond, ◌==◌, List, [], ◌∷◌, length, refl, sym, ap, ◌∙◌, arith, inl, inr, ◌⊎◌, not, ◌&&◌}
 use Rattle.std.specs.List.{filter}
-use Rattle.std.proofs.lemmas.Bool.{eq-eqb, or_left, cases_eq, true≢false}
-use Rattle.audit_types.specs.Rows.{has_row, AscendsFrom, AreRows}
-use Rattle.audit_types.specs.FilteredRows.{from_lower}
-use Rattle.audit_types.specs.RowLaws.{has_first}
-use Rattle.audit_types.specs.WalkLaws.{has_later, first_or_later, row_within}
-
--- the rows of a table are below their number
-pub row_below : (n : ℕ) (rows : List ℕ) (r : ℕ) → AreRows n rows → has_row rows r ≡ true → r < n
-row_below = row_within
+use Rattle.std.proofs.lemmas.Bool.{eq-eqb, or_left, cases_eq, true≢false, cases_lt}
+use Rattle.max_bounds.specs.Outside.{outside}
+use Rattle.audit_types.specs.Rows.{has_row, AscendsFrom, AreRows, intersection, complement}
+use Rattle.audit_types.specs.FilteredRows.{from_lower, has_filtered}
+use Rattle.audit_types.specs.RowLaws.{has_first, ascending_same, AreRows-rows_that, has-rows_that, has-rows_that_above, none_above}
+use Rattle.audit_types.specs.WalkLaws.{has_later, first_or_later}
 
 -- what a filter leaves passes, and was there
 pub filter-has : (test : ℕ → Bool) (rows : List ℕ) (q : ℕ) → has_row (filter test rows) q ≡ true → (has_row rows q ≡ true) × (test q ≡ true)
@@ -82,3 +79,17 @@ pub one_row : (rows : List ℕ) → length rows ≡ 1 → (r : ℕ) × (rows ≡
 one_row [] e = absurd (omega arith)
 one_row (r ∷ []) e = (r, refl)
 one_row (r ∷ q ∷ rows) e = absurd (omega arith)
+
+-- the rows of a list that are among the others than a set's are those outside the set
+pub outside_is : (n : ℕ) (set rows : List ℕ) → AreRows n rows → intersection n rows (complement n set) ≡ outside set rows
+outside_is n set rows are = ascending_same 0 n n (intersection n rows (complement n set)) (outside set rows)
+    (AreRows-rows_that (λ r. has_row rows r && has_row (complement n set) r) n) (filter-ascends 0 n (λ r. not (has_row set r)) rows are)
+    (λ r. elim (cases_lt r n) [
+      | inl below ↦
+          has-rows_that (λ q. has_row rows q && has_row (complement n set) q) n r below
+          ∙ ap (λ b. has_row rows r && b) (has-rows_that (λ q. not (has_row set q)) n r below)
+          ∙ sym (has_filtered (λ q. not (has_row set q)) rows r)
+      | inr above ↦
+          has-rows_that_above (λ q. has_row rows q && has_row (complement n set) q) n r above
+          ∙ sym (none_above 0 n (outside set rows) (filter-ascends 0 n (λ q. not (has_row set q)) rows are) r above)
+    ])

@@ -2,7 +2,7 @@
 --
 -- To know the number of q is to have it answered as a sum over q alone. So the row is spanned by the sets and the unit row of q, and what is
 -- left of it when that is taken off is a row of the span that is 0 but at the two; or a direction of the sets that is 0 at q isn't 0 there.
-use Rattle.std.proofs.Common.{Bool, true, ◌≡◌, ◌≢◌, ℕ, ◌<◌, ◌≤◌, false, cond, ◌||◌, ℤ, pos, List, [], ◌∷◌, ◌++◌, map, length, refl, sym, ap, ◌∙◌, subst, arith, inl, inr, ◌⊎◌, suc, ◌==◌, append-nil}
+use Rattle.std.proofs.Common.{true, ◌≡◌, ◌≢◌, ℕ, ◌<◌, ◌≤◌, false, ◌||◌, ℤ, pos, List, [], ◌∷◌, ◌++◌, map, length, refl, sym, ap, ◌∙◌, subst, arith, inl, inr, ◌⊎◌, ◌==◌, append-nil}
 use Rattle.std.specs.Prelude.{◌↔◌, ◌+ℤ◌, ◌*ℤ◌, neg_ℤ, All, Contains}
 use Rattle.std.proofs.lemmas.List.Elements.{All-contains}
 use Rattle.std.specs.List.{AllByRecursion}
@@ -22,7 +22,6 @@ use Rattle.audit_types.specs.Column.{Known, Answer, AreOwn, known_sum, guarding,
 use Rattle.audit_types.specs.Judgement.{PinSomeNumber, SpanSomeGroup}
 use Rattle.audit_types.specs.ListLaws.{all-push, all-front}
 use Rattle.audit_types.specs.Products.{one-times, neg-times, zero_product, zero_factor}
-use Rattle.audit_types.specs.RowNumbers.{number_at-set_row, length-set_row}
 use Rattle.audit_types.specs.Totals.{total-single, product-span, products_from_sums, combined-push}
 use Rattle.audit_types.specs.FormRows.{lengths_of_form}
 use Rattle.sum_basis.specs.Spans.{span_trans, span_trans_all, combined_zero}
@@ -33,23 +32,13 @@ use Rattle.sum_basis.specs.Basis.{Echelon, unit_row}
 use Rattle.sum_basis.specs.Growth.{HasOwnUnit, SpansOneOf}
 use Rattle.sum_basis.specs.Asking.{SpansOneBeside}
 use Rattle.sum_basis.specs.Ties.{Ties, ShowsTie, TiesByForm, TieSomeBut}
+use Rattle.sum_basis.specs.EntryLaws.{unit_here, unit_elsewhere}
 use Rattle.sum_audit.specs.DotLaws.{dot_two}
 use Rattle.sum_audit.specs.Knowing.{IsStillFor, StillByTies, TiedOrOpen, TiesTell, OpenByForm, PinsByForm, GroupsByForm}
 use Rattle.sum_audit.specs.Sets.{sets_of}
 use Rattle.sum_audit.specs.Shifts.{moved_by, difference, number_at-moved_by, length-moved_by, number_at-difference, length-difference, moved_gives, zero_between}
 use Rattle.sum_audit.proofs.PinnedRows.{pinned_by_form}
 use Rattle.sum_audit.proofs.SpannedOrMoved.{spanned_or_moved}
-
--- ---- unit rows
-
-unit_here : (n i : ℕ) → i < n → number_at (unit_row n i) i ≡ pos 1
-unit_here n i below = number_at-set_row n (i ∷ []) i below ∙ ap (λ b. cond (b || false) (pos 1) (pos 0)) (eq-eqb i i refl)
-
-unit_elsewhere : (n i j : ℕ) → i ≢ j → number_at (unit_row n i) j ≡ pos 0
-unit_elsewhere n i j apart = elim (cases_lt j n) [
-  | inl below ↦ number_at-set_row n (i ∷ []) j below ∙ ap (λ b. cond (b || false) (pos 1) (pos 0)) (ne_eqb i j apart)
-  | inr past ↦ get_or_past (unit_row n i) j (pos 0) (let all = length-set_row n (i ∷ []) in omega arith)
-]
 
 -- ---- a row that is spanned with the unit row of q is tied to q
 
@@ -76,13 +65,13 @@ module _ (n : ℕ) (rows : List (List ℤ)) (q i : ℕ) (below : i < n) (apart :
     there = λ none.
         let here = number_at-combine (pos span.multiple) (unit_row n i) share (unit_row n q) i in
         let first = ap (λ z. pos span.multiple *ℤ z) (unit_here n i below) in
-        let second = ap (λ z. neg_ℤ share *ℤ z) (unit_elsewhere n q i apart) ∙ *ℤ-zero (neg_ℤ share) in
+        let second = ap (λ z. neg_ℤ share *ℤ z) (unit_elsewhere n q i (λ e. apart (sym e))) ∙ *ℤ-zero (neg_ℤ share) in
         let some = span.positive in
         absurd (omega (arith, ints));
     only = λ j first second.
         let here = number_at-combine (pos span.multiple) (unit_row n i) share (unit_row n q) j in
-        let one = ap (λ z. pos span.multiple *ℤ z) (unit_elsewhere n i j (λ e. first (sym e))) ∙ *ℤ-zero (pos span.multiple) in
-        let two = ap (λ z. neg_ℤ share *ℤ z) (unit_elsewhere n q j (λ e. second (sym e))) ∙ *ℤ-zero (neg_ℤ share) in
+        let one = ap (λ z. pos span.multiple *ℤ z) (unit_elsewhere n i j first) ∙ *ℤ-zero (pos span.multiple) in
+        let two = ap (λ z. neg_ℤ share *ℤ z) (unit_elsewhere n q j second) ∙ *ℤ-zero (neg_ℤ share) in
         omega (arith, ints);
   }
 
@@ -106,7 +95,7 @@ tied_alone n rows q i below span = record {
   row = unit_row n i;
   spanned = span;
   there = λ none. let here = unit_here n i below in absurd (omega (arith, ints));
-  only = λ j first second. unit_elsewhere n i j (λ e. first (sym e));
+  only = λ j first second. unit_elsewhere n i j first;
 }
 
 module _ (n : ℕ) (sets : List (List ℕ)) (q i : ℕ) (are : AllByRecursion (AreRows n) sets) (below : i < n) (apart : q ≢ i) where

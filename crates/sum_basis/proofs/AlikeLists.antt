@@ -9,7 +9,7 @@ use Rattle.std.proofs.Math.IntN.{*ℤ-zero}
 use Rattle.audit_types.specs.Form.{set_row, combined, InSpan}
 use Rattle.audit_types.specs.ListLaws.{all-front, all-push}
 use Rattle.audit_types.specs.PrimitiveLines.{number_at-times, times}
-use Rattle.audit_types.specs.Products.{add-times, neg-times, times-add, times_assoc, product_not_zero}
+use Rattle.audit_types.specs.Products.{add-times, neg-times, times-add, times_assoc, product_not_zero, swapped}
 use Rattle.audit_types.specs.Rows.{has_row}
 use Rattle.audit_types.specs.Truth.{number_at}
 use Rattle.sum_basis.specs.Alike.{TiesSurely, SpansSurely}
@@ -30,7 +30,7 @@ use Rattle.sum_basis.proofs.Reduction.{span_line}
 use Rattle.sum_basis.proofs.SparseRows.{number_at-row_of}
 use Rattle.sum_basis.proofs.UnitRowsInSpan.{unit_here, unit_elsewhere}
 use Rattle.sum_basis.proofs.Untold.{left_over, with_some}
-use Rattle.sum_basis.proofs.Weighted.{swapped, times-less}
+use Rattle.sum_basis.proofs.Weighted.{times-less}
 
 -- a list is a multiple of another, and of the new list
 pub record IsAlike (new xs ys : List FreeEntry) : Type 0 where

@@ -1,7 +1,7 @@
 -- A row of a form, cleared by a list that the form left of another row, has no other entry exactly if its list is a multiple of that one. Only then
 -- is its pivot's unit row in the span of both.
 use Rattle.std.proofs.Common.{◌≡◌, ◌≢◌, ◌↔◌, ℕ, false, ◌<◌, ℤ, pos, List, [], ◌∷◌, ◌++◌, length, map, get_or, refl, sym, ap, ◌∙◌, subst, arith, inl, inr}
-use Rattle.std.specs.Prelude.{◌+ℤ◌, ◌*ℤ◌, ◌<ℤ◌, neg_ℤ, Option, None, Some, Vec}
+use Rattle.std.specs.Prelude.{◌+ℤ◌, ◌*ℤ◌, ◌<ℤ◌, neg_ℤ, Some, Vec}
 use Rattle.std.specs.declared.alloc.Global.{Global}
 use Rattle.std.specs.List.{AllByRecursion}
 use Rattle.std.proofs.lemmas.Int.{ints}
@@ -14,7 +14,7 @@ use Rattle.audit_types.specs.FormRows.{pivot_below}
 use Rattle.audit_types.specs.Rows.{has_row}
 use Rattle.audit_types.specs.ListLaws.{all-front}
 use Rattle.audit_types.specs.Numbers.{positive_is}
-use Rattle.audit_types.specs.Products.{neg-times, one-times, times-add, times_assoc, zero_product}
+use Rattle.audit_types.specs.Products.{neg-times, one-times, zero_product}
 use Rattle.sum_basis.specs.Basis.{Echelon, IsFreeList, unit_row}
 use Rattle.sum_basis.specs.Elimination.{IsSmallForm}
 use Rattle.sum_basis.specs.Growth.{IsLeftOver, SpansAfter, SpansOwnAfter}
@@ -66,9 +66,9 @@ module _ (form : Echelon) (f : IsSmallForm form.n form.rows) (k : ℕ) (within :
     | inr apart ↦ free.is j apart
   ]
 
-  module _ (list : Vec FreeEntry Global) (over : IsLeftOver form list.items) where
+  module _ (list : List FreeEntry) (over : IsLeftOver form list) where
     abbrev r : List ℤ
-    r = row_of form.n list.items
+    r = row_of form.n list
 
     abbrev both : List (List ℤ)
     both = form.rows ++ r ∷ []
@@ -76,14 +76,14 @@ module _ (form : Echelon) (f : IsSmallForm form.n form.rows) (k : ℕ) (within :
     of_both : AllByRecursion (InSpan both) form.rows × InSpan both r
     of_both = all-front (InSpan both) form.rows r (own both)
 
-    led : IsLed form.n list.items (get_or list.items 0 none).place (get_or list.items 0 none).value
-    led = is_led form.n list.items over.0.some over.0.listed
+    led : IsLed form.n list (get_or list 0 none).place (get_or list 0 none).value
+    led = is_led form.n list over.0
 
     nothing_there : number_at r (pivot row) ≡ pos 0
     nothing_there = All-from_recursion (λ other. number_at r (pivot other) ≡ pos 0) form.rows over.1 k [] within
 
-    at_row : (j : ℕ) → number_at r j ≡ entry_at list.items j
-    at_row j = number_at-row_of 0 form.n list.items over.0.listed j
+    at_row : (j : ℕ) → number_at r j ≡ entry_at list j
+    at_row j = number_at-row_of 0 form.n list over.0.listed j
 
     -- with the unit row in the span, the row and the list are of one ratio after the row's pivot
     module _ (spanned : InSpan both (unit_row form.n (pivot row))) where
@@ -138,7 +138,7 @@ module _ (form : Echelon) (f : IsSmallForm form.n form.rows) (k : ℕ) (within :
             omega (arith, ints, zero, equal, minus)
       ]
 
-      by_ratio : SpansAfter form (Some list) unit
+      by_ratio : InSpan both unit
       by_ratio = in_span_from both unit (spans_down both m.0 (number_at unit) m.2
           (spans_same both (λ j. by *ℤ number_at row j +ℤ neg_ℤ times *ℤ number_at r j) (λ j. pos m.0 *ℤ number_at unit j) difference
           (spans_add both (λ j. by *ℤ number_at row j) (λ j. neg_ℤ times *ℤ number_at r j)
@@ -148,26 +148,26 @@ module _ (form : Echelon) (f : IsSmallForm form.n form.rows) (k : ℕ) (within :
     -- ---- by the lists
 
     module _ (entries : List FreeEntry) (free : IsFreeList form.n form.rows row entries) where
-      pub spans_if_parallel : (times : ℤ) → map (scaled (get_or list.items 0 none).value) entries ≡ map (scaled times) list.items →
-          SpansAfter form (Some list) (unit_row form.n (pivot row))
+      pub spans_if_parallel : (times : ℤ) → map (scaled (get_or list 0 none).value) entries ≡ map (scaled times) list →
+          InSpan both (unit_row form.n (pivot row))
       spans_if_parallel times parallel =
-          let by = (get_or list.items 0 none).value in
+          let by = (get_or list 0 none).value in
           by_ratio by times (subst (λ z. pos 0 <ℤ z) led.pivot_entry_is over.0.primitive.leading) (λ j other.
           ap (λ z. by *ℤ z) (sym (free_at entries free j other)) ∙ sym (entry_at-scaled by entries j) ∙ ap (λ es. entry_at es j) parallel
-          ∙ entry_at-scaled times list.items j ∙ ap (λ z. times *ℤ z) (sym (at_row j)))
+          ∙ entry_at-scaled times list j ∙ ap (λ z. times *ℤ z) (sym (at_row j)))
 
       -- in one ratio they are parallel, by the entry at the list's first place
-      module _ (spanned : SpansAfter form (Some list) (unit_row form.n (pivot row))) where
+      module _ (spanned : InSpan both (unit_row form.n (pivot row))) where
         abbrev by : ℤ
-        by = (get_or list.items 0 none).value
+        by = (get_or list 0 none).value
 
         abbrev times : ℤ
-        times = entry_at entries (get_or list.items 0 none).place
+        times = entry_at entries (get_or list 0 none).place
 
         times_is : times ≡ number_at row (pivot r)
         times_is = ap (entry_at entries) (sym led.at_pivot) ∙ free_at entries free (pivot r) (apart_from form f list over k within)
 
-        alike : (j : ℕ) → by *ℤ entry_at entries j ≡ times *ℤ entry_at list.items j
+        alike : (j : ℕ) → by *ℤ entry_at entries j ≡ times *ℤ entry_at list j
         alike j = elim (cases_eq j (pivot row)) [
           | inl here ↦
               ap (λ z. by *ℤ z) (ap (entry_at entries) here ∙ off_pivot form.rows k within entries free.free) ∙ *ℤ-zero by ∙ sym (*ℤ-zero times)
@@ -178,29 +178,29 @@ module _ (form : Echelon) (f : IsSmallForm form.n form.rows) (k : ℕ) (within :
         ]
 
         factor_some : by ≢ pos 0
-        factor_some = first_some form.n list.items over.0.listed over.0.some
+        factor_some = first_some form.n list over.0.listed over.0.some
 
         module _ (some : 0 < length entries) where
           times_some : times ≢ pos 0
           times_some nothing = first_some form.n entries free.listed some
               (sym (own_value 0 form.n entries 0 none free.listed some)
               ∙ zero_product by (entry_at entries (get_or entries 0 none).place)
-              (alike (get_or entries 0 none).place ∙ ap (λ z. z *ℤ entry_at list.items (get_or entries 0 none).place) nothing
-              ∙ zero-*ℤ (entry_at list.items (get_or entries 0 none).place)) factor_some)
+              (alike (get_or entries 0 none).place ∙ ap (λ z. z *ℤ entry_at list (get_or entries 0 none).place) nothing
+              ∙ zero-*ℤ (entry_at list (get_or entries 0 none).place)) factor_some)
 
-          by_that : map (scaled by) entries ≡ map (scaled times) list.items
-          by_that = same_listed 0 form.n (map (scaled by) entries) (map (scaled times) list.items) (scaled_listed by 0 form.n entries factor_some free.listed)
-              (scaled_listed times 0 form.n list.items times_some over.0.listed)
-              (λ j. entry_at-scaled by entries j ∙ alike j ∙ sym (entry_at-scaled times list.items j))
+          by_that : map (scaled by) entries ≡ map (scaled times) list
+          by_that = same_listed 0 form.n (map (scaled by) entries) (map (scaled times) list) (scaled_listed by 0 form.n entries factor_some free.listed)
+              (scaled_listed times 0 form.n list times_some over.0.listed)
+              (λ j. entry_at-scaled by entries j ∙ alike j ∙ sym (entry_at-scaled times list j))
 
           -- both begin at one place, so that it is the first entry
           first_is : times ≡ (get_or entries 0 none).value
           first_is =
-              ap (entry_at entries) (sym (ap (λ (e : FreeEntry). e.place) (alike_at by times entries list.items 0 none some over.0.some by_that)))
+              ap (entry_at entries) (sym (ap (λ (e : FreeEntry). e.place) (alike_at by times entries list 0 none some over.0.some by_that)))
               ∙ own_value 0 form.n entries 0 none free.listed some
 
-          pub parallel_if_spans : map (scaled by) entries ≡ map (scaled (get_or entries 0 none).value) list.items
-          parallel_if_spans = by_that ∙ ap (λ z. map (scaled z) list.items) first_is
+          pub parallel_if_spans : map (scaled by) entries ≡ map (scaled (get_or entries 0 none).value) list
+          parallel_if_spans = by_that ∙ ap (λ z. map (scaled z) list) first_is
 
 -- the unit row of the list's own first place is in the span exactly if the list has no other entry
 module _ (form : Echelon) (f : IsSmallForm form.n form.rows) (list : Vec FreeEntry Global) (over : IsLeftOver form list.items) where
@@ -222,7 +222,7 @@ module _ (form : Echelon) (f : IsSmallForm form.n form.rows) (list : Vec FreeEnt
   one_if_spans spanned =
       let below = pivot_below form.n new_row over.0.primitive in
       let line = on_line new_row own_unit (alone form.rows new_row own_unit f.echelon (leads_from form.n form.rows f.primitive)
-      (unit_zeros form.n (pivot new_row) form.rows (no_pivot_there form f list over form.rows over.1)) over.1 spanned) in
+      (unit_zeros form.n (pivot new_row) form.rows (no_pivot_there form f list.items over form.rows over.1)) over.1 spanned) in
       let not_nothing : ((j : ℕ) → number_at own_unit j ≡ pos 0) → ⊥ = λ nothing.
       let one = unit_here form.n (pivot new_row) below in let at = nothing (pivot new_row) in omega (arith, ints, one, at) in
       (lone_new form.n list.items over.0).1 (λ j other.
@@ -247,12 +247,9 @@ module _ (form : Echelon) (f : IsSmallForm form.n form.rows) (list : Vec FreeEnt
     λ (i, below, out, spanned, anew).
         let is = only_new form f list over but nothing i below out spanned anew in
         (one_if_spans (subst (λ p. SpansAfter form (Some list) (unit_row form.n p)) (sym is) spanned), ap (has_row but) is ∙ out),
-    λ (one, out). (pivot new_row, pivot_below form.n new_row over.0.primitive, out, spans_if_one one, not_known_there form f list over),
+    λ (one, out). (pivot new_row, pivot_below form.n new_row over.0.primitive, out, spans_if_one one, not_known_there form f list.items over),
   )
 
--- what lies in the span of the form still does with what was left of another row
-pub still_spans : (form : Echelon) (left : Option (Vec FreeEntry Global)) (u : List ℤ) → InSpan form.rows u → SpansAfter form left u
-still_spans form None u span = span
-still_spans form (Some list) u span =
-    let r = row_of form.n list.items in
-    span_trans (form.rows ++ r ∷ []) form.rows u (all-front (InSpan (form.rows ++ r ∷ [])) form.rows r (own (form.rows ++ r ∷ []))).0 span
+-- what lies in the span of the form still does with another row
+pub span_with : (rows : List (List ℤ)) (r u : List ℤ) → InSpan rows u → InSpan (rows ++ r ∷ []) u
+span_with rows r u span = span_trans (rows ++ r ∷ []) rows u (all-front (InSpan (rows ++ r ∷ [])) rows r (own (rows ++ r ∷ []))).0 span

@@ -22,7 +22,7 @@ use Rattle.sum_basis.proofs.Clearing.{cleared_from, leads_combination}
 use Rattle.sum_basis.proofs.SparseRows.{here, elsewhere, no_entry, zero_below, number_at-row_of, length-row_of, listed_from}
 use Rattle.sum_basis.proofs.SparseMultiples.{kept_pivot}
 use Rattle.sum_basis.proofs.ListContents.{none, entry_at-scaled}
-use Rattle.sum_basis.proofs.ClearedLists.{IsLed, is_led, combined_rows, combined_rows_at}
+use Rattle.sum_basis.proofs.ClearedLists.{is_led, combined_rows, combined_rows_at}
 use Rattle.sum_basis.proofs.Merges.{scaled_listed}
 use Rattle.sum_basis.proofs.Parallels.{same_listed, same_length}
 use Rattle.sum_basis.proofs.KeptRows.{stands_earlier, cleared_as_it_is, lone_list}
@@ -56,7 +56,7 @@ bounded_at from n most (e ∷ es) h all j = elim (cases_eq e.place j) [
 
 -- the first entry of a new row is small, also as the code has it
 pub first_small : (n : ℕ) (new : List FreeEntry) (by : ℤ) → IsNew n new → by ≡ (get_or new 0 none).value → unsigned_abs by ≤ 2 ^ 56
-first_small n new by is e = rw e ((is_led n new is.some is.listed).small is.small)
+first_small n new by is e = rw e (is_led n new is).small
 
 module _ (n : ℕ) (r : SparseRow) (new : List FreeEntry) (kept : IsKept n r) (primitive : IsPrimitive n (row_of n (entries_of r))) (is_new : IsNew n new)
     (nothing : entry_at new r.pivot ≡ pos 0) (before : r.pivot < (get_or new 0 none).place)
@@ -67,9 +67,6 @@ module _ (n : ℕ) (r : SparseRow) (new : List FreeEntry) (kept : IsKept n r) (p
     pub not_zero : over ≢ pos 0
     pub line : (j : ℕ) → over *ℤ number_at made j ≡ by *ℤ entry_at (entries_of r) j +ℤ neg_ℤ times *ℤ entry_at new j
     pub cleared : IsCleared n (row_of n new) (row_of n (entries_of r)) made
-
-  led : IsLed n new (get_or new 0 none).place (get_or new 0 none).value
-  led = is_led n new is_new.some is_new.listed
 
   row_pivot : pivot (row_of n (entries_of r)) ≡ r.pivot
   row_pivot = kept_pivot n r kept
@@ -89,7 +86,7 @@ module _ (n : ℕ) (r : SparseRow) (new : List FreeEntry) (kept : IsKept n r) (p
       let made = primitive_exists n (combined_rows n r new kept is_new before by times by_is times_is)
       (length-combine n x row y (row_of n new) (length-row_of n (entries_of r)) (length-row_of n new))
       (some_entry (combined_rows n r new kept is_new before by times by_is times_is) (pivot row) leads) in
-      let at_new = led.at_pivot in
+      let at_new = (is_led n new is_new).at_pivot in
       let at_row = row_pivot in (
         made.0,
         record {
@@ -154,7 +151,7 @@ module _ (n : ℕ) (r : SparseRow) (new : List FreeEntry) (kept : IsKept n r) (p
         alike : IsLone made → (j : ℕ) → by *ℤ entry_at r.free.items j ≡ times *ℤ entry_at new j
         alike lone j = elim (cases_eq j r.pivot) [
           | inl same ↦ ap (λ z. by *ℤ z) (zero_below (r.pivot + 1) n r.free.items j kept.listed.3 (omega arith)) ∙ *ℤ-zero by ∙ sym (*ℤ-zero times)
-              ∙ ap (λ z. times *ℤ z) (sym (led.before j (omega arith)))
+              ∙ ap (λ z. times *ℤ z) (sym ((is_led n new is_new).before j (omega arith)))
           | inr other ↦
               let at = after_pivot j other in
               let gone = ap (λ z. l.over *ℤ z) (lone j (λ e. other (e ∙ made_pivot))) ∙ *ℤ-zero l.over in
@@ -171,7 +168,7 @@ module _ (n : ℕ) (r : SparseRow) (new : List FreeEntry) (kept : IsKept n r) (p
   by_bounds times b is some enough told =
       let before = stands_earlier n r new kept is_new (λ z. some (is ∙ z)) in
       let line = on_line n r new kept primitive is_new nothing before by times by_is is in
-      let first = is_led n new is_new.some is_new.listed in
+      let first = is_led n new is_new in
       let by_some = λ (z : by ≡ pos 0). positive_not_zero _ is_new.primitive.leading (first.pivot_entry_is ∙ sym by_is ∙ z) in
       let lone = lone_by_parallel n r new kept primitive is_new nothing before by times by_is is line.0 line.1 by_some some in (
         line.0,

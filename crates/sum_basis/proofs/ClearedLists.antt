@@ -1,5 +1,5 @@
 -- A kept row cleared at the pivot of a new one, as whole rows.
-use Rattle.std.proofs.Common.{◌≡◌, ℕ, zero, suc, ◌+◌, ◌<◌, ◌≤◌, ◌^◌, Bool, true, false, cond, nat_eq, ◌*◌, ℤ, pos, negsuc, List, [], ◌∷◌, length, get_or, refl, sym, ap, ◌∙◌, subst, arith, inl, inr}
+use Rattle.std.proofs.Common.{◌≡◌, ℕ, zero, suc, ◌+◌, ◌<◌, ◌≤◌, ◌^◌, Bool, true, false, cond, nat_eq, ◌*◌, ℤ, pos, negsuc, List, [], ◌∷◌, get_or, refl, sym, ap, ◌∙◌, subst, arith, inl, inr}
 use Rattle.std.specs.Prelude.{◌+ℤ◌, ◌-ℤ◌, ◌*ℤ◌, neg_ℤ, ◌<ℤ◌, unsigned_abs, FitsSigned}
 use Rattle.std.specs.Int.{◌∣◌, w128}
 use mir.Val.{to_z, of_z}
@@ -27,21 +27,21 @@ use Rattle.sum_basis.proofs.SparseRows.{elsewhere, zero_below, number_at-row_of,
 use Rattle.sum_basis.proofs.ListContents.{values, none, entry_at-scaled, listed_scaled}
 use Rattle.int_rows.specs.ContentLaws.{all-ones}
 
--- the first entry of a list that is not empty
+-- the first entry of the list of a new row
 pub record IsLed (n : ℕ) (es : List FreeEntry) (place : ℕ) (value : ℤ) : Type 0 where
   pub at_pivot : pivot (row_of n es) ≡ place
   pub pivot_entry_is : pivot_entry (row_of n es) ≡ value
   pub inside : place < n
-  pub small : IsSmall (row_of n es) → unsigned_abs value ≤ 2 ^ 56
+  pub small : unsigned_abs value ≤ 2 ^ 56
   pub before : (j : ℕ) → j < place → entry_at es j ≡ pos 0
 
-pub is_led : (n : ℕ) (es : List FreeEntry) → 0 < length es → IsListed 0 n es → IsLed n es (get_or es 0 none).place (get_or es 0 none).value
-is_led n [] some h = absurd (omega arith)
-is_led n (e ∷ es) some h = record {
+pub is_led : (n : ℕ) (es : List FreeEntry) → IsNew n es → IsLed n es (get_or es 0 none).place (get_or es 0 none).value
+is_led n [] new = let some = new.some in absurd (omega arith)
+is_led n (e ∷ es) new = let h = new.listed in record {
   at_pivot = pivot-row_of 0 n e es h;
   pivot_entry_is = pivot_entry-row_of 0 n e es h;
   inside = h.1;
-  small = λ s. (small_values n (e ∷ es) h s).0;
+  small = (small_values n (e ∷ es) h new.small).0;
   before = λ j l. zero_below e.place n (e ∷ es) j (omega arith, h.1, h.2, h.3) l;
 }
 
@@ -145,18 +145,16 @@ module _ (n : ℕ) (r : SparseRow) (new : List FreeEntry) (kept : IsKept n r) (i
       number_at-combine x (row_of n (entries_of r)) y (row_of n new) j
       ∙ ap (λ z. x *ℤ z +ℤ neg_ℤ y *ℤ number_at (row_of n new) j) (number_at-row_of 0 n (entries_of r) kept.listed j)
       ∙ ap (λ z. x *ℤ entry_at (entries_of r) j +ℤ neg_ℤ y *ℤ z) (number_at-row_of 0 n new is_new.listed j)
-      ∙ ap (λ z. z *ℤ entry_at (entries_of r) j +ℤ neg_ℤ y *ℤ entry_at new j) (led.pivot_entry_is ∙ sym by_is)
+      ∙ ap (λ z. z *ℤ entry_at (entries_of r) j +ℤ neg_ℤ y *ℤ entry_at new j) ((is_led n new is_new).pivot_entry_is ∙ sym by_is)
       ∙ ap (λ z. by *ℤ entry_at (entries_of r) j +ℤ neg_ℤ z *ℤ entry_at new j) (sym times_leads)
     where
-      led : IsLed n new (get_or new 0 none).place (get_or new 0 none).value
-      led = is_led n new is_new.some is_new.listed
-
       times_leads : times ≡ number_at (row_of n (entries_of r)) (pivot (row_of n new))
       times_leads =
           let place = (get_or new 0 none).place in
           let first = elsewhere (record { place = r.pivot; value = r.head }) place (λ same. omega arith) in
           let sum : entry_at (entries_of r) place ≡ entry_at r.free.items place = omega (arith, ints) in
-          times_is ∙ sym sum ∙ sym (number_at-row_of 0 n (entries_of r) kept.listed place) ∙ ap (number_at (row_of n (entries_of r))) (sym led.at_pivot)
+          times_is ∙ sym sum ∙ sym (number_at-row_of 0 n (entries_of r) kept.listed place)
+          ∙ ap (number_at (row_of n (entries_of r))) (sym (is_led n new is_new).at_pivot)
 
 -- the row and the new one, combined at the new pivot, and that over its content
 module _ (n : ℕ) (r : SparseRow) (new : List FreeEntry) (kept : IsKept n r) (primitive : IsPrimitive n (row_of n (entries_of r))) (is_new : IsNew n new)
@@ -164,11 +162,8 @@ module _ (n : ℕ) (r : SparseRow) (new : List FreeEntry) (kept : IsKept n r) (p
     (by times : ℤ) (by_is : by ≡ (get_or new 0 none).value) (times_is : times ≡ entry_at r.free.items (get_or new 0 none).place)
     (out : List FreeEntry) (out_listed : IsListed 0 n out) (combined : (j : ℕ) → entry_at out j ≡ by *ℤ entry_at r.free.items j -ℤ times *ℤ entry_at new j)
     (head : ℤ) (made : List FreeEntry) (over : IsOverContent (by *ℤ r.head) out head made) where
-  led : IsLed n new (get_or new 0 none).place (get_or new 0 none).value
-  led = is_led n new is_new.some is_new.listed
-
   by_leads : by ≡ pivot_entry (row_of n new)
-  by_leads = by_is ∙ sym led.pivot_entry_is
+  by_leads = by_is ∙ sym (is_led n new is_new).pivot_entry_is
 
   by_positive : pos 0 <ℤ by
   by_positive = subst (λ z. pos 0 <ℤ z) (sym by_leads) is_new.primitive.leading
@@ -178,7 +173,7 @@ module _ (n : ℕ) (r : SparseRow) (new : List FreeEntry) (kept : IsKept n r) (p
   out_before j l =
       let is = combined j in
       let one = ap (λ z. by *ℤ z) (zero_below (r.pivot + 1) n r.free.items j kept.listed.3 l) ∙ *ℤ-zero by in
-      let two = ap (λ z. times *ℤ z) (led.before j (omega arith)) ∙ *ℤ-zero times in
+      let two = ap (λ z. times *ℤ z) ((is_led n new is_new).before j (omega arith)) ∙ *ℤ-zero times in
       omega (arith, ints)
 
   made_listed : IsListed (r.pivot + 1) n made
@@ -235,6 +230,7 @@ module _ (n : ℕ) (r : SparseRow) (new : List FreeEntry) (kept : IsKept n r) (p
   pub is_cleared : IsCleared n (row_of n new) (row_of n (entries_of r)) (row_of n whole)
   is_cleared =
       let row_pivot = pivot-row_of 0 n (record { place = r.pivot; value = r.head }) r.free.items kept.listed in
+      let led = is_led n new is_new in
       let new_pivot = led.at_pivot in
       cleared_from n (row_of n new) (row_of n (entries_of r)) (row_of n whole) over.by is_new.primitive primitive
       (number_at-row_of 0 n new is_new.listed (pivot (row_of n (entries_of r))) ∙ led.before (pivot (row_of n (entries_of r))) (omega arith))

@@ -14,10 +14,11 @@ use Rattle.audit_types.specs.PrimitiveLines.{number_at-times, times}
 use Rattle.audit_types.specs.Products.{neg-times, product_not_zero}
 use Rattle.audit_types.specs.Numbers.{zero_or_not, positive_not_zero}
 use Rattle.audit_types.specs.RowNumbers.{some_entry}
+use Rattle.audit_types.specs.FormRows.{zero_before}
 use Rattle.sum_basis.specs.Spans.{spans_from, in_span_from, spans_same, spans_times, ZeroAtPivots}
 use Rattle.sum_basis.specs.Combination.{combine}
 use Rattle.sum_basis.specs.CombinedRows.{number_at-combine, length-combine}
-use Rattle.sum_basis.proofs.FormsAreUnique.{zero_before, pivot_is}
+use Rattle.sum_basis.proofs.FormsAreUnique.{pivot_is}
 use Rattle.sum_basis.proofs.Reduction.{span_combine, span_uncombine, span_line, primitive_exists}
 
 -- a row on the line of another is 0 where the other is

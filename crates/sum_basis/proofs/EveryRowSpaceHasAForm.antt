@@ -1,9 +1,8 @@
 -- Every row space has a reduced form.
 use Rattle.std.proofs.Common.{◌≡◌, ℕ, Bool, true, false, ℤ, pos, List, [], ◌∷◌, length, refl, sym, subst}
-use Rattle.std.specs.Prelude.{◌<ℤ◌}
 use Rattle.std.specs.List.{AllByRecursion, list_all}
 use Rattle.audit_types.specs.Truth.{number_at, is_zero}
-use Rattle.audit_types.specs.Form.{InSpan, IsPrimitive, IsEchelon, pivot_entry}
+use Rattle.audit_types.specs.Form.{InSpan, IsPrimitive, IsEchelon}
 use Rattle.audit_types.specs.RowNumbers.{all_zeros_at}
 use Rattle.audit_types.specs.FormRows.{lengths_of_form}
 use Rattle.sum_basis.specs.Spans.{in_span_from, spans_same, spans_zero, span_trans_all, own, one_more_all, first_own}
@@ -29,9 +28,6 @@ grow n form v p h e = go (list_all is_zero u) refl
     u : List ℤ
     u = reduced_by form v
 
-    leads : AllByRecursion (λ r. pos 0 <ℤ pivot_entry r) form
-    leads = leads_from n form p
-
     go : (b : Bool) → list_all is_zero u ≡ b → HasOneMore n form v
     go true zero_row = record {
       grown = form;
@@ -39,8 +35,8 @@ grow n form v p h e = go (list_all is_zero u) refl
       echelon = h;
       within = one_more_all v form form (own form);
       has_row =
-          span_unreduced form form v (own form) leads (in_span_from form u (spans_same form (λ j. pos 0) (number_at u) (λ j. sym (all_zeros_at u j zero_row))
-          (spans_zero form)));
+          span_unreduced form form v (own form) (leads_from n form p)
+          (in_span_from form u (spans_same form (λ j. pos 0) (number_at u) (λ j. sym (all_zeros_at u j zero_row)) (spans_zero form)));
       has_form = own form;
     }
     go false some =
@@ -63,7 +59,7 @@ grow n form v p h e = go (list_all is_zero u) refl
           within =
               all_placed (InSpan (v ∷ form)) new rows new_within
               (spans_there (v ∷ form) n new form rows rest.1 new_within (one_more_all v form form (own form)));
-          has_row = span_unreduced result form v has_form leads (subst (InSpan result) (sym made.3) (span_times result made.1 new inside.0));
+          has_row = span_unreduced result form v has_form (leads_from n form p) (subst (InSpan result) (sym made.3) (span_times result made.1 new inside.0));
           has_form = has_form;
         }
 

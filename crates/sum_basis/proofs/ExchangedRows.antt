@@ -5,13 +5,13 @@
 use Rattle.std.proofs.Common.{◌≡◌, ◌≢◌, ℕ, ◌<◌, ◌≤◌, Bool, true, false, not, ◌||◌, ◌==◌, ℤ, pos, List, [], ◌∷◌, ◌++◌, length, get_or, refl, sym, ap, ◌∙◌, subst, arith, inl, inr}
 use Rattle.std.specs.Prelude.{◌↔◌, ◌+ℤ◌, ◌*ℤ◌, ◌<ℤ◌, neg_ℤ, unsigned_abs, Option, Vec, Some, IsTrue}
 use Rattle.std.specs.declared.alloc.Global.{Global}
-use Rattle.std.specs.List.{AllByRecursion, list_all}
+use Rattle.std.specs.List.{AllByRecursion}
 use Rattle.std.proofs.lemmas.Int.{ints}
 use Rattle.std.proofs.lemmas.Bool.{true≢false, false≢true, cases_eq, cases_lt, eq-eqb, eqb-true, ne_eqb, or_parts, not-true}
 use Rattle.std.proofs.Math.Bool.{or-false, or-true}
 use Rattle.std.proofs.lemmas.List.Elements.{All-from_recursion}
 use Rattle.std.proofs.Math.IntN.{*ℤ-zero, zero-*ℤ}
-use Rattle.audit_types.specs.Truth.{number_at, is_zero}
+use Rattle.audit_types.specs.Truth.{number_at}
 use Rattle.audit_types.specs.Form.{combined, set_row, InSpan, IsPrimitive, pivot, pivot_entry}
 use Rattle.audit_types.specs.FormRows.{pivot_below}
 use Rattle.audit_types.specs.Rows.{AreRows, has_row, complement, union}
@@ -31,7 +31,7 @@ use Rattle.sum_basis.specs.Spans.{own, spans_from, in_span_from, spans_same, spa
 use Rattle.sum_basis.specs.declared.sparse.FreeEntry.{FreeEntry}
 use Rattle.sum_basis.proofs.FormsAreUnique.{leads_from}
 use Rattle.audit_types.specs.Products.{size_of_factor}
-use Rattle.audit_types.specs.RowNumbers.{all_by_number, all_zeros_at, length-set_row}
+use Rattle.audit_types.specs.RowNumbers.{all_by_number, length-set_row}
 use Rattle.sum_basis.specs.CombinedRows.{length-combine}
 use Rattle.sum_basis.proofs.Sizes.{within_at}
 use Rattle.sum_basis.proofs.KeptForms.{row_among}
@@ -143,9 +143,9 @@ abbrev pub NoneNewAtPivots : Echelon → Option (Vec FreeEntry Global) → List 
 NoneNewAtPivots form left but = (j : ℕ) → j < length form.rows → has_row but (pivot (get_or form.rows j [])) ≡ false →
     SpansAfter form left (unit_row form.n (pivot (get_or form.rows j []))) → InSpan form.rows (unit_row form.n (pivot (get_or form.rows j [])))
 
-module _ (form : Echelon) (f : IsSmallForm form.n form.rows) (list : Vec FreeEntry Global) (over : IsLeftOver form list.items) where
+module _ (form : Echelon) (f : IsSmallForm form.n form.rows) (list : List FreeEntry) (over : IsLeftOver form list) where
   abbrev new_row : List ℤ
-  new_row = row_of form.n list.items
+  new_row = row_of form.n list
 
   -- the first place of what was left is the pivot of no row
   pub no_pivot_there : (rows : List (List ℤ)) → IsZeroAtPivots rows new_row → AllByRecursion (λ other. pivot other ≢ pivot new_row) rows
@@ -163,14 +163,15 @@ module _ (form : Echelon) (f : IsSmallForm form.n form.rows) (list : Vec FreeEnt
   pub not_known_there : ¬ (InSpan form.rows (unit_row form.n (pivot new_row)))
   not_known_there = not_in_form form.n (pivot new_row) form.rows f (pivot_below form.n new_row over.0.primitive) (no_pivot_there form.rows over.1)
 
-  -- if no unit row at a pivot that isn't among these is new, only that at the first place is
-  pub only_new : (but : List ℕ) → NoneNewAtPivots form (Some list) but → (i : ℕ) → i < form.n → has_row but i ≡ false →
-      SpansAfter form (Some list) (unit_row form.n i) → ¬ (InSpan form.rows (unit_row form.n i)) → pivot new_row ≡ i
-  only_new but none i below out span new = elim (pivot_or_none form.rows i) [
-    | inl found ↦ absurd (new (subst (λ p. InSpan form.rows (unit_row form.n p)) found.2 (none found.0 found.1 (ap (has_row but) found.2 ∙ out)
-        (subst (λ p. SpansAfter form (Some list) (unit_row form.n p)) (sym found.2) span))))
-    | inr apart ↦ at_new_pivot form.n i form.rows new_row f over.1 over.0.primitive below apart span
-  ]
+-- if no unit row at a pivot that isn't among these is new, only that at the first place is
+pub only_new : (form : Echelon) (f : IsSmallForm form.n form.rows) (list : Vec FreeEntry Global) → IsLeftOver form list.items →
+    (but : List ℕ) → NoneNewAtPivots form (Some list) but → (i : ℕ) → i < form.n → has_row but i ≡ false →
+    SpansAfter form (Some list) (unit_row form.n i) → ¬ (InSpan form.rows (unit_row form.n i)) → pivot (row_of form.n list.items) ≡ i
+only_new form f list over but none i below out span new = elim (pivot_or_none form.rows i) [
+  | inl found ↦ absurd (new (subst (λ p. InSpan form.rows (unit_row form.n p)) found.2 (none found.0 found.1 (ap (has_row but) found.2 ∙ out)
+      (subst (λ p. SpansAfter form (Some list) (unit_row form.n p)) (sym found.2) span))))
+  | inr apart ↦ at_new_pivot form.n i form.rows (row_of form.n list.items) f over.1 over.0.primitive below apart span
+]
 
 -- ---- what is left is no larger than the form
 

@@ -3,16 +3,16 @@ use Rattle.std.proofs.Common.{◌≡◌, ◌≢◌, ℕ, ◌<◌, not, ℤ, pos,
 use Rattle.std.specs.Prelude.{◌+ℤ◌, ◌*ℤ◌, neg_ℤ, ◌<ℤ◌}
 use Rattle.std.specs.List.{AllByRecursion}
 use Rattle.std.proofs.lemmas.Int.{ints}
-use Rattle.std.proofs.lemmas.List.Sums.{fails_before_first, position_or_len_is}
+use Rattle.std.proofs.lemmas.List.Sums.{position_or_len_is}
 use Rattle.std.proofs.lemmas.List.{get_or_past}
-use Rattle.std.proofs.lemmas.Bool.{cases_eq, cases_lt, not-false}
+use Rattle.std.proofs.lemmas.Bool.{cases_eq, cases_lt}
 use Rattle.std.proofs.Math.IntN.{+ℤ_idl, +ℤ_idr, *ℤ_comm, zero-*ℤ, *ℤ-zero}
 use Rattle.audit_types.specs.Truth.{number_at, is_zero}
 use Rattle.audit_types.specs.Form.{combined, InSpan, pivot, pivot_entry, IsPrimitive, IsEchelon, StandsBefore}
 use Rattle.audit_types.specs.Products.{neg-times, zero_factor}
 use Rattle.audit_types.specs.PrimitiveLines.{one_primitive}
-use Rattle.audit_types.specs.Numbers.{zero_or_not, zero_from_test, test_of_not_zero}
-use Rattle.audit_types.specs.FormRows.{later_zero}
+use Rattle.audit_types.specs.Numbers.{zero_or_not, test_of_not_zero}
+use Rattle.audit_types.specs.FormRows.{later_zero, zero_before}
 use Rattle.sum_basis.specs.Laws.{FormsAreUnique}
 use Rattle.sum_basis.specs.Ties.{IsRowOf}
 use Rattle.sum_basis.specs.Spans.{own, spans_from, spans_times, spans_add, span_zero, span_trans_all, combined_zero, ZeroAtPivots}
@@ -20,10 +20,6 @@ use Rattle.sum_basis.specs.Spans.{own, spans_from, spans_times, spans_add, span_
 -- the pivot entries are positive
 abbrev Leads : List (List ℤ) → Type 0
 Leads rows = AllByRecursion (λ r. pos 0 <ℤ pivot_entry r) rows
-
--- a row is 0 before its pivot
-pub zero_before : (row : List ℤ) (j : ℕ) → j < pivot row → number_at row j ≡ pos 0
-zero_before row j h = zero_from_test (number_at row j) (not-false (is_zero (number_at row j)) (fails_before_first (λ x. not (is_zero x)) row j (pos 0) h))
 
 -- the pivot is the first place that is not 0
 pub pivot_is : (row : List ℤ) (p : ℕ) → ((j : ℕ) → j < p → number_at row j ≡ pos 0) → number_at row p ≢ pos 0 → pivot row ≡ p

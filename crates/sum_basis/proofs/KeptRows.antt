@@ -30,7 +30,7 @@ module _ (n : ℕ) (r : SparseRow) (new : List FreeEntry) (kept : IsKept n r) (i
   pub cleared_as_it_is : entry_at new r.pivot ≡ pos 0 → IsPrimitive n (row_of n (entries_of r)) → entry_at r.free.items (get_or new 0 none).place ≡ pos 0 →
       IsCleared n (row_of n new) (row_of n (entries_of r)) (row_of n (entries_of r))
   cleared_as_it_is nothing primitive none_there =
-      let led = is_led n new is_new.some is_new.listed in
+      let led = is_led n new is_new in
       let place = (get_or new 0 none).place in
       let apart : r.pivot ≢ place = λ same. positive_not_zero (pivot_entry (row_of n new)) is_new.primitive.leading
       (ap (number_at (row_of n new)) (led.at_pivot ∙ sym same) ∙ number_at-row_of 0 n new is_new.listed r.pivot ∙ nothing) in

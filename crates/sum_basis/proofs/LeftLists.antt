@@ -6,7 +6,7 @@ use Rattle.std.proofs.lemmas.Int.{ints}
 use Rattle.std.proofs.Math.IntN.{zero-*ℤ}
 use Rattle.audit_types.specs.ListLaws.{all-unmap, all-weaker}
 use Rattle.audit_types.specs.Numbers.{product_small}
-use Rattle.audit_types.specs.Products.{one-times, times_assoc, product_not_zero}
+use Rattle.audit_types.specs.Products.{one-times, times_assoc, product_not_zero, swapped}
 use Rattle.sum_basis.specs.Alike.{IsMultipleOf, AreAlikeAfter}
 use Rattle.sum_basis.specs.Reach.{AreSmallEntries, times_of, without_new}
 use Rattle.sum_basis.specs.Sparse.{entry_at, IsListed, IsMadeList}
@@ -14,7 +14,6 @@ use Rattle.sum_basis.specs.declared.sparse.FreeEntry.{FreeEntry}
 use Rattle.sum_basis.proofs.ClearedLists.{values_from}
 use Rattle.sum_basis.proofs.ListContents.{entry_at-scaled}
 use Rattle.sum_basis.proofs.SmallEntries.{entry_small}
-use Rattle.sum_basis.proofs.Weighted.{swapped}
 
 -- entries that are 0 at the first place stay, but for a factor
 pub stays_after : (n : ℕ) (new entries list : List FreeEntry) → AreSmallEntries n new → times_of new (entry_at entries) ≡ pos 0 → list ≡ entries →

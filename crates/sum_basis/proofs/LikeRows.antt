@@ -10,7 +10,7 @@ use Rattle.std.proofs.Math.IntN.{*ℤ-zero, zero-*ℤ}
 use Rattle.audit_types.specs.Truth.{number_at}
 use Rattle.audit_types.specs.Form.{combined, InSpan, pivot}
 use Rattle.audit_types.specs.Numbers.{positive_not_zero}
-use Rattle.audit_types.specs.Products.{neg-times, one-times, times-add, times_assoc, product_not_zero, zero_product}
+use Rattle.audit_types.specs.Products.{neg-times, one-times, times-add, times_assoc, product_not_zero, zero_product, swapped}
 use Rattle.audit_types.specs.Totals.{combined-push}
 use Rattle.sum_basis.specs.Basis.{Echelon, unit_row}
 use Rattle.sum_basis.specs.Elimination.{IsSmallForm, IsZeroAtPivots}
@@ -23,7 +23,7 @@ use Rattle.sum_basis.specs.declared.sparse.FreeEntry.{FreeEntry}
 use Rattle.sum_basis.proofs.FormsAreUnique.{leads_from}
 use Rattle.sum_basis.proofs.OneKey.{one_key, no_key, crossed}
 use Rattle.sum_basis.proofs.SparseRows.{number_at-row_of}
-use Rattle.sum_basis.proofs.Weighted.{swapped, weighted_after_line}
+use Rattle.sum_basis.proofs.Weighted.{weighted_after_line}
 
 -- a multiple of the row is a combination of the form's rows, the new row and another one
 pub record IsCombined (form : Echelon) (new : List FreeEntry) (other row : List ℤ) : Type 0 where

@@ -19,7 +19,7 @@ use Rattle.sum_basis.specs.Sparse.{entry_at, row_of, rows_of, entries_of, IsKept
 use Rattle.sum_basis.proofs.Sizes.{within_at}
 use Rattle.sum_basis.proofs.SparseRows.{elsewhere, number_at-row_of}
 use Rattle.sum_basis.proofs.ListContents.{none}
-use Rattle.sum_basis.proofs.ClearedLists.{IsLed, is_led}
+use Rattle.sum_basis.proofs.ClearedLists.{is_led}
 use Rattle.sum_basis.proofs.KeptRows.{stands_earlier, cleared_as_it_is, nothing_at}
 use Rattle.sum_basis.proofs.BoundedRows.{on_line}
 
@@ -34,20 +34,17 @@ size_one : (x : ℤ) → pos 0 <ℤ x → unsigned_abs x ≤ 1 → x ≡ pos 1
 size_one x p h = omega (arith, ints)
 
 module _ (n width : ℕ) (new : List FreeEntry) (is_new : IsNew n new) (one : length new ≡ 1) where
-  led : IsLed n new (get_or new 0 none).place (get_or new 0 none).value
-  led = is_led n new is_new.some is_new.listed
-
   -- its entry is 1
   value_is : (get_or new 0 none).value ≡ pos 1
   value_is =
-      size_one v (subst (λ z. pos 0 <ℤ z) led.pivot_entry_is is_new.primitive.leading)
+      size_one v (subst (λ z. pos 0 <ℤ z) (is_led n new is_new).pivot_entry_is is_new.primitive.leading)
       (le_of_dvd (omega arith) (is_new.primitive.content.greatest (unsigned_abs v) (all_by_number (λ x. unsigned_abs v ∣ unsigned_abs x) (row_of n new) at)))
     where
       v : ℤ
       v = (get_or new 0 none).value
 
       at : (j : ℕ) → unsigned_abs v ∣ unsigned_abs (number_at (row_of n new) j)
-      at j = elim (cases_eq j (get_or new 0 none).place) [
+      at j = let led = is_led n new is_new in elim (cases_eq j (get_or new 0 none).place) [
         | inl same ↦ subst (λ z. unsigned_abs v ∣ unsigned_abs z) (sym (ap (number_at (row_of n new)) (same ∙ sym led.at_pivot) ∙ led.pivot_entry_is))
             (dvd_refl (unsigned_abs v))
         | inr other ↦ subst (λ z. unsigned_abs v ∣ unsigned_abs z) (sym (number_at-row_of 0 n new is_new.listed j ∙ elsewhere_nothing new j one other))
@@ -60,6 +57,7 @@ module _ (n width : ℕ) (new : List FreeEntry) (is_new : IsNew n new) (one : le
   cleared_within r kept primitive nothing within = elim (zero_or_not (entry_at r.free.items (get_or new 0 none).place)) [
     | inl z ↦ (row_of n (entries_of r), cleared_as_it_is n r new kept is_new nothing primitive z, within)
     | inr some ↦
+        let led = is_led n new is_new in
         let place = (get_or new 0 none).place in
         let times = entry_at r.free.items place in
         let line = on_line n r new kept primitive is_new nothing (stands_earlier n r new kept is_new some) (pos 1) times (sym value_is) refl in

@@ -3,11 +3,11 @@ use Rattle.std.proofs.Common.{◌≡◌, ◌≢◌, ℕ, ◌*◌, ◌<◌, ℤ, 
 use Rattle.std.specs.Prelude.{◌-ℤ◌, ◌*ℤ◌}
 use Rattle.std.proofs.lemmas.Int.{ints}
 use Rattle.std.proofs.Math.IntN.{*ℤ_comm, zero-*ℤ}
-use Rattle.audit_types.specs.Products.{one-times, times_assoc, zero_product}
+use Rattle.audit_types.specs.Products.{one-times, times_assoc, zero_product, swapped}
 use Rattle.sum_basis.specs.Points.{modulus, IsLeftModulo, IsKey}
 use Rattle.sum_basis.specs.declared.points.Point.{Point}
 use Rattle.sum_basis.proofs.SameModulo.{IsSame, same_equal, same_back, same_then, same_products, same_below, product_is}
-use Rattle.sum_basis.proofs.Weighted.{swapped, times-less}
+use Rattle.sum_basis.proofs.Weighted.{times-less}
 
 -- the two pairs of a product of products, each with the other's second factor
 exchanged : (a b c d : ℤ) → (a *ℤ b) *ℤ (c *ℤ d) ≡ (a *ℤ c) *ℤ (b *ℤ d)

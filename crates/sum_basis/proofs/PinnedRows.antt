@@ -1,43 +1,21 @@
 -- Which unit rows lie in the span of a form with a new row: those at the pivots of rows that are alone once they are cleared, and that of the new row,
 -- if it is alone.
-use Rattle.std.proofs.Common.{◌≡◌, ◌≢◌, ◌↔◌, ℕ, ◌<◌, ◌≤◌, Bool, IsTrue, false, ℤ, pos, List, [], ◌∷◌, ◌++◌, length, map, get_or, refl, sym, ap, ◌∙◌, subst, arith, inl, inr}
+use Rattle.std.proofs.Common.{◌≡◌, ◌≢◌, ◌↔◌, ℕ, ◌<◌, ◌≤◌, false, ℤ, List, [], ◌∷◌, ◌++◌, length, get_or, refl, sym, ap, ◌∙◌, subst, arith, inl, inr}
 use Rattle.std.specs.Prelude.{Option, None, Some}
 use Rattle.std.proofs.lemmas.Bool.{cases_eq, cases_lt}
 use Rattle.std.proofs.lemmas.List.Elements.{All-from_recursion}
 use Rattle.audit_types.specs.Form.{InSpan, IsPrimitive, IsReducedForm, pivot}
 use Rattle.audit_types.specs.FormRows.{pivot_below}
-use Rattle.audit_types.specs.Numbers.{positive_not_zero}
 use Rattle.audit_types.specs.Rows.{has_row, IsLeast}
 use Rattle.sum_basis.specs.Basis.{unit_row}
-use Rattle.sum_basis.specs.Elimination.{IsCleared, IsLone, IsSmallForm, IsZeroAtPivots}
+use Rattle.sum_basis.specs.Elimination.{IsLone, IsSmallForm, IsZeroAtPivots}
 use Rattle.sum_basis.specs.RowsWith.{IsPinned, IsPinnedPivot}
 use Rattle.sum_basis.specs.Spans.{own, span_trans}
-use Rattle.sum_basis.specs.Sparse.{entry_at, row_of, entries_of, IsKept, IsNew, scaled}
-use Rattle.sum_basis.specs.Ties.{IsRowOf}
-use Rattle.sum_basis.specs.declared.sparse.FreeEntry.{FreeEntry}
-use Rattle.sum_basis.specs.declared.sparse.SparseRow.{SparseRow}
-use Rattle.sum_basis.proofs.BoundedRows.{on_line, lone_by_parallel}
-use Rattle.sum_basis.proofs.ClearedLists.{is_led}
 use Rattle.sum_basis.proofs.FormsAreUnique.{in_span_at}
-use Rattle.sum_basis.proofs.KeptRows.{stands_earlier}
-use Rattle.sum_basis.proofs.ListContents.{none}
 use Rattle.sum_basis.proofs.OwnRows.{pivot_or_none, at_new_pivot, lone_in_form}
 use Rattle.sum_basis.proofs.OwnUnits.{pivots_ascend}
-use Rattle.sum_basis.proofs.RowsWith.{new_among, made_among}
+use Rattle.sum_basis.proofs.RowsWith.{new_among}
 use Rattle.sum_basis.proofs.UnitRowsInSpan.{unit_in_span}
-
--- a row that isn't 0 at the new row's pivot is alone, once it is cleared, exactly if its list is a multiple of the new one
-pub alone_by_parallel : (n : ℕ) (r : SparseRow) (new : List FreeEntry) → IsKept n r → IsPrimitive n (row_of n (entries_of r)) → IsNew n new →
-    entry_at new r.pivot ≡ pos 0 → (by times : ℤ) (b : Bool) → by ≡ (get_or new 0 none).value → times ≡ entry_at r.free.items (get_or new 0 none).place →
-    times ≢ pos 0 → IsTrue b ↔ (map (scaled by) r.free.items ≡ map (scaled times) new) →
-    (made : List ℤ) × IsCleared n (row_of n new) (row_of n (entries_of r)) made × (IsTrue b ↔ IsLone made)
-alone_by_parallel n r new kept primitive is_new nothing by times b by_is is some told =
-    let before = stands_earlier n r new kept is_new (λ z. some (is ∙ z)) in
-    let line = on_line n r new kept primitive is_new nothing before by times by_is is in
-    let first = is_led n new is_new.some is_new.listed in
-    let by_some = λ (z : by ≡ pos 0). positive_not_zero _ is_new.primitive.leading (first.pivot_entry_is ∙ sym by_is ∙ z) in
-    let lone = lone_by_parallel n r new kept primitive is_new nothing before by times by_is is line.0 line.1 by_some some in
-    (line.0, line.1.cleared, (λ yes. lone.0 (told.0 yes), λ is_lone. told.1 (lone.1 is_lone)))
 
 -- the unit row at none of the first k pivots that isn't shared lies in the span
 abbrev pub NoneBefore : ℕ → List (List ℤ) → List ℕ → List (List ℤ) → ℕ → Type 0
@@ -46,25 +24,22 @@ NoneBefore n rows shared grown k = (j : ℕ) → j < k → has_row shared (pivot
 
 module _ (n : ℕ) (rows : List (List ℤ)) (new : List ℤ) (shared : List ℕ) (f : IsSmallForm n rows) (p : IsPrimitive n new) (z : IsZeroAtPivots rows new)
     (grown : List (List ℤ)) (reduced : IsReducedForm n (rows ++ new ∷ []) grown) (g : IsSmallForm n grown) where
-  -- the pivot's unit row of a row of the form lies in the span exactly if the row is alone
-  spanned_if_lone : (row : List ℤ) → IsRowOf row grown → IsPrimitive n row → InSpan grown (unit_row n (pivot row)) ↔ IsLone row
-  spanned_if_lone row among primitive = (
-    λ span. lone_in_form n grown row g among (pivot_below n row primitive) span,
-    λ lone. unit_in_span n grown row primitive (in_span_at grown grown row (own grown) among) lone,
-  )
+  -- the span of the rows and the new one is that of the form with it
+  pub spanned_in_grown : (u : List ℤ) → InSpan (rows ++ new ∷ []) u → InSpan grown u
+  spanned_in_grown u span = span_trans grown (rows ++ new ∷ []) u reduced.spans span
 
-  -- so it is with row k of the rows and what becomes of it
-  pub spanned_if_alone : (k : ℕ) (made : List ℤ) → k < length rows → IsCleared n new (get_or rows k []) made →
-      InSpan grown (unit_row n (pivot (get_or rows k []))) ↔ IsLone made
-  spanned_if_alone k made l is =
-      let among = made_among n new p rows grown f.primitive f.echelon z reduced k made l is in
-      subst (λ i. InSpan grown (unit_row n i) ↔ IsLone made) is.same_pivot (spanned_if_lone made among is.primitive)
+  pub still_none : (k : ℕ) → NoneBefore n rows shared (rows ++ new ∷ []) k → NoneBefore n rows shared grown k
+  still_none k none j before mine span = none j before mine (span_trans (rows ++ new ∷ []) grown (unit_row n (pivot (get_or rows j []))) reduced.within span)
 
-  -- and with the new row
+  -- the new row's pivot's unit row lies in it exactly if the row is alone
   pub new_if_alone : InSpan grown (unit_row n (pivot new)) ↔ IsLone new
-  new_if_alone = spanned_if_lone new (new_among n new p rows grown f.primitive f.echelon z reduced) p
+  new_if_alone =
+      let among = new_among n new p rows grown f.primitive f.echelon z reduced in (
+        λ span. lone_in_form n grown new g among (pivot_below n new p) span,
+        λ lone. unit_in_span n grown new p (in_span_at grown grown new (own grown) among) lone,
+      )
 
-  -- then that at the next pivot is the least, if it does
+  -- if none before the next pivot does, that at it is the least, if it does
   pub first_one : (k : ℕ) → k < length rows → NoneBefore n rows shared grown k → has_row shared (pivot (get_or rows k [])) ≡ false →
       InSpan grown (unit_row n (pivot (get_or rows k []))) → IsLeast (IsPinnedPivot n rows grown shared) (Some (pivot (get_or rows k [])))
   first_one k l before mine span = (

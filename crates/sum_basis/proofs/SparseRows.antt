@@ -3,7 +3,7 @@ use Rattle.std.proofs.Common.{◌≡◌, ◌≢◌, ℕ, zero, suc, ◌+◌, ◌
 use Rattle.std.specs.Prelude.{◌+ℤ◌, ◌-ℤ◌, ◌*ℤ◌, unsigned_abs}
 use Rattle.std.specs.List.{AllByRecursion}
 use Rattle.std.proofs.lemmas.Int.{ints}
-use Rattle.std.proofs.lemmas.Bool.{cases_eq, cases_lt, eq-eqb, ne_eqb}
+use Rattle.std.proofs.lemmas.Bool.{cases_eq, cases_lt}
 use Rattle.std.proofs.lemmas.List.{get_or_past, get_or-set_same, get_or-set_other, take_more, take_all}
 use Rattle.std.proofs.lemmas.List.FromFn.{get_or-map-range_with_len, length-map-range_with_len}
 use Rattle.std.proofs.Math.IntN.{+ℤ_idl, *ℤ-zero}
@@ -13,6 +13,7 @@ use Rattle.sum_basis.specs.declared.sparse.FreeEntry.{FreeEntry}
 use Rattle.sum_basis.specs.Combination.{combine}
 use Rattle.sum_basis.specs.Elimination.{IsWithin, IsSmall}
 use Rattle.sum_basis.specs.Sparse.{entry_at, row_of, IsListed}
+pub use Rattle.sum_basis.specs.EntryLaws.{here, elsewhere, zero_below, first_value}
 use Rattle.sum_basis.specs.Merging.{first_value as first_value_at}
 use Rattle.sum_basis.specs.CombinedRows.{number_at-combine, length-combine}
 use Rattle.std.specs.List.Sorted.{IsNonDecreasingBy}
@@ -21,14 +22,6 @@ use Rattle.sum_basis.proofs.FormsAreUnique.{pivot_is}
 use Rattle.sum_basis.proofs.Sizes.{within_at}
 use Rattle.audit_types.specs.PrimitiveLines.{same_rows}
 use Rattle.audit_types.specs.RowNumbers.{all_by_number}
-
--- what an entry has at its own place
-pub here : (e : FreeEntry) (j : ℕ) → e.place ≡ j → cond (nat_eq e.place j) e.value (pos 0) ≡ e.value
-here e j h = ap (λ b. cond b e.value (pos 0)) (eq-eqb e.place j h)
-
--- and elsewhere
-pub elsewhere : (e : FreeEntry) (j : ℕ) → e.place ≢ j → cond (nat_eq e.place j) e.value (pos 0) ≡ pos 0
-elsewhere e j h = ap (λ b. cond b e.value (pos 0)) (ne_eqb e.place j h)
 
 -- no entries have nothing
 pub no_entry : (es : List FreeEntry) (j : ℕ) → length es ≡ 0 → entry_at es j ≡ pos 0
@@ -40,16 +33,7 @@ pub entry_at-append : (xs ys : List FreeEntry) (j : ℕ) → entry_at (xs ++ ys)
 entry_at-append [] ys j = sym (+ℤ_idl (entry_at ys j))
 entry_at-append (e ∷ xs) ys j = let rest = entry_at-append xs ys j in omega (arith, ints)
 
--- a list has nothing before its places
-pub zero_below : (from n : ℕ) (es : List FreeEntry) (j : ℕ) → IsListed from n es → j < from → entry_at es j ≡ pos 0
-zero_below from n [] j h l = refl
-zero_below from n (e ∷ es) j h l =
-    let at = h.0 in
-    let first = elsewhere e j (λ same. omega arith) in
-    let rest = zero_below (e.place + 1) n es j h.3 (omega arith) in
-    omega (arith, ints)
-
--- and nothing past the columns
+-- a list has nothing past the columns
 pub zero_past : (from n : ℕ) (es : List FreeEntry) (j : ℕ) → IsListed from n es → n ≤ j → entry_at es j ≡ pos 0
 zero_past from n [] j h l = refl
 zero_past from n (e ∷ es) j h l =
@@ -69,14 +53,7 @@ number_at-row_of from n es h j = elim (cases_lt j n) [
   | inr le ↦ get_or_past (row_of n es) j (pos 0) (let all = length-row_of n es in omega arith) ∙ sym (zero_past from n es j h le)
 ]
 
--- at its first place the list has the first value
-pub first_value : (from n : ℕ) (e : FreeEntry) (es : List FreeEntry) → IsListed from n (e ∷ es) → entry_at (e ∷ es) e.place ≡ e.value
-first_value from n e es h =
-    let first = here e e.place refl in
-    let rest = zero_below (e.place + 1) n es e.place h.3 (omega arith) in
-    omega (arith, ints)
-
--- which is the pivot of the row
+-- its first place is the pivot of the row
 pub pivot-row_of : (from n : ℕ) (e : FreeEntry) (es : List FreeEntry) → IsListed from n (e ∷ es) → pivot (row_of n (e ∷ es)) ≡ e.place
 pivot-row_of from n e es h =
     pivot_is (row_of n (e ∷ es)) e.place

@@ -4,7 +4,7 @@ use Rattle.std.proofs.lemmas.List.{get_or_past}
 use Rattle.std.proofs.lemmas.Bool.{cases_lt}
 use Rattle.audit_types.specs.Truth.{number_at}
 use Rattle.audit_types.specs.Form.{pivot}
-use Rattle.sum_basis.proofs.FormsAreUnique.{zero_before}
+use Rattle.audit_types.specs.FormRows.{zero_before}
 
 -- a row has no pivot exactly if it is all zeros
 pub no_pivot : (row : List ℤ) → pivot row ≡ length row → (j : ℕ) → number_at row j ≡ pos 0

@@ -1,10 +1,10 @@
 -- A unit row lies in the span exactly if a row of the form has its only entry that isn't 0 there.
-use Rattle.std.proofs.Common.{◌≡◌, ◌≢◌, ℕ, zero, suc, ◌+◌, ◌<◌, ◌≤◌, false, cond, ◌||◌, ℤ, pos, List, [], ◌∷◌, length, take, get_or, refl, sym, ap, ◌∙◌, arith, subst, inl, inr}
+use Rattle.std.proofs.Common.{◌≡◌, ℕ, zero, suc, ◌+◌, ◌<◌, ◌≤◌, ℤ, pos, List, [], ◌∷◌, length, take, get_or, sym, ap, ◌∙◌, arith, subst, inl, inr}
 use Rattle.std.specs.Prelude.{◌+ℤ◌, ◌*ℤ◌, neg_ℤ, ◌<ℤ◌}
 use Rattle.std.specs.List.{AllByRecursion}
 use Rattle.std.proofs.lemmas.Int.{ints}
-use Rattle.std.proofs.lemmas.Bool.{cases_eq, cases_lt, eq-eqb, ne_eqb}
-use Rattle.std.proofs.lemmas.List.{get_or_past, take_more}
+use Rattle.std.proofs.lemmas.Bool.{cases_eq}
+use Rattle.std.proofs.lemmas.List.{take_more}
 use Rattle.std.proofs.lemmas.List.Elements.{All-from_recursion}
 use Rattle.std.proofs.Math.IntN.{*ℤ-zero, *ℤ_comm}
 use Rattle.audit_types.specs.Truth.{number_at}
@@ -14,24 +14,13 @@ use Rattle.sum_basis.specs.Elimination.{IsFormWithin, IsLone}
 use Rattle.audit_types.specs.Products.{neg-times, one-times}
 use Rattle.audit_types.specs.ListLaws.{all-push}
 use Rattle.audit_types.specs.Numbers.{positive_is}
-use Rattle.audit_types.specs.RowNumbers.{number_at-set_row, length-set_row}
 use Rattle.audit_types.specs.FormRows.{pivot_below}
 use Rattle.sum_basis.specs.Spans.{spans_from, in_span_from, spans_same, spans_times, spans_add, spans_down, span_zero, own}
 use Rattle.sum_basis.specs.Ties.{IsRowOf}
+pub use Rattle.sum_basis.specs.EntryLaws.{unit_here, unit_elsewhere}
 use Rattle.sum_basis.proofs.FormsAreUnique.{stands_before, pivot_is, pivot_among, zeros_walk, zero_at_others, in_span_at, leads_from}
 
--- a unit row has 1 at its place
-pub unit_here : (n i : ℕ) → i < n → number_at (unit_row n i) i ≡ pos 1
-unit_here n i h = number_at-set_row n (i ∷ []) i h ∙ ap (λ b. cond (b || false) (pos 1) (pos 0)) (eq-eqb i i refl)
-
--- and 0 elsewhere
-pub unit_elsewhere : (n i j : ℕ) → j ≢ i → number_at (unit_row n i) j ≡ pos 0
-unit_elsewhere n i j other = elim (cases_lt j n) [
-  | inl lt ↦ number_at-set_row n (i ∷ []) j lt ∙ ap (λ b. cond (b || false) (pos 1) (pos 0)) (ne_eqb i j (λ e. other (sym e)))
-  | inr le ↦ get_or_past (unit_row n i) j (pos 0) (let all = length-set_row n (i ∷ []) in omega arith)
-]
-
--- so its pivot is its place
+-- the pivot of a unit row is its place
 pub pivot-unit_row : (n i : ℕ) → i < n → pivot (unit_row n i) ≡ i
 pivot-unit_row n i h = pivot_is (unit_row n i) i (λ j l. unit_elsewhere n i j (λ e. omega arith)) (λ e. let one = unit_here n i h in omega (arith, ints))
 
@@ -49,14 +38,11 @@ lone_row n form i f h p = record { row = hit.0; among = hit.1; at = at; lone = l
     unit : List ℤ
     unit = unit_row n i
 
-    leads : AllByRecursion (λ r. pos 0 <ℤ pivot_entry r) form
-    leads = leads_from n form f.primitive
-
     positive : pos 0 <ℤ pivot_entry unit
     positive = let here = ap (number_at unit) (pivot-unit_row n i h) ∙ unit_here n i h in omega (arith, ints)
 
     hit : (g : List ℤ) × IsRowOf g form × (pivot unit ≡ pivot g)
-    hit = pivot_among form unit f.echelon leads p positive
+    hit = pivot_among form unit f.echelon (leads_from n form f.primitive) p positive
 
     at : pivot hit.0 ≡ i
     at = sym hit.2 ∙ pivot-unit_row n i h
@@ -87,7 +73,7 @@ lone_row n form i f h p = record { row = hit.0; among = hit.1; at = at; lone = l
         let spans = spans_add form (λ k. pivot_entry hit.0 *ℤ number_at unit k) (λ k. neg_ℤ (pos 1) *ℤ number_at hit.0 k)
         (spans_times form (pivot_entry hit.0) (number_at unit) (spans_from form unit p))
         (spans_times form (neg_ℤ (pos 1)) (number_at hit.0) (spans_from form hit.0 (in_span_at form form hit.0 (own form) hit.1))) in
-        let none = span_zero form difference f.echelon leads spans (zeros_walk difference form form (λ g r. r) at_pivot) j in
+        let none = span_zero form difference f.echelon (leads_from n form f.primitive) spans (zeros_walk difference form form (λ g r. r) at_pivot) j in
         let zero_there = ap (λ z. pivot_entry hit.0 *ℤ z) (unit_elsewhere n i j (λ e. other (e ∙ sym at))) ∙ *ℤ-zero (pivot_entry hit.0) in
         let minus = neg-times (pos 1) (number_at hit.0 j) in
         let once = one-times (number_at hit.0 j) in

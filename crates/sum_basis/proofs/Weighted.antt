@@ -6,16 +6,12 @@ use Rattle.std.proofs.Common.{◌≡◌, ℕ, ◌+◌, cond, nat_eq, ℤ, pos, L
 use Rattle.std.specs.Prelude.{◌+ℤ◌, ◌-ℤ◌, ◌*ℤ◌, neg_ℤ}
 use Rattle.std.proofs.lemmas.Int.{ints}
 use Rattle.std.proofs.Math.IntN.{*ℤ_comm, *ℤ-zero}
-use Rattle.audit_types.specs.Products.{neg-times, times-add, times_assoc}
+use Rattle.audit_types.specs.Products.{neg-times, times-add, times_assoc, swapped}
 use Rattle.audit_types.specs.Totals.{total, total-agree, total-add, total-single, total-times, total-zero}
 use Rattle.sum_basis.specs.Points.{weighted, weighted_after}
 use Rattle.sum_basis.specs.Sparse.{entry_at, IsListed}
 use Rattle.sum_basis.specs.declared.sparse.FreeEntry.{FreeEntry}
 use Rattle.sum_basis.proofs.SparseRows.{here, elsewhere, first_value}
-
--- a product of three, the first two in the other order
-pub swapped : (x y z : ℤ) → x *ℤ (y *ℤ z) ≡ y *ℤ (x *ℤ z)
-swapped x y z = sym (times_assoc x y z) ∙ ap (λ k. k *ℤ z) (*ℤ_comm x y) ∙ times_assoc y x z
 
 -- a number times a difference
 pub times-less : (k x y : ℤ) → k *ℤ (x -ℤ y) ≡ k *ℤ x -ℤ k *ℤ y

@@ -1,5 +1,6 @@
 pub mod Laws
 pub mod Basis
+pub mod EntryLaws
 pub mod Growth
 pub mod Combination
 pub mod CombinedRows

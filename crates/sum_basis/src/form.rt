@@ -291,7 +291,7 @@ impl Form {
         requires new { IsLeftOver self.now new.now }
         ensures { (grown : List (List ℤ)) → IsReducedForm self.now.n (self.now.rows ++ row_of self.now.n new.now ∷ []) grown → IsSmallForm self.now.n grown → IsLeast (IsPinned self.now.n grown shared.now.list) result }
     {
-        least_pinned(&self.rows, self.columns, new, shared)
+        least_pinned(self, new, shared)
     }
 
     /// The least column whose unit row lies in the span.

@@ -2,7 +2,7 @@
 use Rattle.std.proofs.Common.{◌≡◌, ◌≢◌, ℕ, zero, suc, ◌+◌, ◌<◌, ◌≤◌, Bool, true, false, cond, ◌||◌, ◌==◌, ℤ, pos, List, [], ◌∷◌, length, get_or, drop, Some, None, refl, sym, ap, ◌∙◌, arith, inl, inr, ◌⊎◌, add-one, drop-cons}
 use Rattle.std.specs.Prelude.{◌*ℤ◌, ◌<ℤ◌, slice_get}
 use Rattle.std.specs.List.{AllByRecursion}
-use Rattle.std.proofs.lemmas.Bool.{or_cases, eqb-true, eqb-false, eq-eqb, ne_eqb, cases_lt, or_from, or_parts, false≢true}
+use Rattle.std.proofs.lemmas.Bool.{or_cases, eqb-true, eqb-false, ne_eqb, cases_lt, or_from, or_parts, false≢true}
 use Rattle.std.proofs.lemmas.Int.{ints}
 use Rattle.std.proofs.lemmas.List.Elements.{All-from_recursion}
 use Rattle.std.proofs.Math.IntN.{*ℤ_comm, zero-*ℤ}
@@ -15,8 +15,8 @@ use Rattle.audit_types.specs.Numbers.{test_of_not_zero, zero_from_test, not_zero
 use Rattle.audit_types.specs.FormRows.{IsZeroAtOthers, zero_at_others}
 use Rattle.audit_types.specs.Totals.{total-single}
 use Rattle.sum_basis.specs.declared.sparse.FreeEntry.{FreeEntry}
-use Rattle.sum_basis.specs.Sparse.{entry_at, IsListed}
 use Rattle.sum_basis.specs.Basis.{IsFreeList}
+use Rattle.sum_basis.specs.EntryLaws.{zero_below, first_value}
 use Rattle.sum_audit.specs.Dot.{dot}
 use Rattle.sum_audit.specs.Laws.{DirectionsByForm}
 use Rattle.witness_build.specs.Directions.{IsForm}
@@ -102,22 +102,6 @@ free_place : (form : List (List ℤ)) (j : ℕ) → AllByRecursion (λ row. pivo
 free_place [] j all = refl
 free_place (row ∷ rows) j all = or_from (pivot row == j) (is_pivot rows j) (ne_eqb (pivot row) j all.0) (free_place rows j all.1)
 
--- entries have nothing before the first of them
-nothing_before : (from n : ℕ) (entries : List FreeEntry) (j : ℕ) → IsListed from n entries → j < from → entry_at entries j ≡ pos 0
-nothing_before from n [] j listed l = refl
-nothing_before from n (e ∷ entries) j listed l =
-    let start = listed.0 in
-    let here = ap (λ b. cond b e.value (pos 0)) (ne_eqb e.place j (λ same. omega arith)) in
-    let rest = nothing_before (e.place + 1) n entries j listed.3 (omega arith) in
-    omega (arith, ints)
-
--- and its value where it stands
-first_value : (from n : ℕ) (e : FreeEntry) (entries : List FreeEntry) → IsListed from n (e ∷ entries) → entry_at (e ∷ entries) e.place ≡ e.value
-first_value from n e entries listed =
-    let here = ap (λ b. cond b e.value (pos 0)) (eq-eqb e.place e.place refl) in
-    let rest = nothing_before (e.place + 1) n entries e.place listed.3 (omega arith) in
-    omega (arith, ints)
-
 module _ (n : ℕ) (form : List (List ℤ)) (row : List ℤ) (long : length row ≡ n) where
   -- a row without entries at free columns has none
   no_entry : IsFreeList n form row [] → first_free form row 0 ≡ n
@@ -144,7 +128,7 @@ module _ (n : ℕ) (form : List (List ℤ)) (row : List ℤ) (long : length row 
               let hit = first.hit (omega arith) in
               absurd (hit.1 (first_free form row 0) (omega arith)
               (sym (list.is (first_free form row 0) (no_pivot form (first_free form row 0) hit.0))
-              ∙ nothing_before e.place n (e ∷ entries) (first_free form row 0) (omega arith, list.listed.1, list.listed.2, list.listed.3) before))
+              ∙ zero_below e.place n (e ∷ entries) (first_free form row 0) (omega arith, list.listed.1, list.listed.2, list.listed.3) before))
           | inr from ↦ omega arith
         ]
         | inr past ↦

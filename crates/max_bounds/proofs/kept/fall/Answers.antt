@@ -3,13 +3,12 @@ use Rattle.std.specs.Int.{w64}
 use Rattle.std.proofs.lemmas.Int.{to_z-of_z}
 use Rattle.std.proofs.Math.Path.{fun_ext}
 use Rattle.std.specs.List.{AllByRecursion}
-use Rattle.audit_types.specs.Rows.{AreRows}
 use Rattle.audit_types.specs.Column.{Answer}
 use Rattle.audit_types.specs.Extremes.{upper_bound, extremes}
 use Rattle.max_bounds.specs.Maxima.{answers_of, and_answer}
 use Rattle.max_bounds.specs.Reaching.{bound_at, reaching}
 use Rattle.max_bounds.specs.Kept.{rows_above, falls_of, lowered_set, AreLeast, Descend}
-use Rattle.max_bounds.specs.AnswerLaws.{all_at, all_from}
+use Rattle.max_bounds.specs.AnswerLaws.{all_from, rows_of}
 use Rattle.max_bounds.proofs.NextExtremes.{none_falls, least_same, least_lowered, next_count, map_agree}
 use Rattle.max_bounds.proofs.Descending.{lowered_descend}
 use Rattle.max_bounds.proofs.kept.fall.Goals as goal
@@ -46,7 +45,7 @@ lower_counts-requires-clause-few c =
     let falling = ap (λ u. rows_above u x rows) (fun_ext c.requires.bounds) in
     let few : AllByRecursion (λ a. length (falls_of (upper_bound answers) (rows_above (upper_bound answers) x rows) a) ≤ length (extremes answers a)) answers =
     all_from (λ a. length (falls_of (upper_bound answers) (rows_above (upper_bound answers) x rows) a) ≤ length (extremes answers a)) answers
-    (λ a one. (next_count answers rows x n c.n.ensures.are_rows a one (all_at (λ b. AreRows n b.rows) answers a c.requires.are_rows one)).1) in
+    (λ a one. (next_count answers rows x n c.n.ensures.are_rows a one (rows_of n answers c.requires.are_rows a one)).1) in
     subst (λ l. AllByRecursion (λ a. length (falls_of (bound_at c.args.upper.now) l a) ≤ length (reaching (bound_at c.args.upper.now) a.rows a.value)) answers)
     (sym c.requires.falling)
     (subst (λ u. AllByRecursion (λ a. length (falls_of u (rows_above u x rows) a) ≤ length (reaching u a.rows a.value)) answers)
@@ -68,7 +67,7 @@ returns-clause-tells c =
           ∙ ap (λ u. map (λ (a : Answer). length (reaching u a.rows a.value) - length (falls_of u (rows_above u x rows) a)) answers) (fun_ext c.requires.bounds)
           ∙ map_agree (λ a. length (extremes answers a) - length (falls_of (upper_bound answers) (rows_above (upper_bound answers) x rows) a))
           (λ a. length (extremes (and_answer answers rows x) a)) answers
-          (λ a one. (next_count answers rows x n c.n.ensures.are_rows a one (all_at (λ b. AreRows n b.rows) answers a c.requires.are_rows one)).0);
+          (λ a one. (next_count answers rows x n c.n.ensures.are_rows a one (rows_of n answers c.requires.are_rows a one)).0);
       fewest_is = c.fewest.ensures;
       are_least =
           subst (AreLeast (extremes (and_answer answers rows x)) answers)

@@ -17,7 +17,7 @@ use Rattle.sum_basis.proofs.ClearedAtOnce.{at_once}
 use Rattle.sum_basis.proofs.cleared_list.clear_at_once.Goals as goal
 
 by_positive : (n : ℕ) (new : List FreeEntry) → IsNew n new → pos 0 <ℤ (get_or new 0 none).value
-by_positive n new is = subst (λ z. pos 0 <ℤ z) (is_led n new is.some is.listed).pivot_entry_is is.primitive.leading
+by_positive n new is = subst (λ z. pos 0 <ℤ z) (is_led n new is).pivot_entry_is is.primitive.leading
 
 pub product-head-requires-clause-x : goal.product-head-requires-clause-x
 product-head-requires-clause-x c =

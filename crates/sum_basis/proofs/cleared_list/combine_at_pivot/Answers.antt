@@ -15,7 +15,7 @@ use Rattle.sum_basis.proofs.Wide.{product_of}
 use Rattle.sum_basis.proofs.BoundedRows.{first_small}
 
 by_positive : (n : ℕ) (new : List FreeEntry) → IsNew n new → pos 0 <ℤ (get_or new 0 none).value
-by_positive n new is = subst (λ z. pos 0 <ℤ z) (is_led n new is.some is.listed).pivot_entry_is is.primitive.leading
+by_positive n new is = subst (λ z. pos 0 <ℤ z) (is_led n new is).pivot_entry_is is.primitive.leading
 
 pub combine_into-requires-clause-by : goal.combine_into-requires-clause-by
 combine_into-requires-clause-by c =

@@ -14,7 +14,7 @@ pub product-requires-clause-x : goal.product-requires-clause-x
 product-requires-clause-x c =
     let fits : FitsSigned w128 (get_or c.args.new.now 0 (record { place = 0; value = pos 0 })).value = search rules in
     rw (to_z-of_z w128 (get_or c.args.new.now 0 none).value fits)
-    ((is_led c.args.columns c.args.new.now c.requires.new.some c.requires.new.listed).small c.requires.new.small)
+    (is_led c.args.columns c.args.new.now c.requires.new).small
 
 pub product-requires-clause-y : goal.product-requires-clause-y
 product-requires-clause-y c =
@@ -25,7 +25,7 @@ within_limit : (n width : ℕ) (new : List FreeEntry) (by common x y p : ℤ) �
     pos 0 <ℤ common →
     p ≡ x *ℤ y → p ≤ℤ pos width → unsigned_abs (get_or new 0 none).value * unsigned_abs common ≤ width
 within_limit n width new by common x y p is_new e f g positive is most =
-    let led = is_led n new is_new.some is_new.listed in
+    let led = is_led n new is_new in
     let leads : pos 0 <ℤ (get_or new 0 none).value = subst (λ z. pos 0 <ℤ z) led.pivot_entry_is is_new.primitive.leading in
     let above = positive_times (get_or new 0 none).value common leads positive in
     let same : p ≡ (get_or new 0 none).value *ℤ common = is ∙ ap (λ z. z *ℤ y) (f ∙ e) ∙ ap (λ z. (get_or new 0 none).value *ℤ z) g in

@@ -24,7 +24,7 @@ use Rattle.sum_basis.proofs.LeastMultiples.{positive_size}
 start : (n width : ℕ) (rows : List SparseRow) (new : List FreeEntry) (common : ℤ) → IsNew n new → IsWithin width (row_of n new)
     → common ≡ (get_or new 0 none).value → IsLooked n width (rows_of n rows) (row_of n new) 0 common (nat_eq (length new) 1)
 start n width rows new common is_new within e =
-    let led = is_led n new is_new.some is_new.listed in
+    let led = is_led n new is_new in
     let lone = lone_new n new is_new in
     nothing_looked n width (rows_of n rows) (row_of n new) common (nat_eq (length new) 1) is_new.primitive
     (rw e (subst (λ z. unsigned_abs z ≤ width) led.pivot_entry_is (within_at width (row_of n new) (pivot (row_of n new)) within)))

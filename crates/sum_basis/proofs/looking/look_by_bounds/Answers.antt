@@ -79,7 +79,7 @@ looked : (n width : ℕ) (form : List (List ℤ)) (new : List FreeEntry) (k : �
     → IsGlanced n width form (row_of n new) k fixing
     → (common : ℤ) × IsLooked n width form (row_of n new) k common fixing
 looked n width form new k fixing is_new multiple g =
-    let led = is_led n new is_new.some is_new.listed in
+    let led = is_led n new is_new in
     glanced_is_looked n width form (row_of n new) k multiple.0 fixing is_new.primitive multiple.2 multiple.1
     (subst (λ z. unsigned_abs z * multiple.0 ≤ width) (sym led.pivot_entry_is) multiple.3) g
 
@@ -174,6 +174,6 @@ pub sure_bound-sure-requires : goal.sure_bound-sure-requires
 sure_bound-sure-requires c =
     let new = c.args.new.now in
     let fits : FitsSigned w128 (get_or new 0 (record { place = 0; value = pos 0 })).value = search rules in
-    let led = is_led c.args.columns new c.requires.new.some c.requires.new.listed in
+    let led = is_led c.args.columns new c.requires.new in
     rw (to_z-of_z w128 (get_or new 0 none).value fits)
-    (record { width = c.requires.width.1; by = (subst (λ z. pos 0 <ℤ z) led.pivot_entry_is c.requires.new.primitive.leading, led.small c.requires.new.small) })
+    (record { width = c.requires.width.1; by = (subst (λ z. pos 0 <ℤ z) led.pivot_entry_is c.requires.new.primitive.leading, led.small) })
