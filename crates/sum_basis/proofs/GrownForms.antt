@@ -58,10 +58,12 @@ module _ (n : ℕ) (new : List ℤ) (p : IsPrimitive n new) where
   abbrev pub crossed : List ℤ → ℕ → ℤ
   crossed row j = pivot_entry new *ℤ number_at row j -ℤ number_at row (pivot new) *ℤ number_at new j
 
-  -- the row cleared, which is 0 where the cross product is; it stays as it is if it is 0 at the new row's pivot
+  -- the row cleared, of which the cross product is a multiple; it stays as it is if it is 0 at the new row's pivot
   pub record IsLined (row made : List ℤ) : Type 0 where
     pub cleared : IsCleared n new row made
     pub stays : number_at row (pivot new) ≡ pos 0 → made ≡ row
+    pub by : ℤ
+    pub crossed_is : (j : ℕ) → crossed row j ≡ by *ℤ number_at made j
     pub there : (j : ℕ) → number_at made j ≡ pos 0 → crossed row j ≡ pos 0
     pub back : (j : ℕ) → crossed row j ≡ pos 0 → number_at made j ≡ pos 0
 
@@ -80,6 +82,8 @@ module _ (n : ℕ) (new : List ℤ) (p : IsPrimitive n new) where
       record {
         cleared = cleared_already n new row q z;
         stays = λ e. refl;
+        by = pivot_entry new;
+        crossed_is = λ j. let second = ap (λ x. x *ℤ number_at new j) z ∙ zero-*ℤ (number_at new j) in omega (arith, ints);
         there = λ j h.
             let first = ap (λ x. pivot_entry new *ℤ x) h ∙ *ℤ-zero (pivot_entry new) in
             let second = ap (λ x. x *ℤ number_at new j) z ∙ zero-*ℤ (number_at new j) in
@@ -97,6 +101,8 @@ module _ (n : ℕ) (new : List ℤ) (p : IsPrimitive n new) where
           record {
             cleared = cleared_from n new row made.0 made.1 p q e (comes_first n new row p e some) made.2 made.3 made.4;
             stays = λ z. absurd (some z);
+            by = made.1;
+            crossed_is = λ j. sym (combine_is row j) ∙ ap (λ l. number_at l j) made.3 ∙ number_at-times made.1 made.0 j;
             there = λ j h.
                 sym (combine_is row j) ∙ ap (λ l. number_at l j) made.3 ∙ number_at-times made.1 made.0 j ∙ ap (λ x. made.1 *ℤ x) h ∙ *ℤ-zero made.1;
             back = λ j h. line_zero c made.1 made.0 j made.2 made.3 (combine_is row j ∙ h);

@@ -53,7 +53,7 @@ no_place rows row among [] free = tt
 no_place rows row among (e ∷ es) free = (of_own (λ other. pivot other ≢ e.place) rows row free.0 among, no_place rows row among es free.1)
 
 -- a list of free entries is 0 at the pivots
-free_zeros : (n : ℕ) (rows : List (List ℤ)) (es : List FreeEntry) → IsListed 0 n es →
+pub free_zeros : (n : ℕ) (rows : List (List ℤ)) (es : List FreeEntry) → IsListed 0 n es →
     AllByRecursion (λ (e : FreeEntry). AllByRecursion (λ other. pivot other ≢ e.place) rows) es → IsZeroAtPivots rows (row_of n es)
 free_zeros n rows es listed free = zeros_walk (number_at (row_of n es)) rows rows (λ g r. r)
     (λ row among. number_at-row_of 0 n es listed (pivot row) ∙ nothing_at es (pivot row) (no_place rows row among es free))

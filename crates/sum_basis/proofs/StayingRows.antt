@@ -1,6 +1,6 @@
--- What stays when a new row joins a form: the rows that are 0 at its pivot, and what is kept of columns of which it meets nothing.
+-- What stays when a new row joins a form, the rows that are 0 at its pivot, and what becomes of the others.
 use Rattle.std.proofs.Common.{◌≡◌, ◌≢◌, ℕ, zero, suc, ◌+◌, ◌<◌, Bool, true, false, ◌||◌, ◌==◌, ℤ, pos, List, [], ◌∷◌, ◌++◌, length, get_or, refl, sym, ap, ◌∙◌, subst, arith, inl, inr, ◌⊎◌}
-use Rattle.std.specs.Prelude.{◌+ℤ◌, Option, None, Some, IfSome}
+use Rattle.std.specs.Prelude.{◌+ℤ◌, ◌-ℤ◌, ◌*ℤ◌}
 use Rattle.std.specs.List.{AllByRecursion}
 use Rattle.std.proofs.lemmas.Int.{ints}
 use Rattle.std.proofs.lemmas.Bool.{ne_eqb, true≢false}
@@ -14,9 +14,7 @@ use Rattle.sum_basis.specs.Growth.{IsLeftOver}
 use Rattle.sum_basis.specs.Sparse.{entry_at, row_of, IsListed}
 use Rattle.sum_basis.specs.Ties.{IsRowOf}
 use Rattle.sum_basis.specs.declared.sparse.FreeEntry.{FreeEntry}
-use Rattle.sum_basis.specs.Holding.{AreKeptKeys}
-use Rattle.sum_basis.specs.Keys.{AreColumnKeys, AreUntouched, AreWeights, IsListOfColumn, own_entry}
-use Rattle.sum_basis.specs.declared.column_keys.ColumnKeys.{ColumnKeys}
+use Rattle.sum_basis.specs.Keys.{IsListOfColumn, own_entry}
 use Rattle.sum_basis.proofs.ColumnPoints.{first_free}
 use Rattle.sum_basis.proofs.GrownForms.{grown_is, not_pivots, of_own}
 use Rattle.sum_basis.proofs.KeptForms.{row_among}
@@ -50,6 +48,10 @@ module _ (old new : Echelon) (list : List FreeEntry) (d : FreeEntry) (f : IsSmal
 
   pivots_are : (j : ℕ) → is_pivot new.rows j ≡ ((pivot joined == j) || is_pivot old.rows j)
   pivots_are = (grown_is old.n joined left.0.primitive old.rows new.rows f.primitive f.echelon left.1 reduced).pivots
+
+  -- a pivot of the new form is that of the new row, or one of the old form
+  pub pivot_before : (j : ℕ) → pivot joined ≢ j → is_pivot new.rows j ≡ true → is_pivot old.rows j ≡ true
+  pivot_before j apart h = sym (ap (λ b. b || is_pivot old.rows j) (ne_eqb (pivot joined) j apart)) ∙ sym (pivots_are j) ∙ h
 
   -- a column that is no pivot of the new form is none of the old one
   pub still_free : (j : ℕ) → AllByRecursion (λ other. pivot other ≢ j) new.rows → AllByRecursion (λ other. pivot other ≢ j) old.rows
@@ -113,7 +115,7 @@ module _ (old new : Echelon) (list : List FreeEntry) (d : FreeEntry) (f : IsSmal
         }
 
 -- what is left of a column stays, if the new list meets nothing of it
-column_stays : (old new : Echelon) (e : FreeEntry) (list : List FreeEntry) (q : ℕ) (entries : List FreeEntry) → IsSmallForm old.n old.rows →
+pub column_stays : (old new : Echelon) (e : FreeEntry) (list : List FreeEntry) (q : ℕ) (entries : List FreeEntry) → IsSmallForm old.n old.rows →
     IsLeftOver old (e ∷ list) → new.n ≡ old.n → IsReducedForm old.n (old.rows ++ row_of old.n (e ∷ list) ∷ []) new.rows →
     IsListOfColumn old q entries → entry_at entries e.place ≡ pos 0 → IsListOfColumn new q entries
 column_stays old new e list q entries f left n reduced (inl (k, within, at, free)) none =
@@ -130,31 +132,25 @@ column_stays old new e list q entries f left n reduced (inr (free, own)) none =
         let there : entry_at (own_entry q) q ≡ pos 0 = ap (λ es. entry_at es q) (sym own) ∙ ap (entry_at entries) (sym at) ∙ none in
         omega (arith, ints)
 
--- what is kept of the columns stays so
-still_known : (old new : Echelon) (list : List FreeEntry) (kept : ColumnKeys) → IsSmallForm old.n old.rows → IsLeftOver old list → new.n ≡ old.n →
-    IsReducedForm old.n (old.rows ++ row_of old.n list ∷ []) new.rows → AreColumnKeys old kept → AreUntouched old list kept → AreColumnKeys new kept
-still_known old new [] kept f left n reduced are untouched = let some = left.0.some in absurd (omega arith)
-still_known old new (e ∷ list) kept f left n reduced are untouched = record {
-  weights = subst (λ m. AreWeights m kept.weights.items) (sym n) are.weights;
-  points_each = are.points_each ∙ sym n;
-  keys_each = are.keys_each ∙ sym n;
-  columns = are.columns ∙ sym n;
-  own = λ q below free. are.own q (omega (arith, n)) (still_free old new (e ∷ list) e f left n reduced q free);
-  known = λ q below known.
-      let was = are.known q (omega (arith, n)) known in
-      record {
-        point = record {
-          entries = was.point.entries;
-          left = column_stays old new e list q was.point.entries f left n reduced was.point.left
-              (untouched q (omega (arith, n)) known was.point.entries was.point.left);
-          is = was.point.is;
-        };
-        key = was.key;
-      };
-}
+-- a row that the new list touches, and the row that it becomes
+pub record IsClearedAt (old new : Echelon) (list : List FreeEntry) (k : ℕ) : Type 0 where
+  pub place : ℕ
+  pub within : place < length new.rows
+  pub same_pivot : pivot (get_or new.rows place []) ≡ pivot (get_or old.rows k [])
+  pub by : ℤ
+  pub is : (j : ℕ) → pivot_entry (row_of old.n list) *ℤ number_at (get_or old.rows k []) j
+      -ℤ number_at (get_or old.rows k []) (pivot (row_of old.n list)) *ℤ number_at (row_of old.n list) j ≡ by *ℤ number_at (get_or new.rows place []) j
 
--- so it is with what is kept, if anything is
-pub kept_stays : (old new : Echelon) (list : List FreeEntry) (keys : Option ColumnKeys) → IsSmallForm old.n old.rows → IsLeftOver old list → new.n ≡ old.n →
-    IsReducedForm old.n (old.rows ++ row_of old.n list ∷ []) new.rows → AreKeptKeys old keys → IfSome keys (AreUntouched old list) → AreKeptKeys new keys
-kept_stays old new list None f left n reduced are untouched = tt
-kept_stays old new list (Some kept) f left n reduced are untouched = still_known old new list kept f left n reduced are untouched
+pub cleared_at : (old new : Echelon) (list : List FreeEntry) (k : ℕ) → IsSmallForm old.n old.rows → IsLeftOver old list →
+    IsReducedForm old.n (old.rows ++ row_of old.n list ∷ []) new.rows → k < length old.rows → IsClearedAt old new list k
+cleared_at old new list k f left reduced within =
+    let (made, among, lined) =
+    (grown_is old.n (row_of old.n list) left.0.primitive old.rows new.rows f.primitive f.echelon left.1 reduced).row k within in
+    let (place, there, is) = place_of new.rows made among in
+    record {
+      place = place;
+      within = there;
+      same_pivot = ap pivot is ∙ lined.cleared.same_pivot;
+      by = lined.by;
+      is = λ j. lined.crossed_is j ∙ ap (λ (row : List ℤ). lined.by *ℤ number_at row j) (sym is);
+    }

@@ -48,7 +48,7 @@ module _ (weight : ℕ → ℤ) (n : ℕ) where
         ∙ ap (λ z. b *ℤ (weight j *ℤ entry_at ys j) +ℤ z) (swapped (weight j) c (entry_at zs j))
 
     -- so is that of its sum
-    weighted_line : a *ℤ weighted weight xs ≡ b *ℤ weighted weight ys +ℤ c *ℤ weighted weight zs
+    pub weighted_line : a *ℤ weighted weight xs ≡ b *ℤ weighted weight ys +ℤ c *ℤ weighted weight zs
     weighted_line =
         ap (λ z. a *ℤ z) (weighted_is 0 xs x_listed) ∙ sym (total-times a (λ j. weight j *ℤ entry_at xs j) n)
         ∙ total-agree (λ j. a *ℤ (weight j *ℤ entry_at xs j)) (λ j. b *ℤ (weight j *ℤ entry_at ys j) +ℤ c *ℤ (weight j *ℤ entry_at zs j)) n (λ j l. at j)

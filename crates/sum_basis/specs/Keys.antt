@@ -1,5 +1,5 @@
 -- What is kept of points, and how keys are found to be apart.
-use Rattle.std.specs.Prelude.{◌≡◌, ◌≢◌, ◌⊎◌, ℕ, zero, suc, ◌<◌, ◌*◌, ◌/◌, ◌%◌, ℤ, pos, true, false, bit_xor, List, [], ◌∷◌, Contains, Option, None, Some, length, slice_index_or}
+use Rattle.std.specs.Prelude.{◌≡◌, ◌≢◌, ◌⊎◌, ℕ, zero, suc, ◌<◌, ◌≤◌, ◌*ℤ◌, ◌*◌, ◌/◌, ◌%◌, ℤ, pos, true, false, bit_xor, List, [], ◌∷◌, Contains, Option, None, Some, length, slice_index_or}
 use Rattle.std.specs.List.{AllByRecursion}
 use Rattle.audit_types.specs.Words.{has_bit}
 use Rattle.sum_basis.specs.declared.seen.Seen.{Seen}
@@ -12,7 +12,7 @@ use Rattle.sum_basis.specs.Reach.{times_of}
 use Rattle.sum_basis.specs.Sparse.{entry_at}
 use Rattle.sum_basis.specs.Points.{modulus, IsLeftModulo, IsPointAfter, IsKey, IsResidue, HasKey, Matters, AreKeysApart, AreSetsApart}
 use Rattle.sum_basis.specs.Ties.{MayTell}
-use Rattle.audit_types.specs.Form.{set_row, pivot}
+use Rattle.audit_types.specs.Form.{set_row, pivot, pivot_entry}
 use Rattle.sum_basis.specs.declared.points.Point.{Point}
 use Rattle.sum_basis.specs.declared.points.NewPoint.{NewPoint}
 use Rattle.sum_basis.specs.declared.sparse.FreeEntry.{FreeEntry}
@@ -71,15 +71,23 @@ pub record IsKnown (form : Echelon) (kept : ColumnKeys) (q : ℕ) : Type 0 where
   pub point : IsColumnPoint form kept.weights.items q (point_at kept.points.items q)
   pub key : IsKey (point_at kept.points.items q) (slice_index_or kept.keys.items q 0)
 
--- so it is with each column that isn't unknown, and the points of those that are no pivots are kept
+-- the point that is kept of a row's pivot is the row's, if its pivot entry is the one that is kept
+abbrev pub IsRightWithHead : Echelon → ColumnKeys → List ℤ → Type 0
+IsRightWithHead form kept row =
+    slice_index_or kept.heads.items (pivot row) (pos 0) ≡ pivot_entry row → (entries : List FreeEntry) → IsFreeList form.n form.rows row entries →
+    IsPointAfter kept.weights.items [] entries (point_at kept.points.items (pivot row))
+
+-- so it is with each row; what is kept of a column that isn't unknown is its own, and so is the point of one that is no pivot
 pub record AreColumnKeys (form : Echelon) (kept : ColumnKeys) : Type 0 where
   pub weights : AreWeights form.n kept.weights.items
   pub points_each : length kept.points.items ≡ form.n
+  pub heads_each : length kept.heads.items ≡ form.n
   pub keys_each : length kept.keys.items ≡ form.n
   pub columns : kept.unknown.n ≡ form.n
   pub own : (q : ℕ) → q < form.n → AllByRecursion (λ row. pivot row ≢ q) form.rows →
       IsPointAfter kept.weights.items [] (own_entry q) (point_at kept.points.items q)
   pub known : (q : ℕ) → q < form.n → has_row kept.unknown.list q ≡ false → IsKnown form kept q
+  pub rows : (k : ℕ) → k < length form.rows → IsRightWithHead form kept (slice_index_or form.rows k [])
 
 -- the points of all columns are kept
 abbrev pub AreColumnPoints : Echelon → ColumnKeys → Type 0
@@ -89,17 +97,50 @@ AreColumnPoints form kept = (q : ℕ) → q < form.n → IsColumnPoint form kept
 abbrev pub IsUntouched : Echelon → List FreeEntry → ℕ → Type 0
 IsUntouched form new q = (entries : List FreeEntry) → IsListOfColumn form q entries → times_of new (entry_at entries) ≡ pos 0
 
--- so it is with each column that isn't unknown
-abbrev pub AreUntouched : Echelon → List FreeEntry → ColumnKeys → Type 0
-AreUntouched form new kept = (q : ℕ) → q < form.n → has_row kept.unknown.list q ≡ false → IsUntouched form new q
-
 -- the key is that of a point of the column
 abbrev pub IsKeyAmong : SomePoints → ℕ → ℕ → Type 0
 IsKeyAmong some q key = (k : ℕ) × (k < length some.columns.items) × (slice_index_or some.columns.items k 0 ≡ q) × IsKey (point_at some.points.items k) key
 
+-- the value of the first entry
+abbrev pub leading_of : List FreeEntry → ℤ
+leading_of [] = pos 0
+leading_of (e ∷ new) = e.value
+
 -- a row has 0 at the first place of the new list
 abbrev pub IsZeroAtFirst : List FreeEntry → List ℤ → Type 0
 IsZeroAtFirst new row = times_of new (number_at row) ≡ pos 0
+
+-- the point of a row once the form has a new list: that of its free list
+pub record IsRowPointAfter (form : Echelon) (weights : List Point) (new : List FreeEntry) (row : List ℤ) (point : Point) : Type 0 where
+  pub entries : List FreeEntry
+  pub free : IsFreeList form.n form.rows row entries
+  pub is : IsPointAfter weights new entries point
+
+-- the point that is kept of a row's pivot is right once the form has the new list, if the row has the pivot entry that is kept, which is 0 if
+-- nothing is foreseen
+pub record IsForeseen (form : Echelon) (new : List FreeEntry) (kept : ColumnKeys) (row : List ℤ) : Type 0 where
+  pub stays : IsZeroAtFirst new row → slice_index_or kept.heads.items (pivot row) (pos 0) ≡ pivot_entry row →
+      IsRowPointAfter form kept.weights.items [] row (point_at kept.points.items (pivot row))
+  pub cleared : ¬ (IsZeroAtFirst new row) → (slice_index_or kept.heads.items (pivot row) (pos 0) ≡ pos 0) ⊎
+      ((slice_index_or kept.heads.items (pivot row) (pos 0) ≡ leading_of new *ℤ pivot_entry row) ×
+      IsRowPointAfter form kept.weights.items new row (point_at kept.points.items (pivot row)))
+
+-- so it is with the first rows, and of these, and of the other columns, those that the list touches are unknown
+pub record AreForeseen (form : Echelon) (new : List FreeEntry) (upto : ℕ) (kept : ColumnKeys) : Type 0 where
+  pub weights : AreWeights form.n kept.weights.items
+  pub points_each : length kept.points.items ≡ form.n
+  pub heads_each : length kept.heads.items ≡ form.n
+  pub keys_each : length kept.keys.items ≡ form.n
+  pub columns : kept.unknown.n ≡ form.n
+  pub own : (q : ℕ) → q < form.n → AllByRecursion (λ row. pivot row ≢ q) form.rows →
+      IsPointAfter kept.weights.items [] (own_entry q) (point_at kept.points.items q)
+  pub known : (q : ℕ) → q < form.n → has_row kept.unknown.list q ≡ false → IsKnown form kept q
+  pub first : (q : ℕ) → q < form.n → has_row kept.unknown.list q ≡ false → times_of new (entry_at (own_entry q)) ≡ pos 0
+  pub first_head : (q : ℕ) → times_of new (entry_at (own_entry q)) ≢ pos 0 → slice_index_or kept.heads.items q (pos 0) ≡ pos 0
+  pub untouched : (k : ℕ) → k < upto → has_row kept.unknown.list (pivot (slice_index_or form.rows k [])) ≡ false →
+      IsZeroAtFirst new (slice_index_or form.rows k [])
+  pub foreseen : (k : ℕ) → k < upto → IsForeseen form new kept (slice_index_or form.rows k [])
+  pub rest : (k : ℕ) → upto ≤ k → k < length form.rows → IsRightWithHead form kept (slice_index_or form.rows k [])
 
 -- the column is known, or its point may have a key
 abbrev pub MayHaveKey : ColumnKeys → ℕ → Type 0

@@ -8,13 +8,14 @@ ghost use Rattle.audit_types.specs.Limits.{most_rows};
 ghost use Rattle.audit_types.specs.Rows.{has_row};
 ghost use Rattle.sum_basis.specs.Growth.{IsLeftOver};
 ghost use Rattle.audit_types.specs.Form.{pivot};
-ghost use Rattle.sum_basis.specs.Keys.{AreWeights, AreColumnKeys, AreColumnPoints, AreUntouched, AreUnknownPoints, IsColumnPoint, IsKeyAmong, IsZeroAtFirst, MayHaveKey, point_at};
+ghost use Rattle.sum_basis.specs.Keys.{AreWeights, AreColumnKeys, AreColumnPoints, AreForeseen, AreUnknownPoints, IsColumnPoint, IsKeyAmong, IsNewPoint, MayHaveKey, point_at};
 ghost use Rattle.sum_basis.specs.Points.{modulus};
 
+use crate::cleared_list::product;
 use crate::counting::{is_zero, times_at};
 use crate::form::Form;
 use crate::keys::keys_of;
-use crate::points::{MODULUS, Point, point_of};
+use crate::points::{MODULUS, NewPoint, Point, new_point, point_after, point_of};
 use crate::sparse::FreeEntry;
 use audit_types::{NoMemory, RowSet};
 use std::alloc::Global;
@@ -24,6 +25,8 @@ use std::alloc::Global;
 pub(crate) struct ColumnKeys {
     pub weights: Vec<Point>,
     pub points: Vec<Point>,
+    // The pivot entry of a row with which the point of its pivot is right, whether or not that is known.
+    pub heads: Vec<i128>,
     pub keys: Vec<u32>,
     pub unknown: RowSet,
 }
@@ -75,66 +78,85 @@ pub(crate) fn column_keys_of(form: &Form, alloc: Global) -> Result<ColumnKeys, N
     let columns = form.columns();
     let weights = weights_of(alloc, columns)?;
     let points = weights.to_vec(alloc)?;
+    let heads = vec![in alloc; 0; columns as usize]?;
     let keys = vec![in alloc; 0; columns as usize]?;
     let mut unknown = RowSet::new(columns);
     unknown.flip();
     Ok(ColumnKeys {
         weights,
         points,
+        heads,
         keys,
         unknown,
     })
 }
 
-// Forgets what is kept of the pivot of a row that has something at a place.
-fn forget_if_touched(form: &Form, k: u16, list: &[FreeEntry], unknown: &mut RowSet)
+// Foresees the point of a pivot, if the new list touches its row, and forgets its key: the point is right if the row isn't divided by anything.
+fn foresee(form: &Form, k: u16, list: &[FreeEntry], new: &Option<NewPoint>, kept: &mut ColumnKeys)
     requires k { k < length form.now.rows }
-    requires n { unknown.old.n ≡ form.now.n }
+    requires at_most { form.now.n ≤ most_rows }
     requires list { IsLeftOver form.now list.now }
-    ensures n { unknown.new.n ≡ form.now.n }
-    ensures fewer { (q : ℕ) → q < form.now.n → has_row unknown.new.list q ≡ false → has_row unknown.old.list q ≡ false }
-    ensures untouched { has_row unknown.new.list (pivot (slice_index_or form.now.rows k [])) ≡ false → IsZeroAtFirst list.now (slice_index_or form.now.rows k []) }
+    requires new { IsNewPoint kept.old.weights.items list.now new.now }
+    requires kept { AreForeseen form.now list.now k kept.old }
+    ensures weights { kept.new.weights ≡ kept.old.weights }
+    ensures kept { AreForeseen form.now list.now (k + 1) kept.new }
 {
     // What every form is: its rows are a form.
     let _ = form.columns();
-    if is_zero(times_at(form.free(k), list)) {
+    let value = times_at(form.free(k), list);
+    if is_zero(value) {
         return;
     }
-    unknown.add(form.pivot(k));
+    let pivot = form.pivot(k);
+    let place = pivot as usize;
+    if kept.unknown.has(pivot) {
+        kept.heads[place] = 0;
+        return;
+    }
+    kept.points[place] = point_after(new, kept.points[place], value);
+    kept.heads[place] = product(list[0].value, form.entry(k, pivot));
+    kept.unknown.add(pivot);
 }
 
-/// Forgets what is kept of the columns of which the form leaves something at the first place of a new list.
+/// Forgets what is kept of the columns of which the form leaves something at the first place of a new list, and foresees the points of the pivots
+/// among them.
 pub(crate) fn forget_touched(form: &Form, kept: &mut ColumnKeys, list: &[FreeEntry])
+    requires at_most { form.now.n ≤ most_rows }
     requires kept { AreColumnKeys form.now kept.old }
     requires list { IsLeftOver form.now list.now }
-    ensures kept { AreColumnKeys form.now kept.new }
-    ensures untouched { AreUntouched form.now list.now kept.new }
+    ensures { AreForeseen form.now list.now (length form.now.rows) kept.new }
 {
     // What every form is: its rows are a form.
     let _ = form.columns();
-    kept.unknown.add(list[0].place);
+    let place = list[0].place;
+    let new = new_point(&kept.weights, list);
+    kept.heads[place as usize] = 0;
+    kept.unknown.add(place);
     for k in 0..form.rank() {
-        forget_if_touched(form, k, list, &mut kept.unknown);
+        foresee(form, k, list, &new, kept);
     }
 }
 
-// Works out the point of a pivot, if it isn't known.
+// Works out the point of a pivot, if it is neither known nor was foreseen rightly.
 fn renew_point(form: &Form, k: u16, kept: &mut ColumnKeys)
     requires k { k < length form.now.rows }
     requires kept { AreColumnKeys form.now kept.old }
     ensures kept { AreColumnKeys form.now kept.new }
     ensures weights { kept.new.weights ≡ kept.old.weights }
-    ensures unknown { kept.new.unknown ≡ kept.old.unknown }
     ensures point { IsColumnPoint form.now kept.new.weights.items (pivot (slice_index_or form.now.rows k [])) (point_at kept.new.points.items (pivot (slice_index_or form.now.rows k []))) }
     ensures others { (q : ℕ) → q ≢ pivot (slice_index_or form.now.rows k []) → point_at kept.new.points.items q ≡ point_at kept.old.points.items q }
 {
     // What every form is: its rows are a form.
     let _ = form.columns();
     let pivot = form.pivot(k);
+    let free = form.free(k);
     if !kept.unknown.has(pivot) {
         return;
     }
-    kept.points[pivot as usize] = point_of(&kept.weights, form.free(k));
+    if kept.heads[pivot as usize] == form.entry(k, pivot) {
+        return;
+    }
+    kept.points[pivot as usize] = point_of(&kept.weights, free);
 }
 
 // Works out the points of the pivots whose points aren't known.

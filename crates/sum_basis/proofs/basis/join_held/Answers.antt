@@ -1,13 +1,13 @@
-use Rattle.std.proofs.Common.{List, sym, subst, inr}
+use Rattle.std.proofs.Common.{List, length, sym, subst, inr}
 use Rattle.std.specs.Prelude.{IfSome}
 use Rattle.audit_types.specs.Form.{set_row}
 use Rattle.sum_basis.specs.Growth.{IsLeftOver}
-use Rattle.sum_basis.specs.Keys.{AreUntouched}
+use Rattle.sum_basis.specs.Keys.{AreForeseen}
 use Rattle.sum_basis.specs.Reach.{IsLeftOverOrNone}
 use Rattle.sum_basis.specs.declared.sparse.FreeEntry.{FreeEntry}
 use Rattle.sum_basis.proofs.Moving.{counts_joined}
 use Rattle.sum_basis.proofs.Joining.{same_form, not_wide_with, grown_with}
-use Rattle.sum_basis.proofs.StayingRows.{kept_stays}
+use Rattle.sum_basis.proofs.ForeseenPoints.{foreseen_kept}
 use Rattle.sum_basis.proofs.basis.join_held.Goals as goal
 
 pub join_list-requires-clause-narrow : goal.join_list-requires-clause-narrow
@@ -37,15 +37,15 @@ returns-in_ok-join_list-in-Some-clause-counts c =
     counts_joined c.args.form.now c.join_list.new.form c.deref.result.now c.in-Some.list.items c.counts_with-grown.result left.0 c.deref.ensures.value
     c.in_ok-join_list-in-Some.ensures.n c.in_ok-join_list-in-Some.ensures.reduced c.counts_with-grown.ensures
 
-pub forget_if_kept-requires-clause-list : goal.forget_if_kept-requires-clause-list
-forget_if_kept-requires-clause-list c =
+pub without_touched-foreseen-requires-clause-list : goal.without_touched-foreseen-requires-clause-list
+without_touched-foreseen-requires-clause-list c =
     let left = rw c.in-Some.is at c.requires.held in
     subst (IsLeftOver c.args.form.now) (sym c.deref-in-Some.ensures.value) (left.0, left.1.zeros)
 
 pub returns-in_ok-join_list-in-Some-clause-keys : goal.returns-in_ok-join_list-in-Some-clause-keys
 returns-in_ok-join_list-in-Some-clause-keys c =
     let left = rw c.in-Some.is at c.requires.held in
-    kept_stays c.args.form.now c.join_list.new.form c.in-Some.list.items c.forget_if_kept.new.keys c.columns.ensures.form (left.0, left.1.zeros)
-    c.in_ok-join_list-in-Some.ensures.n c.in_ok-join_list-in-Some.ensures.reduced c.forget_if_kept.ensures.keys
-    (subst (λ (l : List FreeEntry). IfSome c.forget_if_kept.new.keys (AreUntouched c.args.form.now l)) c.deref-in-Some.ensures.value
-    c.forget_if_kept.ensures.untouched)
+    foreseen_kept c.args.form.now c.join_list.new.form c.in-Some.list.items c.without_touched-foreseen.result c.columns.ensures.form (left.0, left.1.zeros)
+    c.in_ok-join_list-in-Some.ensures.n c.in_ok-join_list-in-Some.ensures.reduced
+    (subst (λ (l : List FreeEntry). IfSome c.without_touched-foreseen.result (AreForeseen c.args.form.now l (length c.args.form.now.rows)))
+    c.deref-in-Some.ensures.value c.without_touched-foreseen.ensures)

@@ -1,4 +1,5 @@
 use Rattle.std.proofs.Common.{◌≡◌, ◌≢◌, ℕ, ◌<◌, List, length, get_or, refl, sym, ap, ◌∙◌, subst, inl, inr, arith}
+use Rattle.std.specs.Vec.{with_items}
 use Rattle.std.specs.Prelude.{true, false, Contains}
 use Rattle.std.proofs.lemmas.Bool.{cases_Bool, true≢false}
 use Rattle.std.proofs.lemmas.List.{get_or_default, with_items_is}
@@ -6,7 +7,40 @@ use Rattle.audit_types.specs.Rows.{has_row}
 use Rattle.sum_basis.specs.Keys.{point_at}
 use Rattle.sum_basis.specs.Points.{IsKey}
 use Rattle.sum_basis.specs.declared.points.Point.{Point}
+use Rattle.sum_basis.proofs.ForeseenPoints.{keys_stay}
 use Rattle.sum_basis.proofs.column_keys.renew_keys.Goals as goal
+
+pub returns-in_err-write_keys_of : goal.returns-in_err-write_keys_of
+returns-in_err-write_keys_of c =
+    let was = c.renew_points.new.kept in
+    let are = c.renew_points.ensures.kept in
+    let columns = c.in_ok-some.some.columns.items in
+    let keys = c.write_keys_of.new.keys in
+    let stored = with_items_is was.keys keys (c.write_keys_of.auto.keys ∙ c.deref_mut.ensures.len) in
+    keys_stay c.args.form.now was (with_items was.keys keys) are
+    (ap length stored ∙ c.write_keys_of.auto.keys ∙ ap length c.deref_mut.ensures.value ∙ are.keys_each)
+    (λ q known.
+    ap (λ (l : List ℕ). get_or l q 0) stored
+    ∙ c.write_keys_of.ensures.others q (λ found.
+    true≢false (sym (c.in_ok-some.ensures.are found.0 found.1).0
+    ∙ ap (has_row was.unknown.list) (get_or_default columns found.0 0 q found.1 ∙ found.2) ∙ known))
+    ∙ ap (λ (l : List ℕ). get_or l q 0) c.deref_mut.ensures.value)
+
+pub returns-then-not-branch : goal.returns-then-not-branch
+returns-then-not-branch c =
+    let was = c.renew_points.new.kept in
+    let are = c.renew_points.ensures.kept in
+    let columns = c.in_ok-some.some.columns.items in
+    let keys = c.write_keys_of.new.keys in
+    let stored = with_items_is was.keys keys (c.write_keys_of.auto.keys ∙ c.deref_mut.ensures.len) in
+    keys_stay c.args.form.now was (with_items was.keys keys) are
+    (ap length stored ∙ c.write_keys_of.auto.keys ∙ ap length c.deref_mut.ensures.value ∙ are.keys_each)
+    (λ q known.
+    ap (λ (l : List ℕ). get_or l q 0) stored
+    ∙ c.write_keys_of.ensures.others q (λ found.
+    true≢false (sym (c.in_ok-some.ensures.are found.0 found.1).0
+    ∙ ap (has_row was.unknown.list) (get_or_default columns found.0 0 q found.1 ∙ found.2) ∙ known))
+    ∙ ap (λ (l : List ℕ). get_or l q 0) c.deref_mut.ensures.value)
 
 pub returns : goal.returns
 returns c =
@@ -23,9 +57,11 @@ returns c =
     record {
       weights = are.weights;
       points_each = are.points_each;
+      heads_each = are.heads_each;
       keys_each = ap length stored ∙ c.write_keys_of.auto.keys ∙ ap length c.deref_mut.ensures.value ∙ are.keys_each;
       columns = c.without_key-kept.ensures.n ∙ are.columns;
       own = are.own;
+      rows = are.rows;
       known = λ q below h. elim (cases_Bool (has_row was.unknown.list q)) [
         | inl unknown ↦
             let inside : q < was.unknown.n = omega (arith, below, are.columns) in
