@@ -6,6 +6,7 @@ use Rattle.std.proofs.Math.Bool.{or-false}
 use Rattle.std.proofs.lemmas.Bool.{cases_lt, cases_eq, eq-eqb, ne_eqb, eqb-true}
 use Rattle.std.proofs.lemmas.Nat.{or_lt, mul-le, pow_pos}
 use Rattle.std.proofs.lemmas.Nat.Bits.{bit_at-lt, bit_at_or, bit_at-zero, bit_at_above, bit_at_cat_low, bit_at_cat_high, bit_at_ones, same_from_bits_below}
+use Rattle.audit_types.specs.Limits.{most_words}
 use Rattle.audit_types.specs.Words.{has_bit, rows_of_set, AreWords, IsSetOfWords}
 use Rattle.audit_types.specs.WordLaws.{same_place, has-view, max_test}
 use Rattle.audit_types.specs.Rows.{Rows, has_row}
@@ -71,11 +72,11 @@ has_bit-byte words at byte r l small = elim (cases_eq (r / 64) (at / 8)) [
 pub AreWords-byte : (n : ℕ) (words : List ℕ) (at byte : ℕ) → 8 * at < n → byte < 256 → byte < 2 ^ (n - 8 * at) → AreWords n words →
     AreWords n (with_byte words at byte)
 AreWords-byte n words at byte l small below h =
-    let within : at / 8 < length words = omega (arith, h.sixteen, h.at_most) in
+    let within : at / 8 < length words = omega (arith, h.words_are, h.at_most) in
     record {
       some = h.some;
       at_most = h.at_most;
-      sixteen = length-set words (at / 8) _ ∙ h.sixteen;
+      words_are = length-set words (at / 8) _ ∙ h.words_are;
       ranges = λ k. elim (cases_eq k (at / 8)) [
         | inl e ↦ let same = get_or-set_same words (at / 8) (bit_or (get_or words (at / 8) 0) (moved at byte)) 0 within in
             let wide : bit_or (get_or words (at / 8) 0) (moved at byte) < 2 ^ 64 = or_lt 64 _ _ (h.ranges (at / 8)) (omega arith) in
@@ -123,13 +124,13 @@ has_bit-cleared words block r l = elim (cases_eq (r / 64) block) [
     all false = refl
 
 -- and they are words of a set
-pub AreWords-cleared : (n : ℕ) (words : List ℕ) (block : ℕ) → block < 16 → AreWords n words → AreWords n (set words block 0)
+pub AreWords-cleared : (n : ℕ) (words : List ℕ) (block : ℕ) → block < most_words → AreWords n words → AreWords n (set words block 0)
 AreWords-cleared n words block l h =
-    let within : block < length words = omega (arith, h.sixteen) in
+    let within : block < length words = omega (arith, h.words_are) in
     record {
       some = h.some;
       at_most = h.at_most;
-      sixteen = length-set words block 0 ∙ h.sixteen;
+      words_are = length-set words block 0 ∙ h.words_are;
       ranges = λ k. elim (cases_eq k block) [
         | inl e ↦ rw (e, get_or-set_same words block 0 0 within) (omega arith)
         | inr e ↦ rw (get_or-set_other words block k 0 0 e) (h.ranges k)

@@ -5,6 +5,7 @@ use Rattle.std.specs.Iterator.{MakesProgress, item_count}
 use Rattle.std.specs.Int.{bit_at, bit_not, trailing_zeros}
 use Rattle.std.proofs.lemmas.Bool.{cases_lt, cases_eq, eq-eqb, ne_eqb, lt-ltb, le-ltb}
 use Rattle.std.proofs.lemmas.Nat.Bits.{bit_at-zero, bit_at-trailing_zeros, bit_at_clear_same, bit_at_clear_other}
+use Rattle.audit_types.specs.Limits.{most_rows, most_words}
 use Rattle.audit_types.specs.RowLaws.{rows_that_first, rows_that_none, rows_that_agree}
 use Rattle.audit_types.specs.Words.{has_bit, rows_of_words}
 use Rattle.audit_types.specs.RowsLeft.{is_left, rows_from}
@@ -28,7 +29,7 @@ behind_spot words spot r behind = rw (ne_eqb (r / 64) spot.place (λ e. omega ar
 
 -- at the beginning all rows are still to come
 pub all_left : (words : List ℕ) (spot : Spot) → spot.place ≡ 0 → spot.word ≡ get_or words 0 0 → rows_from words spot ≡ rows_of_words words
-all_left words spot first word = rows_that_agree (is_left words spot) (has_bit words) 1024 (λ r l. elim (cases_eq (r / 64) 0) [
+all_left words spot first word = rows_that_agree (is_left words spot) (has_bit words) most_rows (λ r l. elim (cases_eq (r / 64) 0) [
   | inl here ↦ at_spot words spot r (here ∙ sym first) ∙ ap (λ x. bit_at x (r % 64) == 1) (word ∙ ap (λ k. get_or words k 0) (sym here))
   | inr later ↦ behind_spot words spot r (omega arith)
 ])
@@ -45,12 +46,12 @@ module _ (words : List ℕ) (spot : Spot) (place : ℕ) (done : spot.word ≡ 0)
   ]
 
   -- none is left at all if no word has one
-  pub nothing_left : place ≡ 16 → rows_from words spot ≡ []
-  nothing_left end = rows_that_none (is_left words spot) 1024 (λ r l. none_before r (omega arith))
+  pub nothing_left : place ≡ most_words → rows_from words spot ≡ []
+  nothing_left end = rows_that_none (is_left words spot) most_rows (λ r l. none_before r (omega arith))
 
   -- and if one has, the same rows are left from there on
   pub same_left : (next : Spot) → next.place ≡ place → spot.place < place → next.word ≡ get_or words place 0 → rows_from words next ≡ rows_from words spot
-  same_left next is behind word = rows_that_agree (is_left words next) (is_left words spot) 1024 (λ r l. elim (cases_lt (r / 64) place) [
+  same_left next is behind word = rows_that_agree (is_left words next) (is_left words spot) most_rows (λ r l. elim (cases_lt (r / 64) place) [
     | inl before ↦ before_spot words next r (omega arith) ∙ sym (none_before r before)
     | inr from ↦ elim (cases_eq (r / 64) place) [
       | inl here ↦ at_spot words next r (here ∙ sym is) ∙ ap (λ x. bit_at x (r % 64) == 1) (word ∙ ap (λ k. get_or words k 0) (sym here))
@@ -59,7 +60,8 @@ module _ (words : List ℕ) (spot : Spot) (place : ℕ) (done : spot.word ≡ 0)
     ]
   ])
 
-module _ (words : List ℕ) (spot next : Spot) (within : spot.place < 16) (fits : spot.word < 2 ^ 64) (some : spot.word ≢ 0) (same : next.place ≡ spot.place)
+module _ (words : List ℕ) (spot next : Spot) (within : spot.place < most_words) (fits : spot.word < 2 ^ 64)
+    (some : spot.word ≢ 0) (same : next.place ≡ spot.place)
     (cleared : next.word ≡ bit_and spot.word (bit_not w64 (1 * 2 ^ (trailing_zeros w64 spot.word) % 2 ^ 64))) where
   -- the place of the lowest bit
   abbrev bit : ℕ
@@ -115,7 +117,7 @@ module _ (words : List ℕ) (spot next : Spot) (within : spot.place < 16) (fits 
   pub first_row : rows_from words spot ≡ (64 * spot.place + bit) ∷ rows_from words next
   first_row =
       let low = lowest.0 in
-      rows_that_first (is_left words spot) (is_left words next) 1024 (64 * spot.place + bit) (omega arith) here none_below gone kept
+      rows_that_first (is_left words spot) (is_left words next) most_rows (64 * spot.place + bit) (omega arith) here none_below gone kept
 
 -- a row that was taken leaves one less
 pub fewer_left : {r : ℕ} {before after : List ℕ} → before ≡ r ∷ after →

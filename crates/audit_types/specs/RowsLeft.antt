@@ -1,6 +1,7 @@
 -- What contracts see of a walk over the rows of a set.
 use Rattle.std.specs.Prelude.{◌≡◌, ℕ, ◌/◌, ◌%◌, ◌^◌, ◌<◌, Bool, cond, ◌&&◌, ◌==◌, nat_lt, List, length}
 use Rattle.std.specs.Int.{bit_at}
+use Rattle.audit_types.specs.Limits.{most_rows, most_words}
 use Rattle.audit_types.specs.Rows.{rows_that}
 use Rattle.audit_types.specs.Words.{has_bit}
 use Rattle.audit_types.specs.declared.row_iter.Spot.{Spot}
@@ -12,14 +13,14 @@ is_left words spot r = cond (r / 64 == spot.place) (bit_at spot.word (r % 64) ==
 
 -- the rows from a spot on
 abbrev pub rows_from : List ℕ → Spot → List ℕ
-rows_from words spot = rows_that (is_left words spot) 1024
+rows_from words spot = rows_that (is_left words spot) most_rows
 
 -- the rows that are still to come
 abbrev pub rows_left : Inside → List ℕ
 rows_left a = rows_from a.words a.spot
 
--- sixteen words, and a spot among them
+-- as many words as a set has, and a spot among them
 pub record IsWalk (a : Inside) : Type 0 where
-  pub sixteen : length a.words ≡ 16
-  pub within : a.spot.place < 16
+  pub words_are : length a.words ≡ most_words
+  pub within : a.spot.place < most_words
   pub fits : a.spot.word < 2 ^ 64

@@ -31,7 +31,7 @@ AreKinds (b ∷ bytes) = (((0 < b) × (b ≤ 3)) × AreKinds bytes) ⊎ ((b ≡ 
 abbrev pub IsKind : ℕ → Type 0
 IsKind b = (0 < b) × (b ≤ 3)
 
--- 1 to 1,024 rows, and kinds
+-- 1 to most_rows rows, and kinds
 pub record IsShape (shape : Shape) : Type 0 where
   pub some_rows : 0 < shape.rows
   pub at_most : shape.rows ≤ most_rows

@@ -11,6 +11,7 @@ use Rattle.std.proofs.lemmas.Nat.{mod-pow-add, pow-add, pow_pos, or_lt, and_le_l
 use Rattle.std.proofs.lemmas.Nat.Bits.{bit_at-lt, bit_at_and, bit_at_or, bit_at_set_same, bit_at_set_other, bit_at-zero, bit_at_ones, bit_at_ones_above, bit_at_not, bit_at_above, same_from_bits, shr_and_one}
 use Rattle.std.proofs.Math.Nat.{div-div-eq-div-mul}
 use Rattle.std.proofs.lemmas.List.FromFn.{fill_by_all}
+use Rattle.audit_types.specs.Limits.{most_rows, most_words}
 use Rattle.audit_types.specs.Rows.{has_row, rows_that, intersection, union, complement}
 use Rattle.audit_types.specs.RowLaws.{has-rows_that, has-rows_that_above, rows_that_agree, rows_that_none, rows_that_longer}
 use Rattle.audit_types.specs.Words.{has_bit, rows_of_words, row_mask, rows_of_set, set_of_rows, words_of, word_of, bits_that, AreWords, IsSetOfWords}
@@ -66,7 +67,7 @@ word-at n words h k =
 
 -- the words are those of their rows
 pub words-words_of : (n : ℕ) (words : List ℕ) → AreWords n words → words_of (rows_that (has_bit words) n) ≡ words
-words-words_of n words h = sym (fill_by_all (word_of (rows_that (has_bit words) n)) words 16 0 h.sixteen (λ k l. sym (word-at n words h k)))
+words-words_of n words h = sym (fill_by_all (word_of (rows_that (has_bit words) n)) words most_words 0 h.words_are (λ k l. sym (word-at n words h k)))
 
 -- a set is that of its rows
 pub words-rows : (a : Inside) → IsSetOfWords a → set_of_rows (rows_of_set a) ≡ a
@@ -129,8 +130,8 @@ pub no_bit : (k r : ℕ) → has_bit (replicate k 0) r ≡ false
 no_bit k r = rw (zero_at k (r / 64), bit_at-zero (r % 64)) refl
 
 -- words without a bit are words of an empty set
-pub AreWords-none : (n : ℕ) → 0 < n → n ≤ 1024 → AreWords n (replicate 16 0)
-AreWords-none n s h = record { some = s; at_most = h; sixteen = refl; ranges = λ k. omega (arith, zero_at 16 k); none_above = λ r l. no_bit 16 r }
+pub AreWords-none : (n : ℕ) → 0 < n → n ≤ most_rows → AreWords n (replicate most_words 0)
+AreWords-none n s h = record { some = s; at_most = h; words_are = refl; ranges = λ k. omega (arith, zero_at most_words k); none_above = λ r l. no_bit most_words r }
 
 -- a bit is set
 pub has_bit-set : (words : List ℕ) (row r : ℕ) → row / 64 < length words →
@@ -157,15 +158,15 @@ has_bit-set words row r l =
           ap (λ x. bit_at x (r % 64) == 1) (get_or-set_other words (row / 64) (r / 64) _ 0 word) ∙ sym (ap (λ b. has_bit words r || b) other ∙ or-false (has_bit words r))
     ]
 
--- sixteen words of 64 bits, by the code's facts on them
+-- the words of a set with one row more, by the code's facts on them
 pub AreWords-set : (n : ℕ) (words : List ℕ) (row : ℕ) → row < n → AreWords n words →
     AreWords n (set words (row / 64) (bit_or (get_or words (row / 64) 0) (1 * 2 ^ (row % 64) % 2 ^ 64)))
 AreWords-set n words row l h =
-    let below : row / 64 < length words = omega (arith, h.sixteen, h.at_most) in
+    let below : row / 64 < length words = omega (arith, h.words_are, h.at_most) in
     record {
       some = h.some;
       at_most = h.at_most;
-      sixteen = length-set words (row / 64) _ ∙ h.sixteen;
+      words_are = length-set words (row / 64) _ ∙ h.words_are;
       ranges = λ k. elim (cases_eq k (row / 64)) [
         | inl e ↦ let same = get_or-set_same words (row / 64) (bit_or (get_or words (row / 64) 0) (1 * 2 ^ (row % 64) % 2 ^ 64)) 0 below in
             let wide : bit_or (get_or words (row / 64) 0) (1 * 2 ^ (row % 64) % 2 ^ 64) < 2 ^ 64 = or_lt 64 _ _ (h.ranges (row / 64)) (omega arith) in
@@ -184,23 +185,23 @@ min_test a b p q = grind (arith, nat_tests)
 pub max_test : (a b : ℕ) → a < 2 → b < 2 → (max a b == 1) ≡ ((a == 1) || (b == 1))
 max_test a b p q = grind (arith, nat_tests)
 
-module _ (a b words : List ℕ) (n : ℕ) (p : AreWords n a) (q : AreWords n b) (l : length words ≡ 16) where
-  -- no word is past the sixteenth
-  zero_past : (xs : List ℕ) → length xs ≡ 16 → (k : ℕ) → 16 ≤ k → get_or xs k 0 ≡ 0
+module _ (a b words : List ℕ) (n : ℕ) (p : AreWords n a) (q : AreWords n b) (l : length words ≡ most_words) where
+  -- no word is past the last
+  zero_past : (xs : List ℕ) → length xs ≡ most_words → (k : ℕ) → most_words ≤ k → get_or xs k 0 ≡ 0
   zero_past xs e k m = get_or_past xs k 0 (omega arith)
 
   -- every place has the `&` of the two
-  all_and : ((k : ℕ) → k < 16 → get_or words k 0 ≡ bit_and (get_or a k 0) (get_or b k 0)) → (k : ℕ) → get_or words k 0 ≡ bit_and (get_or a k 0) (get_or b k 0)
-  all_and h k = elim (cases_lt k 16) [
+  all_and : ((k : ℕ) → k < most_words → get_or words k 0 ≡ bit_and (get_or a k 0) (get_or b k 0)) → (k : ℕ) → get_or words k 0 ≡ bit_and (get_or a k 0) (get_or b k 0)
+  all_and h k = elim (cases_lt k most_words) [
     | inl m ↦ h k m
-    | inr m ↦ zero_past words l k m ∙ sym (ap (λ x. bit_and x (get_or b k 0)) (zero_past a p.sixteen k m))
+    | inr m ↦ zero_past words l k m ∙ sym (ap (λ x. bit_and x (get_or b k 0)) (zero_past a p.words_are k m))
   ]
 
   -- every place has the `|` of the two
-  all_or : ((k : ℕ) → k < 16 → get_or words k 0 ≡ bit_or (get_or a k 0) (get_or b k 0)) → (k : ℕ) → get_or words k 0 ≡ bit_or (get_or a k 0) (get_or b k 0)
-  all_or h k = elim (cases_lt k 16) [
+  all_or : ((k : ℕ) → k < most_words → get_or words k 0 ≡ bit_or (get_or a k 0) (get_or b k 0)) → (k : ℕ) → get_or words k 0 ≡ bit_or (get_or a k 0) (get_or b k 0)
+  all_or h k = elim (cases_lt k most_words) [
     | inl m ↦ h k m
-    | inr m ↦ zero_past words l k m ∙ sym (ap (λ x. bit_or x (get_or b k 0)) (zero_past a p.sixteen k m) ∙ or_zero_l (get_or b k 0) ∙ zero_past b q.sixteen k m)
+    | inr m ↦ zero_past words l k m ∙ sym (ap (λ x. bit_or x (get_or b k 0)) (zero_past a p.words_are k m) ∙ or_zero_l (get_or b k 0) ∙ zero_past b q.words_are k m)
   ]
 
   -- a row is in both
@@ -216,31 +217,31 @@ module _ (a b words : List ℕ) (n : ℕ) (p : AreWords n a) (q : AreWords n b) 
       ∙ max_test _ _ (bit_at-lt (get_or a (r / 64) 0) (r % 64)) (bit_at-lt (get_or b (r / 64) 0) (r % 64))
 
   -- every word is the `&` of the two
-  pub AreWords-and : ((k : ℕ) → k < 16 → get_or words k 0 ≡ bit_and (get_or a k 0) (get_or b k 0)) → AreWords n words
+  pub AreWords-and : ((k : ℕ) → k < most_words → get_or words k 0 ≡ bit_and (get_or a k 0) (get_or b k 0)) → AreWords n words
   AreWords-and h = record {
     some = p.some;
     at_most = p.at_most;
-    sixteen = l;
+    words_are = l;
     ranges = λ k. omega (arith, all_and h k, and_le_l (get_or a k 0) (get_or b k 0), p.ranges k);
     none_above = λ r m. bit-and (all_and h) r ∙ rw (p.none_above r m) refl;
   }
 
   -- every word is the `|` of the two
-  pub AreWords-or : ((k : ℕ) → k < 16 → get_or words k 0 ≡ bit_or (get_or a k 0) (get_or b k 0)) → AreWords n words
+  pub AreWords-or : ((k : ℕ) → k < most_words → get_or words k 0 ≡ bit_or (get_or a k 0) (get_or b k 0)) → AreWords n words
   AreWords-or h = record {
     some = p.some;
     at_most = p.at_most;
-    sixteen = l;
+    words_are = l;
     ranges = λ k. omega (arith, all_or h k, or_lt 64 (get_or a k 0) (get_or b k 0) (p.ranges k) (q.ranges k));
     none_above = λ r m. bit-or (all_or h) r ∙ rw (p.none_above r m, q.none_above r m) refl;
   }
 
-  pub rows-and : ((k : ℕ) → k < 16 → get_or words k 0 ≡ bit_and (get_or a k 0) (get_or b k 0)) →
+  pub rows-and : ((k : ℕ) → k < most_words → get_or words k 0 ≡ bit_and (get_or a k 0) (get_or b k 0)) →
       rows_that (has_bit words) n ≡ intersection n (rows_that (has_bit a) n) (rows_that (has_bit b) n)
   rows-and h =
       rows_that_agree _ _ n (λ r m. bit-and (all_and h) r ∙ sym (ap (λ x. x && has_row (rows_that (has_bit b) n) r) (has-view n a p r) ∙ ap (λ x. has_bit a r && x) (has-view n b q r)))
 
-  pub rows-or : ((k : ℕ) → k < 16 → get_or words k 0 ≡ bit_or (get_or a k 0) (get_or b k 0)) →
+  pub rows-or : ((k : ℕ) → k < most_words → get_or words k 0 ≡ bit_or (get_or a k 0) (get_or b k 0)) →
       rows_that (has_bit words) n ≡ union n (rows_that (has_bit a) n) (rows_that (has_bit b) n)
   rows-or h =
       rows_that_agree _ _ n (λ r m. bit-or (all_or h) r ∙ sym (ap (λ x. x || has_row (rows_that (has_bit b) n) r) (has-view n a p r) ∙ ap (λ x. has_bit a r || x) (has-view n b q r)))
@@ -251,15 +252,15 @@ same_inside a b p q = ap (λ w. record { words = w; n = a.n }) p ∙ ap (λ m. r
 
 -- the rows of the words, over any table that holds them all
 pub rows-words : (n : ℕ) (words : List ℕ) → AreWords n words → rows_of_words words ≡ rows_that (has_bit words) n
-rows-words n words h = rows_that_longer (has_bit words) n 1024 h.at_most h.none_above
+rows-words n words h = rows_that_longer (has_bit words) n most_rows h.at_most h.none_above
 
 -- words without a bit have no row
-pub no_rows : (n : ℕ) (words : List ℕ) → words ≡ replicate 16 0 → rows_that (has_bit words) n ≡ []
-no_rows n words e = ap (λ w. rows_that (has_bit w) n) e ∙ rows_that_none (has_bit (replicate 16 0)) n (λ r l. no_bit 16 r)
+pub no_rows : (n : ℕ) (words : List ℕ) → words ≡ replicate most_words 0 → rows_that (has_bit words) n ≡ []
+no_rows n words e = ap (λ w. rows_that (has_bit w) n) e ∙ rows_that_none (has_bit (replicate most_words 0)) n (λ r l. no_bit most_words r)
 
 -- no row, no bit
-pub words-none : (n : ℕ) → 0 < n → n ≤ 1024 → words_of [] ≡ replicate 16 0
-words-none n s h = ap words_of (sym (no_rows n (replicate 16 0) refl)) ∙ words-words_of n (replicate 16 0) (AreWords-none n s h)
+pub words-none : (n : ℕ) → 0 < n → n ≤ most_rows → words_of [] ≡ replicate most_words 0
+words-none n s h = ap words_of (sym (no_rows n (replicate most_words 0) refl)) ∙ words-words_of n (replicate most_words 0) (AreWords-none n s h)
 
 -- a bit of the mask is that of a row below n
 bit_of_mask : (n k i : ℕ) → i < 64 → (bit_at (row_mask n k) i == 1) ≡ nat_lt (64 * k + i) n
@@ -281,10 +282,10 @@ mask_small n k = ones_fit (min 64 (n - 64 * k)) (omega arith)
 turned : (a b : ℕ) → a < 2 → b < 2 → (min (1 - a) b == 1) ≡ ((b == 1) && not (a == 1))
 turned a b p q = grind (arith, nat_tests)
 
-module _ (a words : List ℕ) (n : ℕ) (p : AreWords n a) (l : length words ≡ 16)
-    (flipped : (k : ℕ) → k < 16 → get_or words k 0 ≡ bit_and (bit_not w64 (get_or a k 0)) (row_mask n k)) where
+module _ (a words : List ℕ) (n : ℕ) (p : AreWords n a) (l : length words ≡ most_words)
+    (flipped : (k : ℕ) → k < most_words → get_or words k 0 ≡ bit_and (bit_not w64 (get_or a k 0)) (row_mask n k)) where
   -- a row is there if it is below n and wasn't
-  bit-flip : (r : ℕ) → r < 1024 → has_bit words r ≡ (nat_lt r n && not (has_bit a r))
+  bit-flip : (r : ℕ) → r < most_rows → has_bit words r ≡ (nat_lt r n && not (has_bit a r))
   bit-flip r small =
       let bit : r % 64 < 64 = omega arith in
       let place : 64 * (r / 64) + r % 64 ≡ r = omega arith in
@@ -295,8 +296,8 @@ module _ (a words : List ℕ) (n : ℕ) (p : AreWords n a) (l : length words ≡
       ∙ turned _ _ (bit_at-lt (get_or a (r / 64) 0) (r % 64)) (bit_at-lt (row_mask n (r / 64)) (r % 64))
       ∙ ap (λ b. b && not (has_bit a r)) (bit_of_mask n (r / 64) (r % 64) bit ∙ ap (λ x. nat_lt x n) place)
 
-  -- no word is past the sixteenth
-  past : (k : ℕ) → 16 ≤ k → get_or words k 0 ≡ 0
+  -- no word is past the last
+  past : (k : ℕ) → most_words ≤ k → get_or words k 0 ≡ 0
   past k m = get_or_past words k 0 (omega arith)
 
   -- each bit of a row below n is turned, and no other is left
@@ -304,12 +305,12 @@ module _ (a words : List ℕ) (n : ℕ) (p : AreWords n a) (l : length words ≡
   AreWords-flip = record {
     some = p.some;
     at_most = p.at_most;
-    sixteen = l;
-    ranges = λ k. elim (cases_lt k 16) [
+    words_are = l;
+    ranges = λ k. elim (cases_lt k most_words) [
       | inl m ↦ let mask : row_mask n k < 2 ^ 64 = mask_small n k in omega (arith, flipped k m, and_le_r (bit_not w64 (get_or a k 0)) (row_mask n k))
       | inr m ↦ omega (arith, past k m)
     ];
-    none_above = λ r m. elim (cases_lt r 1024) [
+    none_above = λ r m. elim (cases_lt r most_rows) [
       | inl small ↦ bit-flip r small ∙ rw (le-ltb r n m) refl
       | inr large ↦ ap (λ x. bit_at x (r % 64) == 1) (past (r / 64) (omega arith)) ∙ ap (λ x. x == 1) (bit_at-zero (r % 64))
     ];

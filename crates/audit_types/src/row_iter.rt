@@ -1,10 +1,11 @@
 //! A walk over the rows of a set.
 ghost use Rattle.std.specs.Prelude.{◌≡◌, ◌≢◌, ◌<◌, [], IfNone, IfSome};
 ghost use Rattle.std.specs.Iterator.{YieldsFirst, item_count};
+ghost use Rattle.audit_types.specs.Limits.{most_words};
 ghost use Rattle.audit_types.specs.Words.{rows_of_words};
 ghost use Rattle.audit_types.specs.RowsLeft.{rows_from};
 
-use crate::words::first_word;
+use crate::words::{MOST_WORDS, first_word};
 use std::marker::Model;
 
 // A place among the words, and the bits of its word that are still to come.
@@ -17,7 +18,7 @@ struct Spot {
 /// The rows of a set that are still to come, in ascending order: contracts see their list.
 #[derive(Drop)]
 pub struct RowIter {
-    words: [u64; 16],
+    words: [u64; MOST_WORDS],
     // Where the walk is: the bits of the words after it are still to come, and those that are left of its own word.
     spot: Spot,
 }
@@ -35,7 +36,7 @@ impl Model for RowIter {
 }
 
 impl RowIter {
-    pub(crate) fn new(words: [u64; 16]) -> RowIter
+    pub(crate) fn new(words: [u64; MOST_WORDS]) -> RowIter
         ensures { result ≡ rows_of_words words }
     {
         RowIter {
@@ -49,16 +50,16 @@ impl RowIter {
 }
 
 // The spot of the next bit that is still to come.
-fn next_spot(words: &[u64; 16], spot: Spot) -> Option<Spot>
-    requires { spot.place < 16 }
+fn next_spot(words: &[u64; MOST_WORDS], spot: Spot) -> Option<Spot>
+    requires { spot.place < most_words }
     ensures none { IfNone result (rows_from words.now spot ≡ []) }
-    ensures some { IfSome result (λ next. (next.place < 16) × (next.word ≢ 0) × (rows_from words.now next ≡ rows_from words.now spot)) }
+    ensures some { IfSome result (λ next. (next.place < most_words) × (next.word ≢ 0) × (rows_from words.now next ≡ rows_from words.now spot)) }
 {
     if spot.word != 0 {
         return Some(spot);
     }
     let place = first_word(words, spot.place + 1);
-    if place == 16 {
+    if place == MOST_WORDS {
         return None;
     }
     Some(Spot {

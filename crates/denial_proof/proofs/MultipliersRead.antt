@@ -1,9 +1,10 @@
 -- The common multiple and the numbers at the marks, read off a form and divided.
-use Rattle.std.proofs.Common.{◌≡◌, ℕ, suc, ◌+◌, ◌≤◌, ◌^◌, ℤ, pos, List, [], ◌∷◌, ◌++◌, length, take, drop, refl, sym, ap, ◌∙◌, subst, arith, inl, inr, add-one, length-append}
+use Rattle.std.proofs.Common.{◌≡◌, ℕ, suc, ◌+◌, ◌*◌, ◌≤◌, ◌^◌, ℤ, pos, List, [], ◌∷◌, ◌++◌, length, take, drop, refl, sym, ap, ◌∙◌, subst, arith, inl, inr, add-one, length-append}
 use Rattle.std.specs.Prelude.{◌*ℤ◌, ◌<ℤ◌, unsigned_abs}
 use Rattle.std.specs.List.{AllByRecursion}
 use Rattle.std.proofs.lemmas.Bool.{cases_eq}
 use Rattle.std.proofs.lemmas.List.{get_or_append_left, get_or-append-add, length-map, take-append-le, take_all}
+use Rattle.sum_basis.specs.Limits.{most_columns}
 use Rattle.audit_types.specs.ListLaws.{all-push}
 use Rattle.audit_types.specs.Truth.{number_at}
 use Rattle.audit_types.specs.Form.{combined}
@@ -15,8 +16,8 @@ length_taken common f [] taken are = ap length are
 length_taken common f (row ∷ form) [] are = absurd are
 length_taken common f (row ∷ form) (c ∷ taken) are = ap suc (length_taken common f form taken are.1)
 
-pub read_push : (common : ℤ) (f : ℕ → ℤ) (mark : ℕ) (numbers : List ℤ) (x : ℤ) → AreReadSoFar common f mark numbers → x ≡ f mark → unsigned_abs x ≤ 2 ^ 123 →
-    AreReadSoFar common f (mark + 1) (numbers ++ x ∷ [])
+pub read_push : (common : ℤ) (f : ℕ → ℤ) (mark : ℕ) (numbers : List ℤ) (x : ℤ) → AreReadSoFar common f mark numbers → x ≡ f mark →
+    unsigned_abs x ≤ 2 ^ 112 * most_columns → AreReadSoFar common f (mark + 1) (numbers ++ x ∷ [])
 read_push common f mark numbers x before is small = record {
   one_each = length-append numbers (x ∷ []) ∙ ap (λ k. k + 1) before.one_each;
   first = get_or_append_left numbers (x ∷ []) (pos 0) 0 (let size = before.one_each in omega arith) ∙ before.first;
@@ -26,7 +27,7 @@ read_push common f mark numbers x before is small = record {
         ap (number_at (numbers ++ x ∷ [])) place ∙ get_or-append-add numbers (x ∷ []) 0 (pos 0) ∙ is ∙ ap f (sym last)
     | inr earlier ↦ get_or_append_left numbers (x ∷ []) (pos 0) (k + 1) (let size = before.one_each in omega arith) ∙ before.exact k (omega arith)
   ];
-  small = all-push (λ y. unsigned_abs y ≤ 2 ^ 123) numbers x before.small small;
+  small = all-push (λ y. unsigned_abs y ≤ 2 ^ 112 * most_columns) numbers x before.small small;
 }
 
 -- a list of one number more is a first number and the others

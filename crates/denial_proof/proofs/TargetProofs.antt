@@ -4,6 +4,7 @@ use Rattle.std.specs.Prelude.{◌*ℤ◌, ◌<ℤ◌, neg_ℤ, unsigned_abs}
 use Rattle.std.specs.List.{AllByRecursion}
 use Rattle.std.proofs.lemmas.Bool.{cases_lt}
 use Rattle.std.proofs.lemmas.List.{get_or_past, take_all}
+use Rattle.audit_types.specs.Limits.{most_rows}
 use Rattle.audit_types.specs.declared.records.Answered.{Answered}
 use Rattle.audit_types.specs.declared.records.Asked.{Asked}
 use Rattle.audit_types.specs.History.{Protection}
@@ -141,7 +142,7 @@ module _ (n more : ℕ) (history : List Answered) (protected : Protection) (aske
         go (Some q) = (opposite_small (number_at numbers (length places + 1)) (last_small numbers (length places + 1) small), tt)
 
     -- if the numbers are small it passes the check
-    pub shows : n ≤ 1024 → AllByRecursion IsSmall (times ∷ numbers) →
+    pub shows : n ≤ most_rows → AllByRecursion IsSmall (times ∷ numbers) →
         IsCanonicalSum n history protected asked target share times (terms_of places numbers) (number_at numbers (length places))
         × ShowsTotal n history protected asked target share times (terms_of places numbers) (number_at numbers (length places))
     shows most small =

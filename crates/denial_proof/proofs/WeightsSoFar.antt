@@ -3,6 +3,7 @@ use Rattle.std.proofs.Common.{◌≡◌, ℕ, ◌+◌, ◌*◌, ◌^◌, ◌<◌
 use Rattle.std.specs.Prelude.{◌+ℤ◌, map, unsigned_abs, FitsSigned}
 use Rattle.std.specs.Int.{w128}
 use Rattle.std.proofs.lemmas.Int.{ints, to_z-of_z, fits_signed_from_abs}
+use Rattle.audit_types.specs.Limits.{most_rows}
 use Rattle.audit_types.specs.Numbers.{size_of_sum}
 use Rattle.audit_types.specs.declared.records.Answered.{Answered}
 use Rattle.denial_proof.specs.declared.proof_parts.Term.{Term}
@@ -30,15 +31,16 @@ sum_step history rows own terms row i sum added within is small before = record 
 }
 
 -- the next sum is far within 128 bits
-pub sum_fits : (history : List Answered) (rows : List ℕ) (own : ℤ) (terms : List Term) (row i : ℕ) (sum added : ℤ) → i < 1024 → unsigned_abs added ≤ 2 ^ 112 →
-    IsSumSoFar history rows own terms row i sum → unsigned_abs (sum +ℤ added) ≤ 2 ^ 123
+pub sum_fits : (history : List Answered) (rows : List ℕ) (own : ℤ) (terms : List Term) (row i : ℕ) (sum added : ℤ) → i < most_rows →
+    unsigned_abs added ≤ 2 ^ 112 → IsSumSoFar history rows own terms row i sum → unsigned_abs (sum +ℤ added) ≤ 2 ^ 112 * (most_rows + 1)
 sum_fits history rows own terms row i sum added few small before =
     let so_far = before.size in
     let more = size_of_sum sum added (2 ^ 112 * (i + 1)) (2 ^ 112) so_far small in
     omega arith
 
 -- what the machine's sum stands for
-pub next_is : (sum x : ℤ) → FitsSigned w128 x → unsigned_abs (sum +ℤ x) ≤ 2 ^ 123 → to_z w128 (of_z w128 (sum +ℤ to_z w128 (of_z w128 x))) ≡ sum +ℤ x
+pub next_is : (sum x : ℤ) → FitsSigned w128 x → unsigned_abs (sum +ℤ x) ≤ 2 ^ 112 * (most_rows + 1) →
+    to_z w128 (of_z w128 (sum +ℤ to_z w128 (of_z w128 x))) ≡ sum +ℤ x
 next_is sum x fits small =
     ap (λ z. to_z w128 (of_z w128 (sum +ℤ z))) (to_z-of_z w128 x fits)
     ∙ to_z-of_z w128 (sum +ℤ x) (fits_signed_from_abs w128 (sum +ℤ x) (omega arith))

@@ -1,6 +1,7 @@
 -- What is a proof that a question is dangerous. No table and no secret is an argument.
 use Rattle.std.specs.Prelude.{◌≡◌, ℕ, ◌<◌, ◌≤◌, ◌^◌, ℤ, pos, ◌<ℤ◌, ◌+ℤ◌, true, false, List, [], ◌∷◌, ◌++◌, length, map, Option, Some, None, slice_get, slice_index_or, unsigned_abs}
 use Rattle.std.specs.List.{AllByRecursion}
+use Rattle.audit_types.specs.Limits.{most_rows}
 use Rattle.audit_types.specs.declared.shapes.Kind.TheVariants as kind
 use Rattle.audit_types.specs.declared.records.Answered.{Answered}
 use Rattle.audit_types.specs.declared.records.Asked.{Asked}
@@ -72,7 +73,7 @@ pub record ShowsTotal (n : ℕ) (history : List Answered) (protected : Protectio
     (target : Target) (share : Option OwnShare) (times : ℤ) (terms : List Term) (count : ℤ) : Type 0 where
   pub askers : AllByRecursion (IsAsker n protected.people) (own_rows (own_in share))
   pub target_is : IsTarget n protected asked.column (own_in share) target
-  pub few : length terms ≤ 1024
+  pub few : length terms ≤ most_rows
   pub are_terms : AllByRecursion (IsTerm history asked.column) terms
   pub small_count : IsSmall count
   pub small_share : AllByRecursion IsSmall (shares_in share)

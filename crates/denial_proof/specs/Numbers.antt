@@ -1,6 +1,7 @@
 -- The numbers that a marked form gives for a target.
-use Rattle.std.specs.Prelude.{◌≡◌, ℕ, suc, Option, ◌+◌, ◌<◌, ◌≤◌, ◌^◌, ℤ, pos, ◌*ℤ◌, ◌<ℤ◌, cond, List, [], ◌∷◌, map, length, unsigned_abs}
+use Rattle.std.specs.Prelude.{◌≡◌, ℕ, suc, Option, ◌+◌, ◌*◌, ◌<◌, ◌≤◌, ◌^◌, ℤ, pos, ◌*ℤ◌, ◌<ℤ◌, cond, List, [], ◌∷◌, map, length, unsigned_abs}
 use Rattle.std.specs.List.{AllByRecursion}
+use Rattle.sum_basis.specs.Limits.{most_columns}
 use Rattle.audit_types.specs.Truth.{number_at, is_zero}
 use Rattle.audit_types.specs.Form.{set_row, combined, pivot, pivot_entry, IsContent}
 use Rattle.audit_types.specs.declared.records.Answered.{Answered}
@@ -41,7 +42,7 @@ pub record AreReadSoFar (common : ℤ) (f : ℕ → ℤ) (mark : ℕ) (numbers :
   pub one_each : length numbers ≡ mark + 1
   pub first : number_at numbers 0 ≡ common
   pub exact : (k : ℕ) → k < mark → number_at numbers (k + 1) ≡ f k
-  pub small : AllByRecursion (λ x. unsigned_abs x ≤ 2 ^ 123) numbers
+  pub small : AllByRecursion (λ x. unsigned_abs x ≤ 2 ^ 112 * most_columns) numbers
 
 -- the common multiple and these numbers after it, all over their greatest common divisor
 pub record AreMultipliers (form : List (List ℤ)) (target : List ℤ) (n m : ℕ) (list : List ℤ) : Type 0 where

@@ -13,7 +13,7 @@ use crate::marking::write_marked;
 use audit_types::{Answered, MOST_WIDTH, NoMemory, RowSet};
 use std::alloc::Global;
 use sum_basis::laws::{forms_are_unique, one_more_set};
-use sum_basis::{Basis, Form, Grown, RowWith};
+use sum_basis::{Basis, Form, Grown, MOST_COLUMNS, RowWith};
 
 // Adds the set of a record of the column to the form, and reports whether it was outside the span. A record of another column
 // changes nothing.
@@ -72,7 +72,7 @@ fn mark_next(form: &mut Form, rows: &RowSet, mark: u16) -> Result<bool, NoMemory
     ensures wide { IfOk result (λ narrow. narrow ≡ false → MarksNext form.old rows.now mark (HasWideFormOf form.old.n)) }
     ensures narrow { IfOk result (λ narrow. IsNarrow most_width form.new.rows) }
 {
-    let mut room = [0; 2048];
+    let mut room = [0; MOST_COLUMNS];
     let bits = &mut room[..form.columns() as usize];
     write_marked(bits, rows, mark);
     let grown = form.add(bits)?;
@@ -124,7 +124,7 @@ pub(crate) fn marked_row_at(
     requires mark { rows.now.n + mark < form.now.n }
     ensures { IfOk result (λ told. (m : ℕ) → form.now.n ≡ rows.now.n + m → IsRowWith form.now (marked_row rows.now.n m mark rows.now.list) pivot told) }
 {
-    let mut room = [0; 2048];
+    let mut room = [0; MOST_COLUMNS];
     let bits = &mut room[..form.columns() as usize];
     write_marked(bits, rows, mark);
     form.row_with(bits, pivot)

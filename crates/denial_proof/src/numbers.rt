@@ -1,7 +1,8 @@
 //! The numbers that a marked form gives for a target.
-ghost use Rattle.std.specs.Prelude.{◌≡◌, ◌≢◌, ℕ, ◌+◌, ◌≤◌, ◌<◌, ◌^◌, ℤ, pos, ◌*ℤ◌, ◌<ℤ◌, List, [], ◌∷◌, IsTrue, IfOk, length, slice_index_or, take, unsigned_abs};
+ghost use Rattle.std.specs.Prelude.{◌≡◌, ◌≢◌, ℕ, ◌+◌, ◌*◌, ◌≤◌, ◌<◌, ◌^◌, ℤ, pos, ◌*ℤ◌, ◌<ℤ◌, List, [], ◌∷◌, IsTrue, IfOk, length, slice_index_or, take, unsigned_abs};
 ghost use Rattle.std.specs.Int.{◌∣◌};
 ghost use Rattle.std.specs.List.{AllByRecursion};
+ghost use Rattle.sum_basis.specs.Limits.{most_columns};
 ghost use Rattle.audit_types.specs.Truth.{number_at};
 ghost use Rattle.audit_types.specs.Form.{set_row, combined, pivot, pivot_entry, pivot_entries, IsEchelon, IsLeastCommonMultiple};
 ghost use Rattle.sum_basis.specs.RowsWith.{IsRowAt};
@@ -51,7 +52,7 @@ fn number_at(form: &Form, taken: &[i128], column: u16) -> i128
     requires one_each { length taken.now ≡ length form.now.rows }
     requires small { AllByRecursion IsTakenSmall taken.now }
     ensures exact { result ≡ combined taken.now form.now.rows column }
-    ensures small { unsigned_abs result ≤ 2 ^ 123 }
+    ensures small { unsigned_abs result ≤ 2 ^ 112 * most_columns }
 {
     // A form says of itself how large its entries are, and how many columns it has.
     let _ = form.columns();
@@ -99,7 +100,7 @@ fn read_marks(
     ensures one_each { IfOk result (λ numbers. length numbers.items ≡ m + 1) }
     ensures first { IfOk result (λ numbers. number_at numbers.items 0 ≡ common) }
     ensures exact { IfOk result (λ numbers. (k : ℕ) → k < m → number_at numbers.items (k + 1) ≡ combined taken.now form.now.rows (n + k)) }
-    ensures small { IfOk result (λ numbers. AllByRecursion (λ x. unsigned_abs x ≤ 2 ^ 123) numbers.items) }
+    ensures small { IfOk result (λ numbers. AllByRecursion (λ x. unsigned_abs x ≤ 2 ^ 112 * most_columns) numbers.items) }
 {
     // A form says of itself how many columns it has at most.
     let _ = form.columns();
@@ -119,7 +120,7 @@ fn read_row(
     n: u16,
     m: u16,
 ) -> Result<Vec<i128>, NoMemory>
-    requires columns { n + m ≤ 2048 }
+    requires columns { n + m ≤ most_columns }
     requires small { (j : ℕ) → unsigned_abs (number_at row.now j) ≤ 2 ^ 56 }
     ensures { IfOk result (λ numbers. AreReadSoFar (number_at row.now pivot) (λ k. number_at row.now (n + k)) m numbers.items) }
 {
@@ -169,7 +170,7 @@ pub(crate) fn multipliers_of_row(
     n: u16,
     m: u16,
 ) -> Result<Vec<i128>, NoMemory>
-    requires columns { n + m ≤ 2048 }
+    requires columns { n + m ≤ most_columns }
     requires pivot { pivot < n }
     requires small { (j : ℕ) → unsigned_abs (number_at row.now j) ≤ 2 ^ 56 }
     requires positive { pos 0 <ℤ number_at row.now pivot }

@@ -1,6 +1,7 @@
 //! The check of a proof for a column of sums.
 ghost use Rattle.std.specs.Prelude.{◌≡◌, ◌↔◌, ℕ, ◌<◌, ◌≤◌, ◌^◌, pos, ◌+ℤ◌, true, false, [], ◌∷◌, IsTrue, length, unsigned_abs, All};
 ghost use Rattle.std.specs.List.{AllByRecursion};
+ghost use Rattle.audit_types.specs.Limits.{most_rows};
 ghost use Rattle.audit_types.specs.Rows.{has_row};
 ghost use Rattle.audit_types.specs.Headcount.{AreFew, unguarded};
 ghost use Rattle.denial_proof.specs.Weights.{adds, rows_at, sum_at, weights_of, own_in, own_rows, shares_in, share_adds};
@@ -9,13 +10,13 @@ ghost use Rattle.denial_proof.specs.Certificates.{NamesRecord, IsSmall, IsAsker,
 use crate::lone_rows::holds;
 use crate::proof_parts::{OwnShare, Target, Term};
 use crate::public_facts::PublicFacts;
-use audit_types::{Answered, Askers, CountedRows, RowSet};
+use audit_types::{Answered, Askers, CountedRows, MOST_ROWS, RowSet};
 
 // The greatest size of a multiplier.
 const LIMIT: u128 = 1 << 112;
 
 // The most terms of a proof.
-const MOST_TERMS: usize = 1_024;
+const MOST_TERMS: usize = MOST_ROWS as usize;
 
 /// What a proof for a column of sums says: the sets of the terms, and the asked one `count` times, add up to the target, `times` times, and to
 /// the share of the row whose number the asker knows.
@@ -201,7 +202,7 @@ fn term_adds(facts: &PublicFacts<'_>, term: &Term, row: u16) -> i128
 // What the asked set and those of the terms add up to in a row.
 fn sum_at(facts: &PublicFacts<'_>, total: &Total<'_>, row: u16) -> i128
     requires row { row < facts.now.n }
-    requires few { length total.now.terms.now ≤ 1024 }
+    requires few { length total.now.terms.now ≤ most_rows }
     requires terms { AllByRecursion (IsTerm facts.now.history.now facts.now.asked.now.column) total.now.terms.now }
     requires small_count { IsSmall total.now.count }
     ensures { result ≡ sum_at (weights_of facts.now.history.now facts.now.asked.now.rows.list total.now.count total.now.terms.now) row }
@@ -219,7 +220,7 @@ fn adds_up(facts: &PublicFacts<'_>, total: &Total<'_>, row: u16) -> bool
     requires target { IsTarget facts.now.n facts.now.protected.now facts.now.asked.now.column (own_in total.now.share) total.now.target }
     requires small_times { IsSmall total.now.times }
     requires small_share { AllByRecursion IsSmall (shares_in total.now.share) }
-    requires few { length total.now.terms.now ≤ 1024 }
+    requires few { length total.now.terms.now ≤ most_rows }
     requires terms { AllByRecursion (IsTerm facts.now.history.now facts.now.asked.now.column) total.now.terms.now }
     requires small_count { IsSmall total.now.count }
     ensures { IsTrue result ↔ (sum_at (weights_of facts.now.history.now facts.now.asked.now.rows.list total.now.count total.now.terms.now) row ≡ adds (rows_of facts.now.protected.now total.now.target) total.now.times row +ℤ share_adds total.now.share row) }
@@ -232,7 +233,7 @@ fn add_up(facts: &PublicFacts<'_>, total: &Total<'_>) -> bool
     requires target { IsTarget facts.now.n facts.now.protected.now facts.now.asked.now.column (own_in total.now.share) total.now.target }
     requires small_times { IsSmall total.now.times }
     requires small_share { AllByRecursion IsSmall (shares_in total.now.share) }
-    requires few { length total.now.terms.now ≤ 1024 }
+    requires few { length total.now.terms.now ≤ most_rows }
     requires terms { AllByRecursion (IsTerm facts.now.history.now facts.now.asked.now.column) total.now.terms.now }
     requires small_count { IsSmall total.now.count }
     ensures { IsTrue result ↔ ((row : ℕ) → row < facts.now.n → sum_at (weights_of facts.now.history.now facts.now.asked.now.rows.list total.now.count total.now.terms.now) row ≡ adds (rows_of facts.now.protected.now total.now.target) total.now.times row +ℤ share_adds total.now.share row) }

@@ -3,6 +3,7 @@ use Rattle.std.proofs.Common.{◌≡◌, ℕ, zero, suc, ◌+◌, ◌*◌, ◌�
 use Rattle.std.specs.List.{AllByRecursion, range_with_len}
 use Rattle.std.proofs.lemmas.Bool.{le-ltb}
 use Rattle.std.proofs.lemmas.List.FromFn.{length-map-range_with_len, map-range_with_len_more}
+use Rattle.audit_types.specs.Limits.{most_rows}
 use Rattle.schema_json.specs.Columns.{Column}
 use Rattle.table_load.specs.Cells.{AreLists, AreNumbers, FitsSchema, PublicView, first_list, numbered, whole}
 use Rattle.table_load.specs.Numerals.{in_range}
@@ -52,12 +53,12 @@ unfolding drill_rows
 some_rows = omega arith
 
 -- and no more than a table may have
-pub few_rows : drill_rows ≤ 1024
+pub few_rows : drill_rows ≤ most_rows
 unfolding drill_rows
 few_rows = omega arith
 
 -- the public columns are lists of numbers
-are_lists : (number rows : ℕ) → 0 < rows → rows ≤ 1024 → AreLists drill_columns (bands number rows ∷ ages number rows ∷ [])
+are_lists : (number rows : ℕ) → 0 < rows → rows ≤ most_rows → AreLists drill_columns (bands number rows ∷ ages number rows ∷ [])
 are_lists number rows some most =
     let long : length (bands number rows) ≡ rows = (public_numbers number rows).0.one_each in
     record {
@@ -69,7 +70,7 @@ are_lists number rows some most =
       numbers = subst (λ (n : ℕ). AllByRecursion (AreNumbers n) (bands number rows ∷ ages number rows ∷ [])) (sym long) (public_numbers number rows);
     }
 
-pub lists_fit : (number rows : ℕ) (columns : List Column) (lists : List (List ℤ)) → 0 < rows → rows ≤ 1024 → columns ≡ drill_columns →
+pub lists_fit : (number rows : ℕ) (columns : List Column) (lists : List (List ℤ)) → 0 < rows → rows ≤ most_rows → columns ≡ drill_columns →
     lists ≡ bands number rows ∷ ages number rows ∷ [] → AreLists columns lists
 lists_fit number rows columns lists some most schema are =
     subst (λ (cs : List Column). AreLists cs lists) (sym schema)

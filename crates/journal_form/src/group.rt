@@ -8,11 +8,12 @@ ghost use Rattle.journal_form.specs.Places.{FirstBad};
 ghost use Rattle.journal_form.specs.declared.group.GroupFault.TheVariants.{NoMemory};
 
 use crate::record::{put_record, read_record, size_of_record};
+use crate::set::MOST_SET;
 use audit_types::{Answered, MOST_ROWS, NoMemory, Shape};
 use std::alloc::{AllocError, AllocFailed, Global};
 
-// A column byte, eight bytes of answer, and a bit for each of 1,024 rows.
-const MOST_OF_RECORD: usize = 137;
+// The most bytes of a record: a column byte, eight bytes of answer, and a bit for each row.
+const MOST_OF_RECORD: usize = 9 + MOST_SET;
 
 /// The most bytes that a record takes in a journal: in a group of its own, with its gate and its count byte.
 pub const MOST_FOR_RECORD: usize = 2 + MOST_OF_RECORD;

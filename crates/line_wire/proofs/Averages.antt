@@ -4,9 +4,10 @@ use Rattle.std.specs.Prelude.{unsigned_abs}
 use Rattle.std.specs.Int.{IsGcd}
 use Rattle.std.proofs.lemmas.Bool.{eqb-true, eq-eqb}
 use Rattle.std.proofs.lemmas.Nat.Gcd.{same_from_IsGcd}
+use Rattle.audit_types.specs.Limits.{most_answer}
 use Rattle.line_wire.specs.Reply.{IsAverage}
 
-pub is_average : (num : ℤ) (den g size : ℕ) → IsGcd size den g → size ≡ unsigned_abs num → size ≤ 1024 * 10 ^ 12 → 1 ≤ den → den ≤ 1024 * 10 ^ 12 →
+pub is_average : (num : ℤ) (den g size : ℕ) → IsGcd size den g → size ≡ unsigned_abs num → size ≤ most_answer → 1 ≤ den → den ≤ most_answer →
     IsTrue (nat_eq g 1) ↔ IsAverage num den
 is_average num den g size divisor same within positive people = (to, from)
   where
@@ -15,7 +16,7 @@ is_average num den g size divisor same within positive people = (to, from)
 
     to : IsTrue (nat_eq g 1) → IsAverage num den
     to one = record {
-      within = subst (λ (n : ℕ). n ≤ 1024 * 10 ^ 12) same within;
+      within = subst (λ (n : ℕ). n ≤ most_answer) same within;
       positive = positive;
       people = people;
       lowest = subst (λ (k : ℕ). IsGcd (unsigned_abs num) den k) (eqb-true g 1 one) (at_num g divisor);

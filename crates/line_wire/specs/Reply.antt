@@ -39,15 +39,15 @@ reply_bytes (Condition at) = numbered (codes "{\"refused\":\"where\",\"at\":") (
 reply_bytes Empty = refused (codes "empty")
 reply_bytes Full = refused (codes "full")
 
--- an average over at most 1,024 rows, of at most 10^12 people and 10^12 in size each, in lowest terms: no number above 1 divides both
+-- an average over at most most_rows rows, of at most most_number people and most_number in size each, in lowest terms: no number above 1 divides both
 pub record IsAverage (num : ℤ) (den : ℕ) : Type 0 where
   pub within : unsigned_abs num ≤ most_answer
   pub positive : 1 ≤ den
   pub people : den ≤ most_answer
   pub lowest : IsGcd (unsigned_abs num) den 1
 
--- a reply that may be written: a table has at most 1,024 rows, each of at most 10^12 people and numbers of at most 10^12 either way, and a
--- condition has at most 8,192 bytes
+-- a reply that may be written: a table has at most most_rows rows, each of at most most_number people and numbers of at most that
+-- either way, and a condition has at most 8,192 bytes
 abbrev pub IsInRange : Reply → Type 0
 IsInRange (Count count) = count ≤ most_answer
 IsInRange (Sum sum) = unsigned_abs sum ≤ most_answer

@@ -3,6 +3,7 @@ use Rattle.std.proofs.Common.{◌≡◌, ℕ, zero, suc, ◌<◌, ◌≤◌, ℤ
 use Rattle.std.specs.List.{AllByRecursion}
 use Rattle.std.proofs.lemmas.Int.{ints, clamps}
 use Rattle.std.proofs.lemmas.Bool.{cases_eq, eq-eqb, ne_eqb}
+use Rattle.audit_types.specs.Limits.{most_rows}
 use Rattle.audit_types.specs.Rows.{has_row, AreRows}
 use Rattle.audit_types.specs.Column.{Answer}
 use Rattle.audit_types.specs.Extremes.{least_of, upper_bound}
@@ -12,14 +13,14 @@ use Rattle.audit_types.specs.FilteredRows.{rows_within}
 
 -- a walk that lowers the bounds of the rows of an answer: what is left to do leads from here to the end
 pub record IsLowering (answer : ℤ) (rows : List ℕ) (before : List (Option ℤ)) (rest : List ℕ) (bounds : List (Option ℤ)) : Type 0 where
-  pub size : length bounds ≡ 1024
-  pub within : AllByRecursion (λ q. q < 1024) rest
+  pub size : length bounds ≡ most_rows
+  pub within : AllByRecursion (λ q. q < most_rows) rest
   pub lowered : (r : ℕ) → bound_with rest answer r (bound_at bounds r) ≡ bound_with rows answer r (bound_at before r)
 
 -- at first all is left to do
-pub lowering_begins : (answer : ℤ) (n : ℕ) (rows : List ℕ) (bounds : List (Option ℤ)) → length bounds ≡ 1024 → AreRows n rows → n ≤ 1024 →
+pub lowering_begins : (answer : ℤ) (n : ℕ) (rows : List ℕ) (bounds : List (Option ℤ)) → length bounds ≡ most_rows → AreRows n rows → n ≤ most_rows →
     IsLowering answer rows bounds rows bounds
-lowering_begins answer n rows bounds size are most = record { size = size; within = rows_within 0 n 1024 rows most are; lowered = λ r. refl }
+lowering_begins answer n rows bounds size are most = record { size = size; within = rows_within 0 n most_rows rows most are; lowered = λ r. refl }
 
 -- a bound that is lowered stays so
 lowered_again : (a : ℤ) (o : Option ℤ) (has : Bool) → cond has (Some (least_of a (Some (least_of a o)))) (Some (least_of a o)) ≡ Some (least_of a o)

@@ -3,6 +3,7 @@ use Rattle.std.proofs.Common.{◌≡◌, ◌≢◌, ℕ, ◌+◌, ◌<◌, ◌�
 use Rattle.std.specs.Prelude.{◌↔◌, IsTrue}
 use Rattle.std.proofs.lemmas.Bool.{cases_lt, true≢false}
 use Rattle.std.specs.List.{AllByRecursion}
+use Rattle.audit_types.specs.Limits.{most_rows}
 use Rattle.audit_types.specs.Rows.{AreRows, has_row, IsLeast}
 use Rattle.audit_types.specs.Extremes.{is_bound}
 use Rattle.audit_types.specs.Column.{Answer}
@@ -19,17 +20,18 @@ pub record IsCounting (bound : ℕ → Option ℤ) (rows : List ℕ) (answer : �
   pub together : seen ++ reaching bound rest answer ≡ reaching bound rows answer
   pub counted : count ≡ length seen
   pub alone : only ≡ lone_of seen
-  pub within : AllByRecursion (λ q. q < 1024) rest
-  pub few : count + length rest ≤ 1024
+  pub within : AllByRecursion (λ q. q < most_rows) rest
+  pub few : count + length rest ≤ most_rows
 
 -- at first none was seen
-pub counting_begins : (bound : ℕ → Option ℤ) (n : ℕ) (rows : List ℕ) (answer : ℤ) → AreRows n rows → n ≤ 1024 → IsCounting bound rows answer rows 0 (lone_of [])
+pub counting_begins : (bound : ℕ → Option ℤ) (n : ℕ) (rows : List ℕ) (answer : ℤ) → AreRows n rows → n ≤ most_rows →
+    IsCounting bound rows answer rows 0 (lone_of [])
 counting_begins bound n rows answer are most = record {
   seen = [];
   together = refl;
   counted = refl;
   alone = refl;
-  within = rows_within 0 n 1024 rows most are;
+  within = rows_within 0 n most_rows rows most are;
   few = omega (arith, length-rows n rows are);
 }
 

@@ -5,10 +5,10 @@ ghost use Rattle.max_bounds.specs.Maxima.{answers_of};
 ghost use Rattle.max_bounds.specs.Reaching.{bound_at, bound_with};
 
 use crate::answered::AnsweredMax;
-use audit_types::RowSet;
+use audit_types::{MOST_ROWS, RowSet};
 
 /// An entry for each row that a table can have: its upper bound, if some set holds it.
-pub(crate) type UpperBounds = [Option<i128>; 1024];
+pub(crate) type UpperBounds = [Option<i128>; MOST_ROWS as usize];
 
 // The bound of a row that is in the set of an answer.
 fn least(answer: i128, bound: Option<i128>) -> i128
@@ -35,7 +35,7 @@ pub(crate) fn lower(bounds: &mut UpperBounds, rows: &RowSet, answer: i128)
 pub(crate) fn upper_bounds(pairs: &[AnsweredMax]) -> UpperBounds
     ensures exact { (r : ℕ) → bound_at result r ≡ upper_bound (answers_of pairs.now) r }
 {
-    let mut bounds = [None; 1024];
+    let mut bounds = [None; MOST_ROWS as usize];
     for pair in pairs {
         lower(&mut bounds, &pair.rows, pair.answer as i128);
     }

@@ -7,6 +7,7 @@ use Rattle.std.proofs.lemmas.Nat.Gcd.{same_from_IsGcd, mod-eq-zero_of_dvd}
 use Rattle.std.proofs.Math.IntN.{*ℤ_comm}
 use Rattle.audit_types.specs.Products.{times_assoc}
 use Rattle.std.proofs.Math.Nat.{le-mul_of_pos_right}
+use Rattle.audit_types.specs.Limits.{most_answer}
 use Rattle.audit_types.specs.PrimitiveLines.{scaled_gcd}
 use Rattle.int_rows.specs.Exact.{exact}
 use Rattle.line_wire.specs.Reply.{IsAverage}
@@ -77,7 +78,7 @@ module _ (sum : ℤ) (size g : ℕ) (some : 0 < size) (common : IsGcd (unsigned_
       across z d = ap (λ (y : ℤ). z *ℤ y) (factors d) ∙ sym (times_assoc z (pos g) (pos d)) ∙ ap (λ (y : ℤ). y *ℤ pos d) (*ℤ_comm z (pos g))
 
   -- and it is in range
-  pub in_range : size ≤ 1024 * 10 ^ 12 → unsigned_abs sum ≤ 1024 * 10 ^ 12 → IsAverage (int_div sum (pos g)) (size / g)
+  pub in_range : size ≤ most_answer → unsigned_abs sum ≤ most_answer → IsAverage (int_div sum (pos g)) (size / g)
   in_range at_most small = record {
     within = omega (arith, small, abs_is, le-mul_of_pos_right (unsigned_abs (int_div sum (pos g))) divisor_some);
     positive = omega (arith, den_some);

@@ -1,6 +1,7 @@
 -- What becomes of a question is told by a reply.
 use Rattle.std.proofs.Common.{◌≡◌, ◌≢◌, ℕ, ℤ, ◌*◌, ◌^◌, ◌<◌, ◌≤◌, List, [], refl, sym, ◌∙◌, ap, subst}
 use Rattle.std.specs.Prelude.{neg_ℤ, unsigned_abs}
+use Rattle.audit_types.specs.Limits.{most_answer}
 use Rattle.audit_types.specs.declared.records.Asked.{Asked}
 use Rattle.audit_types.specs.declared.records.Answered.{Answered}
 use Rattle.audit_types.specs.declared.records.Verdict.TheVariants.{Released, DeniedUnsafe, DeniedWide}
@@ -28,7 +29,7 @@ use Rattle.question_plan.proofs.Means.{some_mean}
 abbrev pub SumsAreSmall : Type 0
 SumsAreSmall =
     (s : SecretView) (column : ℕ) (rows : List ℕ) → IsSecret s → column < columns s.shape → AreRows s.shape.rows rows →
-    unsigned_abs (sum_over (list_of s.lists column) rows) ≤ 1024 * 10 ^ 12
+    unsigned_abs (sum_over (list_of s.lists column) rows) ≤ most_answer
 
 abbrev pub MaximaAreSmall : Type 0
 MaximaAreSmall =

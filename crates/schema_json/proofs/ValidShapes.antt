@@ -5,6 +5,7 @@ use Rattle.std.specs.List.{AllByRecursion}
 use Rattle.std.proofs.lemmas.List.{get_or-take}
 use Rattle.std.proofs.Math.ListN.{get_or-append}
 use Rattle.std.proofs.lemmas.List.Sums.{sum_by-cons}
+use Rattle.audit_types.specs.Limits.{most_rows}
 use Rattle.audit_types.specs.Shapes.{IsShape, AreKinds, columns, kind_at, kind_of_byte}
 use Rattle.schema_json.specs.Columns.{Column, AreColumns, is_secret, secret_count, secret_place, role_at}
 use Rattle.schema_json.specs.SecretShape.{IsSecretOf, kind_bytes, kind_byte_and, kind_of_role, shape_of}
@@ -152,7 +153,7 @@ named (c ∷ cs) (suc place) k is =
     named_later c.role (slice_get cs place) c (filter (λ d. is_secret d.role) (take place cs)) k (kind_bytes cs) (named cs place) is
 
 -- the shape of a table with these columns is one
-pub shape_is_valid : (cs : List Column) (rows : ℕ) → 0 < rows → rows ≤ 1024 → IsShape (shape_of cs rows)
+pub shape_is_valid : (cs : List Column) (rows : ℕ) → 0 < rows → rows ≤ most_rows → IsShape (shape_of cs rows)
 shape_is_valid cs rows some few_rows = record { some_rows = some; at_most = few_rows; kinds = are_kinds cs 8 8 }
 
 -- the shape has a column for each secret one

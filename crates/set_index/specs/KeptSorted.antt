@@ -9,7 +9,7 @@ use Rattle.set_index.specs.declared.sorted.Sorted.TheInside as sorted
 abbrev pub sorted_view : sorted.Inside → SortedView
 sorted_view a = record { rows = a.rows; order = a.order.items }
 
--- each of 1 to 1,024 rows once, with the sets of the first of them
+-- each of 1 to most_rows rows once, with the sets of the first of them
 pub record IsKeptSorted (a : sorted.Inside) : Type 0 where
   pub some : 0 < a.rows
   pub at_most : a.rows ≤ most_rows

@@ -3,6 +3,7 @@ use Rattle.std.proofs.Common.{◌≡◌, ℕ, ◌<◌, ◌≤◌, ◌^◌, ℤ, 
 use Rattle.std.specs.Prelude.{◌<ℤ◌, unsigned_abs}
 use Rattle.std.proofs.lemmas.Int.{ints}
 use Rattle.std.specs.List.{AllByRecursion}
+use Rattle.sum_basis.specs.Limits.{most_columns}
 use Rattle.audit_types.specs.Form.{InSpan, IsPrimitive, IsReducedForm, IsNarrow, IsLeastCommonMultiple, pivot, pivot_entry, pivot_entries}
 use Rattle.sum_basis.specs.declared.sparse.FreeEntry.{FreeEntry}
 use Rattle.sum_basis.specs.declared.sparse.SparseRow.{SparseRow}
@@ -94,7 +95,7 @@ within_width n width rows m j least =
     omega arith
 
 -- the fields of the form with the row
-pub joined_form : (n width : ℕ) (rows : List SparseRow) (m : ℕ) (common : ℤ) (greatest_bound : ℕ) → 0 < n → n ≤ 2048 → IsWidth width
+pub joined_form : (n width : ℕ) (rows : List SparseRow) (m : ℕ) (common : ℤ) (greatest_bound : ℕ) → 0 < n → n ≤ most_columns → IsWidth width
     → AllByRecursion (IsKept n) rows → IsJoined n width rows → IsLeastCommonMultiple (heads rows) m → common ≡ pos m → 0 < m
     → AllByRecursion (λ r. r.most ≤ greatest_bound) rows → IsForm n width common greatest_bound rows
 joined_form n width rows m common greatest_bound some most fits kept j least e positive bounded = record {

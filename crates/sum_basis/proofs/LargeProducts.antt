@@ -8,7 +8,7 @@ use Rattle.audit_types.specs.Numbers.{zero_size}
 use Rattle.audit_types.specs.Products.{add-times, times-add, times_assoc}
 
 -- the high part is small
-pub high_small : (x high low : ℤ) → x ≡ high *ℤ pos (2 ^ 62) +ℤ low → unsigned_abs x < 2 ^ 124 → unsigned_abs low < 2 ^ 62 → unsigned_abs high ≤ 2 ^ 62
+pub high_small : (x high low : ℤ) → x ≡ high *ℤ pos (2 ^ 62) +ℤ low → unsigned_abs x < 2 ^ 126 → unsigned_abs low < 2 ^ 62 → unsigned_abs high ≤ 2 ^ 64
 high_small x high low is large small = let size = unsigned_abs-mul high (pos (2 ^ 62)) in omega (arith, ints)
 
 -- what is between the products, by the parts
@@ -37,9 +37,9 @@ pub parts_zero : (high low : ℤ) → high ≡ pos 0 → low ≡ pos 0 → high 
 parts_zero high low first second = let product = ap (λ z. z *ℤ pos (2 ^ 62)) first ∙ zero-*ℤ (pos (2 ^ 62)) in omega (arith, ints)
 
 -- how large a product of parts is
-pub part_small : (x y : ℤ) → unsigned_abs x ≤ 2 ^ 56 → unsigned_abs y ≤ 2 ^ 62 → unsigned_abs (x *ℤ y) ≤ 2 ^ 118
-part_small x y p q = rw (unsigned_abs-mul x y) (mul-le-mul {n₂ = 2 ^ 56} {m₂ = 2 ^ 62} p q)
+pub part_small : (x y : ℤ) → unsigned_abs x ≤ 2 ^ 56 → unsigned_abs y ≤ 2 ^ 64 → unsigned_abs (x *ℤ y) ≤ 2 ^ 120
+part_small x y p q = rw (unsigned_abs-mul x y) (mul-le-mul {n₂ = 2 ^ 56} {m₂ = 2 ^ 64} p q)
 
-pub between_small : (by x times y : ℤ) → unsigned_abs by ≤ 2 ^ 56 → unsigned_abs x ≤ 2 ^ 62 → unsigned_abs times ≤ 2 ^ 56 → unsigned_abs y ≤ 2 ^ 62 →
-    unsigned_abs (by *ℤ x -ℤ times *ℤ y) ≤ 2 ^ 119
+pub between_small : (by x times y : ℤ) → unsigned_abs by ≤ 2 ^ 56 → unsigned_abs x ≤ 2 ^ 64 → unsigned_abs times ≤ 2 ^ 56 → unsigned_abs y ≤ 2 ^ 64 →
+    unsigned_abs (by *ℤ x -ℤ times *ℤ y) ≤ 2 ^ 121
 between_small by x times y p q r s = let one = part_small by x p q in let two = part_small times y r s in omega (arith, ints)

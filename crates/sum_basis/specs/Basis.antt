@@ -4,6 +4,7 @@ use Rattle.audit_types.specs.Limits.{most_width}
 use Rattle.audit_types.specs.Rows.{has_row, IsLeast}
 use Rattle.audit_types.specs.Form.{set_row, InSpan, IsLeastCommonMultiple, pivot, pivot_entries}
 use Rattle.std.specs.List.{AllByRecursion}
+use Rattle.sum_basis.specs.Limits.{most_columns}
 use Rattle.sum_basis.specs.declared.sparse.SparseRow.{SparseRow}
 use Rattle.sum_basis.specs.Sparse.{entry_at, rows_of, IsListed, IsKept}
 use Rattle.sum_basis.specs.declared.sparse.FreeEntry.{FreeEntry}
@@ -44,7 +45,7 @@ HasUnitRow form = (i : ℕ) × SpansUnit form i
 -- bound above `greatest_bound`
 pub record IsForm (n width : ℕ) (common : ℤ) (greatest_bound : ℕ) (rows : List SparseRow) : Type 0 where
   pub some : 0 < n
-  pub at_most : n ≤ 2048
+  pub at_most : n ≤ most_columns
   pub width_fits : IsWidth width
   pub kept : AllByRecursion (IsKept n) rows
   pub form : IsFormWithin width n (rows_of n rows)

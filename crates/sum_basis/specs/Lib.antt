@@ -1,4 +1,5 @@
 pub mod Laws
+pub mod Limits
 pub mod Basis
 pub mod EntryLaws
 pub mod Growth

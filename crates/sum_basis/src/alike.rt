@@ -1,6 +1,7 @@
 //! Whether what a form with a new list leaves of two rows are multiples of one another, by their lists alone.
 ghost use Rattle.std.specs.Prelude.{◌≡◌, ◌≢◌, ℕ, ◌<◌, ◌≤◌, ◌^◌, ℤ, pos, List, [], ◌∷◌, length, IfOk, IfSome, IfNone, IsTrue, slice_index_or, unsigned_abs};
 ghost use Rattle.std.specs.List.{AllByRecursion};
+ghost use Rattle.sum_basis.specs.Limits.{most_columns};
 ghost use Rattle.audit_types.specs.Form.{pivot};
 ghost use Rattle.audit_types.specs.Limits.{most_rows};
 ghost use Rattle.sum_basis.specs.Basis.{unit_row};
@@ -27,7 +28,7 @@ fn cleared_after(
     new: &[FreeEntry],
     times: i128,
 ) -> Result<Vec<FreeEntry>, NoMemory>
-    requires at_most { columns ≤ 2048 }
+    requires at_most { columns ≤ most_columns }
     requires entries { AreSmallEntries columns entries.now }
     requires new { AreSmallEntries columns new.now }
     requires times { times ≡ times_of new.now (entry_at entries.now) }
@@ -49,7 +50,7 @@ fn left_after(
     entries: &[FreeEntry],
     new: &[FreeEntry],
 ) -> Result<Vec<FreeEntry>, NoMemory>
-    requires at_most { columns ≤ 2048 }
+    requires at_most { columns ≤ most_columns }
     requires entries { AreSmallEntries columns entries.now }
     requires new { AreSmallEntries columns new.now }
     ensures listed { IfOk result (λ list. IsListed 0 columns list.items) }
@@ -71,7 +72,7 @@ fn primitive_after(
     entries: &[FreeEntry],
     new: &[FreeEntry],
 ) -> Result<Option<Vec<FreeEntry>>, NoMemory>
-    requires at_most { columns ≤ 2048 }
+    requires at_most { columns ≤ most_columns }
     requires entries { AreSmallEntries columns entries.now }
     requires new { AreSmallEntries columns new.now }
     ensures { IfOk result (λ made. IfSome made (λ list. IsMultipleOf (without_new new.now (entry_at entries.now)) (entry_at list.items))) }
@@ -92,7 +93,7 @@ pub(crate) fn are_alike(
     others: &[FreeEntry],
     new: &[FreeEntry],
 ) -> Result<bool, NoMemory>
-    requires at_most { columns ≤ 2048 }
+    requires at_most { columns ≤ most_columns }
     requires entries { AreSmallEntries columns entries.now }
     requires others { AreSmallEntries columns others.now }
     requires new { AreSmallEntries columns new.now }

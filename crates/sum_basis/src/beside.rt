@@ -10,7 +10,7 @@ use crate::alone::is_alone_anew;
 use crate::elimination::write_set;
 use crate::form::{Form, Left};
 use crate::sparse::FreeEntry;
-use audit_types::{MOST_WIDTH, NoMemory, RowSet};
+use audit_types::{MOST_ROWS, MOST_WIDTH, NoMemory, RowSet};
 
 // The rows that no asker knows, or whose asker knows the set's total by her number alone.
 fn not_asking(several: &RowSet, set: &RowSet) -> RowSet
@@ -57,7 +57,7 @@ pub(crate) fn spans_with_one(form: &Form, set: &RowSet, several: &RowSet) -> Res
         return Ok(false);
     }
     let but = not_asking(several, set);
-    let mut room = [0; 1024];
+    let mut room = [0; MOST_ROWS as usize];
     let row = &mut room[..n as usize];
     write_set(row, set);
     // What every form is: its width isn't above the greatest.

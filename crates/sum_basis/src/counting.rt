@@ -1,6 +1,7 @@
 //! At how many rows of a form each free column isn't 0, and how many these are with a new row. Only rows that the new one clears change, and
 //! only where the new one isn't 0.
 ghost use Rattle.std.specs.Prelude.{◌≡◌, ◌≢◌, ◌↔◌, ℕ, ◌<◌, ◌≤◌, ◌+◌, ◌^◌, cond, ℤ, pos, ◌-ℤ◌, ◌*ℤ◌, List, [], length, unsigned_abs, IfOk, IfSome, IsTrue, slice_index_or};
+ghost use Rattle.sum_basis.specs.Limits.{most_columns};
 ghost use Rattle.audit_types.specs.Direction.{is_pivot};
 ghost use Rattle.sum_basis.specs.Holding.{AreKeptCounts};
 ghost use Rattle.sum_basis.specs.Reach.{IsLeftOverOrNone, IsGrownBy, AreSmallEntries, AreCounts, one_if, met, without_new, times_of, rest_at};
@@ -79,7 +80,7 @@ fn moved(count: u16, by: i128, before: i128, times: i128, value: i128) -> u16
 fn move_row(counts: &mut [u16], free: &[FreeEntry], new: &[FreeEntry], times: i128)
     requires free { AreSmallEntries (length counts.old) free.now }
     requires new { AreSmallEntries (length counts.old) new.now }
-    requires at_most { length counts.old ≤ 2048 }
+    requires at_most { length counts.old ≤ most_columns }
     requires times { times ≡ times_of new.now (entry_at free.now) }
     requires some { times ≢ pos 0 }
     requires counted { (j : ℕ) → one_if (entry_at free.now j) ≤ slice_index_or counts.old j 0 }
@@ -100,7 +101,7 @@ fn move_row(counts: &mut [u16], free: &[FreeEntry], new: &[FreeEntry], times: i1
 fn move_if_cleared(counts: &mut [u16], free: &[FreeEntry], new: &[FreeEntry])
     requires free { AreSmallEntries (length counts.old) free.now }
     requires new { AreSmallEntries (length counts.old) new.now }
-    requires at_most { length counts.old ≤ 2048 }
+    requires at_most { length counts.old ≤ most_columns }
     requires counted { (j : ℕ) → one_if (entry_at free.now j) ≤ slice_index_or counts.old j 0 }
     requires few { (j : ℕ) → slice_index_or counts.old j 0 < 65535 }
     ensures length { length counts.new ≡ length counts.old }
@@ -188,8 +189,8 @@ pub(crate) fn are_below(counts: &[u16], reach: u16) -> bool
 // Whether the count at each entry, and `more`, is below the reach.
 fn are_entries_below(counts: &[u16], reach: u16, more: u16, entries: &[FreeEntry]) -> bool
     requires listed { IsListed 0 (length counts.now) entries.now }
-    requires few { (j : ℕ) → slice_index_or counts.now j 0 ≤ 2048 }
-    requires more { more ≤ 2049 }
+    requires few { (j : ℕ) → slice_index_or counts.now j 0 ≤ most_columns }
+    requires more { more ≤ most_columns + 1 }
     ensures { IsTrue result → (j : ℕ) → entry_at entries.now j ≢ pos 0 → slice_index_or counts.now j 0 + more < reach }
 {
     for e in entries {
@@ -204,7 +205,7 @@ fn are_entries_below(counts: &[u16], reach: u16, more: u16, entries: &[FreeEntry
 /// row than those that aren't 0 at its pivot may count anew.
 pub(crate) fn are_surely_below(counts: &[u16], reach: u16, new: &[FreeEntry]) -> bool
     requires listed { IsListed 0 (length counts.now) new.now }
-    requires few { (j : ℕ) → slice_index_or counts.now j 0 ≤ 2048 }
+    requires few { (j : ℕ) → slice_index_or counts.now j 0 ≤ most_columns }
     ensures below { IsTrue result → (j : ℕ) → j < length counts.now → slice_index_or counts.now j 0 < reach }
     ensures with_new { IsTrue result → (j : ℕ) → rest_at new.now j ≢ pos 0 → slice_index_or counts.now j 0 + slice_index_or counts.now (slice_index_or new.now 0 (record { place = 0; value = pos 0 })).place 0 + 1 < reach }
 {

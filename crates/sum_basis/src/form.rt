@@ -8,6 +8,7 @@ ghost use Rattle.sum_basis.specs.Basis.{IsLeastUnit, IsFreeList, IsWidth};
 ghost use Rattle.audit_types.specs.PrimitiveLines.{times};
 ghost use Rattle.sum_basis.specs.Elimination.{IsSmallForm, IsRemainder, IsZeroAtPivots};
 ghost use Rattle.std.specs.Vec.{vec_capacity};
+ghost use Rattle.sum_basis.specs.Limits.{most_columns, most_remainder};
 ghost use Rattle.sum_basis.specs.Sparse.{row_of, IsNew};
 ghost use Rattle.sum_basis.specs.Growth.{Grows, GrowsForRows, GrowsWide, Foresees, IsLeft, IsLeftWithin, LeavesLarge, IsAsItIs, IsLeftOver, LeavesNoList};
 ghost use Rattle.audit_types.specs.Rows.{IsLeast};
@@ -26,9 +27,12 @@ use crate::row_with::{RowWith, row_with_list};
 use crate::sparse::{FreeEntry, SparseRow, copy_list, copy_rows, list_of, reduce};
 use crate::ties::ties_some_but;
 use crate::{Grown, Prospect};
-use audit_types::{NoMemory, RowSet};
+use audit_types::{MOST_ROWS, NoMemory, RowSet};
 use std::alloc::Global;
 use std::marker::Model;
+
+/// The most columns of a form: one for each row of a table, and as many marks.
+pub const MOST_COLUMNS: usize = 2 * MOST_ROWS as usize;
 
 /// A reduced form that is narrow, by the width that it may have. It keeps no added row: it stands for each list of rows whose reduced form it is.
 #[derive(Drop)]
@@ -77,7 +81,7 @@ impl Form {
     /// The form of no rows, which may have this width. It takes no memory yet.
     pub fn new(alloc: Global, columns: u16, width: u64) -> Result<Form, NoMemory>
         requires some { 0 < columns }
-        requires at_most { columns ≤ 2048 }
+        requires at_most { columns ≤ most_columns }
         requires width { IsWidth width }
         ensures { IfOk result (λ form. form ≡ record { n = columns; width = width; rows = [] }) }
     {
@@ -96,7 +100,7 @@ impl Form {
         requires length { length row.old ≡ self.now.n }
         requires bits { (j : ℕ) → unsigned_abs (number_at row.old j) ≤ 1 }
         ensures remainder { (m : ℕ) × (0 < m) × IsRemainder self.now.rows (times (pos m) row.old) row.new }
-        ensures small { (j : ℕ) → unsigned_abs (number_at row.new j) < 2 ^ 124 }
+        ensures small { (j : ℕ) → unsigned_abs (number_at row.new j) < most_remainder }
         ensures length { length row.new ≡ self.now.n }
 
         // What is true of every form.
@@ -260,7 +264,7 @@ impl Form {
         ensures wide { IfOk result (λ grown. (grown ≡ Wide) ↔ GrowsWide self.old (map pos row.now)) }
         ensures err { OnErr result (self.new ≡ self.old) }
     {
-        let mut room = [0; 2048];
+        let mut room = [0; MOST_COLUMNS];
         let whole = &mut room[..self.columns() as usize];
         write_bits(whole, row);
         self.join(whole)
@@ -272,7 +276,7 @@ impl Form {
         requires bits { AllByRecursion (λ b. b ≤ 1) row.now }
         ensures { IfOk result (IsRowWith self.now (map pos row.now) pivot) }
     {
-        let mut room = [0; 2048];
+        let mut room = [0; MOST_COLUMNS];
         let whole = &mut room[..self.columns() as usize];
         write_bits(whole, row);
         let Weighed { prospect, list } = self.weigh(whole)?;
@@ -330,7 +334,7 @@ impl Form {
 
         // What is true of every form.
         ensures some { 0 < self.now.n }
-        ensures at_most { self.now.n ≤ 2048 }
+        ensures at_most { self.now.n ≤ most_columns }
         ensures fits { IsWidth self.now.width }
         ensures form { IsSmallForm self.now.n self.now.rows }
         ensures narrow { IsNarrow self.now.width self.now.rows }

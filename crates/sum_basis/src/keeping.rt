@@ -102,7 +102,7 @@ fn forget(form: &Form, kept: &mut KeptSet, place: u16)
     ensures kept { IsKeptOf form.now kept.new }
     ensures without { IsKeptWithout place kept.new }
 {
-    // What every form is: it has at most 2,048 columns.
+    // What every form is: it has at most `MOST_COLUMNS` columns.
     let _ = form.columns();
     let stays = match &kept.list {
         Some(list) => value_at(list, place) == 0,

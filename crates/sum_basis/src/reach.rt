@@ -3,6 +3,7 @@
 ghost use Rattle.std.specs.Prelude.{◌≡◌, ◌≢◌, ◌↔◌, ℕ, ◌<◌, ◌≤◌, ◌+◌, ◌^◌, cond, ℤ, pos, ◌+ℤ◌, ◌-ℤ◌, ◌*ℤ◌, List, [], ◌∷◌, length, map, unsigned_abs, All, IfOk, IsTrue, slice_index_or, false, true};
 ghost use Rattle.std.specs.List.{AllByRecursion};
 ghost use Rattle.std.specs.Vec.{vec_capacity};
+ghost use Rattle.sum_basis.specs.Limits.{most_remainder};
 ghost use Rattle.audit_types.specs.Limits.{most_rows};
 ghost use Rattle.audit_types.specs.Truth.{number_at};
 ghost use Rattle.audit_types.specs.Rows.{has_row};
@@ -20,7 +21,7 @@ use crate::elimination::write_set;
 use crate::form::Form;
 use crate::merging::combine_into;
 use crate::sparse::FreeEntry;
-use audit_types::{NoMemory, RowSet};
+use audit_types::{MOST_ROWS, NoMemory, RowSet};
 use std::alloc::Global;
 
 // Whether a list is empty, or has an entry at a column with a count below the reach.
@@ -146,9 +147,9 @@ struct Parts {
 }
 
 fn parts_of(x: i128) -> Parts
-    requires { unsigned_abs x < 2 ^ 124 }
+    requires { unsigned_abs x < 2 ^ 126 }
     ensures is { x ≡ result.high *ℤ pos (2 ^ 62) +ℤ result.low }
-    ensures high { unsigned_abs result.high ≤ 2 ^ 62 }
+    ensures high { unsigned_abs result.high ≤ 2 ^ 64 }
     ensures low { unsigned_abs result.low < 2 ^ 62 }
 {
     Parts {
@@ -160,11 +161,11 @@ fn parts_of(x: i128) -> Parts
 // `by * x - times * y`.
 fn wide_difference(by: i128, x: i128, times: i128, y: i128) -> i128
     requires by { unsigned_abs by ≤ 2 ^ 56 }
-    requires x { unsigned_abs x ≤ 2 ^ 62 }
+    requires x { unsigned_abs x ≤ 2 ^ 64 }
     requires times { unsigned_abs times ≤ 2 ^ 56 }
-    requires y { unsigned_abs y ≤ 2 ^ 62 }
+    requires y { unsigned_abs y ≤ 2 ^ 64 }
     ensures exact { result ≡ by *ℤ x -ℤ times *ℤ y }
-    ensures small { unsigned_abs result ≤ 2 ^ 119 }
+    ensures small { unsigned_abs result ≤ 2 ^ 121 }
 {
     by * x - times * y
 }
@@ -179,9 +180,9 @@ fn are_zero(x: i128, y: i128) -> bool
 // Whether two products are equal, of which one factor each may be large.
 fn are_equal_products(by: i128, x: i128, times: i128, y: i128) -> bool
     requires by { unsigned_abs by ≤ 2 ^ 56 }
-    requires x { unsigned_abs x < 2 ^ 124 }
+    requires x { unsigned_abs x < 2 ^ 126 }
     requires times { unsigned_abs times ≤ 2 ^ 56 }
-    requires y { unsigned_abs y < 2 ^ 124 }
+    requires y { unsigned_abs y < 2 ^ 126 }
     ensures { IsTrue result ↔ (by *ℤ x -ℤ times *ℤ y ≡ pos 0) }
 {
     let first = parts_of(x);
@@ -195,7 +196,7 @@ fn are_equal_products(by: i128, x: i128, times: i128, y: i128) -> bool
 fn is_met(row: &[i128], new: &[FreeEntry], place: u16) -> bool
     requires place { place < length row.now }
     requires at_most { length row.now ≤ most_rows }
-    requires small { (j : ℕ) → unsigned_abs (number_at row.now j) < 2 ^ 124 }
+    requires small { (j : ℕ) → unsigned_abs (number_at row.now j) < most_remainder }
     requires new { AreSmallEntries (length row.now) new.now }
     ensures { IsTrue result ↔ (without_new new.now (number_at row.now) place ≢ pos 0) }
 {
@@ -215,7 +216,7 @@ fn is_met(row: &[i128], new: &[FreeEntry], place: u16) -> bool
 fn is_near_whole(counts: &[u16], reach: u16, row: &[i128], new: &[FreeEntry]) -> bool
     requires counts { length counts.now ≡ length row.now }
     requires at_most { length row.now ≤ most_rows }
-    requires small { (j : ℕ) → unsigned_abs (number_at row.now j) < 2 ^ 124 }
+    requires small { (j : ℕ) → unsigned_abs (number_at row.now j) < most_remainder }
     requires new { AreSmallEntries (length row.now) new.now }
     ensures { IsTrue result ↔ IsNear counts.now reach (without_new new.now (number_at row.now)) }
 {
@@ -275,7 +276,7 @@ fn are_totals_near(
     requires counted { (grown : List (List ℤ)) → IsGrownBy form.now new.now grown → AreCounts form.now.n grown counts.now }
     ensures { (grown : List (List ℤ)) → IsGrownBy form.now new.now grown → IsTrue result ↔ All (λ s. IsReached form.now.n reach grown (λ w. sum_over w s.list)) sets.now }
 {
-    let mut whole = [0; 1024];
+    let mut whole = [0; MOST_ROWS as usize];
     let row = &mut whole[..form.columns() as usize];
     are_sets_near(form, counts, reach, row, new, sets)
 }
@@ -346,7 +347,7 @@ fn is_within_counted(
     if are_surely_below(before, reach, new) {
         return Ok(true);
     }
-    let mut zeros = [0; 1024];
+    let mut zeros = [0; MOST_ROWS as usize];
     let counts = &mut zeros[..columns];
     counts.copy_from_slice(before);
     count_grown(form, counts, new);
@@ -370,7 +371,7 @@ fn is_within_after(
     requires new { IsLeftOverOrNone form.now new.now }
     ensures { IfOk result (λ within. (grown : List (List ℤ)) → IsGrownBy form.now new.now grown → IsTrue within ↔ ReachesAll form.now.n reach shared.now.list (map (λ s. s.list) sets.now) grown) }
 {
-    let mut zeros = [0; 1024];
+    let mut zeros = [0; MOST_ROWS as usize];
     let counts = &mut zeros[..form.columns() as usize];
     count_rows(form, counts);
     is_within_counted(form, alloc, counts, new, reach, shared, sets)

@@ -1,6 +1,7 @@
 //! One row of a form with a new row, made beside the form, which stays as it is.
 ghost use Rattle.std.specs.Prelude.{◌≡◌, ◌<◌, ◌≤◌, ℕ, pos, [], ◌∷◌, length, IfOk, IfSome, slice_index_or};
 ghost use Rattle.std.specs.List.{AllByRecursion};
+ghost use Rattle.sum_basis.specs.Limits.{most_columns};
 ghost use Rattle.audit_types.specs.Truth.{number_at};
 ghost use Rattle.audit_types.specs.Form.{IsPrimitive};
 ghost use Rattle.sum_basis.specs.Elimination.{IsSmall, IsSmallForm, IsZeroAtPivots, IsCleared};
@@ -25,13 +26,14 @@ pub struct WholeRow {
 
 impl Model for WholeRow {
     ghost use Rattle.std.specs.Prelude.{ℤ, List, ◌≤◌};
+    ghost use Rattle.sum_basis.specs.Limits.{most_columns};
     ghost use Rattle.sum_basis.specs.Sparse.{row_of, IsListed};
 
     ghost Value = { List ℤ };
 
     ghost view = { λ r. row_of r.columns r.entries.items };
 
-    ghost invariant = { λ r. (r.columns ≤ 2048) × IsListed 0 r.columns r.entries.items };
+    ghost invariant = { λ r. (r.columns ≤ most_columns) × IsListed 0 r.columns r.entries.items };
 }
 
 impl WholeRow {
@@ -91,7 +93,7 @@ fn cleared_entries(
 
 // The row with these entries.
 fn whole_row(columns: u16, entries: Vec<FreeEntry>) -> WholeRow
-    requires few { columns ≤ 2048 }
+    requires few { columns ≤ most_columns }
     requires listed { IsListed 0 columns entries.items }
     ensures { result ≡ row_of columns entries.items }
 {
@@ -118,7 +120,7 @@ pub(crate) fn row_with_list(
     new: Vec<FreeEntry>,
     pivot: u16,
 ) -> Result<RowWith, NoMemory>
-    requires few { columns ≤ 2048 }
+    requires few { columns ≤ most_columns }
     requires kept { AllByRecursion (IsKept columns) rows.now }
     requires form { IsSmallForm columns (rows_of columns rows.now) }
     requires new { IsNew columns new.items }

@@ -3,6 +3,7 @@ ghost use Rattle.std.specs.Prelude.{◌≡◌, ◌≢◌, ◌↔◌, ℕ, ◌<�
 ghost use Rattle.std.specs.Vec.{vec_capacity};
 ghost use Rattle.std.specs.Int.{◌∣◌};
 ghost use Rattle.std.specs.List.{AllByRecursion};
+ghost use Rattle.sum_basis.specs.Limits.{most_columns, most_remainder};
 ghost use Rattle.audit_types.specs.Truth.{number_at};
 ghost use Rattle.sum_basis.specs.Combination.{combine};
 ghost use Rattle.sum_basis.specs.Elimination.{IsSmall, IsSmallForm, IsLessMultiple, IsRemainder};
@@ -63,7 +64,7 @@ pub fn copy_list(
 
 // x less y as often as `times` says.
 fn less(x: i128, times: i128, y: i128) -> i128
-    requires x { unsigned_abs x + 2 ^ 112 < 2 ^ 125 }
+    requires x { unsigned_abs x + 2 ^ 112 < 2 ^ 127 }
     requires times { unsigned_abs times ≤ 2 ^ 56 }
     requires y { unsigned_abs y ≤ 2 ^ 56 }
     ensures { result ≡ x -ℤ times *ℤ y }
@@ -78,7 +79,7 @@ fn less(x: i128, times: i128, y: i128) -> i128
 pub fn subtract(row: &mut [i128], entries: &[FreeEntry], times: i128)
     requires listed { IsListed 0 (length row.old) entries.now }
     requires small { AllByRecursion (λ e. unsigned_abs e.value ≤ 2 ^ 56) entries.now }
-    requires row { (j : ℕ) → unsigned_abs (number_at row.old j) + 2 ^ 112 < 2 ^ 125 }
+    requires row { (j : ℕ) → unsigned_abs (number_at row.old j) + 2 ^ 112 < 2 ^ 127 }
     requires times { unsigned_abs times ≤ 2 ^ 56 }
     ensures { row.new ≡ combine (pos 1) row.old times (row_of (length row.old) entries.now) }
 {
@@ -93,7 +94,7 @@ pub fn subtract(row: &mut [i128], entries: &[FreeEntry], times: i128)
 pub fn take_multiple(row: &mut [i128], other: &SparseRow)
     requires other { IsKept (length row.old) other.now }
     requires other_small { IsSmall (row_of (length row.old) (entries_of other.now)) }
-    requires row { (j : ℕ) → unsigned_abs (number_at row.old j) + 2 ^ 112 < 2 ^ 125 }
+    requires row { (j : ℕ) → unsigned_abs (number_at row.old j) + 2 ^ 112 < 2 ^ 127 }
     requires at_pivot { unsigned_abs (number_at row.old other.now.pivot) ≤ 2 ^ 56 }
     requires divides { unsigned_abs other.now.head ∣ unsigned_abs (number_at row.old other.now.pivot) }
     ensures { IsLessMultiple (row_of (length row.old) (entries_of other.now)) row.old row.new }
@@ -111,11 +112,11 @@ pub fn take_multiple(row: &mut [i128], other: &SparseRow)
 pub fn reduce(row: &mut [i128], form: &[SparseRow])
     requires kept { AllByRecursion (IsKept (length row.old)) form.now }
     requires form { IsSmallForm (length row.old) (rows_of (length row.old) form.now) }
-    requires few { length form.now ≤ 2048 }
+    requires few { length form.now ≤ most_columns }
     requires small { IsSmall row.old }
     requires divides { AllByRecursion (λ r. unsigned_abs (pivot_entry r) ∣ unsigned_abs (number_at row.old (pivot r))) (rows_of (length row.old) form.now) }
     ensures remainder { IsRemainder (rows_of (length row.old) form.now) row.old row.new }
-    ensures small { (j : ℕ) → unsigned_abs (number_at row.new j) < 2 ^ 124 }
+    ensures small { (j : ℕ) → unsigned_abs (number_at row.new j) < most_remainder }
 {
     for other in form {
         take_multiple(row, other);
@@ -124,7 +125,7 @@ pub fn reduce(row: &mut [i128], form: &[SparseRow])
 
 /// The entries of a row that are not 0, with room for one a column.
 pub fn list_of(alloc: Global, row: &[i128]) -> Result<Vec<FreeEntry>, NoMemory>
-    requires { length row.now ≤ 2048 }
+    requires { length row.now ≤ most_columns }
     ensures listed { IfOk result (λ list. IsListed 0 (length row.now) list.items) }
     ensures is { IfOk result (λ list. (j : ℕ) → entry_at list.items j ≡ number_at row.now j) }
     ensures room { IfOk result (λ list. length row.now ≤ vec_capacity list) }

@@ -14,7 +14,7 @@ use crate::points::new_point;
 use crate::sparse::FreeEntry;
 use crate::suspects::tells_surely;
 use crate::telling::{tells_surely_none, write_keys};
-use audit_types::{NoMemory, RowSet};
+use audit_types::{MOST_ROWS, NoMemory, RowSet};
 use std::alloc::Global;
 
 /// What a form tells an asker of rows or sets that are guarded from her.
@@ -47,7 +47,7 @@ pub(crate) fn surely_told(
 {
     let weights = &kept.weights;
     let new = new_point(weights, list);
-    let mut room = [0; 1024];
+    let mut room = [0; MOST_ROWS as usize];
     let keys = &mut room[..form.columns() as usize];
     if !write_keys(form, alloc, kept, list, &new, beside, several, keys)? {
         return Ok(Told::Unsure);

@@ -3,6 +3,7 @@ use Rattle.std.proofs.Common.{Bor, List, ℕ, ◌≡◌, ◌∙◌, ◌+◌, ◌
 use Rattle.std.specs.Prelude.{Result, Ok, Err, IfErr, if◌then◌else◌}
 use Rattle.std.proofs.lemmas.Bool.{cases_eq, eq-eqb, ne_eqb}
 use Rattle.std.proofs.lemmas.List.{length-map, map-append}
+use Rattle.audit_types.specs.Limits.{most_rows}
 use Rattle.csv.specs.Reading.{FlexibleStep, RowStep, error_kind, is_flexible}
 use Rattle.csv.specs.Records.{Row, fields_of}
 use Rattle.csv.specs.declared.error.Error.{Error}
@@ -40,34 +41,34 @@ unless_memory NoRows P Q f h = f h
 unless_memory NoMemory P Q f h = tt
 
 -- the fault of a record is the first one of the data
-next_bad : (roles : List Role) (rows : List Fields) (n : ℕ) (r : Fields) (rest : List Fields) (fault : TableFault) → n ≡ length rows → n ≤ 1024
+next_bad : (roles : List Role) (rows : List Fields) (n : ℕ) (r : Fields) (rest : List Fields) (fault : TableFault) → n ≡ length rows → n ≤ most_rows
     → records_fault roles 2 rows ≡ None → next_fault roles n r ≡ Some fault
     → data_fault roles (rows ++ r ∷ rest) ≡ Some fault
 next_bad roles rows n r rest fault same few good bad =
-    elim (cases_eq n 1024) [
+    elim (cases_eq n most_rows) [
       | inl full ↦
           many_rows roles rows r rest (omega (arith, full, same)) good
-          ∙ sym (ap (λ b. if b then Some TooManyRows else record_fault roles (n + 2) r) (eq-eqb n 1024 full)) ∙ bad
+          ∙ sym (ap (λ b. if b then Some TooManyRows else record_fault roles (n + 2) r) (eq-eqb n most_rows full)) ∙ bad
       | inr less ↦
           let fault_is : record_fault roles (n + 2) r ≡ Some fault =
-          sym (ap (λ b. if b then Some TooManyRows else record_fault roles (n + 2) r) (ne_eqb n 1024 less)) ∙ bad in
+          sym (ap (λ b. if b then Some TooManyRows else record_fault roles (n + 2) r) (ne_eqb n most_rows less)) ∙ bad in
           bad_row roles rows r rest fault (omega (arith, less, same, few)) good (ap (λ k. record_fault roles (k + 2) r) (sym same) ∙ fault_is)
     ]
 
 -- a record with no fault
-next_good : (roles : List Role) (n : ℕ) (r : Fields) → n ≤ 1024 → next_fault roles n r ≡ None → (n < 1024) × (record_fault roles (n + 2) r ≡ None)
+next_good : (roles : List Role) (n : ℕ) (r : Fields) → n ≤ most_rows → next_fault roles n r ≡ None → (n < most_rows) × (record_fault roles (n + 2) r ≡ None)
 next_good roles n r few good =
-    elim (cases_eq n 1024) [
-      | inl full ↦ let none : Some TooManyRows ≡ None = sym (ap (λ b. if b then Some TooManyRows else record_fault roles (n + 2) r) (eq-eqb n 1024 full))
+    elim (cases_eq n most_rows) [
+      | inl full ↦ let none : Some TooManyRows ≡ None = sym (ap (λ b. if b then Some TooManyRows else record_fault roles (n + 2) r) (eq-eqb n most_rows full))
           ∙ good in absurd cc
-      | inr less ↦ (omega (arith, less, few), sym (ap (λ b. if b then Some TooManyRows else record_fault roles (n + 2) r) (ne_eqb n 1024 less)) ∙ good)
+      | inr less ↦ (omega (arith, less, few), sym (ap (λ b. if b then Some TooManyRows else record_fault roles (n + 2) r) (ne_eqb n most_rows less)) ∙ good)
     ]
 
 -- a fault that is answered is the file's
 pub fault_of_row : (columns : List Column) (bytes : List ℕ) (roles : List Role) (rows : List Row) (a b : Reads) (read : Result Row Error) (fault : TableFault)
     (more : List Row)
     → HasOpened columns bytes (map fields_of rows) a → RowStep (λ (s : Bor (List ℕ)). Some s.now) a.rdr b.rdr b.left (Some read) →
-    FlexibleStep a.rdr b.rdr (Some read) → roles ≡ roles_of columns → records_fault roles 2 (map fields_of rows) ≡ None → length rows ≤ 1024
+    FlexibleStep a.rdr b.rdr (Some read) → roles ≡ roles_of columns → records_fault roles 2 (map fields_of rows) ≡ None → length rows ≤ most_rows
     → AddsRow (Err fault) roles rows read more → UnlessMemory fault (file_fault columns bytes ≡ Some fault)
 fault_of_row columns bytes roles rows a b (Err error) fault more opened step still is good few adds = rw adds tt
 fault_of_row columns bytes roles rows a b (Ok row) fault more opened step still is good few adds =
@@ -81,11 +82,11 @@ fault_of_row columns bytes roles rows a b (Ok row) fault more opened step still 
 pub record Added (columns : List Column) (bytes : List ℕ) (roles : List Role) (rows : List Row) (reader : Reads) : Type 0 where
   pub opened : HasOpened columns bytes (map fields_of rows) reader
   pub good : records_fault roles 2 (map fields_of rows) ≡ None
-  pub at_most : length rows ≤ 1024
+  pub at_most : length rows ≤ most_rows
 
 pub added_row : (columns : List Column) (bytes : List ℕ) (roles : List Role) (rows : List Row) (a b : Reads) (read : Result Row Error) (more : List Row)
     → HasOpened columns bytes (map fields_of rows) a → RowStep (λ (s : Bor (List ℕ)). Some s.now) a.rdr b.rdr b.left (Some read) →
-    FlexibleStep a.rdr b.rdr (Some read) → records_fault roles 2 (map fields_of rows) ≡ None → length rows ≤ 1024
+    FlexibleStep a.rdr b.rdr (Some read) → records_fault roles 2 (map fields_of rows) ≡ None → length rows ≤ most_rows
     → AddsRow (Ok tt) roles rows read more → Added columns bytes roles more b
 added_row columns bytes roles rows a b (Err error) more opened step still good few adds = absurd adds
 added_row columns bytes roles rows a b (Ok row) more opened step still good few adds =

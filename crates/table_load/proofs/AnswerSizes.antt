@@ -4,6 +4,7 @@ use Rattle.std.specs.Prelude.{ℤ, ◌≢◌, unsigned_abs}
 use Rattle.std.specs.Int.{int_max}
 use Rattle.std.specs.List.{fold}
 use Rattle.std.proofs.lemmas.Int.{ints}
+use Rattle.audit_types.specs.Limits.{most_answer}
 use Rattle.audit_types.specs.Rows.{AreRows, AscendsFrom}
 use Rattle.audit_types.specs.RowLaws.{length-rows}
 use Rattle.audit_types.specs.Shapes.{columns}
@@ -39,7 +40,7 @@ numbers_of : (s : SecretView) (column : ℕ) → IsSecret s → column < columns
 numbers_of s column is below = all-get_or (AreNumbers s.shape.rows) s.lists column [] is.numbers (omega (arith, below, is.one_each))
 
 pub sums_small : (s : SecretView) (column : ℕ) (rows : List ℕ) → IsSecret s → column < columns s.shape → AreRows s.shape.rows rows →
-    unsigned_abs (sum_over (list_of s.lists column) rows) ≤ 1024 * 10 ^ 12
+    unsigned_abs (sum_over (list_of s.lists column) rows) ≤ most_answer
 sums_small s column rows is below are =
     let small = sum_small s.shape.rows 0 (list_of s.lists column) rows (numbers_of s column is below) are in
     let few = length-rows s.shape.rows rows are in

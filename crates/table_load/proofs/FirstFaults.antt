@@ -5,6 +5,7 @@ use Rattle.std.proofs.lemmas.Bool.{lt-ltb}
 use Rattle.schema_json.specs.Columns.{Column}
 use Rattle.schema_json.specs.declared.roles.Role.{Role}
 use Rattle.std.specs.Option.{option_or}
+use Rattle.audit_types.specs.Limits.{most_rows}
 use Rattle.table_load.specs.Reading.{Fields, record_fault, records_fault, count_fault, data_fault, header_fault, names_are, roles_of, file_fault, records_of}
 use Rattle.table_load.specs.MeaningLaws.{none_first}
 use Rattle.table_load.specs.declared.faults.TableFault.{TableFault}
@@ -36,30 +37,30 @@ take_one : (k : ℕ) (r : Fields) (rest : List Fields) → 0 < k → (n : ℕ) �
 take_one zero r rest some = absurd (omega (arith, some))
 take_one (suc k) r rest some = (k, refl)
 
--- the first record with a fault, among the first 1,024
-pub bad_row : (roles : List Role) (rows : List Fields) (r : Fields) (rest : List Fields) (fault : TableFault) → length rows < 1024
+-- the first record with a fault, among the first most_rows
+pub bad_row : (roles : List Role) (rows : List Fields) (r : Fields) (rest : List Fields) (fault : TableFault) → length rows < most_rows
     → records_fault roles 2 rows ≡ None → record_fault roles (length rows + 2) r ≡ Some fault
     → data_fault roles (rows ++ r ∷ rest) ≡ Some fault
 bad_row roles rows r rest fault few good bad =
-    let one = take_one (1024 - length rows) r rest (omega (arith, few)) in
+    let one = take_one (most_rows - length rows) r rest (omega (arith, few)) in
     ap (λ rs. option_or (records_fault roles 2 rs) (count_fault (rows ++ r ∷ rest)))
-    (take_front 1024 rows (r ∷ rest) (omega (arith, few)) ∙ ap (λ rs. rows ++ rs) one.1)
+    (take_front most_rows rows (r ∷ rest) (omega (arith, few)) ∙ ap (λ rs. rows ++ rs) one.1)
     ∙ ap (λ f. option_or f (count_fault (rows ++ r ∷ rest)))
     (good-append roles 2 rows (r ∷ take one.0 rest) good ∙ ap (λ f. option_or f (records_fault roles (length rows + 2 + 1) (take one.0 rest))) bad)
 
--- a record after 1,024 is one too many
-count_many : (rows : List Fields) (r : Fields) (rest : List Fields) → length rows ≡ 1024 → count_fault (rows ++ r ∷ rest) ≡ Some TooManyRows
+-- a record after most_rows is one too many
+count_many : (rows : List Fields) (r : Fields) (rest : List Fields) → length rows ≡ most_rows → count_fault (rows ++ r ∷ rest) ≡ Some TooManyRows
 count_many [] r rest full = absurd (omega (arith, full))
 count_many (x ∷ rows) r rest full =
-    ap (λ b. cond b (Some TooManyRows) None) (lt-ltb 1024 (length (x ∷ (rows ++ r ∷ rest))) (omega (arith, full, length-append rows (r ∷ rest))))
+    ap (λ b. cond b (Some TooManyRows) None) (lt-ltb most_rows (length (x ∷ (rows ++ r ∷ rest))) (omega (arith, full, length-append rows (r ∷ rest))))
 
--- one record after 1,024 without a fault
-pub many_rows : (roles : List Role) (rows : List Fields) (r : Fields) (rest : List Fields) → length rows ≡ 1024 → records_fault roles 2 rows ≡ None →
+-- one record after most_rows without a fault
+pub many_rows : (roles : List Role) (rows : List Fields) (r : Fields) (rest : List Fields) → length rows ≡ most_rows → records_fault roles 2 rows ≡ None →
     data_fault roles (rows ++ r ∷ rest) ≡ Some TooManyRows
 many_rows roles rows r rest full good =
-    let none : 1024 - length rows ≡ 0 = omega (arith, full) in
+    let none : most_rows - length rows ≡ 0 = omega (arith, full) in
     ap (λ rs. option_or (records_fault roles 2 rs) (count_fault (rows ++ r ∷ rest)))
-    (take_front 1024 rows (r ∷ rest) (omega (arith, full)) ∙ ap (λ k. rows ++ take k (r ∷ rest)) none ∙ append-nil rows)
+    (take_front most_rows rows (r ∷ rest) (omega (arith, full)) ∙ ap (λ k. rows ++ take k (r ∷ rest)) none ∙ append-nil rows)
     ∙ ap (λ f. option_or f (count_fault (rows ++ r ∷ rest))) good
     ∙ count_many rows r rest full
 

@@ -1,6 +1,7 @@
--- A file without a fault has 1 to 1,024 good data records, and both parts of the table that it means are made of them.
+-- A file without a fault has 1 to most_rows good data records, and both parts of the table that it means are made of them.
 use Rattle.std.proofs.Common.{◌≡◌, ℕ, ◌<◌, ◌≤◌, List, length, None, refl, sym, ap, ◌∙◌, subst}
 use Rattle.std.specs.Prelude.{Ok}
+use Rattle.audit_types.specs.Limits.{most_rows}
 use Rattle.audit_types.specs.Shapes.{IsShape, columns}
 use Rattle.schema_json.specs.Columns.{Column, secret_count}
 use Rattle.schema_json.specs.SecretShape.{shape_of}
@@ -12,7 +13,7 @@ use Rattle.table_load.specs.declared.layout.FileColumns.TheVariants as file
 use Rattle.table_load.specs.MeaningLaws.{answered, file_is, records_fine}
 use Rattle.table_load.proofs.ColumnSteps.{all_cells_are, all_secrets_are, all_roles_from, secrets_counted, cells_fit}
 
--- a file without a fault has 1 to 1,024 data records, none of which has one
+-- a file without a fault has 1 to most_rows data records, none of which has one
 fine_data : (columns : List Column) (bytes : List ℕ) → file_fault columns bytes ≡ None → AreData columns bytes (data_of bytes)
 fine_data columns bytes fine =
     let fine_file = file_is columns bytes fine in
@@ -24,12 +25,12 @@ fine_data columns bytes fine =
       at_most = fine_file.headed.rows.at_most;
     }
 
--- both parts of a table are made of the same 1 to 1,024 records, none of which has a fault
+-- both parts of a table are made of the same 1 to most_rows records, none of which has a fault
 pub record HasParts (schema : List Column) (t : TableView) : Type 0 where
   pub rows : List Fields
   pub good : records_fault (roles_of (file_columns file.All schema)) 2 rows ≡ None
   pub some : 0 < length rows
-  pub at_most : length rows ≤ 1024
+  pub at_most : length rows ≤ most_rows
   pub public : public_in file.All schema rows ≡ t.public
   pub secret : secret_in schema rows ≡ t.secret
 
@@ -49,7 +50,7 @@ has_parts schema bytes t is =
     }
 
 -- such a secret part has a number in range for each row of each of its columns
-pub secret_is : (schema : List Column) (t : TableView) → HasParts schema t → ((rows : ℕ) → 0 < rows → rows ≤ 1024 → IsShape (shape_of schema rows)) →
+pub secret_is : (schema : List Column) (t : TableView) → HasParts schema t → ((rows : ℕ) → 0 < rows → rows ≤ most_rows → IsShape (shape_of schema rows)) →
     ((rows : ℕ) → columns (shape_of schema rows) ≡ secret_count schema) → IsSecret t.secret
 secret_is schema t parts valid counts =
     let n = length parts.rows in

@@ -3,6 +3,7 @@ use Rattle.std.proofs.Common.{Bor, Vec, Global, List, ℕ, ◌≡◌, ◌<◌, �
 use Rattle.std.proofs.lemmas.List.{length-map}
 use Rattle.std.proofs.lemmas.Bool.{false≢true}
 use Rattle.std.specs.Prelude.{Result, Ok, Err}
+use Rattle.audit_types.specs.Limits.{most_rows}
 use Rattle.csv.specs.Reading.{ExplainsRead, RowStep, default_config, is_flexible, strip_bom}
 use Rattle.csv.specs.declared.error.ErrorKind.{ErrorKind}
 use Rattle.csv.specs.declared.error.ErrorKind.TheVariants as kind
@@ -97,12 +98,13 @@ judged_all columns bytes rows a b opened step =
 -- the rows of an opened file of which no record is left are its data, unless there are none
 pub rows_read : (columns : List Column) (bytes : List ℕ) (rows : Vec Row Global) (a b : Reads) (result : Result (Vec Row Global) TableFault)
     → HasOpened columns bytes (map fields_of rows.items) a → RowStep (λ (s : Bor (List ℕ)). Some s.now) a.rdr b.rdr b.left None
-    → records_fault (roles_of columns) 2 (map fields_of rows.items) ≡ None → length rows.items ≤ 1024 → SomeRows result rows → ReadsData result columns bytes
+    → records_fault (roles_of columns) 2 (map fields_of rows.items) ≡ None → length rows.items ≤ most_rows → SomeRows result rows →
+    ReadsData result columns bytes
 rows_read columns bytes rows a b (Ok v) opened step good few answered =
     let read = map fields_of rows.items in
     let same = length-map rows.items fields_of in
     let some : 0 < length read = omega (arith, same, answered.1) in
-    let at_most : length read ≤ 1024 = omega (arith, same, few) in
+    let at_most : length read ≤ most_rows = omega (arith, same, few) in
     rw answered.0 (record {
       no_fault = judged_all columns bytes read a b opened step ∙ good_rows (roles_of columns) read some at_most good;
       data_are = ap (drop 1) (all_read columns bytes read a b opened step);

@@ -8,6 +8,7 @@ use Rattle.std.proofs.lemmas.Int.{ints, clamps}
 use Rattle.std.proofs.lemmas.List.{map-append}
 use Rattle.std.proofs.lemmas.List.Sums.{fold-append}
 use Rattle.std.proofs.lemmas.Bool.{cases_lt, cases_eq, eq-eqb, ne_eqb, lt-ltb, le-ltb, true≢false}
+use Rattle.audit_types.specs.Limits.{most_rows, most_answer}
 use Rattle.audit_types.specs.Rows.{has_row, rows_that, with_row, AreRows}
 use Rattle.audit_types.specs.RowLaws.{rows_that_agree, rows_that_none, rows-again, has-rows_that, AreRows-rows_that, none_above, length-rows}
 use Rattle.audit_types.specs.Truth.{number_at, sum_over, greatest_over}
@@ -158,8 +159,8 @@ block_within n rows block are whole = elim (cases_lt (64 * block + 63) n) [
 ]
 
 -- the sum over a block is small
-pub block_small : (n : ℕ) (w blocks : List ℤ) (block : ℕ) → n ≤ 1024 → AreNumbers n w → AreBlocks Sum n w blocks → 64 * block + 64 ≤ n →
-    unsigned_abs (get_or blocks block (pos 0)) ≤ 1024 * 10 ^ 12
+pub block_small : (n : ℕ) (w blocks : List ℤ) (block : ℕ) → n ≤ most_rows → AreNumbers n w → AreBlocks Sum n w blocks → 64 * block + 64 ≤ n →
+    unsigned_abs (get_or blocks block (pos 0)) ≤ most_answer
 block_small n w blocks block most are sums whole =
     let rows = AreRows-rows_that (λ r. r / 64 == block) n in
     let small = sum_small n 0 w (block_rows n block) are rows in
@@ -168,7 +169,7 @@ block_small n w blocks block most are sums whole =
     omega (arith, ints, small, few, is)
 
 -- the sum over any rows is
-pub rows_small : (n : ℕ) (w : List ℤ) (rows : List ℕ) → n ≤ 1024 → AreNumbers n w → AreRows n rows → unsigned_abs (sum_over w rows) ≤ 1024 * 10 ^ 12
+pub rows_small : (n : ℕ) (w : List ℤ) (rows : List ℕ) → n ≤ most_rows → AreNumbers n w → AreRows n rows → unsigned_abs (sum_over w rows) ≤ most_answer
 rows_small n w rows most numbers are =
     let small = sum_small n 0 w rows numbers are in
     let few = length-rows n rows are in

@@ -74,7 +74,7 @@ AreCells n hidden = Unit {0}
 AreCells n (numbers list) = AreNumbers n list
 AreCells n (texts list) = length list ≡ n
 
--- 1 to 1,024 rows, and columns with a cell for each
+-- 1 to most_rows rows, and columns with a cell for each
 pub record IsPublic (p : PublicView) : Type 0 where
   pub some : 0 < p.rows
   pub at_most : p.rows ≤ most_rows
@@ -124,7 +124,7 @@ abbrev pub first_list : List (List ℤ) → List ℤ
 first_list [] = []
 first_list (w ∷ lists) = w
 
--- a list for each public column, none of them a count and all of them numbers in range, 1 to 1,024 and as many in each
+-- a list for each public column, none of them a count and all of them numbers in range, 1 to most_rows and as many in each
 pub record AreLists (schema : List Column) (lists : List (List ℤ)) : Type 0 where
   pub no_texts : AllByRecursion (λ c. c.role ≢ Text) schema
   pub no_counts : AllByRecursion (λ c. c.role ≢ Count) schema

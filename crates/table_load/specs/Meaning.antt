@@ -22,7 +22,7 @@ abbrev pub publics_from : ℕ → List Column → List Fields → List Cells
 publics_from k [] rows = []
 publics_from k (c ∷ columns) rows = cells_of c.role k rows ∷ publics_from (k + 1) columns rows
 
--- bytes within the limit: a record of the columns' names, and after it 1 to 1,024 records, which are the rows of the table
+-- bytes within the limit: a record of the columns' names, and after it 1 to most_rows records, which are the rows of the table
 pub record MeansTable (columns : List Column) (bytes : List ℕ) (public : PublicView) (secret : SecretView) : Type 0 where
   pub short : length bytes ≤ most_table
   pub rows : List Fields

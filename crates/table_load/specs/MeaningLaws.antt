@@ -7,6 +7,7 @@ use Rattle.std.specs.Str.{bytes_eq, is_utf8}
 use Rattle.std.proofs.lemmas.Bool.{and_parts, and_from, eqb-true, eq-eqb, ltb-false, le-ltb}
 use Rattle.std.proofs.lemmas.List.{take_all, length-map}
 use Rattle.std.proofs.lemmas.Slice.Eq.{bytes_eq-Decides}
+use Rattle.audit_types.specs.Limits.{most_rows}
 use Rattle.schema_json.specs.Columns.{Column}
 use Rattle.schema_json.specs.declared.roles.Role.{Role}
 use Rattle.schema_json.specs.declared.roles.Role.TheVariants as role
@@ -154,43 +155,43 @@ names_fine [] = refl
 names_fine (c ∷ columns) =
     and_from (bytes_eq c.name c.name) (names_are (map (λ (c : Column). c.name) columns) columns) ((bytes_eq-Decides c.name c.name).1 refl) (names_fine columns)
 
--- 1 to 1,024 data records of the columns
+-- 1 to most_rows data records of the columns
 pub record HasRows (columns : List Column) (rows : List Fields) : Type 0 where
   pub some : 0 < length rows
-  pub at_most : length rows ≤ 1024
+  pub at_most : length rows ≤ most_rows
   pub each : AllByRecursion (IsRecordOf columns) rows
 
--- 1 to 1,024 of them are counted
-counted : (rows : List Fields) → count_fault rows ≡ None → (0 < length rows) × (length rows ≤ 1024)
+-- 1 to most_rows of them are counted
+counted : (rows : List Fields) → count_fault rows ≡ None → (0 < length rows) × (length rows ≤ most_rows)
 counted [] fine = absurd (cc)
-counted (r ∷ rows) fine = by (nat_lt 1024 (length (r ∷ rows))) refl fine
+counted (r ∷ rows) fine = by (nat_lt most_rows (length (r ∷ rows))) refl fine
   where
-    by : (many : Bool) → nat_lt 1024 (length (r ∷ rows)) ≡ many → cond many (Some TooManyRows) None ≡ None → (0 < length (r ∷ rows)) × (length (r ∷ rows) ≤ 1024)
+    by : (many : Bool) → nat_lt most_rows (length (r ∷ rows)) ≡ many → cond many (Some TooManyRows) None ≡ None → (0 < length (r ∷ rows)) × (length (r ∷ rows) ≤ most_rows)
     by true many fine = absurd (cc)
-    by false few fine = (omega arith, ltb-false 1024 (length (r ∷ rows)) few)
+    by false few fine = (omega arith, ltb-false most_rows (length (r ∷ rows)) few)
 
--- 1 to 1,024 records are few enough
-count_fine : (rows : List Fields) → 0 < length rows → length rows ≤ 1024 → count_fault rows ≡ None
+-- 1 to most_rows records are few enough
+count_fine : (rows : List Fields) → 0 < length rows → length rows ≤ most_rows → count_fault rows ≡ None
 count_fine [] some few = absurd (omega (arith, some))
-count_fine (x ∷ rows) some few = ap (λ b. cond b (Some TooManyRows) None) (le-ltb 1024 (length (x ∷ rows)) few)
+count_fine (x ∷ rows) some few = ap (λ b. cond b (Some TooManyRows) None) (le-ltb most_rows (length (x ∷ rows)) few)
 
--- 1 to 1,024 records without a fault
-pub good_rows : (roles : List Role) (rows : List Fields) → 0 < length rows → length rows ≤ 1024 → records_fault roles 2 rows ≡ None →
+-- 1 to most_rows records without a fault
+pub good_rows : (roles : List Role) (rows : List Fields) → 0 < length rows → length rows ≤ most_rows → records_fault roles 2 rows ≡ None →
     data_fault roles rows ≡ None
 good_rows roles rows some few good =
-    ap (λ rs. option_or (records_fault roles 2 rs) (count_fault rows)) (take_all 1024 rows few)
+    ap (λ rs. option_or (records_fault roles 2 rs) (count_fault rows)) (take_all most_rows rows few)
     ∙ ap (λ f. option_or f (count_fault rows)) good
     ∙ count_fine rows some few
 
 -- data records without a fault are rows
 rows_are : (columns : List Column) (rows : List Fields) → data_fault (roles_of columns) rows ≡ None → HasRows columns rows
 rows_are columns rows fine =
-    let parts = none_first (records_fault (roles_of columns) 2 (take 1024 rows)) (count_fault rows) fine in
+    let parts = none_first (records_fault (roles_of columns) 2 (take most_rows rows)) (count_fault rows) fine in
     let count = counted rows parts.1 in
     record {
       some = count.0;
       at_most = count.1;
-      each = records_are 2 columns rows (sym (ap (records_fault (roles_of columns) 2) (take_all 1024 rows count.1)) ∙ parts.0);
+      each = records_are 2 columns rows (sym (ap (records_fault (roles_of columns) 2) (take_all most_rows rows count.1)) ∙ parts.0);
     }
 
 -- records that are a header and rows

@@ -81,7 +81,7 @@ abbrev pub count_fault : List Fields → Option TableFault
 count_fault [] = Some NoRows
 count_fault (r ∷ rs) = cond (nat_lt most_rows (length (r ∷ rs))) (Some TooManyRows) None
 
--- the first fault of the data records: that of the first 1,024, and else that of their number
+-- the first fault of the data records: that of the first most_rows of them, and else that of their number
 abbrev pub data_fault : List Role → List Fields → Option TableFault
 data_fault roles rs = option_or (records_fault roles 2 (take most_rows rs)) (count_fault rs)
 

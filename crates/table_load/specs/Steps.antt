@@ -73,7 +73,7 @@ abbrev pub Opens : Result Unit TableFault → List Column → List ℕ → ByteR
 Opens (Ok u) columns bytes reader = HasOpened columns bytes [] reader
 Opens (Err fault) columns bytes reader = UnlessMemory fault (file_fault columns bytes ≡ Some fault)
 
--- 1 to 1,024 records after the header, in a file with these columns and no fault
+-- 1 to most_rows records after the header, in a file with these columns and no fault
 pub record AreData (columns : List Column) (bytes : List ℕ) (rows : List Fields) : Type 0 where
   pub no_fault : file_fault columns bytes ≡ None
   pub data_are : data_of bytes ≡ rows

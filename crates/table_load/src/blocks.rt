@@ -7,10 +7,13 @@ ghost use Rattle.table_load.specs.Cells.{AreNumbers};
 ghost use Rattle.table_load.specs.Kept.{AreBlocks, block_rows};
 
 use crate::truth::{greatest_from, sum_over, truth_over};
-use audit_types::{Kind, RowSet};
+use audit_types::{Kind, MOST_ROWS, RowSet};
+
+// The most blocks of a table.
+const MOST_BLOCKS: u16 = MOST_ROWS / 64;
 
 /// The true answer over each block of 64 rows, and 0 if a table has no whole block.
-pub(crate) type Blocks = [i64; 16];
+pub(crate) type Blocks = [i64; MOST_BLOCKS as usize];
 
 // The rows of a block.
 fn block_rows(n: u16, block: u16) -> RowSet
@@ -32,7 +35,7 @@ pub(crate) fn blocks_of(kind: Kind, list: &[i64], n: u16) -> Blocks
     requires numbers { AreNumbers n list.now }
     ensures { AreBlocks kind n list.now result }
 {
-    let mut blocks = [0; 16];
+    let mut blocks = [0; MOST_BLOCKS as usize];
     for block in 0..n / 64 {
         blocks[block as usize] = truth_over(kind, list, &block_rows(n, block));
     }
@@ -49,7 +52,7 @@ pub(crate) fn sum_by_blocks(list: &[i64], blocks: &Blocks, rows: &RowSet) -> i64
     let _n = rows.n();
     let mut left = *rows;
     let mut sum = 0i64;
-    for block in 0..16 {
+    for block in 0..MOST_BLOCKS {
         if left.take_block(block) {
             sum += blocks[block as usize];
         }
@@ -68,7 +71,7 @@ pub(crate) fn greatest_by_blocks(list: &[i64], blocks: &Blocks, rows: &RowSet) -
     let _n = rows.n();
     let mut left = *rows;
     let mut greatest = i64::MIN;
-    for block in 0..16 {
+    for block in 0..MOST_BLOCKS {
         if left.take_block(block) {
             greatest = greatest.max(blocks[block as usize]);
         }

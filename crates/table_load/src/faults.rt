@@ -18,7 +18,7 @@ pub enum TableFault {
     NotNumber { line: u32, column: u8 },
     /// A number whose size is above 10^12.
     OutOfRange { line: u32, column: u8 },
-    /// More than 1,024 data records.
+    /// More than `MOST_ROWS` data records.
     TooManyRows,
     /// No data record.
     NoRows,

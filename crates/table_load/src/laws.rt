@@ -36,7 +36,7 @@ pub fn meaning_of_a_table()
     ensures meant { (columns : List Column) (bytes : List ℕ) (public : PublicView) (secret : SecretView) → MeansTable columns bytes public secret → table_of columns bytes ≡ Ok (record { public = public; secret = secret }) }
 {}
 
-/// A sum over secrets has a size of at most 1,024 times 10^12, and a greatest one of at most 10^12.
+/// A sum over secrets has a size of at most `most_answer`, and a greatest one of at most 10^12.
 pub fn sizes_of_answers()
     ensures sums { (s : SecretView) (column : ℕ) (rows : List ℕ) → IsSecret s → column < columns s.shape → AreRows s.shape.rows rows
         → unsigned_abs (sum_over (list_of s.lists column) rows) ≤ most_answer }

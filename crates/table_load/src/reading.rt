@@ -1,5 +1,6 @@
 //! The data records of a file, read until one has a fault.
 ghost use Rattle.std.specs.Prelude.{◌≡◌, ◌++◌, ◌∷◌, [], length, ◌≤◌, IfErr, IfSome, OnOk};
+ghost use Rattle.audit_types.specs.Limits.{most_rows};
 ghost use Rattle.table_load.specs.Reading.{file_columns, roles_of};
 ghost use Rattle.csv.specs.Reading.{error_kind};
 ghost use Rattle.csv.specs.Records.{fields_of};
@@ -83,7 +84,7 @@ fn read_header(
 // The fault of a record after so many.
 fn next_fault(roles: &[Role], count: usize, row: &ByteRecord) -> Option<TableFault>
     requires few { length roles.now ≤ 32 }
-    requires at_most { count ≤ 1024 }
+    requires at_most { count ≤ most_rows }
     ensures { result ≡ next_fault roles.now count (fields_of row.now) }
 {
     if count == MOST_ROWS as usize {
@@ -109,7 +110,7 @@ fn add_row(
     read: Result<ByteRecord, Error>,
 ) -> Result<(), TableFault>
     requires few { length roles.now ≤ 32 }
-    requires at_most { length rows.old.items ≤ 1024 }
+    requires at_most { length rows.old.items ≤ most_rows }
     requires of_memory { IfErr read (λ error. IsOfMemory (error_kind error)) }
     ensures { AddsRow result roles.now rows.old.items read rows.new.items }
 {

@@ -7,7 +7,7 @@ ghost use Rattle.table_load.specs.Cells.{AreNumbers};
 
 use audit_types::{Kind, RowSet};
 
-/// The sum over the rows of a set. Its size is at most 1,024 times 10^12.
+/// The sum over the rows of a set. Its size is at most that of an answer.
 pub(crate) fn sum_over(list: &[i64], rows: &RowSet) -> i64
     requires { AreNumbers rows.now.n list.now }
     ensures { result ≡ sum_over list.now rows.now.list }

@@ -170,7 +170,7 @@ pub fn simulate<P: Source, B: Bench>(
 {
     one_reading();
     no_break_in_a_journal();
-    // A public part says of itself that it has 1 to 1,024 rows.
+    // A public part says of itself that it has 1 to `MOST_ROWS` rows.
     let rows = index.public().rows();
     let core = begin(alloc, schema.shape(rows), index.protected(), bench)?;
     let mut simulation = Simulation::new(alloc, core)?;

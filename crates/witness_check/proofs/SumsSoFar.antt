@@ -5,6 +5,7 @@ use Rattle.std.specs.Int.{w128}
 use Rattle.std.specs.List.{AllByRecursion}
 use Rattle.std.proofs.lemmas.Int.{ints, to_z-of_z, fits_signed_from_abs}
 use Rattle.std.proofs.Math.IntN.{+ℤ_idl}
+use Rattle.audit_types.specs.Limits.{most_rows}
 use Rattle.audit_types.specs.Rows.{Rows, AreRows}
 use Rattle.audit_types.specs.RowLaws.{length-rows}
 use Rattle.audit_types.specs.Numbers.{size_of_sum}
@@ -17,14 +18,14 @@ use Rattle.witness_check.specs.Directions.{HasZeroSums, lists_of}
 pub record IsSumSoFar (w : List ℤ) (rows rest : List ℕ) (sum : ℤ) : Type 0 where
   pub within : AllByRecursion (λ q. q < length w) rest
   pub total : sum +ℤ sum_over w rest ≡ sum_over w rows
-  pub size : unsigned_abs sum + 2 ^ 112 * length rest ≤ 2 ^ 112 * 1024
+  pub size : unsigned_abs sum + 2 ^ 112 * length rest ≤ 2 ^ 112 * most_rows
 
 small_at : (w : List ℤ) (q : ℕ) → IsSmall w → unsigned_abs (number_at w q) ≤ 2 ^ 112
 small_at [] q h = omega arith
 small_at (x ∷ w) zero h = h.0
 small_at (x ∷ w) (suc q) h = small_at w q h.1
 
-pub sum_begins : (w : List ℤ) (n : ℕ) (rows : List ℕ) → AreRows n rows → n ≤ 1024 → n ≤ length w → IsSumSoFar w rows rows (pos 0)
+pub sum_begins : (w : List ℤ) (n : ℕ) (rows : List ℕ) → AreRows n rows → n ≤ most_rows → n ≤ length w → IsSumSoFar w rows rows (pos 0)
 sum_begins w n rows are few most = record {
   within = rows_within 0 n (length w) rows most are;
   total = +ℤ_idl (sum_over w rows);
@@ -45,11 +46,12 @@ sum_step w rows q rest sum small h = record {
 
 -- the next sum is far within 128 bits
 pub sum_fits : (w : List ℤ) (rows : List ℕ) (q : ℕ) (rest : List ℕ) (sum : ℤ) → IsSmall w → IsSumSoFar w rows (q ∷ rest) sum →
-    unsigned_abs (sum +ℤ number_at w q) ≤ 2 ^ 122
+    unsigned_abs (sum +ℤ number_at w q) ≤ 2 ^ 112 * most_rows
 sum_fits w rows q rest sum small h = let next = (sum_step w rows q rest sum small h).size in omega arith
 
 -- what the machine's sum stands for
-pub next_is : (sum x : ℤ) → FitsSigned w128 x → unsigned_abs (sum +ℤ x) ≤ 2 ^ 122 → to_z w128 (of_z w128 (sum +ℤ to_z w128 (of_z w128 x))) ≡ sum +ℤ x
+pub next_is : (sum x : ℤ) → FitsSigned w128 x → unsigned_abs (sum +ℤ x) ≤ 2 ^ 112 * most_rows →
+    to_z w128 (of_z w128 (sum +ℤ to_z w128 (of_z w128 x))) ≡ sum +ℤ x
 next_is sum x fits small =
     ap (λ z. to_z w128 (of_z w128 (sum +ℤ z))) (to_z-of_z w128 x fits)
     ∙ to_z-of_z w128 (sum +ℤ x) (fits_signed_from_abs w128 (sum +ℤ x) (omega arith))

@@ -1,8 +1,9 @@
-use Rattle.std.proofs.Common.{◌≡◌, ◌+◌, ◌≤◌, ◌<◌, ◌^◌, ℕ, ℤ, pos, length, sym, ap, ◌∙◌, subst, SFits, rules, arith, to_z, of_z}
+use Rattle.std.proofs.Common.{◌≡◌, ◌+◌, ◌*◌, ◌≤◌, ◌<◌, ◌^◌, ℕ, ℤ, pos, length, sym, ap, ◌∙◌, subst, SFits, rules, arith, to_z, of_z}
 use Rattle.std.specs.Prelude.{unsigned_abs, ◌<ℤ◌}
 use Rattle.std.specs.Int.{w128, ◌∣◌}
 use Rattle.std.specs.List.{AllByRecursion}
 use Rattle.std.proofs.lemmas.Int.{ints, to_z-of_z}
+use Rattle.sum_basis.specs.Limits.{most_columns}
 use Rattle.audit_types.specs.ListLaws.{all-weaker, all-unmap}
 use Rattle.audit_types.specs.Truth.{number_at}
 use Rattle.audit_types.specs.Form.{set_row, combined, pivot_entry}
@@ -28,7 +29,7 @@ read_marks-requires-clause-one_each c =
 pub divide-requires-clause-small : goal.divide-requires-clause-small
 divide-requires-clause-small c =
     subst (AllByRecursion (λ (x : ℤ). unsigned_abs x ≤ 2 ^ 126)) (sym c.deref_mut.ensures.value)
-    (all-weaker (λ (x : ℤ). unsigned_abs x ≤ 2 ^ 123) (λ (x : ℤ). unsigned_abs x ≤ 2 ^ 126)
+    (all-weaker (λ (x : ℤ). unsigned_abs x ≤ 2 ^ 112 * most_columns) (λ (x : ℤ). unsigned_abs x ≤ 2 ^ 126)
     (λ x small. omega arith) c.in_ok-numbers.numbers.items c.in_ok-numbers.ensures.small)
 
 pub returns : goal.returns

@@ -1,6 +1,7 @@
-use Rattle.std.proofs.Common.{◌≡◌, ◌≤◌, ◌^◌, ℤ, pos, length, ◌∷◌, [], sym, subst, arith}
+use Rattle.std.proofs.Common.{◌≡◌, ◌≤◌, ◌*◌, ◌^◌, ℤ, pos, length, ◌∷◌, [], sym, subst, arith}
 use Rattle.std.specs.Prelude.{unsigned_abs, ◌<ℤ◌}
 use Rattle.std.specs.List.{AllByRecursion}
+use Rattle.sum_basis.specs.Limits.{most_columns}
 use Rattle.audit_types.specs.ListLaws.{all-weaker}
 use Rattle.audit_types.specs.Form.{set_row}
 use Rattle.audit_types.specs.Truth.{number_at}
@@ -17,7 +18,7 @@ divide-requires-clause-first c =
 pub divide-requires-clause-small : goal.divide-requires-clause-small
 divide-requires-clause-small c =
     subst (AllByRecursion (λ (x : ℤ). unsigned_abs x ≤ 2 ^ 126)) (sym c.deref_mut.ensures.value)
-    (all-weaker (λ (x : ℤ). unsigned_abs x ≤ 2 ^ 123) (λ (x : ℤ). unsigned_abs x ≤ 2 ^ 126)
+    (all-weaker (λ (x : ℤ). unsigned_abs x ≤ 2 ^ 112 * most_columns) (λ (x : ℤ). unsigned_abs x ≤ 2 ^ 126)
     (λ x small. omega arith) c.in_ok-list.list.items c.in_ok-list.ensures.small)
 
 pub returns : goal.returns

@@ -1,13 +1,14 @@
-use Rattle.std.proofs.Common.{◌≡◌, ◌≤◌, ◌^◌, ℕ, ℤ, ◌+◌, ◌++◌, ◌∷◌, [], ap, ◌∙◌, SFits, rules, arith}
+use Rattle.std.proofs.Common.{◌≡◌, ◌≤◌, ◌^◌, ℕ, ℤ, ◌+◌, ◌*◌, ◌++◌, ◌∷◌, [], ap, ◌∙◌, SFits, rules, arith}
 use Rattle.std.specs.Prelude.{unsigned_abs}
 use Rattle.std.specs.Int.{w128}
 use Rattle.std.proofs.lemmas.Int.{to_z-of_z}
+use Rattle.sum_basis.specs.Limits.{most_columns}
 use Rattle.audit_types.specs.Truth.{number_at}
 use Rattle.denial_proof.proofs.MultipliersRead.{read_push}
 use Rattle.denial_proof.proofs.numbers.read_row.Goals as goal
 
--- a number within 2 ^ 56 is within 2 ^ 123
-within_more : (x y : ℤ) → y ≡ x → unsigned_abs x ≤ 2 ^ 56 → unsigned_abs y ≤ 2 ^ 123
+-- a number within 2 ^ 56 is within 2 ^ 112 * most_columns
+within_more : (x y : ℤ) → y ≡ x → unsigned_abs x ≤ 2 ^ 56 → unsigned_abs y ≤ 2 ^ 112 * most_columns
 within_more x y is small = let same = ap unsigned_abs is in omega arith
 
 pub loop-mark-preserved : goal.loop-mark-preserved

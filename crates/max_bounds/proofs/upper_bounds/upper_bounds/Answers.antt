@@ -1,6 +1,7 @@
 use Rattle.std.proofs.Common.{rules, ap, ◌∙◌, SFits}
 use Rattle.std.specs.Int.{w64}
 use Rattle.std.proofs.lemmas.List.{map_more}
+use Rattle.audit_types.specs.Limits.{most_rows}
 use Rattle.max_bounds.specs.Maxima.{answer_of}
 use Rattle.max_bounds.specs.Reaching.{bound_at, bound_with}
 use Rattle.max_bounds.proofs.Lowering.{AreBounds-none, AreBounds-push}
@@ -8,7 +9,7 @@ use Rattle.max_bounds.proofs.upper_bounds.upper_bounds.Goals as goal
 use Rattle.max_bounds.specs.AnswerLaws.{widened}
 
 pub loop-pair-init : goal.loop-pair-init
-loop-pair-init c = AreBounds-none 1024
+loop-pair-init c = AreBounds-none most_rows
 
 pub loop-pair-preserved : goal.loop-pair-preserved
 loop-pair-preserved c =

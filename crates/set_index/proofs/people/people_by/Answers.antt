@@ -1,6 +1,7 @@
 use Rattle.std.proofs.Common.{◌≤◌, [], ◌∷◌, length, length-append, map, ap, arith}
 use Rattle.std.specs.Prelude.{unsigned_abs}
 use Rattle.std.proofs.lemmas.Int.{ints}
+use Rattle.audit_types.specs.Limits.{most_rows}
 use Rattle.audit_types.specs.Headcount.{people_behind}
 use Rattle.audit_types.specs.RowLaws.{walk_row, walk_more, length-rows}
 use Rattle.audit_types.specs.Truth.{number_at}
@@ -19,7 +20,7 @@ overflow_add-people c =
     c.n-n.ensures.are_rows c.loop-row.invariant.together c.in-Some.ensures.steps in
     let count = count_there c.args.rows.now.n c.args.counts.now c.in-Some.row c.requires.numbers c.requires.above row in
     let read = count_read (number_at c.args.counts.now c.in-Some.row) count in
-    let few : length c.loop-row.yielded ≤ 1024 =
+    let few : length c.loop-row.yielded ≤ most_rows =
     omega (
       arith,
       length-rows c.args.rows.now.n c.args.rows.now.list c.n-n.ensures.are_rows,
@@ -50,7 +51,7 @@ loop-row-preserved c =
 
 pub returns-clause-at_most : goal.returns-clause-at_most
 returns-clause-at_most c =
-    let few : length c.loop-row.yielded ≤ 1024 =
+    let few : length c.loop-row.yielded ≤ most_rows =
     omega (
       arith,
       length-rows c.args.rows.now.n c.args.rows.now.list c.n-n.ensures.are_rows,

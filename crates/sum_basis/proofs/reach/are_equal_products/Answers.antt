@@ -6,7 +6,7 @@ use Rattle.sum_basis.proofs.LargeProducts.{between_parts, zero_parts, parts_zero
 use Rattle.sum_basis.proofs.reach.are_equal_products.Goals as goal
 
 -- the sum of the high parts fits
-sum_fits : (x y : ℤ) → unsigned_abs x ≤ 2 ^ 119 → unsigned_abs y ≤ 2 ^ 62 → FitsSigned w128 (x +ℤ y)
+sum_fits : (x y : ℤ) → unsigned_abs x ≤ 2 ^ 121 → unsigned_abs y ≤ 2 ^ 64 → FitsSigned w128 (x +ℤ y)
 sum_fits x y p q = fits_signed_from_abs w128 (x +ℤ y) (omega (arith, ints))
 
 pub overflow_add-high : goal.overflow_add-high

@@ -6,11 +6,11 @@ use Rattle.sum_basis.proofs.LargeProducts.{part_small, between_small}
 use Rattle.sum_basis.proofs.reach.wide_difference.Goals as goal
 
 -- a product of parts fits
-part_fits : (x y : ℤ) → unsigned_abs x ≤ 2 ^ 56 → unsigned_abs y ≤ 2 ^ 62 → FitsSigned w128 (x *ℤ y)
+part_fits : (x y : ℤ) → unsigned_abs x ≤ 2 ^ 56 → unsigned_abs y ≤ 2 ^ 64 → FitsSigned w128 (x *ℤ y)
 part_fits x y p q = fits_signed_from_abs w128 (x *ℤ y) (let small = part_small x y p q in omega arith)
 
 -- and so does what is between two
-between_fits : (by x times y : ℤ) → unsigned_abs by ≤ 2 ^ 56 → unsigned_abs x ≤ 2 ^ 62 → unsigned_abs times ≤ 2 ^ 56 → unsigned_abs y ≤ 2 ^ 62 →
+between_fits : (by x times y : ℤ) → unsigned_abs by ≤ 2 ^ 56 → unsigned_abs x ≤ 2 ^ 64 → unsigned_abs times ≤ 2 ^ 56 → unsigned_abs y ≤ 2 ^ 64 →
     FitsSigned w128 (by *ℤ x -ℤ times *ℤ y)
 between_fits by x times y p q r s = fits_signed_from_abs w128 (by *ℤ x -ℤ times *ℤ y) (let small = between_small by x times y p q r s in omega arith)
 

@@ -9,7 +9,7 @@ use Rattle.sum_basis.proofs.Wide.{product_of}
 use Rattle.sum_basis.proofs.sparse.less.Goals as goal
 
 -- the difference fits
-less_fits : (x times y : ℤ) → unsigned_abs x + 2 ^ 112 < 2 ^ 125 → unsigned_abs times ≤ 2 ^ 56 → unsigned_abs y ≤ 2 ^ 56 → FitsSigned w128 (x -ℤ times *ℤ y)
+less_fits : (x times y : ℤ) → unsigned_abs x + 2 ^ 112 < 2 ^ 127 → unsigned_abs times ≤ 2 ^ 56 → unsigned_abs y ≤ 2 ^ 56 → FitsSigned w128 (x -ℤ times *ℤ y)
 less_fits x times y p q r =
     let product = product_small times y q r in
     fits_signed_from_abs w128 (x -ℤ times *ℤ y) (omega (arith, ints))
@@ -28,7 +28,7 @@ once x y times is = ap (λ z. x -ℤ z) (sym (ap (λ t. t *ℤ y) is ∙ one-tim
 one_from_bits : (z : ℤ) → FitsSigned w128 z → of_z w128 z ≡ 1 → z ≡ pos 1
 one_from_bits z fits e = sym (to_z-of_z w128 z fits) ∙ ap (to_z w128) e
 
-difference_fits : (x y : ℤ) → unsigned_abs x + 2 ^ 112 < 2 ^ 125 → unsigned_abs y ≤ 2 ^ 56 → FitsSigned w128 (x -ℤ y)
+difference_fits : (x y : ℤ) → unsigned_abs x + 2 ^ 112 < 2 ^ 127 → unsigned_abs y ≤ 2 ^ 56 → FitsSigned w128 (x -ℤ y)
 difference_fits x y p q = fits_signed_from_abs w128 (x -ℤ y) (omega (arith, ints))
 
 pub overflow_sub-result : goal.overflow_sub-result

@@ -72,8 +72,8 @@ quotient-times-requires-clause-size c =
     rw (to_z-of_z w128 (get_or c.args.row.now c.args.other.now.pivot (pos 0)) multiple) (let small = c.requires.at_pivot in omega arith)
 
 -- the row with 0 at a place is as small
-still_small : (row : List ℤ) (k j : ℕ) → k < length row → ((i : ℕ) → unsigned_abs (number_at row i) + 2 ^ 112 < 2 ^ 125)
-    → unsigned_abs (number_at (set row k (pos 0)) j) + 2 ^ 112 < 2 ^ 125
+still_small : (row : List ℤ) (k j : ℕ) → k < length row → ((i : ℕ) → unsigned_abs (number_at row i) + 2 ^ 112 < 2 ^ 127)
+    → unsigned_abs (number_at (set row k (pos 0)) j) + 2 ^ 112 < 2 ^ 127
 still_small row k j within small = elim (cases_eq j k) [
   | inl e ↦ rw (e, get_or-set_same row k (pos 0) (pos 0) within) (omega arith)
   | inr other ↦ rw (get_or-set_other row k j (pos 0) (pos 0) other) (small j)

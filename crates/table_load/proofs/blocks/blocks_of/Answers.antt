@@ -13,12 +13,12 @@ truth_over-requires-clause-some c = λ none. some_row c.args.n c.loop-block.bloc
 
 pub loop-block-preserved : goal.loop-block-preserved
 loop-block-preserved c =
-    let within : c.loop-block.block < length c.loop-block.blocks = omega (arith, c.loop-block.invariant.sixteen) in
+    let within : c.loop-block.block < length c.loop-block.blocks = omega (arith, c.loop-block.invariant.one_each) in
     let fits : SFits w64 c.truth_over.result = search rules in
     let value : to_z w64 (of_z w64 c.truth_over.result) ≡ truth c.args.kind c.args.list.now (block_rows c.args.n c.loop-block.block) =
     to_z-of_z w64 c.truth_over.result fits ∙ c.truth_over.ensures ∙ ap (truth c.args.kind c.args.list.now) c.block_rows.ensures.rows in
     record {
-      sixteen = length-set c.loop-block.blocks c.loop-block.block _ ∙ c.loop-block.invariant.sixteen;
+      one_each = length-set c.loop-block.blocks c.loop-block.block _ ∙ c.loop-block.invariant.one_each;
       done = λ k below. elim (cases_eq k c.loop-block.block) [
         | inl here ↦ rw here (get_or-set_same c.loop-block.blocks c.loop-block.block _ (pos 0) within ∙ value)
         | inr other ↦ get_or-set_other c.loop-block.blocks c.loop-block.block k _ (pos 0) other ∙ c.loop-block.invariant.done k (omega arith)

@@ -2,6 +2,7 @@ use Rattle.std.proofs.Common.{cond, ◌≡◌, ◌≤◌, ◌+◌, ◌*◌, ◌^
 use Rattle.std.specs.Prelude.{pos, unsigned_abs, ◌+ℤ◌}
 use Rattle.std.specs.Int.{w64}
 use Rattle.std.proofs.lemmas.Int.{ints}
+use Rattle.audit_types.specs.Limits.{most_answer}
 use Rattle.audit_types.specs.Truth.{sum_over}
 use Rattle.table_load.proofs.WholeBlocks.{block_within, block_small, rows_small, rows_left, sum_step, are_left}
 use Rattle.table_load.proofs.blocks.sum_by_blocks.Goals as goal
@@ -13,7 +14,7 @@ overflow_add-sum c =
     let whole = c.take_block.ensures.whole.0 c.if-take_block.true in
     let within : 64 * c.loop-block.block + 64 ≤ c.args.rows.now.n =
     block_within c.args.rows.now.n c.loop-block.left.list c.loop-block.block c.loop-block.invariant.are whole in
-    let small : unsigned_abs (get_or c.args.blocks.now c.loop-block.block (pos 0)) ≤ 1024 * 10 ^ 12 =
+    let small : unsigned_abs (get_or c.args.blocks.now c.loop-block.block (pos 0)) ≤ most_answer =
     block_small c.args.rows.now.n c.args.list.now c.args.blocks.now c.loop-block.block c.n-n.ensures.at_most c.requires.numbers c.requires.blocks within in
     omega (arith, ints)
 
@@ -29,7 +30,7 @@ loop-block-preserved c =
           let whole = c.take_block.ensures.whole.0 w.if-take_block.true in
           let within : 64 * c.loop-block.block + 64 ≤ c.args.rows.now.n =
           block_within c.args.rows.now.n c.loop-block.left.list c.loop-block.block c.loop-block.invariant.are whole in
-          let small : unsigned_abs (get_or c.args.blocks.now c.loop-block.block (pos 0)) ≤ 1024 * 10 ^ 12 =
+          let small : unsigned_abs (get_or c.args.blocks.now c.loop-block.block (pos 0)) ≤ most_answer =
           block_small c.args.rows.now.n c.args.list.now c.args.blocks.now c.loop-block.block c.n-n.ensures.at_most c.requires.numbers c.requires.blocks
           within in
           let was = c.loop-block.invariant.small in
@@ -56,14 +57,14 @@ loop-block-preserved c =
 
 pub overflow_add-result : goal.overflow_add-result
 overflow_add-result c =
-    let small : unsigned_abs (sum_over c.args.list.now c.loop-block.left.list) ≤ 1024 * 10 ^ 12 =
+    let small : unsigned_abs (sum_over c.args.list.now c.loop-block.left.list) ≤ most_answer =
     rows_small c.args.rows.now.n c.args.list.now c.loop-block.left.list c.n-n.ensures.at_most c.requires.numbers c.loop-block.invariant.are in
     let is = c.sum_over.ensures in
     omega (arith, ints)
 
 pub returns : goal.returns
 returns c =
-    let small : unsigned_abs (sum_over c.args.list.now c.loop-block.left.list) ≤ 1024 * 10 ^ 12 =
+    let small : unsigned_abs (sum_over c.args.list.now c.loop-block.left.list) ≤ most_answer =
     rows_small c.args.rows.now.n c.args.list.now c.loop-block.left.list c.n-n.ensures.at_most c.requires.numbers c.loop-block.invariant.are in
     let is = c.sum_over.ensures in
     let total = c.loop-block.invariant.total in

@@ -1,4 +1,5 @@
 use Rattle.std.proofs.Common.{◌≡◌, ◌≤◌, None, map, length}
+use Rattle.audit_types.specs.Limits.{most_rows}
 use Rattle.csv.specs.Records.{fields_of}
 use Rattle.table_load.specs.Reading.{file_columns, records_fault}
 use Rattle.table_load.specs.Steps.{HasOpened}
@@ -8,7 +9,7 @@ abbrev pub invariant-records : goal.invariant-records
 invariant-records l = record {
   opened : HasOpened (file_columns l.fn.which l.fn.schema.columns) l.fn.bytes (map fields_of l.rows.items) l.records;
   good : records_fault l.roles 2 (map fields_of l.rows.items) ≡ None;
-  at_most : length l.rows.items ≤ 1024;
+  at_most : length l.rows.items ≤ most_rows;
 }
 
 abbrev pub decreases-records : goal.decreases-records

@@ -1,6 +1,7 @@
 use Rattle.std.proofs.Common.{◌≤◌, ◌^◌, arith, ap, length, length-append, ◌∷◌, []}
 use Rattle.std.specs.Prelude.{unsigned_abs}
 use Rattle.std.proofs.lemmas.Int.{ints}
+use Rattle.audit_types.specs.Limits.{most_rows}
 use Rattle.audit_types.specs.Truth.{number_at, sum_over}
 use Rattle.audit_types.specs.RowLaws.{walk_row, walk_more, length-rows}
 use Rattle.table_load.proofs.SetSums.{number_small}
@@ -18,7 +19,7 @@ overflow_add-sum c =
     c.n-n.ensures.are_rows c.loop-row.invariant.together c.in-Some.ensures.steps in
     let number : unsigned_abs (number_at c.args.list.now c.in-Some.row) ≤ 10 ^ 12 =
     number_small c.args.rows.now.n c.args.list.now c.in-Some.row c.requires row in
-    let few : length c.loop-row.yielded ≤ 1024 =
+    let few : length c.loop-row.yielded ≤ most_rows =
     omega (
       arith,
       length-rows c.args.rows.now.n c.args.rows.now.list c.n-n.ensures.are_rows,
@@ -33,7 +34,7 @@ loop-row-preserved c =
     c.n-n.ensures.are_rows c.loop-row.invariant.together c.in-Some.ensures.steps in
     let number : unsigned_abs (number_at c.args.list.now c.in-Some.row) ≤ 10 ^ 12 =
     number_small c.args.rows.now.n c.args.list.now c.in-Some.row c.requires row in
-    let few : length c.loop-row.yielded ≤ 1024 =
+    let few : length c.loop-row.yielded ≤ most_rows =
     omega (
       arith,
       length-rows c.args.rows.now.n c.args.rows.now.list c.n-n.ensures.are_rows,

@@ -9,7 +9,7 @@ pub invariant_of-result : goal.invariant_of-result
 invariant_of-result c = record {
   some = c.requires.some;
   at_most = c.requires.at_most;
-  sixteen = c.self.invariant.sixteen;
+  words_are = c.self.invariant.words_are;
   ranges = c.self.invariant.ranges;
   none_above = λ r above. sym (has-view c.self.inside.n c.self.inside.words c.self.invariant r) ∙ ap (λ (s : Rows). has_row s.list r) c.self.view_is
       ∙ none_above 0 c.args.n c.args.self.now.list c.requires.rows r above;

@@ -1,10 +1,11 @@
 use Rattle.std.proofs.Common.{ℕ, ◌<◌, ◌≤◌, pos, [], sym, subst, arith}
 use Rattle.std.proofs.lemmas.Int.{ints}
+use Rattle.sum_basis.specs.Limits.{most_columns}
 use Rattle.sum_basis.specs.Basis.{IsForm, IsWidth}
 use Rattle.sum_basis.proofs.LeastMultiples.{least-nil}
 use Rattle.sum_basis.proofs.form.Form.new.Goals as goal
 
-no_rows : (n width : ℕ) → 0 < n → n ≤ 2048 → IsWidth width → IsForm n width (pos 1) 0 []
+no_rows : (n width : ℕ) → 0 < n → n ≤ most_columns → IsWidth width → IsForm n width (pos 1) 0 []
 no_rows n width some most fits = record {
   some = some;
   at_most = most;
