@@ -11,13 +11,9 @@ use Rattle.sum_basis.proofs.Exactness.{not_wide_at, reduced_at, stands_with}
 use Rattle.std.proofs.lemmas.Result.{on_ok_weaker, on_err_weaker}
 use Rattle.sum_basis.proofs.basis.Basis.insert.Goals as goal
 
-pub insert-requires-clause-bits : goal.insert-requires-clause-bits
-insert-requires-clause-bits c = set_bits c.args.rows.now.n c.args.rows.now.list c.write_set.new.row c.write_set.ensures
-
-pub insert-requires-clause-narrow : goal.insert-requires-clause-narrow
-insert-requires-clause-narrow c =
-    not_wide_at c.self.inside.form c.args.self.now c.write_set.new.row c.args.rows.now.n c.args.rows.now.list c.self.view_is c.write_set.ensures c.requires.n
-    c.requires.narrow
+-- the row of a set, over the form's columns and its own
+same_row : (form seen : Echelon) (m : ℕ) (list : List ℕ) → form ≡ seen → m ≡ seen.n → set_row form.n list ≡ set_row m list
+same_row form seen m list view n = ap (λ (k : ℕ). set_row k list) (ap (λ (e : Echelon). e.n) view ∙ sym n)
 
 -- what is held is of the set
 module _ (form seen : Echelon) (m : ℕ) (list : List ℕ) (held : Held) (view : form ≡ seen) (same : held.rows.list ≡ list) (n : m ≡ seen.n) where
@@ -37,20 +33,10 @@ join_held-requires-clause-narrow c =
     held_not_wide c.self.inside.form c.args.self.now c.args.rows.now.n c.args.rows.now.list c.in-Some.held c.self.view_is
     (ap (λ (r : Rows). r.list) is.1) c.requires.n c.requires.narrow
 
-pub slice_bounds-room-end : goal.slice_bounds-room-end
-slice_bounds-room-end c = omega (arith, c.columns.ensures.columns, c.self.invariant.0)
-
-pub slice_bounds-row-end : goal.slice_bounds-row-end
-slice_bounds-row-end c = sym (length-take-le c.columns.result _ (omega (arith, c.columns.ensures.columns, c.self.invariant.0)))
-
-pub write_set-requires : goal.write_set-requires
-write_set-requires c =
-    length-take-le c.columns.result _ (omega (arith, c.columns.ensures.columns, c.self.invariant.0)) ∙ c.columns.ensures.columns
-    ∙ ap (λ (e : Echelon). e.n) c.self.view_is ∙ sym c.requires.n
-
-pub insert-requires-clause-length : goal.insert-requires-clause-length
-insert-requires-clause-length c =
-    ap length c.write_set.ensures ∙ length-set_row c.args.rows.now.n c.args.rows.now.list ∙ c.requires.n ∙ sym (ap (λ (e : Echelon). e.n) c.self.view_is)
+pub insert_anew-requires-clause-narrow : goal.insert_anew-requires-clause-narrow
+insert_anew-requires-clause-narrow c =
+    not_wide_at c.self.inside.form c.args.self.now (set_row c.self.inside.form.n c.args.rows.now.list) c.args.rows.now.n c.args.rows.now.list c.self.view_is
+    (same_row c.self.inside.form c.args.self.now c.args.rows.now.n c.args.rows.now.list c.self.view_is c.requires.n) c.requires.n c.requires.narrow
 
 pub invariant_of-self : goal.invariant_of-self
 invariant_of-self c = (
@@ -79,12 +65,16 @@ returns-in-Some c =
 
 pub returns-then-branch-clause-stands : goal.returns-then-branch-clause-stands
 returns-then-branch-clause-stands c =
-    stands_with c.args.self.now c.insert.new.self c.args.rows.now.list
-    (reduced_at c.self.inside.form c.args.self.now c.insert.new.self.rows c.write_set.new.row c.args.rows.now.n c.args.rows.now.list c.self.view_is
-    c.write_set.ensures c.requires.n c.in_ok-insert.ensures.reduced)
+    stands_with c.args.self.now c.insert_anew.new.form c.args.rows.now.list
+    (reduced_at c.self.inside.form c.args.self.now c.insert_anew.new.form.rows (set_row c.self.inside.form.n c.args.rows.now.list) c.args.rows.now.n
+    c.args.rows.now.list c.self.view_is
+    (same_row c.self.inside.form c.args.self.now c.args.rows.now.n c.args.rows.now.list c.self.view_is c.requires.n) c.requires.n
+    c.in_ok-insert_anew.ensures.reduced)
 
 pub returns-else-branch-clause-stands : goal.returns-else-branch-clause-stands
 returns-else-branch-clause-stands c =
-    stands_with c.args.self.now c.insert.new.self c.args.rows.now.list
-    (reduced_at c.self.inside.form c.args.self.now c.insert.new.self.rows c.write_set.new.row c.args.rows.now.n c.args.rows.now.list c.self.view_is
-    c.write_set.ensures c.requires.n c.in_ok-insert.ensures.reduced)
+    stands_with c.args.self.now c.insert_anew.new.form c.args.rows.now.list
+    (reduced_at c.self.inside.form c.args.self.now c.insert_anew.new.form.rows (set_row c.self.inside.form.n c.args.rows.now.list) c.args.rows.now.n
+    c.args.rows.now.list c.self.view_is
+    (same_row c.self.inside.form c.args.self.now c.args.rows.now.n c.args.rows.now.list c.self.view_is c.requires.n) c.requires.n
+    c.in_ok-insert_anew.ensures.reduced)
