@@ -26,6 +26,7 @@ use Rattle.sum_basis.specs.declared.sparse.FreeEntry.{FreeEntry}
 use Rattle.sum_basis.proofs.ColumnLists.{first_is_free, own_elsewhere, own_here, pivot_within, pivots_once, untouched_by}
 use Rattle.sum_basis.proofs.ColumnPoints.{first_free}
 use Rattle.sum_basis.proofs.OwnRows.{pivot_or_none}
+use Rattle.sum_basis.proofs.OwnUnits.{pivots_ascend}
 use Rattle.sum_basis.proofs.Parallels.{same_listed}
 use Rattle.sum_basis.proofs.Residues.{free_zeros}
 use Rattle.sum_basis.proofs.SmallEntries.{new_small}
@@ -34,14 +35,7 @@ use Rattle.sum_basis.proofs.SparseRows.{first_value, number_at-row_of}
 use Rattle.sum_basis.proofs.SpansWithOneMore.{first_place}
 use Rattle.sum_basis.proofs.StayingRows.{IsClearedAt, cleared_at, column_stays, now_free, row_stays, still_free}
 
--- a later row has a later pivot
-pub pivots_ascend : (rows : List (List ℤ)) (i j : ℕ) → IsEchelon rows → i < j → j < length rows → pivot (get_or rows i []) < pivot (get_or rows j [])
-pivots_ascend [] i j echelon before within = absurd (omega arith)
-pivots_ascend (row ∷ rows) i zero echelon before within = absurd (omega arith)
-pivots_ascend (row ∷ rows) zero (suc j) echelon before within = (All-from_recursion (StandsBefore row) rows echelon.0 j [] (omega arith)).0
-pivots_ascend (row ∷ rows) (suc i) (suc j) echelon before within = pivots_ascend rows i j echelon.1 (omega arith) (omega arith)
-
--- so another one has another
+-- another row has another pivot
 pub pivots_apart : (rows : List (List ℤ)) (i j : ℕ) → IsEchelon rows → i < length rows → j < length rows → i ≢ j →
     pivot (get_or rows i []) ≢ pivot (get_or rows j [])
 pivots_apart rows i j echelon first second apart same = elim (cases_lt i j) [
