@@ -12,17 +12,17 @@ const SALARIES: [i64; 6] = [100, 200, 300, 400, 500, 600];
 // Another table that gives the same sums over QA, over everybody, over those from 41 on, and over OPS.
 const OTHER_SALARIES: [i64; 6] = [110, 190, 300, 400, 490, 610];
 
-const EVERYBODY: [bool; 6] = [true; 6];
+pub(crate) const EVERYBODY: [bool; 6] = [true; 6];
 
-const QA: [bool; 6] = [true, true, false, false, false, false];
+pub(crate) const QA: [bool; 6] = [true, true, false, false, false, false];
 
 const OTHERS: [bool; 6] = [false, false, true, true, true, true];
 
-const OPS: [bool; 6] = [false, false, true, true, false, false];
+pub(crate) const OPS: [bool; 6] = [false, false, true, true, false, false];
 
-const FROM_41: [bool; 6] = [false, true, false, true, false, true];
+pub(crate) const FROM_41: [bool; 6] = [false, true, false, true, false, true];
 
-const FROM_41_NOT_DEV: [bool; 6] = [false, true, false, true, false, false];
+pub(crate) const FROM_41_NOT_DEV: [bool; 6] = [false, true, false, true, false, false];
 
 const FROM_30_TO_35: [bool; 6] = [true, false, true, false, false, false];
 
@@ -30,7 +30,7 @@ const SECOND: [bool; 6] = [false, true, false, false, false, false];
 
 const NOBODY: [bool; 6] = [false; 6];
 
-fn rows(members: &[bool]) -> RowSet
+pub(crate) fn rows(members: &[bool]) -> RowSet
     requires some { 0 < length members.now }
     requires at_most { length members.now ≤ most_rows }
     ensures { result.n ≡ length members.now }
@@ -45,7 +45,7 @@ fn rows(members: &[bool]) -> RowSet
     rows
 }
 
-fn sum(members: &[bool], answer: i64) -> Answered
+pub(crate) fn sum(members: &[bool], answer: i64) -> Answered
     requires some { 0 < length members.now }
     requires at_most { length members.now ≤ most_rows }
     ensures { result.rows.n ≡ length members.now }
