@@ -4,6 +4,7 @@ use Rattle.std.specs.Prelude.{Some, nat_lt}
 use Rattle.std.specs.Iterator.{MakesProgress, item_count}
 use Rattle.std.specs.Int.{bit_at, bit_not, trailing_zeros}
 use Rattle.std.proofs.lemmas.Bool.{cases_lt, cases_eq, eq-eqb, ne_eqb, lt-ltb, le-ltb}
+use Rattle.std.proofs.lemmas.List.{get_or_past}
 use Rattle.std.proofs.lemmas.Nat.Bits.{bit_at-zero, bit_at-trailing_zeros, bit_at_clear_same, bit_at_clear_other}
 use Rattle.audit_types.specs.Limits.{most_rows, most_words}
 use Rattle.audit_types.specs.RowLaws.{rows_that_first, rows_that_none, rows_that_agree}
@@ -46,8 +47,11 @@ module _ (words : List ℕ) (spot : Spot) (place : ℕ) (done : spot.word ≡ 0)
   ]
 
   -- none is left at all if no word has one
-  pub nothing_left : place ≡ most_words → rows_from words spot ≡ []
-  nothing_left end = rows_that_none (is_left words spot) most_rows (λ r l. none_before r (omega arith))
+  pub nothing_left : spot.place < place → length words ≤ place → rows_from words spot ≡ []
+  nothing_left behind end = rows_that_none (is_left words spot) most_rows (λ r l. elim (cases_lt (r / 64) place) [
+    | inl before ↦ none_before r before
+    | inr past ↦ behind_spot words spot r (omega arith) ∙ no_bit_in words r (get_or_past words (r / 64) 0 (omega arith))
+  ])
 
   -- and if one has, the same rows are left from there on
   pub same_left : (next : Spot) → next.place ≡ place → spot.place < place → next.word ≡ get_or words place 0 → rows_from words next ≡ rows_from words spot

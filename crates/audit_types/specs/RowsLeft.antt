@@ -1,5 +1,5 @@
 -- What contracts see of a walk over the rows of a set.
-use Rattle.std.specs.Prelude.{◌≡◌, ℕ, ◌/◌, ◌%◌, ◌^◌, ◌<◌, Bool, cond, ◌&&◌, ◌==◌, nat_lt, List, length}
+use Rattle.std.specs.Prelude.{◌≡◌, ℕ, ◌/◌, ◌%◌, ◌^◌, ◌<◌, ◌≤◌, Bool, cond, ◌&&◌, ◌==◌, nat_lt, List, length}
 use Rattle.std.specs.Int.{bit_at}
 use Rattle.audit_types.specs.Limits.{most_rows, most_words}
 use Rattle.audit_types.specs.Rows.{rows_that}
@@ -17,10 +17,10 @@ rows_from words spot = rows_that (is_left words spot) most_rows
 
 -- the rows that are still to come
 abbrev pub rows_left : Inside → List ℕ
-rows_left a = rows_from a.words a.spot
+rows_left a = rows_from a.words.now a.spot
 
--- as many words as a set has, and a spot among them
+-- words of a set, and a spot among them
 pub record IsWalk (a : Inside) : Type 0 where
-  pub words_are : length a.words ≡ most_words
-  pub within : a.spot.place < most_words
+  pub at_most : length a.words.now ≤ most_words
+  pub within : a.spot.place < length a.words.now
   pub fits : a.spot.word < 2 ^ 64

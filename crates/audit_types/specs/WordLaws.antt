@@ -1,7 +1,7 @@
 -- The words of a set of rows are fixed by its rows.
-use Rattle.std.proofs.Common.{◌≡◌, ℕ, zero, suc, ◌+◌, ◌-◌, ◌*◌, ◌/◌, ◌%◌, ◌^◌, ◌<◌, ◌≤◌, Bool, true, false, cond, List, [], ◌==◌, refl, sym, ap, ◌∙◌, arith, length, get_or, set, inl, inr, one-add, pow_mono, replicate, ◌||◌, get_or-set_same, get_or-set_other, length-set, ◌&&◌, min, max, not}
+use Rattle.std.proofs.Common.{◌≡◌, ℕ, zero, suc, ◌+◌, ◌-◌, ◌*◌, ◌/◌, ◌%◌, ◌^◌, ◌<◌, ◌≤◌, Bool, true, false, cond, List, [], ◌==◌, refl, sym, ap, ◌∙◌, arith, length, get_or, set, take, inl, inr, one-add, pow_mono, replicate, ◌||◌, get_or-set_same, get_or-set_other, length-set, ◌&&◌, min, max, not}
 use Rattle.std.proofs.Math.Bool.{or-false}
-use Rattle.std.proofs.lemmas.List.{get_or_past}
+use Rattle.std.proofs.lemmas.List.{get_or_past, get_or-take, length-take, length-take-le}
 use Rattle.std.specs.Int.Bits.{or_zero_l}
 use Rattle.std.specs.Prelude.{bit_or, bit_and, nat_lt}
 use Rattle.std.specs.Int.{bit_at, bit_not, w64}
@@ -12,9 +12,9 @@ use Rattle.std.proofs.lemmas.Nat.Bits.{bit_at-lt, bit_at_and, bit_at_or, bit_at_
 use Rattle.std.proofs.Math.Nat.{div-div-eq-div-mul}
 use Rattle.std.proofs.lemmas.List.FromFn.{fill_by_all}
 use Rattle.audit_types.specs.Limits.{most_rows, most_words}
-use Rattle.audit_types.specs.Rows.{has_row, rows_that, intersection, union, complement}
+use Rattle.audit_types.specs.Rows.{Rows, has_row, rows_that, intersection, union, complement}
 use Rattle.audit_types.specs.RowLaws.{has-rows_that, has-rows_that_above, rows_that_agree, rows_that_none, rows_that_longer}
-use Rattle.audit_types.specs.Words.{has_bit, rows_of_words, row_mask, rows_of_set, set_of_rows, words_of, word_of, bits_that, AreWords, IsSetOfWords}
+use Rattle.audit_types.specs.Words.{has_bit, rows_of_words, row_mask, rows_of_set, set_of_rows, words_of, word_of, bits_that, AreWords, IsSetOfWords, words_over}
 use Rattle.audit_types.specs.declared.rows.RowSet.TheInside.{Inside}
 
 -- a bit is worth its power or nothing
@@ -118,6 +118,33 @@ byte_below n words at h =
       | inl l ↦ no_one byte i (byte_bits words at i l ∙ h.none_above (8 * at + i) (omega arith))
       | inr l ↦ bit_at_above byte 8 i (omega (arith, and_le_r (get_or words (at / 8) 0 / 2 ^ (8 * (at % 8))) 255)) l
     ])
+
+-- a word of rows past the last has no bit
+pub no_bits_past : (n : ℕ) (words : List ℕ) → AreWords n words → (k : ℕ) → n ≤ 64 * k → get_or words k 0 ≡ 0
+no_bits_past n words h k past =
+    let range : get_or words k 0 < 2 ^ 64 = h.ranges k in
+    let none : get_or words k 0 < 2 ^ 0 = below_by_bits (get_or words k 0) 0 (λ i l. elim (cases_lt i 64) [
+      | inl m ↦ no_one (get_or words k 0) i (sym (same_place words k i m) ∙ h.none_above (64 * k + i) (omega arith))
+      | inr m ↦ bit_at_above (get_or words k 0) 64 i range m
+    ]) in
+    omega arith
+
+-- the words that n rows take hold what all do
+pub word_used : (n : ℕ) (words : List ℕ) → AreWords n words → (k : ℕ) → get_or (take (words_over n) words) k 0 ≡ get_or words k 0
+word_used n words h k = elim (cases_lt k (words_over n)) [
+  | inl l ↦ get_or-take (words_over n) words k 0 l
+  | inr l ↦ get_or_past (take (words_over n) words) k 0 (omega (arith, length-take (words_over n) words)) ∙ sym (no_bits_past n words h k (omega arith))
+]
+
+-- and they are at least one, and at most all of them
+pub words_used : (n : ℕ) (words : List ℕ) → AreWords n words → (length (take (words_over n) words) ≡ words_over n) × (0 < words_over n) × (words_over n ≤ most_words)
+words_used n words h =
+    let within : words_over n ≤ length words = omega (arith, h.words_are, h.at_most) in
+    (length-take-le (words_over n) words within, omega (arith, h.some), omega (arith, h.at_most))
+
+-- so they have the same rows
+pub rows_used : (n : ℕ) (words : List ℕ) → AreWords n words → (m : ℕ) → rows_that (has_bit (take (words_over n) words)) m ≡ rows_that (has_bit words) m
+rows_used n words h m = rows_that_agree _ _ m (λ r l. ap (λ x. bit_at x (r % 64) == 1) (word_used n words h (r / 64)))
 
 -- a list of zeros is 0 everywhere
 zero_at : (k i : ℕ) → ◌≡◌ {A = ℕ} (get_or (replicate k 0) i 0) 0
@@ -278,6 +305,10 @@ ones_fit j h = let big : 2 ^ j ≤ 2 ^ 64 = pow_mono h in omega (arith, pow_pos 
 mask_small : (n k : ℕ) → row_mask n k < 2 ^ 64
 mask_small n k = ones_fit (min 64 (n - 64 * k)) (omega arith)
 
+-- and no row is in that of a word past the last
+pub mask_past : (n k : ℕ) → n ≤ 64 * k → row_mask n k ≡ 0
+mask_past n k past = let none : n - 64 * k ≡ 0 = omega arith in ap (λ d. 2 ^ (min 64 d) - 1) none
+
 -- a bit that is not set, under the mask
 turned : (a b : ℕ) → a < 2 → b < 2 → (min (1 - a) b == 1) ≡ ((b == 1) && not (a == 1))
 turned a b p q = grind (arith, nat_tests)
@@ -320,3 +351,29 @@ module _ (a words : List ℕ) (n : ℕ) (p : AreWords n a) (l : length words ≡
   pub rows-flip : rows_that (has_bit words) n ≡ complement n (rows_that (has_bit a) n)
   rows-flip = rows_that_agree _ _ n (λ r m.
       bit-flip r (omega (arith, p.at_most)) ∙ rw (lt-ltb r n m) refl ∙ ap not (sym (has-view n a p r)))
+
+-- no row, if the words that n rows take are 0
+pub no_rows_used : (n : ℕ) (words used : List ℕ) → AreWords n words → used ≡ take (words_over n) words → ((k : ℕ) → k < length used → get_or used k 0 ≡ 0) →
+    rows_that (has_bit words) n ≡ []
+no_rows_used n words used h first none =
+    sym (ap (λ u. rows_that (has_bit u) n) first ∙ rows_used n words h n) ∙ rows_that_none (has_bit used) n (λ r l.
+    let word : get_or used (r / 64) 0 ≡ 0 = elim (cases_lt (r / 64) (length used)) [
+      | inl m ↦ none (r / 64) m
+      | inr m ↦ get_or_past used (r / 64) 0 m
+    ] in
+    ap (λ x. bit_at x (r % 64) == 1) word ∙ ap (λ x. x == 1) (bit_at-zero (r % 64)))
+
+-- and those of no row are 0
+pub zeros_used : (n : ℕ) (words used : List ℕ) → AreWords n words → used ≡ take (words_over n) words → rows_that (has_bit words) n ≡ [] → (k : ℕ) →
+    get_or used k 0 ≡ 0
+zeros_used n words used h first empty k =
+    let none : words ≡ replicate most_words 0 = sym (words-words_of n words h) ∙ ap words_of empty ∙ words-none n h.some h.at_most in
+    ap (λ u. get_or u k 0) first ∙ word_used n words h k ∙ ap (λ u. get_or u k 0) none ∙ zero_at most_words k
+
+-- two sets over n rows are the same if the words are that n rows take
+pub same_by_used : (a b : Inside) → IsSetOfWords a → IsSetOfWords b → a.n ≡ b.n → take (words_over a.n) a.words ≡ take (words_over b.n) b.words →
+    rows_of_set a ≡ rows_of_set b
+same_by_used a b p q same words =
+    let over : ℕ → List ℕ → Rows = λ n rows. record { n = n; list = rows } in
+    ap (over a.n) (sym (rows_used a.n a.words p a.n) ∙ ap (λ u. rows_that (has_bit u) a.n) words ∙ rows_used b.n b.words q a.n)
+    ∙ ap (λ n. over n (rows_that (has_bit b.words) n)) same

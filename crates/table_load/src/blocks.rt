@@ -49,10 +49,10 @@ pub(crate) fn sum_by_blocks(list: &[i64], blocks: &Blocks, rows: &RowSet) -> i64
     ensures { result ≡ sum_over list.now rows.now.list }
 {
     // A set says of its n that no row is past it.
-    let _n = rows.n();
+    let n = rows.n();
     let mut left = *rows;
     let mut sum = 0i64;
-    for block in 0..MOST_BLOCKS {
+    for block in 0..n / 64 {
         if left.take_block(block) {
             sum += blocks[block as usize];
         }
@@ -68,10 +68,10 @@ pub(crate) fn greatest_by_blocks(list: &[i64], blocks: &Blocks, rows: &RowSet) -
     ensures { result ≡ greatest_over list.now rows.now.list }
 {
     // A set says of its n that no row is past it.
-    let _n = rows.n();
+    let n = rows.n();
     let mut left = *rows;
     let mut greatest = i64::MIN;
-    for block in 0..MOST_BLOCKS {
+    for block in 0..n / 64 {
         if left.take_block(block) {
             greatest = greatest.max(blocks[block as usize]);
         }

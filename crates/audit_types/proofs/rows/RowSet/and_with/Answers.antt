@@ -13,12 +13,12 @@ others c = subst (λ m. AreWords m c.other.inside.words) (same_n c) c.other.inva
 pub invariant_of-self : goal.invariant_of-self
 invariant_of-self c =
     AreWords-and c.self.inside.words c.other.inside.words c.and_words.new.words c.self.inside.n c.self.invariant
-    (others c) c.and_words.array_long c.and_words.ensures
+    (others c) c.and_words.ensures.words_are c.and_words.ensures.both
 
 pub returns-clause-both : goal.returns-clause-both
 returns-clause-both c =
     rows-and c.self.inside.words c.other.inside.words c.and_words.new.words c.self.inside.n c.self.invariant
-    (others c) c.and_words.array_long c.and_words.ensures
+    (others c) c.and_words.ensures.words_are c.and_words.ensures.both
     ∙ ap (λ m. intersection c.self.inside.n (rows_that (has_bit c.self.inside.words) c.self.inside.n) (rows_that (has_bit c.other.inside.words) m))
     (sym (same_n c))
     ∙ ap (λ (s : Rows). intersection s.n s.list (rows_of_set c.other.inside).list) c.self.view_is

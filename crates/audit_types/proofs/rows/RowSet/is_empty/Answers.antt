@@ -1,18 +1,19 @@
-use Rattle.std.proofs.Common.{replicate, sym, ap, ◌∙◌}
-use Rattle.std.proofs.lemmas.Bool.Decides.{Decides-eqb}
-use Rattle.std.proofs.lemmas.Slice.Eq.{slice_eq-Decides}
-use Rattle.audit_types.specs.Limits.{most_words}
+use Rattle.std.proofs.Common.{sym, ap, ◌∙◌, length, inl, inr, arith}
+use Rattle.std.proofs.lemmas.Bool.{cases_lt, eq-eqb, eqb-true}
 use Rattle.audit_types.specs.Rows.{Rows}
-use Rattle.audit_types.specs.Words.{words_of}
-use Rattle.audit_types.specs.WordLaws.{words-none, words-words_of, no_rows}
+use Rattle.audit_types.specs.WordLaws.{no_rows_used, zeros_used}
 use Rattle.audit_types.proofs.rows.RowSet.is_empty.Goals as goal
 
 pub returns : goal.returns
 returns c =
-    let decides = slice_eq-Decides Decides-eqb c.self.inside.words (replicate most_words 0) c.eq.result c.eq.ensures in (
-      λ yes. sym (ap (λ (s : Rows). s.list) c.self.view_is) ∙ no_rows c.self.inside.n c.self.inside.words (decides.0 yes),
-      λ empty.
-          decides.1 (sym (words-words_of c.self.inside.n c.self.inside.words c.self.invariant)
-          ∙ ap words_of (ap (λ (s : Rows). s.list) c.self.view_is ∙ empty)
-          ∙ words-none c.self.inside.n c.self.invariant.some c.self.invariant.at_most),
+    let used = c.used_words-words.result.now in
+    let first = c.used_words-words.ensures.first in
+    let rows = ap (λ (s : Rows). s.list) c.self.view_is in (
+      λ yes. sym rows ∙ no_rows_used c.self.inside.n c.self.inside.words used c.self.invariant first
+          (λ k l. c.first_word.ensures.none k (omega arith) (omega (arith, eqb-true c.first_word.result (length used) yes))),
+      λ empty. eq-eqb c.first_word.result (length used) (elim (cases_lt c.first_word.result (length used)) [
+        | inl l ↦ absurd (c.first_word.ensures.some l
+            (zeros_used c.self.inside.n c.self.inside.words used c.self.invariant first (rows ∙ empty) c.first_word.result))
+        | inr l ↦ omega (arith, c.first_word.ensures.at_most)
+      ]),
     )
