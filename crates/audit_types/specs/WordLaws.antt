@@ -104,7 +104,7 @@ below_by_bits b k none =
     omega (arith, same, and_le_r b (2 ^ k - 1), pow_pos k)
 
 -- a bit that is not 1 is 0
-no_one : (x i : ℕ) → (bit_at x i == 1) ≡ false → bit_at x i ≡ 0
+pub no_one : (x i : ℕ) → (bit_at x i == 1) ≡ false → bit_at x i ≡ 0
 no_one x i e = elim (cases_eq (bit_at x i) 1) [
   | inl one ↦ absurd (true≢false (sym (eq-eqb _ _ one) ∙ e))
   | inr other ↦ omega (arith, bit_at-lt x i)
@@ -205,7 +205,7 @@ AreWords-set n words row l h =
     }
 
 -- both bits are set
-min_test : (a b : ℕ) → a < 2 → b < 2 → (min a b == 1) ≡ ((a == 1) && (b == 1))
+pub min_test : (a b : ℕ) → a < 2 → b < 2 → (min a b == 1) ≡ ((a == 1) && (b == 1))
 min_test a b p q = grind (arith, nat_tests)
 
 -- one of two bits is set

@@ -7,6 +7,7 @@
 mod answered;
 mod column;
 pub mod laws;
+mod told;
 
 pub use answered::AnsweredSum;
 pub use column::SumColumn;
