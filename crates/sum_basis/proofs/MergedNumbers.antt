@@ -9,6 +9,7 @@ use Rattle.audit_types.specs.Numbers.{zero_less}
 use Rattle.sum_basis.specs.declared.sparse.FreeEntry.{FreeEntry}
 use Rattle.sum_basis.specs.Sparse.{scaled}
 use Rattle.sum_basis.proofs.Merges.{end_is, appended}
+use Rattle.sum_basis.proofs.Wide.{product_of}
 
 -- a number as the code passes it
 pub passed : (x y : ℤ) → FitsSigned w128 x → x ≡ y → to_z w128 (of_z w128 x) ≡ y
@@ -37,6 +38,26 @@ difference_of d by x times y p b q t r e =
 
 pub some_by : (z : ℤ) → FitsSigned w128 z → z ≢ pos 0 → to_z w128 (of_z w128 z) ≢ pos 0
 some_by z fits n e = n (sym (to_z-of_z w128 z fits) ∙ e)
+
+-- a value within the limit, as the code widens it
+pub widened_small : (x v : ℤ) → FitsSigned w128 x → x ≡ v → unsigned_abs v ≤ 2 ^ 56 → unsigned_abs (to_z w128 (of_z w128 x)) ≤ 2 ^ 56
+widened_small x v fits e h = rw (passed x v fits e) h
+
+-- products and differences of widened values
+pub product_with : (p by x v : ℤ) → FitsSigned w128 p → FitsSigned w128 by → FitsSigned w128 x → x ≡ v
+    → p ≡ to_z w128 (of_z w128 by) *ℤ to_z w128 (of_z w128 x) → to_z w128 (of_z w128 p) ≡ by *ℤ v
+product_with p by x v f g h is e = product_of p by x f g h e ∙ ap (λ z. by *ℤ z) is
+
+pub product_by : (p x v y : ℤ) → FitsSigned w128 p → FitsSigned w128 x → FitsSigned w128 y → x ≡ v
+    → p ≡ to_z w128 (of_z w128 x) *ℤ to_z w128 (of_z w128 y) → to_z w128 (of_z w128 p) ≡ v *ℤ y
+product_by p x v y f g h is e = product_of p x y f g h e ∙ ap (λ z. z *ℤ y) is
+
+pub difference_with : (d by x times y v w : ℤ) → FitsSigned w128 d → unsigned_abs by ≤ 2 ^ 56 → FitsSigned w128 x → unsigned_abs times ≤ 2 ^ 56
+    → FitsSigned w128 y → x ≡ v → y ≡ w
+    → d ≡ to_z w128 (of_z w128 by) *ℤ to_z w128 (of_z w128 x) -ℤ to_z w128 (of_z w128 times) *ℤ to_z w128 (of_z w128 y)
+    → to_z w128 (of_z w128 d) ≡ by *ℤ v -ℤ times *ℤ w
+difference_with d by x times y v w p b q t r one two e =
+    difference_of d by x times y p b q t r e ∙ ap (λ z. by *ℤ z -ℤ times *ℤ y) one ∙ ap (λ z. by *ℤ v -ℤ times *ℤ z) two
 
 -- no number within the limit passes the least number when its sign is turned
 pub negated : (z : ℤ) → unsigned_abs z ≤ 2 ^ 56 → FitsSigned w128 (pos 0 -ℤ z)
@@ -69,6 +90,10 @@ pub turned_product_of : (p times y : ℤ) → FitsSigned w128 p → unsigned_abs
 turned_product_of p times y f small g e =
     passed p _ f (e ∙ ap (λ z. z *ℤ to_z w128 (of_z w128 y)) (minus_is times (limit_fits times small) small) ∙ of_value _ y g)
     ∙ ap (λ z. neg_ℤ z *ℤ y) (to_z-of_z w128 times (limit_fits times small))
+
+pub turned_product_with : (p times y v : ℤ) → FitsSigned w128 p → unsigned_abs times ≤ 2 ^ 56 → FitsSigned w128 y → y ≡ v
+    → p ≡ to_z w128 (of_z w128 (pos 0 -ℤ to_z w128 (of_z w128 times))) *ℤ to_z w128 (of_z w128 y) → to_z w128 (of_z w128 p) ≡ neg_ℤ times *ℤ v
+turned_product_with p times y v f small g is e = turned_product_of p times y f small g e ∙ ap (λ z. neg_ℤ times *ℤ z) is
 
 -- the combination, as the code appends the ends of the lists
 pub appended_as : (out one two first second : List FreeEntry) (by times : ℤ) (i j : ℕ) → unsigned_abs by ≤ 2 ^ 56 → unsigned_abs times ≤ 2 ^ 56

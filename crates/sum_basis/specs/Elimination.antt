@@ -50,6 +50,10 @@ pub record IsCleared (n : ℕ) (new row cleared : List ℤ) : Type 0 where
   pub back : (span : List (List ℤ)) → InSpan span cleared → InSpan span new → InSpan span row
   pub there : (span : List (List ℤ)) → InSpan span row → InSpan span new → InSpan span cleared
 
+-- the row has no entry above 2 ^ 56 when it is cleared
+abbrev pub StaysSmall : ℕ → List ℤ → List ℤ → Type 0
+StaysSmall n new row = (cleared : List ℤ) → IsCleared n new row cleared → IsSmall cleared
+
 -- the rows cleared, each in its place
 abbrev pub AreCleared : ℕ → List ℤ → List (List ℤ) → List (List ℤ) → Type 0
 AreCleared n new [] [] = Unit {0}

@@ -1,5 +1,5 @@
 //! Whether what a form with a new list leaves of two rows are multiples of one another, by their lists alone.
-ghost use Rattle.std.specs.Prelude.{◌≡◌, ◌≢◌, ℕ, ◌<◌, ◌≤◌, ◌^◌, ℤ, pos, List, [], ◌∷◌, length, IfOk, IfSome, IfNone, IsTrue, slice_index_or, unsigned_abs};
+ghost use Rattle.std.specs.Prelude.{◌≡◌, ◌≢◌, ℕ, ◌<◌, ◌≤◌, ◌^◌, ◌↔◌, ℤ, pos, List, [], ◌∷◌, length, IfOk, IfSome, IfNone, IsTrue, slice_index_or, unsigned_abs};
 ghost use Rattle.std.specs.List.{AllByRecursion};
 ghost use Rattle.sum_basis.specs.Limits.{most_columns};
 ghost use Rattle.audit_types.specs.Form.{pivot};
@@ -13,10 +13,10 @@ ghost use Rattle.sum_basis.specs.Ties.{MayTell};
 
 use crate::counting::{is_zero, times_at};
 use crate::form::Form;
-use crate::keeping::same_list;
-use crate::merging::combine_into;
+use crate::merging::{combine_into, wide_list};
 use crate::primitive_list::make_primitive;
 use crate::sparse::{FreeEntry, copy_list};
+use crate::wide_entry::WideEntry;
 use audit_types::{NoMemory, RowSet};
 use std::alloc::Global;
 
@@ -27,7 +27,7 @@ fn cleared_after(
     entries: &[FreeEntry],
     new: &[FreeEntry],
     times: i128,
-) -> Result<Vec<FreeEntry>, NoMemory>
+) -> Result<Vec<WideEntry>, NoMemory>
     requires at_most { columns ≤ most_columns }
     requires entries { AreSmallEntries columns entries.now }
     requires new { AreSmallEntries columns new.now }
@@ -38,7 +38,7 @@ fn cleared_after(
     ensures is { IfOk result (λ list. (j : ℕ) → entry_at list.items j ≡ without_new new.now (entry_at entries.now) j) }
 {
     let mut list = Vec::with_capacity(alloc, columns as usize)?;
-    let by = new[0].value;
+    let by = new[0].number();
     combine_into(&mut list, columns, &by, entries, &times, new);
     Ok(list)
 }
@@ -49,7 +49,7 @@ fn left_after(
     columns: u16,
     entries: &[FreeEntry],
     new: &[FreeEntry],
-) -> Result<Vec<FreeEntry>, NoMemory>
+) -> Result<Vec<WideEntry>, NoMemory>
     requires at_most { columns ≤ most_columns }
     requires entries { AreSmallEntries columns entries.now }
     requires new { AreSmallEntries columns new.now }
@@ -59,7 +59,7 @@ fn left_after(
 {
     let times = times_at(entries, new);
     if is_zero(times) {
-        copy_list(alloc, entries, columns)
+        wide_list(alloc, entries, columns)
     } else {
         cleared_after(alloc, columns, entries, new, times)
     }
@@ -71,7 +71,7 @@ fn primitive_after(
     columns: u16,
     entries: &[FreeEntry],
     new: &[FreeEntry],
-) -> Result<Option<Vec<FreeEntry>>, NoMemory>
+) -> Result<Option<Vec<WideEntry>>, NoMemory>
     requires at_most { columns ≤ most_columns }
     requires entries { AreSmallEntries columns entries.now }
     requires new { AreSmallEntries columns new.now }
@@ -83,6 +83,21 @@ fn primitive_after(
     }
     make_primitive(&mut list);
     Ok(Some(list))
+}
+
+// Whether the lists have the same entries.
+fn same_wide_list(list: &[WideEntry], other: &[WideEntry]) -> bool
+    ensures { IsTrue result ↔ (list.now ≡ other.now) }
+{
+    if list.len() != other.len() {
+        return false;
+    }
+    for (k, entry) in list.iter().enumerate() {
+        if entry.place() != other[k].place() || entry.value() != other[k].value() {
+            return false;
+        }
+    }
+    true
 }
 
 /// Whether what is left of the two is surely a multiple of one list.
@@ -105,7 +120,7 @@ pub(crate) fn are_alike(
     let Some(other) = primitive_after(alloc, columns, others, new)? else {
         return Ok(false);
     };
-    Ok(same_list(&one, &other))
+    Ok(same_wide_list(&one, &other))
 }
 
 // The row whose pivot is the column, if it is one.

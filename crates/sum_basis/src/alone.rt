@@ -24,7 +24,7 @@ fn is_cleared_alone(form: &Form, list: &[FreeEntry], k: u16) -> bool
     if free.is_empty() {
         return false;
     }
-    are_parallel(list[0].value, free, free[0].value, list)
+    are_parallel(list[0].number(), free, free[0].number(), list)
 }
 
 /// Whether the unit row of row k's pivot lies in the span of the form with a list that was left of another row: row k has no other entry,

@@ -114,7 +114,7 @@ fn foresee(form: &Form, k: u16, list: &[FreeEntry], new: &Option<NewPoint>, kept
         return;
     }
     kept.points[place] = point_after(new, kept.points[place], value);
-    kept.heads[place] = product(list[0].value, form.entry(k, pivot));
+    kept.heads[place] = product(list[0].number(), form.entry(k, pivot));
     kept.unknown.add(pivot);
 }
 

@@ -88,12 +88,12 @@ fn move_row(counts: &mut [u16], free: &[FreeEntry], new: &[FreeEntry], times: i1
     ensures length { length counts.new ≡ length counts.old }
     ensures moved { (j : ℕ) → slice_index_or counts.new j 0 + one_if (entry_at free.now j) ≡ slice_index_or counts.old j 0 + one_if (without_new new.now (entry_at free.now) j) }
 {
-    let by = new[0].value;
+    let by = new[0].number();
     for e in new {
         let place = e.place as usize;
         let before = value_at(free, e.place);
         let count = counts[place];
-        counts[place] = moved(count, by, before, times, e.value);
+        counts[place] = moved(count, by, before, times, e.number());
     }
 }
 

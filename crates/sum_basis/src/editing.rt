@@ -20,14 +20,15 @@ fn sum(x: i128, y: i128) -> i128
 
 // Gives entry k another value. 0 takes the entry out.
 fn replace(entries: &mut Vec<FreeEntry>, k: usize, place: u16, value: i128)
-    requires { k < vec_len entries.old }
+    requires k { k < vec_len entries.old }
+    requires small { unsigned_abs value ≤ 2 ^ 56 }
     ensures items { entries.new.items ≡ cond (is_zero value) (remove entries.old.items k) (set entries.old.items k (record { place = place; value = value })) }
     ensures capacity { vec_capacity entries.new ≡ vec_capacity entries.old }
 {
     if value == 0 {
         entries.remove(k);
     } else {
-        entries[k] = FreeEntry { place, value };
+        entries[k] = FreeEntry::new(place, value);
     }
 }
 
@@ -38,6 +39,7 @@ fn add_at(entries: &mut Vec<FreeEntry>, columns: u16, place: u16, number: i128) 
     requires small { unsigned_abs (entry_at entries.old.items place) ≤ 2 ^ 113 }
     requires number { unsigned_abs number ≤ 2 ^ 113 }
     requires some { number ≢ pos 0 }
+    requires narrow { unsigned_abs (entry_at entries.old.items place +ℤ number) ≤ 2 ^ 56 }
     requires room { columns ≤ vec_capacity entries.old }
     ensures listed { IsListed 0 columns entries.new.items }
     ensures added { (j : ℕ) → entry_at entries.new.items j ≡ entry_at entries.old.items j +ℤ cond (nat_eq place j) number (pos 0) }
@@ -47,8 +49,8 @@ fn add_at(entries: &mut Vec<FreeEntry>, columns: u16, place: u16, number: i128) 
     let k = places_before(entries, place);
     let before = value_from(entries, k, place);
     if before == 0 {
-        let value = number;
-        entries.insert(k, FreeEntry { place, value }).unwrap();
+        let entry = FreeEntry::new(place, number);
+        entries.insert(k, entry).unwrap();
         return number;
     }
     let after = sum(before, number);
@@ -71,6 +73,7 @@ pub fn take_entries(
     requires some { times ≢ pos 0 }
     requires taken { IsListed 0 columns taken.now }
     requires taken_small { AllByRecursion (λ e. unsigned_abs e.value ≤ 2 ^ 56) taken.now }
+    requires narrow { (j : ℕ) → unsigned_abs (entry_at entries.old.items j -ℤ times *ℤ entry_at taken.now j) ≤ 2 ^ 56 }
     requires room { columns ≤ vec_capacity entries.old }
     ensures listed { IsListed 0 columns entries.new.items }
     ensures taken { (j : ℕ) → entry_at entries.new.items j ≡ entry_at entries.old.items j -ℤ times *ℤ entry_at taken.now j }
@@ -80,7 +83,7 @@ pub fn take_entries(
 {
     let mut bound = most;
     for e in taken {
-        let number = negative(product(times, e.value));
+        let number = negative(product(times, e.number()));
         let after = add_at(entries, columns, e.place, number);
         bound = greater(bound, after.unsigned_abs());
     }

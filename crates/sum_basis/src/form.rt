@@ -24,7 +24,7 @@ use crate::looking::look_ahead;
 use crate::pinned::least_pinned;
 use crate::primitive_list::{are_within, make_primitive};
 use crate::row_with::{RowWith, row_with_list};
-use crate::sparse::{FreeEntry, SparseRow, copy_list, copy_rows, list_of, reduce};
+use crate::sparse::{FreeEntry, SparseRow, copy_list, copy_rows, list_of, reduce, short_list};
 use crate::ties::ties_some_but;
 use crate::{Grown, Prospect};
 use audit_types::{MOST_ROWS, NoMemory, RowSet};
@@ -133,7 +133,8 @@ impl Form {
         if !are_within(&list, limit) {
             return Ok(Left::Large);
         }
-        Ok(Left::Entries(list))
+        let kept = short_list(self.alloc, &list, self.columns)?;
+        Ok(Left::Entries(kept))
     }
 
     /// Tells what the form would become with a row of zeros and ones, which is used up, and the list that the form leaves of it.
@@ -239,9 +240,16 @@ impl Form {
     {
         self.rows.reserve(1)?;
         let mut room = Vec::with_capacity(self.alloc, self.columns as usize)?;
+        let mut combined = Vec::with_capacity(self.alloc, self.columns as usize)?;
         // The new list's memory, and the room's, are used again for the next row. The row keeps a copy, in memory that nothing longer was in.
         let list = copy_list(self.alloc, &new, self.columns)?;
-        grow_rows(&mut self.rows, self.columns, list, &mut room);
+        grow_rows(
+            &mut self.rows,
+            self.columns,
+            list,
+            &mut room,
+            &mut combined,
+        );
         self.greatest_bound = greatest_bound(&self.rows);
         match common_multiple(&self.rows) {
             Some(common) => self.common = common,

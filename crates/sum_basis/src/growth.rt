@@ -3,13 +3,14 @@ ghost use Rattle.std.specs.Prelude.{◌≡◌, ◌≢◌, ◌↔◌, ◌⊎◌, 
 ghost use Rattle.std.specs.List.{AllByRecursion};
 ghost use Rattle.std.specs.Vec.{vec_len, vec_capacity};
 ghost use Rattle.audit_types.specs.Form.{IsPrimitive, IsReducedForm, IsLeastCommonMultiple, IsNarrow, pivot, pivot_entry, pivot_entries};
-ghost use Rattle.sum_basis.specs.Elimination.{IsSmall, IsSmallForm, IsZeroAtPivots, IsCleared, AreCleared, IsLone};
+ghost use Rattle.sum_basis.specs.Elimination.{IsSmall, IsSmallForm, IsZeroAtPivots, StaysSmall, IsCleared, AreCleared, IsLone};
 ghost use Rattle.sum_basis.specs.declared.sparse.SparseRow.{SparseRow};
 ghost use Rattle.sum_basis.specs.Sparse.{entry_at, row_of, rows_of, entries_of, IsKept, IsNew};
 
 use crate::cleared_list::{bound_of, clear_into, value_at};
 use crate::editing::take_entries;
 use crate::sparse::{FreeEntry, SparseRow};
+use crate::wide_entry::WideEntry;
 use audit_types::MOST_WIDTH;
 use int_rows::lcm_within;
 use std::mem;
@@ -41,6 +42,7 @@ fn clear_in_place(row: &mut SparseRow, columns: u16, new: &[FreeEntry], times: i
     requires times { times ≡ entry_at row.old.free.items (slice_index_or new.now 0 (record { place = 0; value = pos 0 })).place }
     requires some { times ≢ pos 0 }
     requires ones { (row.old.head ≡ pos 1) × ((slice_index_or new.now 0 (record { place = 0; value = pos 0 })).value ≡ pos 1) }
+    requires narrow { StaysSmall columns (row_of columns new.now) (row_of columns (entries_of row.old)) }
     ensures kept { IsKept columns row.new }
     ensures cleared { IsCleared columns (row_of columns new.now) (row_of columns (entries_of row.old)) (row_of columns (entries_of row.new)) }
 {
@@ -87,8 +89,10 @@ fn clear_anew(
     times: i128,
     longest: usize,
     room: &mut Vec<FreeEntry>,
+    combined: &mut Vec<WideEntry>,
 )
     requires room { columns ≤ vec_capacity room.old }
+    requires combined_room { columns ≤ vec_capacity combined.old }
     requires kept { IsKept columns row.old }
     requires primitive { IsPrimitive columns (row_of columns (entries_of row.old)) }
     requires small { IsSmall (row_of columns (entries_of row.old)) }
@@ -96,12 +100,14 @@ fn clear_anew(
     requires before { row.old.pivot < (slice_index_or new.now 0 (record { place = 0; value = pos 0 })).place }
     requires times { times ≡ entry_at row.old.free.items (slice_index_or new.now 0 (record { place = 0; value = pos 0 })).place }
     requires some { times ≢ pos 0 }
+    requires narrow { StaysSmall columns (row_of columns new.now) (row_of columns (entries_of row.old)) }
     ensures kept { IsKept columns row.new }
     ensures cleared { IsCleared columns (row_of columns new.now) (row_of columns (entries_of row.old)) (row_of columns (entries_of row.new)) }
     ensures room { columns ≤ vec_capacity room.new }
+    ensures combined_room { columns ≤ vec_capacity combined.new }
 {
     room.clear();
-    row.head = clear_into(room, columns, row, new, times);
+    row.head = clear_into(room, combined, columns, row, new, times);
     take_list(&mut row.free, columns, longest, room);
     row.most = bound_of(row.head, &row.free);
 }
@@ -113,16 +119,20 @@ pub(crate) fn clear(
     new: &[FreeEntry],
     longest: usize,
     room: &mut Vec<FreeEntry>,
+    combined: &mut Vec<WideEntry>,
 )
     requires room { columns ≤ vec_capacity room.old }
+    requires combined_room { columns ≤ vec_capacity combined.old }
     requires kept { IsKept columns row.old }
     requires primitive { IsPrimitive columns (row_of columns (entries_of row.old)) }
     requires small { IsSmall (row_of columns (entries_of row.old)) }
     requires new { IsNew columns new.now }
     requires zero { entry_at new.now row.old.pivot ≡ pos 0 }
+    requires narrow { StaysSmall columns (row_of columns new.now) (row_of columns (entries_of row.old)) }
     ensures kept { IsKept columns row.new }
     ensures cleared { IsCleared columns (row_of columns new.now) (row_of columns (entries_of row.old)) (row_of columns (entries_of row.new)) }
     ensures room { columns ≤ vec_capacity room.new }
+    ensures combined_room { columns ≤ vec_capacity combined.new }
 {
     let times = value_at(&row.free, new[0].place);
     if times == 0 {
@@ -131,7 +141,7 @@ pub(crate) fn clear(
     if changes_few(row, new) {
         clear_in_place(row, columns, new, times);
     } else {
-        clear_anew(row, columns, new, times, longest, room);
+        clear_anew(row, columns, new, times, longest, room, combined);
     }
 }
 
@@ -145,12 +155,20 @@ fn longest_list(rows: &[SparseRow]) -> usize {
 }
 
 // Clears all rows at the new row's pivot.
-fn clear_all(rows: &mut Vec<SparseRow>, columns: u16, new: &[FreeEntry], room: &mut Vec<FreeEntry>)
+fn clear_all(
+    rows: &mut Vec<SparseRow>,
+    columns: u16,
+    new: &[FreeEntry],
+    room: &mut Vec<FreeEntry>,
+    combined: &mut Vec<WideEntry>,
+)
     requires room { columns ≤ vec_capacity room.old }
+    requires combined_room { columns ≤ vec_capacity combined.old }
     requires kept { AllByRecursion (IsKept columns) rows.old.items }
     requires form { IsSmallForm columns (rows_of columns rows.old.items) }
     requires new { IsNew columns new.now }
     requires zero { IsZeroAtPivots (rows_of columns rows.old.items) (row_of columns new.now) }
+    requires narrow { AllByRecursion (StaysSmall columns (row_of columns new.now)) (rows_of columns rows.old.items) }
     ensures kept { AllByRecursion (IsKept columns) rows.new.items }
     ensures cleared { AreCleared columns (row_of columns new.now) (rows_of columns rows.old.items) (rows_of columns rows.new.items) }
     ensures capacity { vec_capacity rows.new ≡ vec_capacity rows.old }
@@ -158,7 +176,7 @@ fn clear_all(rows: &mut Vec<SparseRow>, columns: u16, new: &[FreeEntry], room: &
 {
     let longest = longest_list(rows);
     for k in 0..rows.len() {
-        clear(&mut rows[k], columns, new, longest, room);
+        clear(&mut rows[k], columns, new, longest, room, combined);
     }
 }
 
@@ -182,27 +200,31 @@ pub fn grow_rows(
     columns: u16,
     new: Vec<FreeEntry>,
     room: &mut Vec<FreeEntry>,
+    combined: &mut Vec<WideEntry>,
 )
     requires space { vec_len rows.old < vec_capacity rows.old }
     requires room { columns ≤ vec_capacity room.old }
+    requires combined_room { columns ≤ vec_capacity combined.old }
     requires new_room { columns ≤ vec_capacity new }
     requires kept { AllByRecursion (IsKept columns) rows.old.items }
     requires form { IsSmallForm columns (rows_of columns rows.old.items) }
     requires new { IsNew columns new.items }
     requires zero { IsZeroAtPivots (rows_of columns rows.old.items) (row_of columns new.items) }
+    requires narrow { AllByRecursion (StaysSmall columns (row_of columns new.items)) (rows_of columns rows.old.items) }
     ensures kept { AllByRecursion (IsKept columns) rows.new.items }
     ensures reduced { IsReducedForm columns (rows_of columns rows.old.items ++ row_of columns new.items ∷ []) (rows_of columns rows.new.items) }
 {
-    clear_all(rows, columns, &new, room);
+    clear_all(rows, columns, &new, room, combined);
     let mut free = new;
     let first = free.remove(0);
     let place = place_of(rows, first.place);
-    let most = bound_of(first.value, &free);
+    let head = first.number();
+    let most = bound_of(head, &free);
     rows.insert(
         place,
         SparseRow {
             pivot: first.place,
-            head: first.value,
+            head,
             most,
             free,
         },

@@ -14,6 +14,7 @@ use crate::Prospect;
 use crate::cleared_list::{bound_of, combine_at_pivot, product, value_at};
 use crate::parallel::are_parallel;
 use crate::sparse::{FreeEntry, SparseRow};
+use crate::wide_entry::WideEntry;
 use crate::within_limit::head_within;
 use int_rows::lcm_within;
 
@@ -30,7 +31,7 @@ fn clear_aside(
     columns: u16,
     width: u64,
     new: &[FreeEntry],
-    room: &mut Vec<FreeEntry>,
+    room: &mut Vec<WideEntry>,
 ) -> Option<Cleared>
     requires width { IsWidth width }
     requires room { columns ≤ vec_capacity room.old }
@@ -71,7 +72,7 @@ fn look_at_each(
     columns: u16,
     width: u64,
     new: &[FreeEntry],
-    room: &mut Vec<FreeEntry>,
+    room: &mut Vec<WideEntry>,
 ) -> Prospect
     requires width { IsWidth width }
     requires room { columns ≤ vec_capacity room.old }
@@ -83,7 +84,7 @@ fn look_at_each(
     ensures foresees { Foresees (record { n = columns; width = width; rows = rows_of columns rows.now }) (row_of columns new.now) result }
     ensures room { columns ≤ vec_capacity room.new }
 {
-    let mut common = new[0].value;
+    let mut common = new[0].number();
     let mut fixing = new.len() == 1;
     for row in rows {
         let Some(cleared) = clear_aside(row, columns, width, new, room) else {
@@ -121,7 +122,7 @@ fn widest_is_too_large(
     columns: u16,
     width: u64,
     new: &[FreeEntry],
-    room: &mut Vec<FreeEntry>,
+    room: &mut Vec<WideEntry>,
 ) -> bool
     requires width { IsWidth width }
     requires room { columns ≤ vec_capacity room.old }
@@ -186,7 +187,7 @@ fn look_closely(
     width: u64,
     new: &[FreeEntry],
     most: u128,
-    room: &mut Vec<FreeEntry>,
+    room: &mut Vec<WideEntry>,
 ) -> Option<bool>
     requires width { IsWidth width }
     requires room { columns ≤ vec_capacity room.old }
@@ -199,7 +200,7 @@ fn look_closely(
     ensures cleared { (made : List ℤ) × IsCleared columns (row_of columns new.now) (row_of columns (entries_of row.now)) made × MatchOption result (¬ (IsWithin width made)) (λ lone. IsWithin width made × (IsTrue lone ↔ IsLone made)) }
     ensures room { columns ≤ vec_capacity room.new }
 {
-    let by = new[0].value;
+    let by = new[0].number();
     let times = value_at(&row.free, new[0].place);
     if times == 0 {
         return Some(row.free.is_empty());
@@ -220,7 +221,7 @@ fn look_at(
     new: &[FreeEntry],
     most: u128,
     sure: u128,
-    room: &mut Vec<FreeEntry>,
+    room: &mut Vec<WideEntry>,
 ) -> Option<bool>
     requires width { IsWidth width }
     requires room { columns ≤ vec_capacity room.old }
@@ -248,7 +249,7 @@ fn look_by_bounds(
     width: u64,
     greatest_bound: u128,
     new: &[FreeEntry],
-    room: &mut Vec<FreeEntry>,
+    room: &mut Vec<WideEntry>,
 ) -> Prospect
     requires width { IsWidth width }
     requires room { columns ≤ vec_capacity room.old }
@@ -266,8 +267,9 @@ fn look_by_bounds(
         // A unit row takes a column out of the others, and so leaves none with a greater entry.
         return Prospect::Fixing;
     }
-    let most = bound_of(new[0].value, new);
-    let sure = sure_bound(width, new[0].value, most);
+    let by = new[0].number();
+    let most = bound_of(by, new);
+    let sure = sure_bound(width, by, most);
     let mut fixing = false;
     for row in rows {
         let Some(lone) = look_at(row, columns, width, new, most, sure, room) else {
@@ -293,7 +295,7 @@ pub fn look_ahead(
     common: i128,
     greatest_bound: u128,
     new: &[FreeEntry],
-    room: &mut Vec<FreeEntry>,
+    room: &mut Vec<WideEntry>,
 ) -> Prospect
     requires width { IsWidth width }
     requires room { columns ≤ vec_capacity room.old }
@@ -309,7 +311,7 @@ pub fn look_ahead(
     ensures foresees { Foresees (record { n = columns; width = width; rows = rows_of columns rows.now }) (row_of columns new.now) result }
     ensures room { columns ≤ vec_capacity room.new }
 {
-    if product(new[0].value, common) <= width as i128 {
+    if product(new[0].number(), common) <= width as i128 {
         look_by_bounds(rows, columns, width, greatest_bound, new, room)
     } else if widest_is_too_large(rows, columns, width, new, room) {
         Prospect::Wide

@@ -1,5 +1,5 @@
 //! Two lists of entries combined, place by place.
-ghost use Rattle.std.specs.Prelude.{◌≡◌, ◌≢◌, ◌⊎◌, ℕ, ◌<◌, ◌≤◌, ◌+◌, ◌++◌, ◌^◌, cond, ℤ, pos, ◌-ℤ◌, ◌*ℤ◌, [], ◌∷◌, length, map, drop, unsigned_abs};
+ghost use Rattle.std.specs.Prelude.{◌≡◌, ◌≢◌, ◌⊎◌, ℕ, ◌<◌, ◌≤◌, ◌+◌, ◌++◌, ◌^◌, cond, ℤ, pos, ◌-ℤ◌, ◌*ℤ◌, [], ◌∷◌, length, map, drop, unsigned_abs, IfOk};
 ghost use Rattle.std.specs.List.{AllByRecursion};
 ghost use Rattle.std.specs.Vec.{vec_len, vec_capacity};
 ghost use Rattle.audit_types.specs.Truth.{is_zero};
@@ -8,13 +8,16 @@ ghost use Rattle.sum_basis.specs.Sparse.{entry_at, IsListed, scaled};
 
 use crate::cleared_list::product;
 use crate::sparse::FreeEntry;
+use crate::wide_entry::WideEntry;
+use audit_types::NoMemory;
+use std::alloc::Global;
 
 /// The value of entry k, if that stands at the place, and else 0.
 pub fn value_from(entries: &[FreeEntry], k: usize, place: u16) -> i128
     ensures { result ≡ first_value (drop k entries.now) place }
 {
     if k < entries.len() && entries[k].place == place {
-        entries[k].value
+        entries[k].number()
     } else {
         0
     }
@@ -33,18 +36,18 @@ pub fn difference(by: i128, x: i128, times: i128, y: i128) -> i128
 }
 
 /// Appends an entry, if it is not 0. There is room for it.
-pub fn put(out: &mut Vec<FreeEntry>, place: u16, value: i128)
+pub fn put(out: &mut Vec<WideEntry>, place: u16, value: i128)
     requires { vec_len out.old < vec_capacity out.old }
     ensures items { out.new.items ≡ cond (is_zero value) out.old.items (out.old.items ++ record { place = place; value = value } ∷ []) }
     ensures capacity { vec_capacity out.new ≡ vec_capacity out.old }
 {
     if value != 0 {
-        out.push_reserved(FreeEntry { place, value });
+        out.push_reserved(WideEntry::new(place, value));
     }
 }
 
 // Appends the entries, each as often as `by` says. There is room for them.
-fn append(out: &mut Vec<FreeEntry>, by: i128, rest: &[FreeEntry])
+fn append(out: &mut Vec<WideEntry>, by: i128, rest: &[FreeEntry])
     requires room { vec_len out.old + length rest.now ≤ vec_capacity out.old }
     requires by { unsigned_abs by ≤ 2 ^ 56 }
     requires small { AllByRecursion (λ e. unsigned_abs e.value ≤ 2 ^ 56) rest.now }
@@ -52,12 +55,24 @@ fn append(out: &mut Vec<FreeEntry>, by: i128, rest: &[FreeEntry])
     ensures capacity { vec_capacity out.new ≡ vec_capacity out.old }
 {
     for e in rest {
-        let value = product(by, e.value);
-        out.push_reserved(FreeEntry {
-            place: e.place,
-            value,
-        });
+        let value = product(by, e.number());
+        out.push_reserved(WideEntry::new(e.place, value));
     }
+}
+
+/// An equal list of wide entries, with room for one entry a column.
+pub fn wide_list(
+    alloc: Global,
+    entries: &[FreeEntry],
+    columns: u16,
+) -> Result<Vec<WideEntry>, NoMemory>
+    requires length { length entries.now ≤ columns }
+    requires small { AllByRecursion (λ e. unsigned_abs e.value ≤ 2 ^ 56) entries.now }
+    ensures { IfOk result (λ list. list.items ≡ entries.now) }
+{
+    let mut list = Vec::with_capacity(alloc, columns as usize)?;
+    append(&mut list, 1, entries);
+    Ok(list)
 }
 
 /// Writes into an empty list `by` times the one list less `times` times the other.
@@ -65,7 +80,7 @@ fn append(out: &mut Vec<FreeEntry>, by: i128, rest: &[FreeEntry])
 // each product takes three multiplications in place of one.
 #[inline(never)]
 pub fn combine_into(
-    out: &mut Vec<FreeEntry>,
+    out: &mut Vec<WideEntry>,
     columns: u16,
     by: &i128,
     first: &[FreeEntry],
@@ -92,16 +107,16 @@ pub fn combine_into(
         let one = first[i];
         let other = second[j];
         if one.place < other.place {
-            put(out, one.place, product(*by, one.value));
+            put(out, one.place, product(*by, one.number()));
             i += 1;
         } else if other.place < one.place {
-            put(out, other.place, product(-*times, other.value));
+            put(out, other.place, product(-*times, other.number()));
             j += 1;
         } else {
             put(
                 out,
                 one.place,
-                difference(*by, one.value, *times, other.value),
+                difference(*by, one.number(), *times, other.number()),
             );
             i += 1;
             j += 1;

@@ -1,5 +1,5 @@
 //! Two lists of entries combined over a divisor, place by place, if it divides each value.
-ghost use Rattle.std.specs.Prelude.{◌≡◌, ◌≢◌, ℕ, ◌<◌, ◌≤◌, ◌+◌, ◌++◌, ◌^◌, cond, ℤ, pos, ◌<ℤ◌, ◌-ℤ◌, ◌*ℤ◌, [], ◌∷◌, length, map, unsigned_abs, IsTrue};
+ghost use Rattle.std.specs.Prelude.{◌≡◌, ◌≢◌, ℕ, ◌<◌, ◌≤◌, ◌+◌, ◌++◌, ◌^◌, cond, ℤ, pos, ◌<ℤ◌, ◌-ℤ◌, ◌*ℤ◌, [], ◌∷◌, length, map, unsigned_abs, IsTrue, IfSome};
 ghost use Rattle.std.specs.Int.{◌∣◌};
 ghost use Rattle.std.specs.List.{AllByRecursion};
 ghost use Rattle.std.specs.Vec.{vec_len, vec_capacity};
@@ -7,7 +7,7 @@ ghost use Rattle.audit_types.specs.Truth.{is_zero};
 ghost use Rattle.sum_basis.specs.Sparse.{entry_at, IsListed, scaled};
 
 use crate::cleared_list::{product, value_at};
-use crate::merging::{combine_into, difference, put};
+use crate::merging::difference;
 use crate::sparse::FreeEntry;
 use int_rows::Divisor;
 
@@ -18,16 +18,16 @@ pub const LONG: usize = 64;
 const FEW: usize = 12;
 
 // An entry to be tried. They are spread over the list, since neighbours often have the same value.
-fn entry_to_try(entries: &[FreeEntry], k: usize) -> FreeEntry
+fn entry_to_try(entries: &[FreeEntry], k: usize) -> Option<FreeEntry>
     requires { IsListed 0 65536 entries.now }
-    ensures { result.value ≡ entry_at entries.now result.place }
+    ensures { IfSome result (λ e. e.value ≡ entry_at entries.now e.place) }
 {
     let at = k.wrapping_mul(entries.len() / FEW);
     if at < entries.len() {
-        return entries[at];
+        Some(entries[at])
+    } else {
+        None
     }
-    let value = value_at(entries, 0);
-    FreeEntry { place: 0, value }
 }
 
 /// A divisor of the pivot entry that each divisor of it and of all values divides: that of the pivot entry and a few values.
@@ -54,12 +54,46 @@ pub fn first_divisor(
         if divisor.is_one() {
             return divisor;
         }
-        let entry = entry_to_try(first, k);
+        let Some(entry) = entry_to_try(first, k) else {
+            return divisor;
+        };
         let other = value_at(second, entry.place);
-        let number = difference(by, entry.value, times, other);
+        let number = difference(by, entry.number(), times, other);
         divisor = divisor.with(number);
     }
     divisor
+}
+
+// The number in 64 bits, if it fits them.
+fn short_of(value: i128) -> Option<i64>
+    ensures { IfSome result (λ short. short ≡ value) }
+{
+    if value < i64::MIN as i128 || value > i64::MAX as i128 {
+        return None;
+    }
+    Some(value as i64)
+}
+
+// The quotient of a value, if there is one that fits 64 bits.
+fn quotient_of(value: i128, divisor: &Divisor) -> Option<i64>
+    requires { unsigned_abs value ≤ 2 ^ 126 }
+    ensures { IfSome result (λ q. value ≡ pos divisor.now *ℤ q) }
+{
+    if divisor.is_one() {
+        return short_of(value);
+    }
+    short_of(divisor.exact(value)?)
+}
+
+// Appends an entry, if it is not 0. There is room for it.
+fn put_short(out: &mut Vec<FreeEntry>, place: u16, value: i64)
+    requires { vec_len out.old < vec_capacity out.old }
+    ensures items { out.new.items ≡ cond (is_zero value) out.old.items (out.old.items ++ record { place = place; value = value } ∷ []) }
+    ensures capacity { vec_capacity out.new ≡ vec_capacity out.old }
+{
+    if value != 0 {
+        out.push_reserved(FreeEntry { place, value });
+    }
 }
 
 // Appends an entry with the quotient of the value, if that isn't 0, and tells whether there is one. There is room for it.
@@ -70,10 +104,10 @@ fn put_over(out: &mut Vec<FreeEntry>, place: u16, value: i128, divisor: &Divisor
     ensures items { IsTrue result → map (scaled (pos divisor.now)) out.new.items ≡ cond (is_zero value) (map (scaled (pos divisor.now)) out.old.items) (map (scaled (pos divisor.now)) out.old.items ++ record { place = place; value = value } ∷ []) }
     ensures capacity { vec_capacity out.new ≡ vec_capacity out.old }
 {
-    let Some(quotient) = divisor.exact(value) else {
+    let Some(quotient) = quotient_of(value, divisor) else {
         return false;
     };
-    put(out, place, quotient);
+    put_short(out, place, quotient);
     true
 }
 
@@ -86,7 +120,7 @@ fn append_over(out: &mut Vec<FreeEntry>, by: i128, rest: &[FreeEntry], divisor: 
     ensures capacity { vec_capacity out.new ≡ vec_capacity out.old }
 {
     for e in rest {
-        let Some(value) = divisor.exact(product(by, e.value)) else {
+        let Some(value) = quotient_of(product(by, e.number()), divisor) else {
             return false;
         };
         out.push_reserved(FreeEntry {
@@ -124,27 +158,23 @@ pub fn combine_over(
     ensures combined { IsTrue result → (j : ℕ) → pos divisor.now *ℤ entry_at out.new.items j ≡ by.now *ℤ entry_at first.now j -ℤ times.now *ℤ entry_at second.now j }
     ensures capacity { vec_capacity out.new ≡ vec_capacity out.old }
 {
-    if divisor.is_one() {
-        combine_into(out, columns, by, first, times, second);
-        return true;
-    }
     let mut i = 0;
     let mut j = 0;
     while i < first.len() && j < second.len() {
         let one = first[i];
         let other = second[j];
         if one.place < other.place {
-            if !put_over(out, one.place, product(*by, one.value), divisor) {
+            if !put_over(out, one.place, product(*by, one.number()), divisor) {
                 return false;
             }
             i += 1;
         } else if other.place < one.place {
-            if !put_over(out, other.place, product(-*times, other.value), divisor) {
+            if !put_over(out, other.place, product(-*times, other.number()), divisor) {
                 return false;
             }
             j += 1;
         } else {
-            let value = difference(*by, one.value, *times, other.value);
+            let value = difference(*by, one.number(), *times, other.number());
             if !put_over(out, one.place, value, divisor) {
                 return false;
             }

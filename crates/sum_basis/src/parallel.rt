@@ -14,7 +14,7 @@ fn are_alike(by: i128, first: FreeEntry, times: i128, second: FreeEntry) -> bool
     requires second { unsigned_abs second.value ≤ 2 ^ 56 }
     ensures { IsTrue result ↔ (scaled by first ≡ scaled times second) }
 {
-    first.place == second.place && product(by, first.value) == product(times, second.value)
+    first.place == second.place && product(by, first.number()) == product(times, second.number())
 }
 
 /// Whether `by` times the one list is `times` times the other.

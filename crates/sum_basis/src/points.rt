@@ -82,7 +82,7 @@ pub(crate) fn point_of(weights: &[Point], entries: &[FreeEntry]) -> Point
         second: 0,
     };
     for e in entries {
-        point = with_value(point, weights[e.place as usize], residue(e.value));
+        point = with_value(point, weights[e.place as usize], residue(e.number()));
     }
     point
 }
@@ -97,7 +97,7 @@ pub(crate) fn new_point(weights: &[Point], new: &[FreeEntry]) -> Option<NewPoint
     }
     Some(NewPoint {
         place: new[0].place,
-        value: residue(new[0].value),
+        value: residue(new[0].number()),
         point: point_of(weights, new),
     })
 }

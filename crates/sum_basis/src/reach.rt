@@ -21,6 +21,7 @@ use crate::elimination::write_set;
 use crate::form::Form;
 use crate::merging::combine_into;
 use crate::sparse::FreeEntry;
+use crate::wide_entry::WideEntry;
 use audit_types::{MOST_ROWS, NoMemory, RowSet};
 use std::alloc::Global;
 
@@ -40,9 +41,26 @@ fn is_near(counts: &[u16], reach: u16, entries: &[FreeEntry]) -> bool
     false
 }
 
+// The same of a list that was combined.
+fn is_combined_near(counts: &[u16], reach: u16, entries: &[WideEntry]) -> bool
+    requires { IsListed 0 (length counts.now) entries.now }
+    ensures { IsTrue result ↔ IsNear counts.now reach (entry_at entries.now) }
+{
+    if entries.is_empty() {
+        return true;
+    }
+    for e in entries {
+        let place = e.place() as usize;
+        if counts[place] < reach {
+            return true;
+        }
+    }
+    false
+}
+
 // Writes the list of a row of the form, given by its entries at free columns, cleared by the new list.
 fn clear_entries(
-    room: &mut Vec<FreeEntry>,
+    room: &mut Vec<WideEntry>,
     columns: u16,
     free: &[FreeEntry],
     new: &[FreeEntry],
@@ -58,7 +76,7 @@ fn clear_entries(
     ensures room { columns ≤ vec_capacity room.new }
 {
     room.clear();
-    let by = new[0].value;
+    let by = new[0].number();
     combine_into(room, columns, &by, free, &times, new);
 }
 
@@ -69,7 +87,7 @@ fn is_near_row(
     columns: u16,
     free: &[FreeEntry],
     new: &[FreeEntry],
-    room: &mut Vec<FreeEntry>,
+    room: &mut Vec<WideEntry>,
 ) -> bool
     requires counts { columns ≡ length counts.now }
     requires room { columns ≤ vec_capacity room.old }
@@ -83,7 +101,7 @@ fn is_near_row(
         return is_near(counts, reach, free);
     }
     clear_entries(room, columns, free, new, times);
-    is_near(counts, reach, room)
+    is_combined_near(counts, reach, room)
 }
 
 // Whether the number at each pivot that isn't shared is within reach.
@@ -93,7 +111,7 @@ fn are_rows_near(
     reach: u16,
     shared: &RowSet,
     new: &[FreeEntry],
-    room: &mut Vec<FreeEntry>,
+    room: &mut Vec<WideEntry>,
 ) -> bool
     requires shared { shared.now.n ≡ form.now.n }
     requires room { form.now.n ≤ vec_capacity room.old }
@@ -205,7 +223,7 @@ fn is_met(row: &[i128], new: &[FreeEntry], place: u16) -> bool
     }
     let first = new[0];
     !are_equal_products(
-        first.value,
+        first.number(),
         row[place as usize],
         value_at(new, place),
         row[first.place as usize],
@@ -290,7 +308,7 @@ fn is_within(
     reach: u16,
     shared: &RowSet,
     sets: &[RowSet],
-    room: &mut Vec<FreeEntry>,
+    room: &mut Vec<WideEntry>,
 ) -> bool
     requires counts { length counts.now ≡ form.now.n }
     requires counted { (grown : List (List ℤ)) → IsGrownBy form.now new.now grown → AreCounts form.now.n grown counts.now }

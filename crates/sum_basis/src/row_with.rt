@@ -4,7 +4,7 @@ ghost use Rattle.std.specs.List.{AllByRecursion};
 ghost use Rattle.sum_basis.specs.Limits.{most_columns};
 ghost use Rattle.audit_types.specs.Truth.{number_at};
 ghost use Rattle.audit_types.specs.Form.{IsPrimitive};
-ghost use Rattle.sum_basis.specs.Elimination.{IsSmall, IsSmallForm, IsZeroAtPivots, IsCleared};
+ghost use Rattle.sum_basis.specs.Elimination.{IsSmall, IsSmallForm, IsZeroAtPivots, StaysSmall, IsCleared};
 ghost use Rattle.sum_basis.specs.Sparse.{entry_at, row_of, rows_of, entries_of, IsListed, IsKept, IsNew};
 ghost use Rattle.sum_basis.specs.RowsWith.{IsRowGrown};
 ghost use Rattle.sum_basis.specs.declared.sparse.SparseRow.{SparseRow};
@@ -68,12 +68,14 @@ fn cleared_entries(
     requires small { IsSmall (row_of columns (entries_of row.now)) }
     requires new { IsNew columns new.now }
     requires zero { entry_at new.now row.now.pivot ≡ pos 0 }
+    requires narrow { StaysSmall columns (row_of columns new.now) (row_of columns (entries_of row.now)) }
     ensures listed { IfOk result (λ list. IsListed 0 columns list.items) }
     ensures cleared { IfOk result (λ list. IsCleared columns (row_of columns new.now) (row_of columns (entries_of row.now)) (row_of columns list.items)) }
 {
     let mut made = row.copy(alloc, columns)?;
     let mut room = Vec::with_capacity(alloc, columns as usize)?;
-    clear(&mut made, columns, new, 0, &mut room);
+    let mut combined = Vec::with_capacity(alloc, columns as usize)?;
+    clear(&mut made, columns, new, 0, &mut room, &mut combined);
     let SparseRow {
         pivot,
         head,
@@ -81,13 +83,7 @@ fn cleared_entries(
         ..
     } = made;
     let mut entries = free;
-    entries.insert(
-        0,
-        FreeEntry {
-            place: pivot,
-            value: head,
-        },
-    )?;
+    entries.insert(0, FreeEntry::new(pivot, head))?;
     Ok(entries)
 }
 
@@ -125,6 +121,7 @@ pub(crate) fn row_with_list(
     requires form { IsSmallForm columns (rows_of columns rows.now) }
     requires new { IsNew columns new.items }
     requires zero { IsZeroAtPivots (rows_of columns rows.now) (row_of columns new.items) }
+    requires narrow { AllByRecursion (StaysSmall columns (row_of columns new.items)) (rows_of columns rows.now) }
     ensures { IfOk result (IsRowGrown columns (rows_of columns rows.now) (row_of columns new.items) pivot) }
 {
     if new[0].place == pivot {

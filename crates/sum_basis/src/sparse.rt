@@ -12,6 +12,7 @@ ghost use Rattle.sum_basis.specs.Sparse.{entry_at, row_of, IsListed, entries_of,
 
 use crate::cleared_list::product;
 use crate::merging::put;
+use crate::wide_entry::WideEntry;
 use audit_types::NoMemory;
 use int_rows::quotient;
 use std::alloc::Global;
@@ -20,7 +21,27 @@ use std::alloc::Global;
 #[derive(Clone, Copy)]
 pub struct FreeEntry {
     pub place: u16,
-    pub value: i128,
+    pub value: i64,
+}
+
+impl FreeEntry {
+    /// An entry with a small value.
+    pub fn new(place: u16, value: i128) -> FreeEntry
+        requires { unsigned_abs value ≤ 2 ^ 56 }
+        ensures { result ≡ record { place = place; value = value } }
+    {
+        FreeEntry {
+            place,
+            value: value as i64,
+        }
+    }
+
+    /// The value, as a number that products are formed of.
+    pub fn number(self) -> i128
+        ensures { result ≡ self.value }
+    {
+        self.value as i128
+    }
 }
 
 /// A row by its pivot, its entry there, and the entries after it. No size of its entries is above `most`.
@@ -86,7 +107,7 @@ pub fn subtract(row: &mut [i128], entries: &[FreeEntry], times: i128)
     for e in entries {
         let place = e.place as usize;
         let before = row[place];
-        row[place] = less(before, times, e.value);
+        row[place] = less(before, times, e.number());
     }
 }
 
@@ -124,7 +145,7 @@ pub fn reduce(row: &mut [i128], form: &[SparseRow])
 }
 
 /// The entries of a row that are not 0, with room for one a column.
-pub fn list_of(alloc: Global, row: &[i128]) -> Result<Vec<FreeEntry>, NoMemory>
+pub fn list_of(alloc: Global, row: &[i128]) -> Result<Vec<WideEntry>, NoMemory>
     requires { length row.now ≤ most_columns }
     ensures listed { IfOk result (λ list. IsListed 0 (length row.now) list.items) }
     ensures is { IfOk result (λ list. (j : ℕ) → entry_at list.items j ≡ number_at row.now j) }
@@ -133,6 +154,24 @@ pub fn list_of(alloc: Global, row: &[i128]) -> Result<Vec<FreeEntry>, NoMemory>
     let mut list = Vec::with_capacity(alloc, row.len())?;
     for (place, value) in row.iter().enumerate() {
         put(&mut list, place as u16, *value);
+    }
+    Ok(list)
+}
+
+/// An equal list of small entries as one that is kept, with room for one entry a column.
+pub fn short_list(
+    alloc: Global,
+    entries: &[WideEntry],
+    columns: u16,
+) -> Result<Vec<FreeEntry>, NoMemory>
+    requires length { length entries.now ≤ columns }
+    requires small { AllByRecursion (λ e. unsigned_abs e.value ≤ 2 ^ 56) entries.now }
+    ensures same { IfOk result (λ list. list.items ≡ entries.now) }
+    ensures room { IfOk result (λ list. columns ≤ vec_capacity list) }
+{
+    let mut list = Vec::with_capacity(alloc, columns as usize)?;
+    for entry in entries {
+        list.push_reserved(entry.short());
     }
     Ok(list)
 }

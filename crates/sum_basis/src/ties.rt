@@ -20,9 +20,9 @@ fn are_like_lists(row: &SparseRow, other: &SparseRow) -> bool
         return false;
     }
     are_parallel(
-        other.free[0].value,
+        other.free[0].number(),
         &row.free,
-        row.free[0].value,
+        row.free[0].number(),
         &other.free,
     )
 }

@@ -6,6 +6,7 @@ use Rattle.std.proofs.lemmas.Int.{to_z-of_z}
 use Rattle.std.proofs.lemmas.Bool.{true≢false, false≢true, eqb-true}
 use Rattle.sum_basis.specs.Sparse.{scaled}
 use Rattle.sum_basis.specs.declared.sparse.FreeEntry.{FreeEntry}
+use Rattle.sum_basis.proofs.MergedNumbers.{passed}
 use Rattle.sum_basis.proofs.ListContents.{none, value_small}
 use Rattle.sum_basis.proofs.SmallEntries.{free_small}
 use Rattle.sum_basis.proofs.SparseRows.{small_values}
@@ -33,8 +34,8 @@ bounds-list-0 c = c.requires.left.0.some
 
 pub are_parallel-requires-clause-by : goal.are_parallel-requires-clause-by
 are_parallel-requires-clause-by c =
-    let fits : FitsSigned w128 (get_or c.args.list.now 0 (record { place = 0; value = pos 0 })).value = search rules in
-    first_small c.args.form.now.n c.args.list.now _ c.requires.left.0 (to_z-of_z w128 (get_or c.args.list.now 0 none).value fits)
+    let fits : FitsSigned w128 c.number.result = search rules in
+    first_small c.args.form.now.n c.args.list.now _ c.requires.left.0 (passed c.number.result (get_or c.args.list.now 0 none).value fits c.number.ensures)
 
 pub are_parallel-requires-clause-first : goal.are_parallel-requires-clause-first
 are_parallel-requires-clause-first c =
@@ -44,8 +45,8 @@ pub are_parallel-requires-clause-times : goal.are_parallel-requires-clause-times
 are_parallel-requires-clause-times c =
     let entries = c.free-free.result.now in
     let some = some_entry entries c.is_empty.result c.is_empty.ensures c.if-is_empty.false in
-    let fits : FitsSigned w128 (get_or c.free-free.result.now 0 (record { place = 0; value = pos 0 })).value = search rules in
-    rw (to_z-of_z w128 (get_or entries 0 none).value fits)
+    let fits : FitsSigned w128 c.number-2.result = search rules in
+    rw (passed c.number-2.result (get_or entries 0 none).value fits c.number-2.ensures)
     (value_small entries 0 some (free_small c.args.form.now c.args.k entries c.requires.form c.requires.k c.free-free.ensures).1)
 
 pub are_parallel-requires-clause-second : goal.are_parallel-requires-clause-second
@@ -57,9 +58,9 @@ returns-clause-some c = λ yes.
     let list = c.args.list.now in
     let entries = c.free-free.result.now in
     let some = some_entry entries c.is_empty.result c.is_empty.ensures c.if-is_empty.false in
-    let fits : FitsSigned w128 (get_or c.args.list.now 0 (record { place = 0; value = pos 0 })).value = search rules in
-    let by_is = to_z-of_z w128 (get_or list 0 none).value fits in
-    let times = to_z w128 (of_z w128 (get_or entries 0 none).value) in (
+    let fits : FitsSigned w128 c.number.result = search rules in
+    let by_is = passed c.number.result (get_or list 0 none).value fits c.number.ensures in
+    let times = to_z w128 (of_z w128 c.number-2.result) in (
       spans_if_parallel form c.requires.form c.args.k c.requires.k list c.requires.left entries c.free-free.ensures times
           (sym (ap (λ z. map (scaled z) entries) by_is) ∙ c.are_parallel.ensures.0 yes),
       not_alone form c.requires.form c.args.k c.requires.k entries c.free-free.ensures (λ none_there. omega (arith, some, none_there)),
@@ -71,8 +72,8 @@ returns-clause-none c = λ not_so after.
     let list = c.args.list.now in
     let entries = c.free-free.result.now in
     let some = some_entry entries c.is_empty.result c.is_empty.ensures c.if-is_empty.false in
-    let list_fits : FitsSigned w128 (get_or c.args.list.now 0 (record { place = 0; value = pos 0 })).value = search rules in
-    let free_fits : FitsSigned w128 (get_or c.free-free.result.now 0 (record { place = 0; value = pos 0 })).value = search rules in
-    absurd (not_so (c.are_parallel.ensures.1 (ap (λ z. map (scaled z) entries) (to_z-of_z w128 (get_or list 0 none).value list_fits)
+    let list_fits : FitsSigned w128 c.number.result = search rules in
+    let free_fits : FitsSigned w128 c.number-2.result = search rules in
+    absurd (not_so (c.are_parallel.ensures.1 (ap (λ z. map (scaled z) entries) (passed c.number.result (get_or list 0 none).value list_fits c.number.ensures)
     ∙ parallel_if_spans form c.requires.form c.args.k c.requires.k list c.requires.left entries c.free-free.ensures after some
-    ∙ ap (λ z. map (scaled z) list) (sym (to_z-of_z w128 (get_or entries 0 none).value free_fits)))))
+    ∙ ap (λ z. map (scaled z) list) (sym (passed c.number-2.result (get_or entries 0 none).value free_fits c.number-2.ensures)))))

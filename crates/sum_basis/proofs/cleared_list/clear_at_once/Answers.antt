@@ -7,10 +7,10 @@ use Rattle.std.proofs.lemmas.Int.{to_z-of_z}
 use Rattle.sum_basis.specs.declared.sparse.FreeEntry.{FreeEntry}
 use Rattle.sum_basis.specs.Sparse.{entry_at, entries_of, IsNew}
 use Rattle.audit_types.specs.Numbers.{product_small}
+use Rattle.sum_basis.proofs.MergedNumbers.{passed, product_by}
 use Rattle.sum_basis.proofs.SparseRows.{small_values, listed_from, listed_to}
 use Rattle.sum_basis.proofs.ListContents.{none}
 use Rattle.sum_basis.proofs.ClearedLists.{is_led, entry_small, head_small, positive_times}
-use Rattle.sum_basis.proofs.Wide.{product_of}
 use Rattle.sum_basis.proofs.BoundedRows.{first_small, bounded_at}
 use Rattle.sum_basis.proofs.OverDivisor.{greatest_of}
 use Rattle.sum_basis.proofs.ClearedAtOnce.{at_once}
@@ -21,8 +21,8 @@ by_positive n new is = subst (λ z. pos 0 <ℤ z) (is_led n new is).pivot_entry_
 
 pub product-head-requires-clause-x : goal.product-head-requires-clause-x
 product-head-requires-clause-x c =
-    let fits : FitsSigned w128 (get_or c.args.new.now 0 none).value = search rules in
-    rw (to_z-of_z w128 (get_or c.args.new.now 0 none).value fits) (first_small c.args.columns c.args.new.now _ c.requires.new refl)
+    let fits : FitsSigned w128 c.number-by.result = search rules in
+    rw (passed c.number-by.result (get_or c.args.new.now 0 none).value fits c.number-by.ensures) (first_small c.args.columns c.args.new.now _ c.requires.new refl)
 
 pub product-head-requires-clause-y : goal.product-head-requires-clause-y
 product-head-requires-clause-y c =
@@ -31,10 +31,10 @@ product-head-requires-clause-y c =
 
 pub first_divisor-divisor-requires-clause-head : goal.first_divisor-divisor-requires-clause-head
 first_divisor-divisor-requires-clause-head c =
-    let by : FitsSigned w128 (get_or c.args.new.now 0 none).value = search rules in
+    let by : FitsSigned w128 c.number-by.result = search rules in
     let head : FitsSigned w128 c.args.row.now.head = search rules in
     let p : FitsSigned w128 c.product-head.result = search rules in
-    rw (product_of c.product-head.result (get_or c.args.new.now 0 none).value c.args.row.now.head p by head c.product-head.ensures.exact)
+    rw (product_by c.product-head.result c.number-by.result (get_or c.args.new.now 0 none).value c.args.row.now.head p by head c.number-by.ensures c.product-head.ensures.exact)
     (let size = product_small (get_or c.args.new.now 0 none).value c.args.row.now.head (first_small c.args.columns c.args.new.now _ c.requires.new refl)
     (head_small c.args.columns c.args.row.now c.requires.kept c.requires.small) in (
       positive_times (get_or c.args.new.now 0 none).value c.args.row.now.head
@@ -44,8 +44,8 @@ first_divisor-divisor-requires-clause-head c =
 
 pub first_divisor-divisor-requires-clause-by : goal.first_divisor-divisor-requires-clause-by
 first_divisor-divisor-requires-clause-by c =
-    let fits : FitsSigned w128 (get_or c.args.new.now 0 none).value = search rules in
-    rw (to_z-of_z w128 (get_or c.args.new.now 0 none).value fits) (first_small c.args.columns c.args.new.now _ c.requires.new refl)
+    let fits : FitsSigned w128 c.number-by.result = search rules in
+    rw (passed c.number-by.result (get_or c.args.new.now 0 none).value fits c.number-by.ensures) (first_small c.args.columns c.args.new.now _ c.requires.new refl)
 
 pub first_divisor-divisor-requires-clause-times : goal.first_divisor-divisor-requires-clause-times
 first_divisor-divisor-requires-clause-times c =
@@ -73,8 +73,8 @@ first_divisor-divisor-requires-clause-second_small c =
 
 pub combine_over-requires-clause-by : goal.combine_over-requires-clause-by
 combine_over-requires-clause-by c =
-    let fits : FitsSigned w128 (get_or c.args.new.now 0 none).value = search rules in
-    rw (to_z-of_z w128 (get_or c.args.new.now 0 none).value fits) (first_small c.args.columns c.args.new.now _ c.requires.new refl)
+    let fits : FitsSigned w128 c.number-by.result = search rules in
+    rw (passed c.number-by.result (get_or c.args.new.now 0 none).value fits c.number-by.ensures) (first_small c.args.columns c.args.new.now _ c.requires.new refl)
 
 pub combine_over-requires-clause-first : goal.combine_over-requires-clause-first
 combine_over-requires-clause-first c =
@@ -93,17 +93,17 @@ pub combine_over-requires-clause-second_small : goal.combine_over-requires-claus
 combine_over-requires-clause-second_small c = small_values c.args.columns c.args.new.now c.requires.new.listed c.requires.new.small
 
 -- the combination, of the numbers as they are
-combined_is : (g : ℤ) (row new out list : List FreeEntry) (by times : ℤ) → FitsSigned w128 by → FitsSigned w128 times → list ≡ row
-    → ((j : ℕ) → g *ℤ entry_at out j ≡ to_z w128 (of_z w128 by) *ℤ entry_at list j -ℤ to_z w128 (of_z w128 times) *ℤ entry_at new j)
+combined_is : (g : ℤ) (row new out list : List FreeEntry) (x by times : ℤ) → FitsSigned w128 x → x ≡ by → FitsSigned w128 times → list ≡ row
+    → ((j : ℕ) → g *ℤ entry_at out j ≡ to_z w128 (of_z w128 x) *ℤ entry_at list j -ℤ to_z w128 (of_z w128 times) *ℤ entry_at new j)
     → (j : ℕ) → g *ℤ entry_at out j ≡ by *ℤ entry_at row j -ℤ times *ℤ entry_at new j
-combined_is g row new out list by times p q e is j =
-    is j ∙ ap (λ z. z *ℤ entry_at list j -ℤ to_z w128 (of_z w128 times) *ℤ entry_at new j) (to_z-of_z w128 by p)
+combined_is g row new out list x by times p n q e is j =
+    is j ∙ ap (λ z. z *ℤ entry_at list j -ℤ to_z w128 (of_z w128 times) *ℤ entry_at new j) (passed x by p n)
     ∙ ap (λ z. by *ℤ entry_at list j -ℤ z *ℤ entry_at new j) (to_z-of_z w128 times q)
     ∙ ap (λ l. by *ℤ entry_at l j -ℤ times *ℤ entry_at new j) e
 
 pub returns : goal.returns
 returns c =
-    let by : FitsSigned w128 (get_or c.args.new.now 0 none).value = search rules in
+    let by : FitsSigned w128 c.number-by.result = search rules in
     let head : FitsSigned w128 c.args.row.now.head = search rules in
     let p : FitsSigned w128 c.product-head.result = search rules in
     let over : FitsSigned w128 c.quotient.result = search rules in
@@ -113,13 +113,14 @@ returns c =
     let g = c.first_divisor-divisor.result in
     let first = c.first_divisor-divisor.ensures in
     let done = c.if-not-combine_over.false in
-    let greatest = greatest_of g c.product-head.result (get_or new 0 none).value c.args.times c.deref.result.now new p by c.ranges.times first.greatest in
+    let greatest = subst (λ (z : ℤ). (d : ℕ) → d ∣ unsigned_abs c.product-head.result
+    → ((j : ℕ) → d ∣ unsigned_abs (z *ℤ entry_at c.deref.result.now j -ℤ c.args.times *ℤ entry_at new j)) → d ∣ g) c.number-by.ensures
+    (greatest_of g c.product-head.result c.number-by.result c.args.times c.deref.result.now new p by c.ranges.times first.greatest) in
     let whole = at_once c.args.columns c.args.row.now new made g c.args.times c.product-head.result c.quotient.result c.requires.kept c.requires.primitive
     c.requires.new c.requires.before c.requires.times
-    (sym (to_z-of_z w128 c.product-head.result p) ∙ product_of c.product-head.result
-    (get_or new 0 none).value c.args.row.now.head p by head c.product-head.ensures.exact)
+    (sym (to_z-of_z w128 c.product-head.result p) ∙ product_by c.product-head.result c.number-by.result (get_or new 0 none).value c.args.row.now.head p by head c.number-by.ensures c.product-head.ensures.exact)
     (c.combine_over.ensures.listed done)
-    (combined_is (pos g) row new made c.deref-2.result.now (get_or new 0 none).value c.args.times by c.ranges.times c.deref-2.ensures.value
+    (combined_is (pos g) row new made c.deref-2.result.now c.number-by.result (get_or new 0 none).value c.args.times by c.number-by.ensures c.ranges.times c.deref-2.ensures.value
     (c.combine_over.ensures.combined done))
     first.positive (subst (λ (z : ℤ). g ∣ unsigned_abs z) (to_z-of_z w128 c.product-head.result p) first.divides)
     (subst (λ (l : List FreeEntry). (d : ℕ) → d ∣ unsigned_abs c.product-head.result

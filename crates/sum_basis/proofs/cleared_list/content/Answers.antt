@@ -1,4 +1,4 @@
-use Rattle.std.proofs.Common.{◌≤◌, ◌^◌, ◌∷◌, ℤ, pos, List, get_or, take, map, ap, ◌∙◌, subst, rules, take_all}
+use Rattle.std.proofs.Common.{◌≤◌, ◌^◌, ◌∷◌, ℤ, pos, List, get_or, take, map, ap, ◌∙◌, subst, rules, take_all, sym}
 use Rattle.std.specs.Prelude.{FitsSigned, unsigned_abs}
 use Rattle.std.specs.Int.{w128, IsGcd}
 use mir.Val.{to_z, of_z}
@@ -8,7 +8,8 @@ use Rattle.audit_types.specs.ListLaws.{all-get_or}
 use Rattle.sum_basis.specs.declared.sparse.FreeEntry.{FreeEntry}
 use Rattle.audit_types.specs.Numbers.{size_positive}
 use Rattle.std.proofs.Math.Nat.{pos_of_dvd_of_pos}
-use Rattle.sum_basis.proofs.ListContents.{content_of_one, one_more_value, stays_one}
+use Rattle.sum_basis.proofs.MergedNumbers.{passed}
+use Rattle.sum_basis.proofs.ListContents.{entry_is, content_of_one, one_more_value, stays_one}
 use Rattle.sum_basis.proofs.cleared_list.content.Goals as goal
 
 pub loop-e-init : goal.loop-e-init
@@ -28,11 +29,11 @@ returns-then-is_one-clause-content c =
 
 pub loop-e-preserved : goal.loop-e-preserved
 loop-e-preserved c =
-    let value : FitsSigned w128 (get_or c.args.entries.now c.loop-e.e-index (record { place = 0; value = pos 0 })).value = search rules in
+    let value : FitsSigned w128 c.value.result = search rules in
     let common : IsGcd c.loop-e.divisor (unsigned_abs (get_or c.args.entries.now c.loop-e.e-index
     (record { place = 0; value = pos 0 })).value) c.with-divisor.result =
     subst (λ (m : ℤ). IsGcd c.loop-e.divisor (unsigned_abs m) c.with-divisor.result)
-    (to_z-of_z w128 (get_or c.args.entries.now c.loop-e.e-index (record { place = 0; value = pos 0 })).value value) c.with-divisor.ensures in
+    (passed c.value.result (get_or c.args.entries.now c.loop-e.e-index (record { place = 0; value = pos 0 })).value value (c.value.ensures ∙ ap (λ (x : FreeEntry). x.value) (sym (entry_is c.args.entries.now c.loop-e.e-index c.e-item.result c.loop-e-test.true c.e-item.is)))) c.with-divisor.ensures in
     record {
       content =
           one_more_value (to_z w128
@@ -46,8 +47,8 @@ new-divisor-requires c = rw (to_z-of_z w128 c.args.head c.ranges.head) c.require
 
 pub with-divisor-requires : goal.with-divisor-requires
 with-divisor-requires c =
-    let value : FitsSigned w128 (get_or c.args.entries.now c.loop-e.e-index (record { place = 0; value = pos 0 })).value = search rules in
-    rw (to_z-of_z w128 (get_or c.args.entries.now c.loop-e.e-index (record { place = 0; value = pos 0 })).value value)
+    let value : FitsSigned w128 c.value.result = search rules in
+    rw (passed c.value.result (get_or c.args.entries.now c.loop-e.e-index (record { place = 0; value = pos 0 })).value value (c.value.ensures ∙ ap (λ (x : FreeEntry). x.value) (sym (entry_is c.args.entries.now c.loop-e.e-index c.e-item.result c.loop-e-test.true c.e-item.is))))
     (all-get_or (λ (e : FreeEntry). unsigned_abs e.value ≤ 2 ^ 126) c.args.entries.now c.loop-e.e-index (record { place = 0; value = pos 0 })
     c.requires.entries c.loop-e-test.true)
 

@@ -2,10 +2,10 @@ use Rattle.std.proofs.Common.{◌≡◌, ◌≤◌, pos, length, take, get_or, s
 use Rattle.std.specs.Prelude.{FitsSigned, unsigned_abs}
 use Rattle.std.specs.Int.{w128}
 use Rattle.std.specs.List.{AllByRecursion}
-use Rattle.std.proofs.lemmas.Int.{to_z-of_z}
 use Rattle.std.proofs.lemmas.List.{take_more}
 use Rattle.std.proofs.Math.Seq.{take-length}
 use Rattle.sum_basis.specs.declared.sparse.FreeEntry.{FreeEntry}
+use Rattle.sum_basis.proofs.MergedNumbers.{passed}
 use Rattle.sum_basis.proofs.ListContents.{none}
 use Rattle.sum_basis.proofs.cleared_list.greatest.Goals as goal
 use Rattle.audit_types.specs.ListLaws.{all-push, all-front, all-weaker}
@@ -13,8 +13,8 @@ use Rattle.audit_types.specs.ListLaws.{all-push, all-front, all-weaker}
 pub loop-e-preserved : goal.loop-e-preserved
 loop-e-preserved c =
     let e = get_or c.args.entries.now c.loop-e.e-index none in
-    let fits : FitsSigned w128 (get_or c.args.entries.now c.loop-e.e-index (record { place = 0; value = pos 0 })).value = search rules in
-    let size = c.unsigned_abs.ensures.value ∙ ap unsigned_abs (to_z-of_z w128 e.value fits) in
+    let fits : FitsSigned w128 c.number.result = search rules in
+    let size = c.unsigned_abs.ensures.value ∙ ap unsigned_abs (passed c.number.result e.value fits c.number.ensures) in
     let old = c.greater-most.ensures.first in
     let now = c.greater-most.ensures.second in
     let before = take c.loop-e.e-index c.args.entries.now in

@@ -13,6 +13,7 @@ use Rattle.sum_basis.specs.Keys.{IsListOfColumn, IsZeroAtFirst, leading_of, poin
 use Rattle.sum_basis.specs.Points.{IsPointAfter}
 use Rattle.sum_basis.specs.declared.points.Point.{Point}
 use Rattle.sum_basis.specs.declared.sparse.FreeEntry.{FreeEntry}
+use Rattle.sum_basis.proofs.MergedNumbers.{passed}
 use Rattle.sum_basis.proofs.ColumnLists.{first_number, not_added}
 use Rattle.sum_basis.proofs.ForeseenPoints.{foreseen_touched, foreseen_untouched, known_list, leading_is, leading_small}
 use Rattle.sum_basis.proofs.KeyProducts.{no_point}
@@ -69,8 +70,8 @@ point_after-requires c =
 
 pub product-requires-clause-x : goal.product-requires-clause-x
 product-requires-clause-x c =
-    let fits : FitsSigned w128 (get_or c.args.list.now 0 none).value = search rules in
-    rw (to_z-of_z w128 (get_or c.args.list.now 0 none).value fits) (leading_small c.args.form.now c.args.list.now none c.requires.list)
+    let fits : FitsSigned w128 c.number.result = search rules in
+    rw (passed c.number.result (get_or c.args.list.now 0 none).value fits c.number.ensures) (leading_small c.args.form.now c.args.list.now none c.requires.list)
 
 pub returns-clause-kept : goal.returns-clause-kept
 returns-clause-kept c =
@@ -84,13 +85,13 @@ returns-clause-kept c =
     let at : place ≡ pivot row = c.pivot-pivot.ensures.pivot in
     let below : place < form.n = c.pivot-pivot.ensures.within in
     let fits : FitsSigned w128 c.times_at-value.result = search rules in
-    let first_fits : FitsSigned w128 (get_or list 0 none).value = search rules in
+    let first_fits : FitsSigned w128 c.number.result = search rules in
     let entry_fits : FitsSigned w128 c.entry.result = search rules in
     let product_fits : FitsSigned w128 c.product.result = search rules in
     let inside : place < length kept.heads.items = omega (arith, below, are.heads_each) in
     let point_inside : place < length kept.points.items = omega (arith, below, are.points_each) in
     let number : c.product.result ≡ leading_of list *ℤ pivot_entry row =
-    c.product.ensures.exact ∙ ap (λ z. z *ℤ to_z w128 (of_z w128 c.entry.result)) (to_z-of_z w128 (get_or list 0 none).value first_fits)
+    c.product.ensures.exact ∙ ap (λ z. z *ℤ to_z w128 (of_z w128 c.entry.result)) (passed c.number.result (get_or list 0 none).value first_fits c.number.ensures)
     ∙ ap (λ z. (get_or list 0 none).value *ℤ z) (to_z-of_z w128 c.entry.result entry_fits ∙ c.entry.ensures ∙ ap (number_at row) at)
     ∙ ap (λ z. z *ℤ pivot_entry row) (leading_is list none c.requires.list.0.some) in
     let head = to_z w128 (of_z w128 c.product.result) in

@@ -4,6 +4,7 @@ use Rattle.std.specs.Int.{w128}
 use Rattle.std.proofs.lemmas.Int.{to_z-of_z}
 use Rattle.sum_basis.specs.Reach.{one_if, times_of}
 use Rattle.sum_basis.specs.Sparse.{entry_at}
+use Rattle.sum_basis.proofs.MergedNumbers.{passed}
 use Rattle.sum_basis.proofs.ListContents.{none}
 use Rattle.sum_basis.proofs.SparseRows.{listed_to, stands_within, own_value}
 use Rattle.sum_basis.proofs.SmallEntries.{entry_small, times_small}
@@ -32,10 +33,10 @@ moved-requires-clause-times c =
 
 pub moved-requires-clause-some : goal.moved-requires-clause-some
 moved-requires-clause-some c =
-    let fits : FitsSigned w128 (get_or c.args.new.now c.loop-e.e-index none).value = search rules in (
+    let fits : FitsSigned w128 c.number.result = search rules in (
       λ zero. c.requires.some (sym (to_z-of_z w128 c.args.times c.ranges.times) ∙ zero),
       λ zero. (stands_within 0 (length c.args.counts.now) c.args.new.now c.loop-e.e-index none c.requires.new.0 c.loop-e-test.true).some
-          (sym (to_z-of_z w128 (get_or c.args.new.now c.loop-e.e-index none).value fits) ∙ zero),
+          (sym (passed c.number.result (get_or c.args.new.now c.loop-e.e-index none).value fits c.number.ensures) ∙ zero),
     )
 
 pub moved-requires-clause-counted : goal.moved-requires-clause-counted
@@ -67,10 +68,10 @@ loop-e-preserved c =
     let by = (get_or new 0 none).value in
     let before = c.value_at-before.result in
     let fits : FitsSigned w128 before = search rules in
-    let value_fits : FitsSigned w128 (get_or c.args.new.now c.loop-e.e-index none).value = search rules in
-    let by_fits : FitsSigned w128 (get_or c.args.new.now 0 none).value = search rules in
+    let value_fits : FitsSigned w128 c.number.result = search rules in
+    let by_fits : FitsSigned w128 c.number-by.result = search rules in
     let is =
-    rw (to_z-of_z w128 by by_fits, to_z-of_z w128 before fits, to_z-of_z w128 c.args.times c.ranges.times, to_z-of_z w128 e.value value_fits)
+    rw (passed c.number-by.result by by_fits c.number-by.ensures, to_z-of_z w128 before fits, to_z-of_z w128 c.args.times c.ranges.times, passed c.number.result e.value value_fits c.number.ensures)
     at c.moved.ensures in
     let own = own_value 0 (length c.args.counts.now) new c.loop-e.e-index none c.requires.new.0 c.loop-e-test.true in
     let left = ap one_if (without_at new f none e.place e.value (let within = c.loop-e-test.true in omega arith) own

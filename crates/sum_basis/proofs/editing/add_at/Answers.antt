@@ -45,8 +45,8 @@ returns-then-before-eq0-clause-listed c =
     c.value_from-before.ensures) ∙ zero_from_bits c.value_from-before.result before c.if-before-eq0.true in
     let items = rw c.unwrap.ensures at c.insert.ensures.items in
     subst (IsListed 0 c.args.columns) (sym items)
-    (subst (λ (z : ℤ). IsListed 0 c.args.columns (insert es c.places_before-k.result (record { place = c.args.place; value = z })))
-    (sym (to_z-of_z w128 c.args.number c.ranges.number))
+    (subst (λ (e : FreeEntry). IsListed 0 c.args.columns (insert es c.places_before-k.result e))
+    (sym (c.new-entry.ensures ∙ ap (λ (z : ℤ). record { place = c.args.place; value = z }) (to_z-of_z w128 c.args.number c.ranges.number)))
     (inserted_listed c.args.columns es c.places_before-k.result c.args.place c.args.number c.requires.listed c.requires.inside c.requires.some parted.0 parted.1
     gone))
 
@@ -56,8 +56,8 @@ returns-then-before-eq0-clause-added c = λ j.
     let parted = parted_of c.deref.result.now es c.places_before-k.result c.args.place c.deref.ensures.value c.places_before-k.ensures.parted in
     let items = rw c.unwrap.ensures at c.insert.ensures.items in
     ap (λ l. entry_at l j) items
-    ∙ ap (λ (z : ℤ). entry_at (insert es c.places_before-k.result (record { place = c.args.place; value = z })) j)
-    (to_z-of_z w128 c.args.number c.ranges.number)
+    ∙ ap (λ (e : FreeEntry). entry_at (insert es c.places_before-k.result e) j)
+    (c.new-entry.ensures ∙ ap (λ (z : ℤ). record { place = c.args.place; value = z }) (to_z-of_z w128 c.args.number c.ranges.number))
     ∙ inserted_at c.args.columns es c.places_before-k.result c.args.place c.args.number c.requires.listed c.requires.inside c.requires.some parted.0 parted.1 j
 
 -- what the list has at the column is what was found
@@ -91,6 +91,27 @@ sum_is : (after before number : ℤ) → FitsSigned w128 after → FitsSigned w1
     after ≡ to_z w128 (of_z w128 before) +ℤ to_z w128 (of_z w128 number) → to_z w128 (of_z w128 after) ≡ before +ℤ number
 sum_is after before number p q r is =
     to_z-of_z w128 after p ∙ is ∙ ap (λ z. z +ℤ to_z w128 (of_z w128 number)) (to_z-of_z w128 before q) ∙ ap (λ z. before +ℤ z) (to_z-of_z w128 number r)
+
+pub new-entry-requires : goal.new-entry-requires
+new-entry-requires c =
+    let es = c.args.entries.now.items in
+    let before : FitsSigned w128 c.value_from-before.result = search rules in
+    let parted = parted_of c.deref.result.now es c.places_before-k.result c.args.place c.deref.ensures.value c.places_before-k.ensures.parted in
+    let there = found_is c.args.columns c.deref-2.result.now es c.places_before-k.result c.args.place c.value_from-before.result c.requires.listed
+    c.deref-2.ensures.value c.value_from-before.ensures parted.0 parted.1 in
+    let gone = zero_from_bits c.value_from-before.result before c.if-before-eq0.true in
+    let small = c.requires.narrow in
+    rw (to_z-of_z w128 c.args.number c.ranges.number) (omega (arith, ints))
+
+pub replace-requires-clause-small : goal.replace-requires-clause-small
+replace-requires-clause-small c =
+    let es = c.args.entries.now.items in
+    let before : FitsSigned w128 c.value_from-before.result = search rules in
+    let after : FitsSigned w128 c.sum-after.result = search rules in
+    let parted = parted_of c.deref.result.now es c.places_before-k.result c.args.place c.deref.ensures.value c.places_before-k.ensures.parted in
+    let there = found_is c.args.columns c.deref-2.result.now es c.places_before-k.result c.args.place c.value_from-before.result c.requires.listed
+    c.deref-2.ensures.value c.value_from-before.ensures parted.0 parted.1 in
+    rw (sum_is _ _ _ after before c.ranges.number c.sum-after.ensures ∙ ap (λ z. z +ℤ c.args.number) there) c.requires.narrow
 
 pub returns-clause-listed : goal.returns-clause-listed
 returns-clause-listed c =

@@ -6,12 +6,13 @@ use Rattle.std.proofs.lemmas.Int.{to_z-of_z}
 use Rattle.sum_basis.specs.declared.sparse.FreeEntry.{FreeEntry}
 use Rattle.sum_basis.specs.Sparse.{entry_at, IsListed}
 use Rattle.sum_basis.proofs.ListContents.{none, value_small}
-use Rattle.sum_basis.proofs.SparseRows.{stands_within}
+use Rattle.std.proofs.lemmas.Int.{ints}
+use Rattle.sum_basis.proofs.SparseRows.{stands_within, own_value}
 use Rattle.audit_types.specs.Numbers.{product_small}
 use Rattle.sum_basis.proofs.BoundedRows.{bounded_at}
 use Rattle.sum_basis.proofs.Edits.{IsTakenNumber, taken_number, none_taken_yet, as_before, one_more_entry_taken, bounded_with, all_bounded, all_taken}
 use Rattle.sum_basis.proofs.editing.take_entries.Goals as goal
-use Rattle.sum_basis.proofs.Wide.{product_of}
+use Rattle.sum_basis.proofs.MergedNumbers.{product_with, widened_small}
 
 pub loop-e-init : goal.loop-e-init
 loop-e-init c = record {
@@ -25,10 +26,11 @@ loop-e-init c = record {
 pub negative-number-requires : goal.negative-number-requires
 negative-number-requires c =
     let p : FitsSigned w128 c.product.result = search rules in
-    let value : FitsSigned w128 (get_or c.args.taken.now c.loop-e.e-index (record { place = 0; value = pos 0 })).value = search rules in
+    let value : FitsSigned w128 c.number.result = search rules in
     let size = product_small c.args.times (get_or c.args.taken.now c.loop-e.e-index none).value c.requires.times
     (value_small c.args.taken.now c.loop-e.e-index c.loop-e-test.true c.requires.taken_small) in
-    rw (product_of c.product.result c.args.times (get_or c.args.taken.now c.loop-e.e-index none).value p c.ranges.times value c.product.ensures.exact)
+    rw (product_with c.product.result c.args.times c.number.result (get_or c.args.taken.now c.loop-e.e-index none).value p c.ranges.times value c.number.ensures
+    c.product.ensures.exact)
     (omega arith)
 
 -- the number that is added
@@ -54,31 +56,49 @@ pub add_at-after-requires-clause-number : goal.add_at-after-requires-clause-numb
 add_at-after-requires-clause-number c =
     let p : FitsSigned w128 c.product.result = search rules in
     let q : FitsSigned w128 c.negative-number.result = search rules in
-    let value : FitsSigned w128 (get_or c.args.taken.now c.loop-e.e-index (record { place = 0; value = pos 0 })).value = search rules in
+    let value : FitsSigned w128 c.number.result = search rules in
     let is = number_of c.args.columns c.args.taken.now c.loop-e.e-index c.args.times _ c.negative-number.result _ c.loop-e-test.true c.requires.taken
     c.requires.taken_small c.requires.times c.requires.some (to_z-of_z w128 c.negative-number.result q) c.negative-number.ensures
-    (product_of c.product.result c.args.times (get_or c.args.taken.now c.loop-e.e-index none).value p c.ranges.times value c.product.ensures.exact) in
+    (product_with c.product.result c.args.times c.number.result (get_or c.args.taken.now c.loop-e.e-index none).value p c.ranges.times value c.number.ensures
+    c.product.ensures.exact) in
     let small = is.small in
     omega arith
+
+pub add_at-after-requires-clause-narrow : goal.add_at-after-requires-clause-narrow
+add_at-after-requires-clause-narrow c =
+    let p : FitsSigned w128 c.product.result = search rules in
+    let q : FitsSigned w128 c.negative-number.result = search rules in
+    let value : FitsSigned w128 c.number.result = search rules in
+    let e = get_or c.args.taken.now c.loop-e.e-index none in
+    let is = (number_of c.args.columns c.args.taken.now c.loop-e.e-index c.args.times _ c.negative-number.result _ c.loop-e-test.true c.requires.taken
+    c.requires.taken_small c.requires.times c.requires.some (to_z-of_z w128 c.negative-number.result q) c.negative-number.ensures
+    (product_with c.product.result c.args.times c.number.result e.value p c.ranges.times value c.number.ensures c.product.ensures.exact)).is in
+    let same = as_before c.args.entries.now.items c.loop-e.entries.items _ c.args.columns c.args.taken.now c.loop-e.e-index none c.requires.taken
+    c.loop-e-test.true c.loop-e.invariant.taken in
+    let own = ap (λ z. c.args.times *ℤ z) (own_value 0 c.args.columns c.args.taken.now c.loop-e.e-index none c.requires.taken c.loop-e-test.true) in
+    let small = c.requires.narrow e.place in
+    omega (arith, ints)
 
 pub add_at-after-requires-clause-some : goal.add_at-after-requires-clause-some
 add_at-after-requires-clause-some c =
     let p : FitsSigned w128 c.product.result = search rules in
     let q : FitsSigned w128 c.negative-number.result = search rules in
-    let value : FitsSigned w128 (get_or c.args.taken.now c.loop-e.e-index (record { place = 0; value = pos 0 })).value = search rules in
+    let value : FitsSigned w128 c.number.result = search rules in
     (number_of c.args.columns c.args.taken.now c.loop-e.e-index c.args.times _ c.negative-number.result _ c.loop-e-test.true c.requires.taken
     c.requires.taken_small c.requires.times c.requires.some (to_z-of_z w128 c.negative-number.result q) c.negative-number.ensures
-    (product_of c.product.result c.args.times (get_or c.args.taken.now c.loop-e.e-index none).value p c.ranges.times value c.product.ensures.exact)).some
+    (product_with c.product.result c.args.times c.number.result (get_or c.args.taken.now c.loop-e.e-index none).value p c.ranges.times value c.number.ensures
+    c.product.ensures.exact)).some
 
 pub loop-e-preserved : goal.loop-e-preserved
 loop-e-preserved c =
     let p : FitsSigned w128 c.product.result = search rules in
     let q : FitsSigned w128 c.negative-number.result = search rules in
     let after : FitsSigned w128 c.add_at-after.result = search rules in
-    let value : FitsSigned w128 (get_or c.args.taken.now c.loop-e.e-index (record { place = 0; value = pos 0 })).value = search rules in
+    let value : FitsSigned w128 c.number.result = search rules in
     let is = number_of c.args.columns c.args.taken.now c.loop-e.e-index c.args.times _ c.negative-number.result _ c.loop-e-test.true c.requires.taken
     c.requires.taken_small c.requires.times c.requires.some (to_z-of_z w128 c.negative-number.result q) c.negative-number.ensures
-    (product_of c.product.result c.args.times (get_or c.args.taken.now c.loop-e.e-index none).value p c.ranges.times value c.product.ensures.exact) in
+    (product_with c.product.result c.args.times c.number.result (get_or c.args.taken.now c.loop-e.e-index none).value p c.ranges.times value c.number.ensures
+    c.product.ensures.exact) in
     let times = to_z-of_z w128 c.args.times c.ranges.times in
     let size = c.unsigned_abs.ensures.value ∙ ap unsigned_abs (to_z-of_z w128 c.add_at-after.result after) in
     let one = c.greater-bound.ensures.first in
@@ -110,8 +130,8 @@ product-requires-clause-x c = rw (to_z-of_z w128 c.args.times c.ranges.times) c.
 
 pub product-requires-clause-y : goal.product-requires-clause-y
 product-requires-clause-y c =
-    let value : FitsSigned w128 (get_or c.args.taken.now c.loop-e.e-index (record { place = 0; value = pos 0 })).value = search rules in
-    rw (to_z-of_z w128 (get_or c.args.taken.now c.loop-e.e-index none).value value)
+    let value : FitsSigned w128 c.number.result = search rules in
+    widened_small c.number.result (get_or c.args.taken.now c.loop-e.e-index none).value value c.number.ensures
     (value_small c.args.taken.now c.loop-e.e-index c.loop-e-test.true c.requires.taken_small)
 
 pub add_at-after-requires-clause-listed : goal.add_at-after-requires-clause-listed

@@ -3,7 +3,7 @@ use Rattle.audit_types.specs.Truth.{number_at}
 use Rattle.audit_types.specs.Form.{IsPrimitive, pivot}
 use Rattle.sum_basis.specs.declared.sparse.FreeEntry.{FreeEntry}
 use Rattle.sum_basis.specs.declared.sparse.SparseRow.{SparseRow}
-use Rattle.sum_basis.specs.Elimination.{IsSmall}
+use Rattle.sum_basis.specs.Elimination.{IsSmall, StaysSmall}
 use Rattle.sum_basis.specs.Sparse.{row_of, IsKept}
 use Rattle.sum_basis.proofs.KeptRows.{of_row, of_whole_row, nothing_at}
 use Rattle.sum_basis.proofs.AllCleared.{IsPartlyCleared, none_cleared, one_more_done, in_the_end}
@@ -18,7 +18,7 @@ inside : (n : ℕ) (new : List FreeEntry) (old rows : List SparseRow) (k : ℕ) 
 inside n new old rows k part h = let same = part.same_length in omega arith
 
 pub loop-k-init : goal.loop-k-init
-loop-k-init c = record { cleared = none_cleared c.args.columns c.args.new.now c.args.rows.now.items; capacity = refl; room = c.requires.room }
+loop-k-init c = record { cleared = none_cleared c.args.columns c.args.new.now c.args.rows.now.items; capacity = refl; room = c.requires.room; combined_room = c.requires.combined_room }
 
 pub clear-requires-clause-primitive : goal.clear-requires-clause-primitive
 clear-requires-clause-primitive c =
@@ -30,6 +30,11 @@ pub clear-requires-clause-small : goal.clear-requires-clause-small
 clear-requires-clause-small c =
     of_whole_row IsSmall c.args.columns c.args.rows.now.items c.loop-k.k c.index_mut.result.now (inside _ _ _ _ _ c.loop-k.invariant.cleared (omega arith))
     (still _ _ _ _ _ _ c.loop-k.invariant.cleared c.index_mut.ensures.value) c.requires.form.entries
+
+pub clear-requires-clause-narrow : goal.clear-requires-clause-narrow
+clear-requires-clause-narrow c =
+    of_whole_row (StaysSmall c.args.columns (row_of c.args.columns c.args.new.now)) c.args.columns c.args.rows.now.items c.loop-k.k c.index_mut.result.now
+    (inside _ _ _ _ _ c.loop-k.invariant.cleared (omega arith)) (still _ _ _ _ _ _ c.loop-k.invariant.cleared c.index_mut.ensures.value) c.requires.narrow
 
 pub clear-requires-clause-zero : goal.clear-requires-clause-zero
 clear-requires-clause-zero c =
@@ -47,6 +52,7 @@ loop-k-preserved c = record {
       (omega arith) c.index_mut.ensures.value c.loop-k.invariant.cleared (record { kept = c.clear.ensures.kept; cleared = c.clear.ensures.cleared });
   capacity = c.loop-k.invariant.capacity;
   room = c.clear.ensures.room;
+  combined_room = c.clear.ensures.combined_room;
 }
 
 pub returns-clause-kept : goal.returns-clause-kept

@@ -8,4 +8,5 @@ invariant-loop-k l = record {
   cleared : IsPartlyCleared l.columns l.new l.initial.rows.items l.rows.items l.k;
   capacity : vec_capacity l.rows ≡ vec_capacity l.initial.rows;
   room : l.columns ≤ vec_capacity l.room;
+  combined_room : l.columns ≤ vec_capacity l.combined;
 }

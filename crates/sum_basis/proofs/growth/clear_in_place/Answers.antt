@@ -7,7 +7,7 @@ use Rattle.sum_basis.specs.declared.sparse.FreeEntry.{FreeEntry}
 use Rattle.sum_basis.specs.Sparse.{entry_at, entries_of}
 use Rattle.sum_basis.proofs.SparseRows.{listed_from, small_values}
 use Rattle.sum_basis.proofs.ClearedLists.{entry_small}
-use Rattle.sum_basis.proofs.EditedRows.{edited_listed, edited_cleared, kept_row}
+use Rattle.sum_basis.proofs.EditedRows.{edited_listed, edited_cleared, edited_small, kept_row}
 use Rattle.sum_basis.proofs.growth.clear_in_place.Goals as goal
 
 pub take_entries-row-requires-clause-listed : goal.take_entries-row-requires-clause-listed
@@ -23,6 +23,12 @@ take_entries-row-requires-clause-times c =
 
 pub take_entries-row-requires-clause-taken_small : goal.take_entries-row-requires-clause-taken_small
 take_entries-row-requires-clause-taken_small c = small_values c.args.columns c.args.new.now c.requires.new.listed c.requires.new.small
+
+pub take_entries-row-requires-clause-narrow : goal.take_entries-row-requires-clause-narrow
+take_entries-row-requires-clause-narrow c = λ j.
+    rw (to_z-of_z w128 c.args.times c.ranges.times)
+    (edited_small c.args.columns c.args.row.now c.args.new.now c.requires.kept c.requires.primitive c.requires.new c.requires.before c.args.times
+    c.requires.times c.requires.ones.0 c.requires.ones.1 c.requires.narrow j)
 
 -- what was taken, of the number as it is
 taken_is : (old out new : List FreeEntry) (times : ℤ) → FitsSigned w128 times →

@@ -7,7 +7,8 @@ use Rattle.std.specs.List.{AllByRecursion}
 use Rattle.sum_basis.specs.declared.sparse.FreeEntry.{FreeEntry}
 use Rattle.sum_basis.specs.declared.sparse.SparseRow.{SparseRow}
 use Rattle.sum_basis.specs.Sparse.{row_of, rows_of, IsKept, IsNew}
-use Rattle.sum_basis.specs.Elimination.{AreCleared, IsZeroAtPivots}
+use Rattle.sum_basis.specs.Elimination.{AreCleared, IsZeroAtPivots, StaysSmall}
+use Rattle.sum_basis.proofs.MergedNumbers.{passed}
 use Rattle.sum_basis.proofs.Inserting.{all_inserted, without_first, kept_new, inserted_is_reduced}
 use Rattle.sum_basis.proofs.growth.grow_rows.Goals as goal
 
@@ -18,6 +19,11 @@ pub clear_all-requires-clause-zero : goal.clear_all-requires-clause-zero
 clear_all-requires-clause-zero c =
     subst (λ (l : List FreeEntry). IsZeroAtPivots (rows_of c.args.columns c.args.rows.now.items) (row_of c.args.columns l))
     (sym c.deref.ensures.value) c.requires.zero
+
+pub clear_all-requires-clause-narrow : goal.clear_all-requires-clause-narrow
+clear_all-requires-clause-narrow c =
+    subst (λ (l : List FreeEntry). AllByRecursion (StaysSmall c.args.columns (row_of c.args.columns l)) (rows_of c.args.columns c.args.rows.now.items))
+    (sym c.deref.ensures.value) c.requires.narrow
 
 pub remove-first-requires : goal.remove-first-requires
 remove-first-requires c = let some = c.requires.new.some in let len = c.args.new.ok.0 in omega arith
@@ -39,47 +45,51 @@ entries_are : (entries rest : List FreeEntry) (first : FreeEntry) (value : ℤ) 
 entries_are entries rest first value e is = is ∙ ap (λ (v : ℤ). record { place = first.place; value = v } ∷ rest) (sym e)
 
 -- no entry of it is above its bound
-bounded : (first : FreeEntry) (rest list : List FreeEntry) (most : ℕ) → FitsSigned w128 first.value → unsigned_abs (to_z w128 (of_z w128 first.value)) ≤ most
-    → list ≡ rest → AllByRecursion (λ (e : FreeEntry). unsigned_abs e.value ≤ most) list
-    → AllByRecursion (λ (e : FreeEntry). unsigned_abs e.value ≤ most) (record { place = first.place; value = to_z w128 (of_z w128 first.value) } ∷ rest)
-bounded first rest list most fits head same all = (head, subst (AllByRecursion (λ (e : FreeEntry). unsigned_abs e.value ≤ most)) same all)
+bounded : (place : ℕ) (value : ℤ) (rest list : List FreeEntry) (most : ℕ) → unsigned_abs value ≤ most → list ≡ rest
+    → AllByRecursion (λ (e : FreeEntry). unsigned_abs e.value ≤ most) list
+    → AllByRecursion (λ (e : FreeEntry). unsigned_abs e.value ≤ most) (record { place = place; value = value } ∷ rest)
+bounded place value rest list most head same all = (head, subst (AllByRecursion (λ (e : FreeEntry). unsigned_abs e.value ≤ most)) same all)
 
 pub returns-clause-kept : goal.returns-clause-kept
 returns-clause-kept c =
-    let fits : FitsSigned w128 c.remove-first.result.value = search rules in
+    let fits : FitsSigned w128 c.number-head.result = search rules in
     let r : SparseRow = record {
       pivot = c.remove-first.result.place;
-      head = to_z w128 (of_z w128 c.remove-first.result.value);
+      head = to_z w128 (of_z w128 c.number-head.result);
       most = c.bound_of-most.result;
       free = c.remove-first.new.self;
     } in
     let items = rw c.unwrap.ensures at c.insert.ensures.items in
     let split = without_first c.args.new.items c.remove-first.result c.remove-first.new.self.items c.requires.new.some c.remove-first.ensures.value
     c.remove-first.ensures.items in
-    let is = entries_are c.args.new.items c.remove-first.new.self.items c.remove-first.result _ (to_z-of_z w128 c.remove-first.result.value fits) split.is in
+    let is = entries_are c.args.new.items c.remove-first.new.self.items c.remove-first.result _
+    (passed c.number-head.result c.remove-first.result.value fits c.number-head.ensures) split.is in
     let room : c.args.columns ≤ c.remove-first.new.self.cap = let cap = c.remove-first.ensures.capacity in let most = c.requires.new_room in omega arith in
     subst (AllByRecursion (IsKept c.args.columns)) (sym items)
     (all_inserted (IsKept c.args.columns) c.clear_all.new.rows.items c.place_of-place.result r c.clear_all.ensures.kept
     (kept_new c.args.columns c.args.new.items r c.requires.new is
-    (bounded c.remove-first.result c.remove-first.new.self.items c.deref-3.result.now c.bound_of-most.result fits c.bound_of-most.ensures.head
+    (bounded c.remove-first.result.place (to_z w128 (of_z w128 c.number-head.result)) c.remove-first.new.self.items c.deref-3.result.now
+    c.bound_of-most.result c.bound_of-most.ensures.head
     c.deref-3.ensures.value c.bound_of-most.ensures.values) room))
 
 pub returns-clause-reduced : goal.returns-clause-reduced
 returns-clause-reduced c =
-    let fits : FitsSigned w128 c.remove-first.result.value = search rules in
+    let fits : FitsSigned w128 c.number-head.result = search rules in
     let r : SparseRow = record {
       pivot = c.remove-first.result.place;
-      head = to_z w128 (of_z w128 c.remove-first.result.value);
+      head = to_z w128 (of_z w128 c.number-head.result);
       most = c.bound_of-most.result;
       free = c.remove-first.new.self;
     } in
     let items = rw c.unwrap.ensures at c.insert.ensures.items in
     let split = without_first c.args.new.items c.remove-first.result c.remove-first.new.self.items c.requires.new.some c.remove-first.ensures.value
     c.remove-first.ensures.items in
-    let is = entries_are c.args.new.items c.remove-first.new.self.items c.remove-first.result _ (to_z-of_z w128 c.remove-first.result.value fits) split.is in
+    let is = entries_are c.args.new.items c.remove-first.new.self.items c.remove-first.result _
+    (passed c.number-head.result c.remove-first.result.value fits c.number-head.ensures) split.is in
     let room : c.args.columns ≤ c.remove-first.new.self.cap = let cap = c.remove-first.ensures.capacity in let most = c.requires.new_room in omega arith in
     let kept = kept_new c.args.columns c.args.new.items r c.requires.new is
-    (bounded c.remove-first.result c.remove-first.new.self.items c.deref-3.result.now c.bound_of-most.result fits c.bound_of-most.ensures.head
+    (bounded c.remove-first.result.place (to_z w128 (of_z w128 c.number-head.result)) c.remove-first.new.self.items c.deref-3.result.now
+    c.bound_of-most.result c.bound_of-most.ensures.head
     c.deref-3.ensures.value c.bound_of-most.ensures.values) room in
     rw items
     (inserted_is_reduced c.args.columns c.args.rows.now.items c.clear_all.new.rows.items c.args.new.items r c.place_of-place.result c.requires.form

@@ -4,6 +4,7 @@ use Rattle.std.specs.Int.{w128}
 use Rattle.std.proofs.lemmas.Int.{ints, to_z-of_z, unsigned_abs-mul}
 use Rattle.sum_basis.specs.declared.sparse.FreeEntry.{FreeEntry}
 use Rattle.sum_basis.specs.Sparse.{IsNew}
+use Rattle.sum_basis.proofs.MergedNumbers.{passed}
 use Rattle.sum_basis.proofs.ListContents.{none}
 use Rattle.sum_basis.proofs.ClearedLists.{is_led, positive_times}
 use Rattle.sum_basis.proofs.looking.look_ahead.Goals as goal
@@ -12,8 +13,8 @@ use Rattle.sum_basis.proofs.LeastMultiples.{positive_size}
 
 pub product-requires-clause-x : goal.product-requires-clause-x
 product-requires-clause-x c =
-    let fits : FitsSigned w128 (get_or c.args.new.now 0 (record { place = 0; value = pos 0 })).value = search rules in
-    rw (to_z-of_z w128 (get_or c.args.new.now 0 none).value fits)
+    let fits : FitsSigned w128 c.number.result = search rules in
+    rw (passed c.number.result (get_or c.args.new.now 0 none).value fits c.number.ensures)
     (is_led c.args.columns c.args.new.now c.requires.new).small
 
 pub product-requires-clause-y : goal.product-requires-clause-y
@@ -34,7 +35,7 @@ within_limit n width new by common x y p is_new e f g positive is most =
 
 pub look_by_bounds-requires-clause-multiple : goal.look_by_bounds-requires-clause-multiple
 look_by_bounds-requires-clause-multiple c =
-    let fits : FitsSigned w128 (get_or c.args.new.now 0 (record { place = 0; value = pos 0 })).value = search rules in
+    let fits : FitsSigned w128 c.number.result = search rules in
     let product : FitsSigned w128 c.product.result = search rules in
     let is = to_z-of_z w128 c.product.result product in
     let most : c.product.result ≤ℤ pos c.args.width = omega (arith, ints) in (
@@ -42,6 +43,6 @@ look_by_bounds-requires-clause-multiple c =
       c.requires.multiple.multiple,
       size_positive c.args.common c.requires.positive,
       within_limit c.args.columns c.args.width c.args.new.now _ c.args.common _ _ c.product.result c.requires.new refl
-          (to_z-of_z w128 (get_or c.args.new.now 0 none).value fits)
+          (passed c.number.result (get_or c.args.new.now 0 none).value fits c.number.ensures)
           (to_z-of_z w128 c.args.common c.ranges.common) c.requires.positive c.product.ensures.exact most,
     )

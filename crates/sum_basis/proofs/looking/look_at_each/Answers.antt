@@ -12,6 +12,7 @@ use Rattle.sum_basis.specs.declared.sparse.SparseRow.{SparseRow}
 use Rattle.sum_basis.specs.Basis.{Echelon}
 use Rattle.sum_basis.specs.Elimination.{IsWithin}
 use Rattle.sum_basis.specs.Sparse.{row_of, rows_of, entries_of, IsKept, IsNew}
+use Rattle.sum_basis.proofs.MergedNumbers.{passed}
 use Rattle.sum_basis.proofs.Sizes.{within_at}
 use Rattle.sum_basis.proofs.ListContents.{none}
 use Rattle.sum_basis.proofs.ClearedLists.{is_led}
@@ -33,10 +34,10 @@ start n width rows new common is_new within e =
 
 pub loop-row-init : goal.loop-row-init
 loop-row-init c =
-    let fits : FitsSigned w128 (get_or c.args.new.now 0 (record { place = 0; value = pos 0 })).value = search rules in
+    let fits : FitsSigned w128 c.number-common.result = search rules in
     record {
       looked = start c.args.columns c.args.width c.args.rows.now c.args.new.now _ c.requires.new c.requires.new_within
-          (to_z-of_z w128 (get_or c.args.new.now 0 none).value fits);
+          (passed c.number-common.result (get_or c.args.new.now 0 none).value fits c.number-common.ensures);
       room = c.requires.room;
     }
 

@@ -12,6 +12,7 @@ use Rattle.sum_basis.specs.declared.sparse.SparseRow.{SparseRow}
 use Rattle.sum_basis.specs.Basis.{Echelon}
 use Rattle.sum_basis.specs.Elimination.{IsWithin}
 use Rattle.sum_basis.specs.Sparse.{row_of, rows_of, entries_of, IsKept, IsNew}
+use Rattle.sum_basis.proofs.MergedNumbers.{passed}
 use Rattle.sum_basis.proofs.ListContents.{none}
 use Rattle.sum_basis.proofs.ClearedLists.{is_led}
 use Rattle.sum_basis.proofs.KeptRows.{of_row, of_whole_row, nothing_at, lone_new, cleared_at, row_within}
@@ -121,8 +122,8 @@ returns-then-greatest_bound-sure-clause-foresees c =
     let first = one_more_glanced n c.args.width form.rows new k c.loop-row.fixing all.0 c.in-Some.lone true (row_within n rows k c.loop-row-test.true)
     c.loop-row.invariant.glanced (cleared_at n new rows k c.row-item.result all.0 c.loop-row-test.true c.row-item.is all.1) all.2.0 all.2.1
     (λ yes. inr c.if-lone.true, λ either. refl) in
-    let fits : FitsSigned w128 (get_or c.args.new.now 0 (record { place = 0; value = pos 0 })).value = search rules in
-    let enough = rw (to_z-of_z w128 (get_or c.args.new.now 0 none).value fits) at c.sure_bound-sure.ensures in
+    let fits : FitsSigned w128 c.number-by.result = search rules in
+    let enough = rw (passed c.number-by.result (get_or c.args.new.now 0 none).value fits c.number-by.ensures) at c.sure_bound-sure.ensures in
     let rest = rest_stays_within n c.args.width c.args.new.now c.requires.new c.bound_of-most.result c.bound_of-most.ensures.values c.sure_bound-sure.result
     enough (k + 1) rows c.requires.kept c.requires.form.primitive c.requires.form.entries c.requires.zero
     (bounded_by_more c.args.greatest_bound c.sure_bound-sure.result c.if-greatest_bound-sure.true rows c.requires.greatest_bound) in
@@ -173,7 +174,7 @@ look_at-requires-clause-kept c =
 pub sure_bound-sure-requires : goal.sure_bound-sure-requires
 sure_bound-sure-requires c =
     let new = c.args.new.now in
-    let fits : FitsSigned w128 (get_or new 0 (record { place = 0; value = pos 0 })).value = search rules in
+    let fits : FitsSigned w128 c.number-by.result = search rules in
     let led = is_led c.args.columns new c.requires.new in
-    rw (to_z-of_z w128 (get_or new 0 none).value fits)
+    rw (passed c.number-by.result (get_or new 0 none).value fits c.number-by.ensures)
     (record { width = c.requires.width.1; by = (subst (λ z. pos 0 <ℤ z) led.pivot_entry_is c.requires.new.primitive.leading, led.small) })

@@ -9,6 +9,7 @@ use Rattle.sum_basis.specs.declared.sparse.FreeEntry.{FreeEntry}
 use Rattle.sum_basis.specs.declared.sparse.SparseRow.{SparseRow}
 use Rattle.sum_basis.specs.Elimination.{IsSmall}
 use Rattle.sum_basis.specs.Sparse.{entry_at, row_of, entries_of, IsKept, scaled}
+use Rattle.sum_basis.proofs.MergedNumbers.{passed}
 use Rattle.sum_basis.proofs.Sizes.{within_more}
 use Rattle.sum_basis.proofs.SparseRows.{listed_from, listed_to, small_values}
 use Rattle.sum_basis.proofs.ListContents.{none}
@@ -29,8 +30,8 @@ bounds-new-0 c = c.requires.new.some
 
 pub are_parallel-requires-clause-by : goal.are_parallel-requires-clause-by
 are_parallel-requires-clause-by c =
-    let fits : FitsSigned w128 (get_or c.args.new.now 0 (record { place = 0; value = pos 0 })).value = search rules in
-    first_small c.args.columns c.args.new.now _ c.requires.new (to_z-of_z w128 (get_or c.args.new.now 0 none).value fits)
+    let fits : FitsSigned w128 c.number-by.result = search rules in
+    first_small c.args.columns c.args.new.now _ c.requires.new (passed c.number-by.result (get_or c.args.new.now 0 none).value fits c.number-by.ensures)
 
 pub returns-then-is_surely_within-clause-room : goal.returns-then-is_surely_within-clause-room
 returns-then-is_surely_within-clause-room c = c.requires.room
@@ -69,11 +70,11 @@ times_small n r place list found times kept small l is e = rw (e, is, l) (entry_
 
 pub is_surely_within-requires : goal.is_surely_within-requires
 is_surely_within-requires c =
-    let fits : FitsSigned w128 (get_or c.args.new.now 0 (record { place = 0; value = pos 0 })).value = search rules in
+    let fits : FitsSigned w128 c.number-by.result = search rules in
     record {
       width = c.requires.width.1;
       by = first_small c.args.columns c.args.new.now _ c.requires.new
-          (to_z-of_z w128 (get_or c.args.new.now 0 none).value fits);
+          (passed c.number-by.result (get_or c.args.new.now 0 none).value fits c.number-by.ensures);
     }
 
 pub are_parallel-requires-clause-first : goal.are_parallel-requires-clause-first
@@ -94,15 +95,15 @@ are_parallel-requires-clause-second c = small_values c.args.columns c.args.new.n
 
 pub returns-then-is_surely_within-clause-cleared : goal.returns-then-is_surely_within-clause-cleared
 returns-then-is_surely_within-clause-cleared c =
-    let by : FitsSigned w128 (get_or c.args.new.now 0 (record { place = 0; value = pos 0 })).value = search rules in
+    let by : FitsSigned w128 c.number-by.result = search rules in
     let times : FitsSigned w128 c.value_at-times.result = search rules in
     let is = to_z-of_z w128 c.value_at-times.result times in
     let list = c.deref-then-is_surely_within.ensures.value in
     let told = c.are_parallel.ensures in
-    let first = to_z w128 (of_z w128 (get_or c.args.new.now 0 none).value) in
+    let first = to_z w128 (of_z w128 c.number-by.result) in
     let found = to_z w128 (of_z w128 c.value_at-times.result) in
     by_bounds c.args.columns c.args.row.now c.args.new.now c.requires.kept c.requires.primitive c.requires.new c.requires.zero c.args.most c.requires.most first
-    (to_z-of_z w128 (get_or c.args.new.now 0 none).value by) c.args.width found c.are_parallel.result
+    (passed c.number-by.result (get_or c.args.new.now 0 none).value by c.number-by.ensures) c.args.width found c.are_parallel.result
     (is ∙ c.value_at-times.ensures ∙ ap (λ l. entry_at l (get_or c.args.new.now 0 none).place) c.deref.ensures.value)
     (λ z. c.if-times-eq0.false (ap (of_z w128) (sym is ∙ z)))
     (subst (λ (size : ℕ). unsigned_abs first * c.args.row.now.most + size * c.args.most ≤ c.args.width) c.unsigned_abs.ensures.value

@@ -1,4 +1,4 @@
-use Rattle.std.proofs.Common.{◌++◌, length, map, get_or, refl, sym, ap, ◌∙◌, arith, rules, take_all}
+use Rattle.std.proofs.Common.{◌++◌, [], ◌∷◌, length, map, get_or, refl, sym, ap, ◌∙◌, arith, rules, take_all}
 use Rattle.std.specs.Prelude.{FitsSigned, ◌*ℤ◌}
 use Rattle.std.specs.Int.{w128}
 use mir.Val.{to_z, of_z}
@@ -6,6 +6,8 @@ use Rattle.std.proofs.lemmas.Int.{to_z-of_z}
 use Rattle.std.proofs.lemmas.List.{append-nil}
 use Rattle.sum_basis.specs.Sparse.{scaled}
 use Rattle.sum_basis.proofs.ListContents.{none, value_small}
+use Rattle.sum_basis.specs.declared.sparse.FreeEntry.{FreeEntry}
+use Rattle.sum_basis.proofs.MergedNumbers.{passed, widened_small}
 use Rattle.sum_basis.proofs.OverDivisor.{filled, pushed}
 use Rattle.sum_basis.proofs.merging.append.Goals as goal
 
@@ -28,20 +30,19 @@ product-value-requires-clause-x c = rw (to_z-of_z w128 c.args.by c.ranges.by) c.
 
 pub product-value-requires-clause-y : goal.product-value-requires-clause-y
 product-value-requires-clause-y c =
-    let value : FitsSigned w128 (get_or c.args.rest.now c.loop-e.e-index none).value = search rules in
-    rw (to_z-of_z w128 (get_or c.args.rest.now c.loop-e.e-index none).value value)
+    let x : FitsSigned w128 c.number.result = search rules in
+    widened_small c.number.result (get_or c.args.rest.now c.loop-e.e-index none).value x c.number.ensures
     (value_small c.args.rest.now c.loop-e.e-index c.loop-e-test.true c.requires.small)
 
 pub loop-e-preserved : goal.loop-e-preserved
 loop-e-preserved c =
-    let e = get_or c.args.rest.now c.loop-e.e-index none in
     let result : FitsSigned w128 c.product-value.result = search rules in
-    let value : FitsSigned w128 (get_or c.args.rest.now c.loop-e.e-index none).value = search rules in
+    let x : FitsSigned w128 c.number.result = search rules in
     record {
-      items = c.push_reserved.ensures.items
+      items = c.push_reserved.ensures.items ∙ ap (λ (l : FreeEntry). c.loop-e.out.items ++ l ∷ []) c.new.ensures
           ∙ pushed _ c.args.out.now.items c.loop-e.out.items c.args.rest.now c.loop-e.e-index _ c.loop-e-test.true c.loop-e.invariant.items
           (to_z-of_z w128 c.product-value.result result ∙ c.product-value.ensures.exact
-          ∙ ap (λ z. to_z w128 (of_z w128 c.args.by) *ℤ z) (to_z-of_z w128 e.value value));
+          ∙ ap (λ z. to_z w128 (of_z w128 c.args.by) *ℤ z) (passed c.number.result _ x c.number.ensures));
       capacity = c.push_reserved.ensures.capacity ∙ c.loop-e.invariant.capacity;
     }
 

@@ -6,8 +6,7 @@ use Rattle.std.proofs.lemmas.Int.{to_z-of_z}
 use Rattle.sum_basis.specs.Sparse.{entry_at, scaled}
 use Rattle.sum_basis.proofs.ListContents.{none, value_small}
 use Rattle.sum_basis.proofs.Merges.{out_room, first_merged, second_merged, both_merged, whole_listed, whole_is, part_length, whole_length, end_is}
-use Rattle.sum_basis.proofs.Wide.{product_of}
-use Rattle.sum_basis.proofs.MergedNumbers.{limit_fits, difference_of, turned_product_of, appended_as, negated, minus_small, end_small}
+use Rattle.sum_basis.proofs.MergedNumbers.{limit_fits, widened_small, product_with, difference_with, turned_product_with, appended_as, negated, minus_small, end_small}
 use Rattle.sum_basis.proofs.merging.combine_into.Goals.{then-loop-i-test+else-j-second, else-loop-i-test}
 use Rattle.sum_basis.proofs.merging.combine_into.Goals as goal
 
@@ -16,8 +15,8 @@ product-requires-clause-x c = rw (to_z-of_z w128 c.args.by.now (limit_fits c.arg
 
 pub product-requires-clause-y : goal.product-requires-clause-y
 product-requires-clause-y c =
-    let x : FitsSigned w128 (get_or c.args.first.now c.loop-i.i none).value = search rules in
-    rw (to_z-of_z w128 (get_or c.args.first.now c.loop-i.i none).value x) (value_small c.args.first.now c.loop-i.i c.loop-i-test.true c.requires.first_small)
+    let x : FitsSigned w128 c.number.result = search rules in
+    widened_small c.number.result (get_or c.args.first.now c.loop-i.i none).value x c.number.ensures (value_small c.args.first.now c.loop-i.i c.loop-i-test.true c.requires.first_small)
 
 pub overflow_sub-times : goal.overflow_sub-times
 overflow_sub-times c = rw (to_z-of_z w128 c.args.times.now (limit_fits c.args.times.now c.requires.times)) (negated c.args.times.now c.requires.times)
@@ -27,24 +26,24 @@ product-requires-then-other-one-clause-x c = minus_small c.args.times.now (limit
 
 pub product-requires-then-other-one-clause-y : goal.product-requires-then-other-one-clause-y
 product-requires-then-other-one-clause-y c =
-    let y : FitsSigned w128 (get_or c.args.second.now c.loop-i.j none).value = search rules in
-    rw (to_z-of_z w128 (get_or c.args.second.now c.loop-i.j none).value y) (value_small c.args.second.now c.loop-i.j c.if-j-second.true c.requires.second_small)
+    let x : FitsSigned w128 c.number-then-other-one.result = search rules in
+    widened_small c.number-then-other-one.result (get_or c.args.second.now c.loop-i.j none).value x c.number-then-other-one.ensures (value_small c.args.second.now c.loop-i.j c.if-j-second.true c.requires.second_small)
 
 pub difference-requires-clause-by : goal.difference-requires-clause-by
 difference-requires-clause-by c = rw (to_z-of_z w128 c.args.by.now (limit_fits c.args.by.now c.requires.by)) c.requires.by
 
 pub difference-requires-clause-x : goal.difference-requires-clause-x
 difference-requires-clause-x c =
-    let x : FitsSigned w128 (get_or c.args.first.now c.loop-i.i none).value = search rules in
-    rw (to_z-of_z w128 (get_or c.args.first.now c.loop-i.i none).value x) (value_small c.args.first.now c.loop-i.i c.loop-i-test.true c.requires.first_small)
+    let x : FitsSigned w128 c.number-else-other-one.result = search rules in
+    widened_small c.number-else-other-one.result (get_or c.args.first.now c.loop-i.i none).value x c.number-else-other-one.ensures (value_small c.args.first.now c.loop-i.i c.loop-i-test.true c.requires.first_small)
 
 pub difference-requires-clause-times : goal.difference-requires-clause-times
 difference-requires-clause-times c = rw (to_z-of_z w128 c.args.times.now (limit_fits c.args.times.now c.requires.times)) c.requires.times
 
 pub difference-requires-clause-y : goal.difference-requires-clause-y
 difference-requires-clause-y c =
-    let y : FitsSigned w128 (get_or c.args.second.now c.loop-i.j none).value = search rules in
-    rw (to_z-of_z w128 (get_or c.args.second.now c.loop-i.j none).value y) (value_small c.args.second.now c.loop-i.j c.if-j-second.true c.requires.second_small)
+    let x : FitsSigned w128 c.number-else-other-one-2.result = search rules in
+    widened_small c.number-else-other-one-2.result (get_or c.args.second.now c.loop-i.j none).value x c.number-else-other-one-2.ensures (value_small c.args.second.now c.loop-i.j c.if-j-second.true c.requires.second_small)
 
 pub append-requires-clause-by : goal.append-requires-clause-by
 append-requires-clause-by c = rw (to_z-of_z w128 c.args.by.now (limit_fits c.args.by.now c.requires.by)) c.requires.by
@@ -93,31 +92,32 @@ put-requires-else-other-one c =
 
 pub loop-i-preserved-then-one-other : goal.loop-i-preserved-then-one-other
 loop-i-preserved-then-one-other c =
-    let x : FitsSigned w128 (get_or c.args.first.now c.loop-i.i (record { place = 0; value = pos 0 })).value = search rules in
+    let x : FitsSigned w128 c.number.result = search rules in
     let v : FitsSigned w128 c.product.result = search rules in
     record {
       merging = rw c.put.ensures.items
           (first_merged c.args.columns _ c.args.first.now _ c.args.second.now c.loop-i.out.items c.loop-i.i c.loop-i.j c.loop-i.invariant.merging
-          c.loop-i-test.true c.if-j-second.true _ c.if-one-other.true (product_of _ _ _ v (limit_fits c.args.by.now c.requires.by) x c.product.ensures.exact));
+          c.loop-i-test.true c.if-j-second.true _ c.if-one-other.true (product_with _ _ _ _ v (limit_fits c.args.by.now c.requires.by) x c.number.ensures
+          c.product.ensures.exact));
       capacity = c.put.ensures.capacity ∙ c.loop-i.invariant.capacity;
     }
 
 pub loop-i-preserved-then-other-one : goal.loop-i-preserved-then-other-one
 loop-i-preserved-then-other-one c =
-    let y : FitsSigned w128 (get_or c.args.second.now c.loop-i.j (record { place = 0; value = pos 0 })).value = search rules in
+    let y : FitsSigned w128 c.number-then-other-one.result = search rules in
     let v : FitsSigned w128 c.product-then-other-one.result = search rules in
     record {
       merging = rw c.put-then-other-one.ensures.items
           (second_merged c.args.columns _ c.args.first.now _ c.args.second.now c.loop-i.out.items c.loop-i.i c.loop-i.j c.loop-i.invariant.merging
           c.loop-i-test.true c.if-j-second.true _ c.if-other-one.true
-          (turned_product_of _ _ _ v c.requires.times y c.product-then-other-one.ensures.exact));
+          (turned_product_with _ _ _ _ v c.requires.times y c.number-then-other-one.ensures c.product-then-other-one.ensures.exact));
       capacity = c.put-then-other-one.ensures.capacity ∙ c.loop-i.invariant.capacity;
     }
 
 pub loop-i-preserved : goal.loop-i-preserved
 loop-i-preserved c =
-    let x : FitsSigned w128 (get_or c.args.first.now c.loop-i.i (record { place = 0; value = pos 0 })).value = search rules in
-    let y : FitsSigned w128 (get_or c.args.second.now c.loop-i.j (record { place = 0; value = pos 0 })).value = search rules in
+    let x : FitsSigned w128 c.number-else-other-one.result = search rules in
+    let y : FitsSigned w128 c.number-else-other-one-2.result = search rules in
     let v : FitsSigned w128 c.difference.result = search rules in
     let up = c.if-one-other.false in
     let down = c.if-other-one.false in
@@ -125,7 +125,8 @@ loop-i-preserved c =
       merging =
           rw c.put-else-other-one.ensures.items
           (both_merged c.args.columns _ c.args.first.now _ c.args.second.now c.loop-i.out.items c.loop-i.i c.loop-i.j c.loop-i.invariant.merging
-          c.loop-i-test.true c.if-j-second.true _ (omega arith) (difference_of _ _ _ _ _ v c.requires.by x c.requires.times y c.difference.ensures.exact));
+          c.loop-i-test.true c.if-j-second.true _ (omega arith) (difference_with _ _ _ _ _ _ _ v c.requires.by x c.requires.times y c.number-else-other-one.ensures
+          c.number-else-other-one-2.ensures c.difference.ensures.exact));
       capacity = c.put-else-other-one.ensures.capacity ∙ c.loop-i.invariant.capacity;
     }
 

@@ -16,4 +16,5 @@ pub returns-then-value-ne0-clause-items : goal.returns-then-value-ne0-clause-ite
 returns-then-value-ne0-clause-items c =
     let old = c.args.out.now.items in
     let value = to_z-of_z w128 c.args.value c.ranges.value in
-    appended c.args.value old _ _ (omega arith) (c.push_reserved.ensures.items ∙ ap (λ v. old ++ record { place = c.args.place; value = v } ∷ []) value)
+    appended c.args.value old _ _ (omega arith) (c.push_reserved.ensures.items ∙ ap (λ (e : FreeEntry). old ++ e ∷ []) c.new.ensures
+    ∙ ap (λ v. old ++ record { place = c.args.place; value = v } ∷ []) value)

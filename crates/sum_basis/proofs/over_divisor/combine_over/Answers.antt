@@ -6,8 +6,7 @@ use Rattle.std.proofs.lemmas.List.{length-map}
 use Rattle.sum_basis.specs.Sparse.{entry_at, scaled}
 use Rattle.sum_basis.proofs.ListContents.{none, entry_at-scaled, listed_scaled}
 use Rattle.sum_basis.proofs.Merges.{out_room, first_merged, second_merged, both_merged, whole_listed, whole_is, part_length, whole_length, end_is}
-use Rattle.sum_basis.proofs.Wide.{product_of}
-use Rattle.sum_basis.proofs.MergedNumbers.{limit_fits, difference_of, turned_product_of, appended_as}
+use Rattle.sum_basis.proofs.MergedNumbers.{limit_fits, product_with, difference_with, turned_product_with, appended_as}
 use Rattle.std.proofs.lemmas.Int.{to_z-of_z}
 use Rattle.sum_basis.proofs.over_divisor.combine_over.Goals.{then-loop-i-test+else-j-second, else-loop-i-test}
 use Rattle.sum_basis.proofs.over_divisor.combine_over.Goals as goal
@@ -47,32 +46,34 @@ put_over-requires-else-other-one-clause-room c =
 
 pub loop-i-preserved-then-one-other : goal.loop-i-preserved-then-one-other
 loop-i-preserved-then-one-other c =
-    let x : FitsSigned w128 (get_or c.args.first.now c.loop-i.i none).value = search rules in
+    let x : FitsSigned w128 c.number.result = search rules in
     let v : FitsSigned w128 c.product.result = search rules in
     record {
       merging = rw (c.put_over.ensures.items c.if-not-put_over.false)
           (first_merged c.args.columns _ c.args.first.now _ c.args.second.now (map (scaled (pos c.args.divisor.now)) c.loop-i.out.items) c.loop-i.i c.loop-i.j
           c.loop-i.invariant.merging
-          c.loop-i-test.true c.if-j-second.true _ c.if-one-other.true (product_of _ _ _ v (limit_fits c.args.by.now c.requires.by) x c.product.ensures.exact));
+          c.loop-i-test.true c.if-j-second.true _ c.if-one-other.true (product_with _ _ _ _ v (limit_fits c.args.by.now c.requires.by) x c.number.ensures
+          c.product.ensures.exact));
       capacity = c.put_over.ensures.capacity ∙ c.loop-i.invariant.capacity;
     }
 
 pub loop-i-preserved-then-other-one : goal.loop-i-preserved-then-other-one
 loop-i-preserved-then-other-one c =
-    let y : FitsSigned w128 (get_or c.args.second.now c.loop-i.j none).value = search rules in
+    let y : FitsSigned w128 c.number-then-other-one.result = search rules in
     let v : FitsSigned w128 c.product-then-other-one.result = search rules in
     record {
       merging = rw (c.put_over-then-other-one.ensures.items c.if-not-put_over-2.false)
           (second_merged c.args.columns _ c.args.first.now _ c.args.second.now (map (scaled (pos c.args.divisor.now)) c.loop-i.out.items) c.loop-i.i c.loop-i.j
           c.loop-i.invariant.merging
-          c.loop-i-test.true c.if-j-second.true _ c.if-other-one.true (turned_product_of _ _ _ v c.requires.times y c.product-then-other-one.ensures.exact));
+          c.loop-i-test.true c.if-j-second.true _ c.if-other-one.true (turned_product_with _ _ _ _ v c.requires.times y c.number-then-other-one.ensures
+          c.product-then-other-one.ensures.exact));
       capacity = c.put_over-then-other-one.ensures.capacity ∙ c.loop-i.invariant.capacity;
     }
 
 pub loop-i-preserved : goal.loop-i-preserved
 loop-i-preserved c =
-    let x : FitsSigned w128 (get_or c.args.first.now c.loop-i.i none).value = search rules in
-    let y : FitsSigned w128 (get_or c.args.second.now c.loop-i.j none).value = search rules in
+    let x : FitsSigned w128 c.number-else-other-one.result = search rules in
+    let y : FitsSigned w128 c.number-else-other-one-2.result = search rules in
     let v : FitsSigned w128 c.difference-value.result = search rules in
     let up = c.if-one-other.false in
     let down = c.if-other-one.false in
@@ -81,7 +82,8 @@ loop-i-preserved c =
           (both_merged c.args.columns _ c.args.first.now _ c.args.second.now (map (scaled (pos c.args.divisor.now)) c.loop-i.out.items) c.loop-i.i c.loop-i.j
           c.loop-i.invariant.merging
           c.loop-i-test.true c.if-j-second.true _ (omega arith)
-          (difference_of _ _ _ _ _ v c.requires.by x c.requires.times y c.difference-value.ensures.exact));
+          (difference_with _ _ _ _ _ _ _ v c.requires.by x c.requires.times y c.number-else-other-one.ensures c.number-else-other-one-2.ensures
+          c.difference-value.ensures.exact));
       capacity = c.put_over-else-other-one.ensures.capacity ∙ c.loop-i.invariant.capacity;
     }
 

@@ -32,11 +32,12 @@ number_is number by x times y a b fn fx fy ex ey is =
 pub loop-k-preserved : goal.loop-k-preserved
 loop-k-preserved c =
     let fn : FitsSigned w128 c.difference-number.result = search rules in
-    let fx : FitsSigned w128 c.entry_to_try-entry.result.value = search rules in
+    let fx : FitsSigned w128 c.number.result = search rules in
+    let told = rw c.in-Some.is at c.entry_to_try.ensures in
     let fy : FitsSigned w128 c.value_at-other.result = search rules in
-    let place = c.entry_to_try-entry.result.place in
-    let is = number_is c.difference-number.result _ c.entry_to_try-entry.result.value _ c.value_at-other.result (entry_at c.args.first.now place)
-    (entry_at c.args.second.now place) fn fx fy c.entry_to_try-entry.ensures c.value_at-other.ensures c.difference-number.ensures.exact in
+    let place = c.in-Some.entry.place in
+    let is = number_is c.difference-number.result _ c.number.result _ c.value_at-other.result (entry_at c.args.first.now place)
+    (entry_at c.args.second.now place) fn fx fy (c.number.ensures ∙ told) c.value_at-other.ensures c.difference-number.ensures.exact in
     let common = c.with-divisor.ensures in
     record {
       divides = dvd_trans c.with-divisor.result common.0 c.loop-k.invariant.divides;
@@ -50,6 +51,15 @@ returns-then-is_one-clause-divides c = subst (λ (z : ℤ). c.loop-k.divisor ∣
 
 pub returns-then-is_one-clause-greatest : goal.returns-then-is_one-clause-greatest
 returns-then-is_one-clause-greatest c =
+    greatest_of c.loop-k.divisor c.args.head c.args.by c.args.times c.args.first.now c.args.second.now c.ranges.head c.ranges.by c.ranges.times
+    c.loop-k.invariant.greatest
+
+pub returns-in_default-clause-divides : goal.returns-in_default-clause-divides
+returns-in_default-clause-divides c = subst (λ (z : ℤ). c.loop-k.divisor ∣ unsigned_abs z)
+    (to_z-of_z w128 c.args.head c.ranges.head) c.loop-k.invariant.divides
+
+pub returns-in_default-clause-greatest : goal.returns-in_default-clause-greatest
+returns-in_default-clause-greatest c =
     greatest_of c.loop-k.divisor c.args.head c.args.by c.args.times c.args.first.now c.args.second.now c.ranges.head c.ranges.by c.ranges.times
     c.loop-k.invariant.greatest
 

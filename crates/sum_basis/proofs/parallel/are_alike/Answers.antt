@@ -2,6 +2,7 @@ use Rattle.std.proofs.Common.{rules}
 use Rattle.std.proofs.lemmas.Int.{to_z-of_z}
 use Rattle.std.specs.Prelude.{FitsSigned}
 use Rattle.std.specs.Int.{w128}
+use Rattle.sum_basis.proofs.MergedNumbers.{passed}
 use Rattle.sum_basis.proofs.parallel.are_alike.Goals as goal
 
 pub product-requires-clause-x : goal.product-requires-clause-x
@@ -12,10 +13,10 @@ product-requires-then-first-second-clause-x c = rw (to_z-of_z w128 c.args.times 
 
 pub product-requires-clause-y : goal.product-requires-clause-y
 product-requires-clause-y c =
-    let value : FitsSigned w128 c.args.first.value = search rules in
-    rw (to_z-of_z w128 c.args.first.value value) c.requires.first
+    let value : FitsSigned w128 c.number.result = search rules in
+    rw (passed c.number.result c.args.first.value value c.number.ensures) c.requires.first
 
 pub product-requires-then-first-second-clause-y : goal.product-requires-then-first-second-clause-y
 product-requires-then-first-second-clause-y c =
-    let value : FitsSigned w128 c.args.second.value = search rules in
-    rw (to_z-of_z w128 c.args.second.value value) c.requires.second
+    let value : FitsSigned w128 c.number-then-first-second.result = search rules in
+    rw (passed c.number-then-first-second.result c.args.second.value value c.number-then-first-second.ensures) c.requires.second

@@ -2,6 +2,7 @@ use Rattle.std.proofs.Common.{◌≢◌, zero, suc, ◌<◌, ◌^◌, ℤ, pos, 
 use Rattle.std.specs.Prelude.{FitsSigned, unsigned_abs, ◌<ℤ◌, ◌≤ℤ◌}
 use Rattle.std.specs.Int.{w128}
 use Rattle.std.proofs.lemmas.Int.{ints, to_z-of_z}
+use Rattle.sum_basis.proofs.MergedNumbers.{passed}
 use Rattle.sum_basis.proofs.ListContents.{none, entry_is}
 use Rattle.sum_basis.proofs.PrimitiveLists.{no_greater, made_as_it_is, made_turned}
 use Rattle.audit_types.specs.ListLaws.{all-get_or}
@@ -24,9 +25,9 @@ above_zero (negsuc m) n h = absurd (omega (arith, ints))
 pub returns-then-first-lt0-clause-made : goal.returns-then-first-lt0-clause-made
 returns-then-first-lt0-clause-made c =
     let some : 0 < length c.args.entries.now.items = let len = c.args.entries.now.ok.0 in let some = c.requires.some in omega arith in
-    let first : FitsSigned w128 c.index.result.now.value = search rules in
+    let first : FitsSigned w128 c.value-first.result = search rules in
     let size : FitsSigned w128 c.size_of.result = search rules in
-    let is = to_z-of_z w128 c.index.result.now.value first in
+    let is = passed c.value-first.result c.index.result.now.value first c.value-first.ensures in
     let here = ap (λ e. e.value) (entry_is c.args.entries.now.items 0 c.index.result.now some c.index.ensures) in
     let low : c.index.result.now.value <ℤ pos 0 = omega (arith, ints) in
     made_turned c.args.entries.now.items c.over_content.new.entries.items _ _ c.over_content.ensures.over some
@@ -36,9 +37,9 @@ returns-then-first-lt0-clause-made c =
 pub returns-else-first-lt0-clause-made : goal.returns-else-first-lt0-clause-made
 returns-else-first-lt0-clause-made c =
     let some : 0 < length c.args.entries.now.items = let len = c.args.entries.now.ok.0 in let some = c.requires.some in omega arith in
-    let first : FitsSigned w128 c.index.result.now.value = search rules in
+    let first : FitsSigned w128 c.value-first.result = search rules in
     let size : FitsSigned w128 c.size_of.result = search rules in
-    let is = to_z-of_z w128 c.index.result.now.value first in
+    let is = passed c.value-first.result c.index.result.now.value first c.value-first.ensures in
     let here = ap (λ e. e.value) (entry_is c.args.entries.now.items 0 c.index.result.now some c.index.ensures) in
     let high : pos 0 ≤ℤ c.index.result.now.value = omega (arith, ints) in
     made_as_it_is c.args.entries.now.items c.over_content.new.entries.items _ _ c.over_content.ensures.over some
@@ -51,7 +52,7 @@ index-requires c = let len = c.args.entries.now.ok.0 in let some = c.requires.so
 pub size_of-requires : goal.size_of-requires
 size_of-requires c =
     let some : 0 < length c.args.entries.now.items = let len = c.args.entries.now.ok.0 in let some = c.requires.some in omega arith in
-    let first : FitsSigned w128 c.index.result.now.value = search rules in
-    rw (to_z-of_z w128 c.index.result.now.value first)
+    let first : FitsSigned w128 c.value-first.result = search rules in
+    rw (passed c.value-first.result c.index.result.now.value first c.value-first.ensures)
     (subst (λ (e : FreeEntry). unsigned_abs e.value ≤ 2 ^ 126) (entry_is c.args.entries.now.items 0 c.index.result.now some c.index.ensures)
     (all-get_or (λ (e : FreeEntry). unsigned_abs e.value ≤ 2 ^ 126) c.args.entries.now.items 0 none c.requires.size some))

@@ -4,6 +4,7 @@ use Rattle.std.specs.Int.{w128}
 use Rattle.std.proofs.lemmas.Int.{to_z-of_z}
 use Rattle.std.proofs.lemmas.Bool.{false≢true, eq-eqb}
 use Rattle.audit_types.specs.Truth.{number_at}
+use Rattle.sum_basis.proofs.MergedNumbers.{passed}
 use Rattle.sum_basis.proofs.ListContents.{none}
 use Rattle.sum_basis.proofs.Reaching.{as_products}
 use Rattle.sum_basis.proofs.SmallEntries.{entry_small}
@@ -33,13 +34,13 @@ pub returns : goal.returns
 returns c =
     let new = c.args.new.now in
     let row = c.args.row.now in
-    let value : FitsSigned w128 (get_or new 0 (record { place = 0; value = pos 0 })).value = search rules in
+    let value : FitsSigned w128 c.number.result = search rules in
     let here : FitsSigned w128 (get_or row c.args.place (pos 0)) = search rules in
     let entry : FitsSigned w128 c.value_at.result = search rules in
     let there : FitsSigned w128 (get_or row (get_or new 0 (record { place = 0; value = pos 0 })).place (pos 0)) = search rules in
     let told =
     rw (
-      to_z-of_z w128 (get_or new 0 none).value value,
+      passed c.number.result (get_or new 0 none).value value c.number.ensures,
       to_z-of_z w128 (get_or row c.args.place (pos 0)) here,
       to_z-of_z w128 c.value_at.result entry,
       to_z-of_z w128 (get_or row (get_or new 0 none).place (pos 0)) there,

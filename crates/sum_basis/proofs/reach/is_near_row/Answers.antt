@@ -31,7 +31,7 @@ returns-clause-near c =
     let entries = c.deref.result.now in
     let same : (j : ℕ) → entry_at entries j ≡ without_new new f j = λ j. ap (λ l. entry_at l j) c.deref.ensures.value ∙ c.clear_entries.ensures.cleared j in (
       λ yes. near_alike c.args.counts.now c.args.reach (entry_at entries) (without_new new f) (λ j e. sym (same j) ∙ e) (λ j e. same j ∙ e)
-          (c.is_near-2.ensures.0 yes),
-      λ near. c.is_near-2.ensures.1
+          (c.is_combined_near.ensures.0 yes),
+      λ near. c.is_combined_near.ensures.1
           (near_alike c.args.counts.now c.args.reach (without_new new f) (entry_at entries) (λ j e. same j ∙ e) (λ j e. sym (same j) ∙ e) near),
     )

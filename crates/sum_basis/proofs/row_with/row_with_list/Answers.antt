@@ -1,7 +1,7 @@
 use Rattle.std.proofs.Common.{◌≡◌, pos, List, sym, ap, ◌∙◌, subst}
 use Rattle.audit_types.specs.Truth.{number_at}
 use Rattle.audit_types.specs.Form.{IsPrimitive, pivot}
-use Rattle.sum_basis.specs.Elimination.{IsCleared, IsSmall}
+use Rattle.sum_basis.specs.Elimination.{IsCleared, IsSmall, StaysSmall}
 use Rattle.sum_basis.specs.RowsWith.{IsRowAt}
 use Rattle.sum_basis.specs.Sparse.{entry_at, row_of, rows_of, entries_of, IsKept}
 use Rattle.sum_basis.specs.declared.sparse.FreeEntry.{FreeEntry}
@@ -44,6 +44,13 @@ cleared_entries-requires-clause-zero c =
     (nothing_at n c.index-rows-k.result c.args.new.items kept c.requires.new
     (of_whole_row (λ other. number_at (row_of n c.args.new.items)
     (pivot other) ≡ pos 0) n rows c.in-Some.k c.index-rows-k.result told.0 c.index-rows-k.is c.requires.zero))
+
+pub cleared_entries-requires-clause-narrow : goal.cleared_entries-requires-clause-narrow
+cleared_entries-requires-clause-narrow c =
+    let n = c.args.columns in
+    let told = rw c.in-Some.is at c.place_at.ensures in
+    subst (λ (l : List FreeEntry). StaysSmall n (row_of n l) (row_of n (entries_of c.index-rows-k.result))) (sym c.deref.ensures.value)
+    (of_whole_row (StaysSmall n (row_of n c.args.new.items)) n c.args.rows.now c.in-Some.k c.index-rows-k.result told.0 c.index-rows-k.is c.requires.narrow)
 
 pub returns : goal.returns
 returns c = λ grown reduced.

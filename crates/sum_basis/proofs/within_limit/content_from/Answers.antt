@@ -9,7 +9,8 @@ use Rattle.audit_types.specs.Numbers.{size_positive}
 use Rattle.audit_types.specs.ListLaws.{all-get_or}
 use Rattle.std.proofs.Math.Nat.{pos_of_dvd_of_pos}
 use Rattle.sum_basis.specs.declared.sparse.FreeEntry.{FreeEntry}
-use Rattle.sum_basis.proofs.ListContents.{values, none, content_of_one, one_more_value, stays_one}
+use Rattle.sum_basis.proofs.MergedNumbers.{passed}
+use Rattle.sum_basis.proofs.ListContents.{entry_is, values, none, content_of_one, one_more_value, stays_one}
 use Rattle.sum_basis.proofs.WithinLimit.{has_content}
 use Rattle.sum_basis.proofs.within_limit.content_from.Goals as goal
 
@@ -21,11 +22,11 @@ loop-e-init c =
 
 pub loop-e-preserved : goal.loop-e-preserved
 loop-e-preserved c =
-    let value : FitsSigned w128 (get_or c.args.entries.now c.loop-e.e-index (record { place = 0; value = pos 0 })).value = search rules in
+    let value : FitsSigned w128 c.value.result = search rules in
     let common : IsGcd c.loop-e.divisor (unsigned_abs (get_or c.args.entries.now c.loop-e.e-index
     (record { place = 0; value = pos 0 })).value) c.with-divisor.result =
     subst (λ (m : ℤ). IsGcd c.loop-e.divisor (unsigned_abs m) c.with-divisor.result)
-    (to_z-of_z w128 (get_or c.args.entries.now c.loop-e.e-index (record { place = 0; value = pos 0 })).value value) c.with-divisor.ensures in
+    (passed c.value.result (get_or c.args.entries.now c.loop-e.e-index (record { place = 0; value = pos 0 })).value value (c.value.ensures ∙ ap (λ (x : FreeEntry). x.value) (sym (entry_is c.args.entries.now c.loop-e.e-index c.e-item.result c.loop-e-test.true c.e-item.is)))) c.with-divisor.ensures in
     record {
       content =
           one_more_value (to_z w128
@@ -70,8 +71,8 @@ new-divisor-requires c = rw (to_z-of_z w128 c.args.head c.ranges.head) c.require
 
 pub with-divisor-requires : goal.with-divisor-requires
 with-divisor-requires c =
-    let value : FitsSigned w128 (get_or c.args.entries.now c.loop-e.e-index (record { place = 0; value = pos 0 })).value = search rules in
-    rw (to_z-of_z w128 (get_or c.args.entries.now c.loop-e.e-index (record { place = 0; value = pos 0 })).value value)
+    let value : FitsSigned w128 c.value.result = search rules in
+    rw (passed c.value.result (get_or c.args.entries.now c.loop-e.e-index (record { place = 0; value = pos 0 })).value value (c.value.ensures ∙ ap (λ (x : FreeEntry). x.value) (sym (entry_is c.args.entries.now c.loop-e.e-index c.e-item.result c.loop-e-test.true c.e-item.is))))
     (all-get_or (λ (e : FreeEntry). unsigned_abs e.value ≤ 2 ^ 126) c.args.entries.now c.loop-e.e-index none c.requires.entries c.loop-e-test.true)
 
 -- what all values have in common

@@ -15,11 +15,11 @@ use Rattle.sum_basis.proofs.within_limit.head_within.Goals as goal
 pub least_content-requires : goal.least_content-requires
 least_content-requires c =
     let some = size_positive c.args.head c.requires.head.0 in
-    let most = subst (λ (h : ℤ). unsigned_abs h ≤ c.bound_of-most.result) (to_z-of_z w128 c.args.head c.ranges.head) c.bound_of-most.ensures.head in
+    let most = subst (λ (h : ℤ). unsigned_abs h ≤ c.size_of-most.result) (to_z-of_z w128 c.args.head c.ranges.head) c.size_of-most.ensures.head in
     record {
       size = (
         omega arith,
-        c.bound_of-most.ensures.least (2 ^ 126) (rw (to_z-of_z w128 c.args.head c.ranges.head) c.requires.head.1) c.requires.entries,
+        c.size_of-most.ensures.least (2 ^ 126) (rw (to_z-of_z w128 c.args.head c.ranges.head) c.requires.head.1) c.requires.entries,
       );
       limit = c.requires.limit;
     }
@@ -39,8 +39,8 @@ returns-in_err-divisor c =
     let es = c.args.entries.now in
     let content = content_of head es all.0 c.ranges.head all.1 in
     let e = exact head (pos all.0) content.divides.0 in
-    let least = subst (λ (h : ℤ). (m : ℕ) → unsigned_abs h ≤ m → AllByRecursion (λ (x : FreeEntry). unsigned_abs x.value ≤ m) es → c.bound_of-most.result ≤ m)
-    (to_z-of_z w128 head c.ranges.head) c.bound_of-most.ensures.least in
+    let least = subst (λ (h : ℤ). (m : ℕ) → unsigned_abs h ≤ m → AllByRecursion (λ (x : FreeEntry). unsigned_abs x.value ≤ m) es → c.size_of-most.result ≤ m)
+    (to_z-of_z w128 head c.ranges.head) c.size_of-most.ensures.least in
     record {
       within = (
         int_div head (pos all.0),
@@ -48,7 +48,7 @@ returns-in_err-divisor c =
         is_over head (int_div head (pos all.0)) es all.0 all.2 content e,
         rw c.from_residual.ensures
             (too_large c.args.limit head (int_div head
-            (pos all.0)) es all.0 c.bound_of-most.result c.least_content.result content e least c.least_content.ensures.least all.3),
+            (pos all.0)) es all.0 c.size_of-most.result c.least_content.result content e least c.least_content.ensures.least all.3),
       );
     }
 
@@ -65,7 +65,7 @@ returns c =
     let by = to_z w128 (of_z w128 c.quotient.result) in
     let e : head ≡ pos g *ℤ by = sym (to_z-of_z w128 head c.ranges.head) ∙ c.quotient.ensures
     ∙ ap (λ z. pos g *ℤ z) (sym (to_z-of_z w128 c.quotient.result q)) in
-    let at_head = subst (λ (h : ℤ). unsigned_abs h ≤ c.bound_of-most.result) (to_z-of_z w128 head c.ranges.head) c.bound_of-most.ensures.head in
-    let small = small_enough c.args.limit head by es g c.bound_of-most.result c.least_content.result positive content e at_head c.bound_of-most.ensures.values
+    let at_head = subst (λ (h : ℤ). unsigned_abs h ≤ c.size_of-most.result) (to_z-of_z w128 head c.ranges.head) c.size_of-most.ensures.head in
+    let small = small_enough c.args.limit head by es g c.size_of-most.result c.least_content.result positive content e at_head c.size_of-most.ensures.values
     c.least_content.ensures.enough enough in
     record { within = (by, over g es, is_over head by es g positive content e, (refl, small.0, small.1)) }

@@ -9,7 +9,9 @@ use Rattle.sum_basis.specs.declared.sparse.SparseRow.{SparseRow}
 use Rattle.sum_basis.specs.Basis.{Echelon, IsForm}
 use Rattle.sum_basis.proofs.LeastMultiples.{heads}
 use Rattle.sum_basis.proofs.Joining.{after_growth, grown_rows, within_width, joined_form}
-use Rattle.sum_basis.specs.Elimination.{IsSmallForm}
+use Rattle.sum_basis.specs.Elimination.{IsSmallForm, IsZeroAtPivots}
+use Rattle.sum_basis.specs.Growth.{GrowsWide}
+use Rattle.sum_basis.proofs.StayingSmall.{small_if_not_wide}
 use Rattle.sum_basis.proofs.Sizes.{small_form}
 use Rattle.sum_basis.specs.Sparse.{row_of, rows_of, IsKept, IsNew}
 use Rattle.sum_basis.proofs.form.Form.insert_list.Goals as goal
@@ -94,6 +96,25 @@ pub grow_rows-requires-clause-form : goal.grow_rows-requires-clause-form
 grow_rows-requires-clause-form c =
     subst (λ (l : List SparseRow). IsSmallForm c.self.inside.columns (rows_of c.self.inside.columns l)) (sym c.reserve.ensures.items)
     (small_form c.self.inside.width c.self.inside.columns _ c.self.invariant.width_fits.1 c.self.invariant.form)
+
+pub grow_rows-requires-clause-narrow : goal.grow_rows-requires-clause-narrow
+grow_rows-requires-clause-narrow c =
+    let new : IsNew c.self.inside.columns c.args.new.items =
+    subst (λ n. IsNew n c.args.new.items) (sym (ap (λ (e : Echelon). e.n) c.self.view_is)) c.requires.new in
+    let form = small_form c.self.inside.width c.self.inside.columns _ c.self.invariant.width_fits.1 c.self.invariant.form in
+    rw (c.in_ok-list.ensures.same ∙ c.deref.ensures.value, c.reserve.ensures.items)
+    (small_if_not_wide (record { n = c.self.inside.columns; width = c.self.inside.width; rows = rows_of c.self.inside.columns c.self.inside.rows.items })
+    (row_of c.self.inside.columns c.args.new.items) form new.primitive
+    (subst (λ (e : Echelon). IsZeroAtPivots e.rows (row_of e.n c.args.new.items)) (sym c.self.view_is) c.requires.zero)
+    c.self.invariant.width_fits.1
+    (subst (λ (e : Echelon). ¬ (GrowsWide e (row_of e.n c.args.new.items))) (sym c.self.view_is) c.requires.narrow))
+
+pub grow_rows-requires-clause-combined_room : goal.grow_rows-requires-clause-combined_room
+grow_rows-requires-clause-combined_room c = omega (arith, c.in_ok-combined.ensures.exact)
+
+pub invariant_of-self-in_err-combined : goal.invariant_of-self-in_err-combined
+invariant_of-self-in_err-combined c = subst (IsForm c.self.inside.columns c.self.inside.width c.self.inside.common c.self.inside.greatest_bound)
+    (sym c.reserve.ensures.items) c.self.invariant
 
 pub grow_rows-requires-clause-new : goal.grow_rows-requires-clause-new
 grow_rows-requires-clause-new c =

@@ -1,10 +1,10 @@
-use Rattle.std.proofs.Common.{ℤ, List, pos, subst, length, sym, ap, ◌∙◌, arith}
+use Rattle.std.proofs.Common.{◌≤◌, ◌^◌, ℤ, List, pos, subst, length, sym, ap, ◌∙◌, arith}
 use Rattle.std.specs.List.{AllByRecursion}
 use Rattle.std.specs.Prelude.{IfOk}
 use Rattle.std.proofs.lemmas.List.{length-map, length-take-le}
 use Rattle.std.proofs.lemmas.Result.{IfOk-weaker}
 use Rattle.sum_basis.specs.Basis.{Echelon}
-use Rattle.sum_basis.specs.Elimination.{IsSmallForm, IsZeroAtPivots}
+use Rattle.sum_basis.specs.Elimination.{IsSmallForm, IsZeroAtPivots, StaysSmall}
 use Rattle.sum_basis.specs.Growth.{Foresees}
 use Rattle.sum_basis.specs.RowsWith.{IsRowGrown, IsRowWith}
 use Rattle.sum_basis.specs.Sparse.{row_of, rows_of, IsKept, IsNew}
@@ -12,6 +12,8 @@ use Rattle.sum_basis.specs.declared.Prospect.{Prospect}
 use Rattle.sum_basis.specs.declared.row_with.RowWith.TheVariants.{Wide}
 use Rattle.sum_basis.specs.declared.sparse.SparseRow.{SparseRow}
 use Rattle.sum_basis.proofs.RowsWith.{row_of_form, wide_row}
+use Rattle.sum_basis.proofs.Joining.{not_wide}
+use Rattle.sum_basis.proofs.StayingSmall.{small_if_grown}
 use Rattle.sum_basis.proofs.SetRows.{bits_small}
 use Rattle.sum_basis.proofs.Sizes.{small_form}
 use Rattle.sum_basis.proofs.form.Form.row_with.Goals as goal
@@ -52,6 +54,17 @@ row_with_list-requires-clause-zero c =
     subst (λ (l : List SparseRow). IsZeroAtPivots (rows_of c.self.inside.columns l) (row_of c.self.inside.columns c.in-Some.new.items))
     (sym c.deref.ensures.value)
     (subst (λ (e : Echelon). IsZeroAtPivots e.rows (row_of e.n c.in-Some.new.items)) (sym c.self.view_is) left.1.zeros)
+
+pub row_with_list-requires-clause-narrow : goal.row_with_list-requires-clause-narrow
+row_with_list-requires-clause-narrow c =
+    let old = c.args.self.now in
+    let left = rw c.in-Some.is at c.in_ok-prospect.ensures.left in
+    let grown = not_wide old c.write_bits.new.row c.in_ok-prospect.field-0.prospect c.in_ok-prospect.ensures.foresees c.in_default.not-Wide in
+    subst (λ (l : List SparseRow). AllByRecursion (StaysSmall c.self.inside.columns (row_of c.self.inside.columns c.in-Some.new.items))
+    (rows_of c.self.inside.columns l)) (sym c.deref.ensures.value)
+    (subst (λ (e : Echelon). AllByRecursion (StaysSmall e.n (row_of e.n c.in-Some.new.items)) e.rows) (sym c.self.view_is)
+    (small_if_grown old grown.0 c.write_bits.new.row (row_of old.n c.in-Some.new.items) c.in_ok-prospect.ensures.form
+    (subst (λ (e : Echelon). e.width ≤ 2 ^ 56) c.self.view_is c.self.invariant.width_fits.1) left.1 grown.1))
 
 pub returns-in-Wide : goal.returns-in-Wide
 returns-in-Wide c =

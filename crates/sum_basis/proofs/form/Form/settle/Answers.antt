@@ -1,14 +1,15 @@
-use Rattle.std.proofs.Common.{◌≡◌, ℕ, ◌<◌, ◌≤◌, ◌^◌, Bool, true, false, nat_eq, ℤ, pos, List, [], ◌∷◌, length, sym, ◌∙◌, subst, arith}
+use Rattle.std.proofs.Common.{◌≡◌, ℕ, ◌<◌, ◌≤◌, ◌^◌, Bool, true, false, nat_eq, ℤ, pos, List, [], ◌∷◌, length, sym, ◌∙◌, subst, arith, ap}
 use Rattle.std.specs.Prelude.{unsigned_abs}
 use Rattle.std.specs.List.{AllByRecursion}
 use Rattle.std.proofs.lemmas.Bool.{true≢false, eqb-true, eq-eqb}
 use Rattle.audit_types.specs.Truth.{number_at}
-use Rattle.audit_types.specs.ListLaws.{all-unmap}
+use Rattle.audit_types.specs.ListLaws.{all-unmap, all-weaker}
 use Rattle.sum_basis.specs.declared.sparse.FreeEntry.{FreeEntry}
+use Rattle.sum_basis.specs.Basis.{Echelon}
 use Rattle.sum_basis.specs.Sparse.{entry_at}
 use Rattle.sum_basis.proofs.ListContents.{first_some}
 use Rattle.sum_basis.proofs.ClearedLists.{values_from}
-use Rattle.sum_basis.proofs.SparseRows.{row_within, values_within}
+use Rattle.sum_basis.proofs.SparseRows.{row_within, values_within, listed_length}
 use Rattle.sum_basis.proofs.Sizes.{within_more}
 use Rattle.sum_basis.proofs.WideForms.{new_too_large}
 use Rattle.sum_basis.proofs.Extending.{nothing_new, new_row, grows_wide}
@@ -98,7 +99,8 @@ returns-clause-left c =
     c.if-is_empty.false) c.make_primitive.ensures.made in
     let row = new_row c.args.self.now c.args.row.now c.remainder.new.row c.remainder.ensures.form c.remainder.ensures.remainder _ line in
     let within = subst (AllByRecursion (λ (e : FreeEntry). unsigned_abs e.value ≤ c.args.limit)) c.deref.ensures.value
-    (c.are_within.ensures.0 c.if-not-are_within.false) in (
+    (c.are_within.ensures.0 c.if-not-are_within.false) in
+    rw (c.in_ok-kept.ensures.same ∙ c.deref-2.ensures.value) (
       record {
         some = made_some n c.remainder.new.row c.in_ok-list.list.items c.make_primitive.new.entries.items c.remainder.ensures.length c.in_ok-list.ensures.listed
             c.in_ok-list.ensures.is (not_empty c.in_ok-list.list.len c.in_ok-list.list.items c.is_empty.result c.in_ok-list.list.ok.0 c.is_empty.ensures
@@ -108,7 +110,7 @@ returns-clause-left c =
         small = within_more c.args.limit (2 ^ 56) _ c.requires.limit.1 (row_within c.args.limit n c.make_primitive.new.entries.items listed within);
       },
       row,
-      (let room = c.in_ok-list.ensures.room in let long = c.remainder.ensures.length in let kept = c.make_primitive.ensures.capacity in omega arith),
+      (let room = c.in_ok-kept.ensures.room in let same = ap (λ (e : Echelon). e.n) c.self.view_is in omega arith),
     )
 
 pub returns-clause-within : goal.returns-clause-within
@@ -117,5 +119,23 @@ returns-clause-within c =
     let listed = made_listed n c.remainder.new.row c.in_ok-list.list.items c.make_primitive.new.entries.items c.remainder.ensures.length
     c.in_ok-list.ensures.listed c.in_ok-list.ensures.is (not_empty c.in_ok-list.list.len c.in_ok-list.list.items c.is_empty.result c.in_ok-list.list.ok.0
     c.is_empty.ensures c.if-is_empty.false) c.make_primitive.ensures.made in
-    row_within c.args.limit n c.make_primitive.new.entries.items listed
-    (subst (AllByRecursion (λ (e : FreeEntry). unsigned_abs e.value ≤ c.args.limit)) c.deref.ensures.value (c.are_within.ensures.0 c.if-not-are_within.false))
+    rw (c.in_ok-kept.ensures.same ∙ c.deref-2.ensures.value) (row_within c.args.limit n c.make_primitive.new.entries.items listed
+    (subst (AllByRecursion (λ (e : FreeEntry). unsigned_abs e.value ≤ c.args.limit)) c.deref.ensures.value (c.are_within.ensures.0 c.if-not-are_within.false)))
+
+pub short_list-requires-clause-length : goal.short_list-requires-clause-length
+short_list-requires-clause-length c =
+    let n = c.args.self.now.n in
+    let listed = made_listed n c.remainder.new.row c.in_ok-list.list.items c.make_primitive.new.entries.items c.remainder.ensures.length c.in_ok-list.ensures.listed
+    c.in_ok-list.ensures.is (not_empty c.in_ok-list.list.len c.in_ok-list.list.items c.is_empty.result c.in_ok-list.list.ok.0 c.is_empty.ensures
+    c.if-is_empty.false) c.make_primitive.ensures.made in
+    let all = listed_length 0 n c.make_primitive.new.entries.items (omega arith) listed in
+    let same = ap (λ (e : Echelon). e.n) c.self.view_is in
+    let list = ap length c.deref-2.ensures.value in
+    omega arith
+
+pub short_list-requires-clause-small : goal.short_list-requires-clause-small
+short_list-requires-clause-small c =
+    all-weaker (λ (e : FreeEntry). unsigned_abs e.value ≤ c.args.limit) (λ (e : FreeEntry). unsigned_abs e.value ≤ 2 ^ 56)
+    (λ e h. let limit = c.requires.limit.1 in omega arith) _
+    (subst (AllByRecursion (λ (e : FreeEntry). unsigned_abs e.value ≤ c.args.limit)) (c.deref.ensures.value ∙ sym c.deref-2.ensures.value)
+    (c.are_within.ensures.0 c.if-not-are_within.false))
