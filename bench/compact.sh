@@ -1,10 +1,12 @@
 #!/bin/sh
-# Times `auditor compact` over full journals, 65,536 records over 1,024 rows, beside opening them: sums and maxima over random
+# Times `auditor compact` over full journals, 65,536 records over 1,024 rows, or as many as are given, beside opening them: sums and maxima over random
 # intervals, and maxima that are all the same number over sets of which none is within another, which makes the most work. Prints the
-# seconds and the peak of memory of both, and how many records were kept; ends with 1 if compact takes more than 5 seconds or 64 MiB.
+# seconds and the peak of memory of both, and how many records were kept; ends with 1 if compact takes more than 5 seconds or 64 MiB for
+# each 1,024 rows.
 # Build the program first: demo/run.sh does.
 #
-#   bench/compact.sh
+#   bench/compact.sh [ROWS]
+rows=${1:-1024}
 . "$(dirname "$0")/in_memory.sh"
 . "$(dirname "$0")/setup.sh"
 slow=0
@@ -12,12 +14,12 @@ slow=0
 # compact_full KIND TEXT
 compact_full() {
     rm -f answers.journal answers.spare
-    python3 "$here/journals.py" "$1" || exit 1
+    python3 "$here/journals.py" "$1" "$rows" || exit 1
     measure "$program" serve >replies || { echo "compact: the journal of $1 isn't opened" >&2; exit 1; }
     printf '%s: opened in %s s with %s MiB, ' "$2" "$seconds" "$mebibytes"
     measure "$program" compact >counts || { echo "compact: the journal of $1 isn't compacted" >&2; exit 1; }
     echo "compacted in $seconds s with $mebibytes MiB: $(cat counts)"
-    echo "$seconds $mebibytes" | awk '{ exit $1 > 5 || $2 > 64 }' || slow=1
+    echo "$seconds $mebibytes $rows" | awk '{ exit $1 > 5 * $3 / 1024 || $2 > 64 * $3 / 1024 }' || slow=1
 }
 
 compact_full sums 'sums over intervals'

@@ -21,6 +21,8 @@ WORKLOADS = [
     ("sums-halves", 200, "halves", "sum", 250, "serve"),
     ("sums-cycle", 1024, "cycle", "sum", 400, "serve"),
     ("maxima", 1024, "intervals", "max", 1000, "serve"),
+    ("sums-4096", 4096, "intervals", "sum", 500, "serve"),
+    ("maxima-4096", 4096, "intervals", "max", 500, "serve"),
     ("audit", 200, "intervals-or-groups", "both", 400, "audit"),
     ("simulate", 200, "intervals-or-groups", "both", 600, "simulate"),
     ("explain", 200, "intervals-or-groups", "both", 400, "explain"),
@@ -97,6 +99,10 @@ def main():
     floors = read_counts(path)
     above = 0
     for name, number in counts.items():
+        if name not in floors:
+            print(f"{name:16} {number:13,}  not written down: --write does it")
+            above += 1
+            continue
         ratio = number / floors[name]
         note = "  too many" if ratio > ABOVE else "  fewer: may be written down" if ratio < 1 / ABOVE else ""
         above += ratio > ABOVE

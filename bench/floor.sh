@@ -1,5 +1,5 @@
 #!/bin/sh
-# Counts the instructions that the built program takes on nine small workloads, with valgrind, and compares them with those of
+# Counts the instructions that the built program takes on eleven small workloads, with valgrind, and compares them with those of
 # floor.txt: ends with 1 if one is above its count by more than a tenth. Counts are the same at each run, whatever else the machine
 # does. Build the program first: demo/run.sh does.
 #

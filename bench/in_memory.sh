@@ -2,8 +2,9 @@
 [ -d /dev/shm ] && export TMPDIR=/dev/shm
 here=$(cd "$(dirname "$0")" && pwd)
 
-# Builds the program of plain/ with cargo, and sets `plain` to its path.
+# Builds the program of plain/ with cargo, for tables of so many rows at most, or of 4,096, and sets `plain` to its path.
 build_plain() {
-    cargo build --quiet --release --offline --manifest-path "$here/plain/Cargo.toml" || exit 1
-    plain=${CARGO_TARGET_DIR:-$here/plain/target}/release/plain
+    built=${CARGO_TARGET_DIR:-$here/plain/target}/${1:-4096}
+    PLAIN_ROWS=${1:-4096} cargo build --quiet --release --offline --manifest-path "$here/plain/Cargo.toml" --target-dir "$built" || exit 1
+    plain=$built/release/plain
 }

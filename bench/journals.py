@@ -1,24 +1,24 @@
 #!/usr/bin/env python3
 """Writes a full journal, with a table and a schema for it. bench/opening.sh and bench/compact.sh call this.
 
-    journals.py KIND
+    journals.py KIND [ROWS]
 
-Works in the folder that it is called in. The table has 1,024 rows, and the journal 65,536 records, each true and never to be denied, in groups
+Works in the folder that it is called in. The table has 1,024 rows, or as many as are given, and the journal 65,536 records, each true and never to be denied, in groups
 of 64 as docs/FORMATS.md has them:
 
     sums, maxima      over random intervals of pairs of rows, and one pair more
-    grown             sums and maxima in turn, over 24 rows at first and one more after each 65 or 66 records: 1,000 growths
+    grown             sums and maxima in turn, over 24 rows at first and one more after each 65 or 66 records, over 1,024: 1,000 growths
     widened           the same records over the same rows, and no growth
     alike             maxima, all 9, each over two rows and a random half of the others: none says what another said
-    late              maxima, all 9, each over 960 rows and half of the last 64: the sets differ in these alone
-    intervals         maxima, all 9, each over twelve intervals of the first 960 rows and half of the last 64
+    late              maxima, all 9, each over all rows but the last 64 and half of these: the sets differ in these alone
+    intervals         maxima, all 9, each over twelve intervals of all rows but the last 64 and half of these
     threes            maxima, all 9, each over three rows, of which no other set has two"""
 import itertools
 import json
 import random
 import sys
 
-ROWS = 1024
+ROWS = int(sys.argv[2]) if len(sys.argv) > 2 else 1024
 RECORDS = 65_536
 GROUP = 64
 FIRST_ROWS = 24

@@ -28,7 +28,7 @@ AT_ONCE = 100
 # Over so few rows every list of numbers is tried.
 FEW = 4
 # What is drawn for a key of a schema.
-DRAWN = {"width": [1, 2, 4, 2**56], "reach": [2, 3, 5, 1024], "askers": ["inside", "inside", "outside"], "fewest": [2, 3, 3, 4, 6, 1000]}
+DRAWN = {"width": [1, 2, 4, 2**56], "reach": [2, 3, 5, 4096], "askers": ["inside", "inside", "outside"], "fewest": [2, 3, 3, 4, 6, 1000]}
 
 
 @dataclass(frozen=True)

@@ -1,9 +1,9 @@
 #!/bin/sh
 # Times the built program when it opens a full journal, 65,536 records of sums and maxima in turn over random pairs of rows
-# joined, none of which separates the two rows of a pair, so that no question is denied: over 200 rows, and over 1,024 rows with
-# 64 protected groups of half of the rows each. Prints the seconds and the peak of memory of each, and ends with 1 if these
-# are more than 5 and 30 seconds, or 64 MiB, or if a journal isn't full. Then it opens a journal that grew 1,000 times, from 24
-# rows to 1,024, and one of the same records without a growth, three times each, and ends with 1 if the first takes more than twice as
+# joined, none of which separates the two rows of a pair, so that no question is denied: over 200 rows, over 1,024 rows with
+# 64 protected groups of half of the rows each, and over 4,096 rows. Prints the seconds and the peak of memory of each, and ends with 1 if
+# these are more than 5, 30 and 30 seconds, or 64, 64 and 256 MiB, or if a journal isn't full. Then it opens a journal that grew 1,000 times, from 24
+# rows to 1,024, and one of the same records without a growth, three times each, then the same over 4,096 rows, and ends with 1 if the first takes more than twice as
 # long. Build the program first: demo/run.sh does.
 #
 #   bench/opening.sh
@@ -42,7 +42,7 @@ write_questions() {
         } }' >questions.jsonl
 }
 
-# open_full ROWS GROUPS SECONDS: the journal is made by serving, and opened once more.
+# open_full ROWS GROUPS SECONDS MEBIBYTES: the journal is made by serving, and opened once more.
 open_full() {
     rm -f answers.journal
     write_table "$1" && write_schema "$2" && write_questions $(($1 / 2)) || return 1
@@ -56,23 +56,30 @@ open_full() {
     measure "$program" serve || return 1
     echo "$seconds $mebibytes $(wc -c <answers.journal) $*" | awk '{
         printf "65,536 records over %d rows with %d protected groups, %d bytes: %.2f s, %.1f MiB\n", $4, $5, $3, $1, $2
-        exit $1 > $6 || $2 > 64 }'
+        exit $1 > $6 || $2 > $7 }'
 }
 
-# open_written KIND TEXT: the least of three times, to which `least` is set.
+# open_written KIND ROWS TEXT: the least of three times, to which `least` is set.
 open_written() {
-    python3 "$here/journals.py" "$1" || return 1
+    python3 "$here/journals.py" "$1" "$2" || return 1
     least=
     for turn in 1 2 3; do
         measure "$program" serve || return 1
         least=$(echo "$seconds $least" | awk '{ print $2 == "" || $1 < $2 ? $1 : $2 }')
     done
-    echo "65,536 records, $2, $(wc -c <answers.journal) bytes: $least s, $mebibytes MiB"
+    echo "65,536 records, $3, $(wc -c <answers.journal) bytes: $least s, $mebibytes MiB"
 }
 
-open_full 200 0 5 || exit 1
-open_full 1024 64 30 || exit 1
-open_written widened 'over 1,024 rows without a growth' || exit 1
-without=$least
-open_written grown 'over 24 to 1,024 rows with 1,000 growths' || exit 1
-echo "$least $without" | awk '{ exit $1 > 2 * $2 }'
+# open_grown ROWS TEXT GROWTHS
+open_grown() {
+    open_written widened "$1" "over $2 rows without a growth" || return 1
+    without=$least
+    open_written grown "$1" "over 24 to $2 rows with $3 growths" || return 1
+    echo "$least $without" | awk '{ exit $1 > 2 * $2 }'
+}
+
+open_full 200 0 5 64 || exit 1
+open_full 1024 64 30 64 || exit 1
+open_full 4096 0 30 256 || exit 1
+open_grown 1024 1,024 1,000 || exit 1
+open_grown 4096 4,096 4,072

@@ -180,7 +180,7 @@ class Table:
         self.inside = "askers" in keys and draw.random() < 0.7
         self.fewest = draw.choice((2, 3, 3, 4, 6)) if "fewest" in keys else 2
         self.width = draw.choice(WIDTHS) if "width" in keys else 2**56
-        self.reach = draw.randrange(2, 6) if "reach" in keys else 1024
+        self.reach = draw.randrange(2, 6) if "reach" in keys else 4096
         most = draw.choice((2, 5, 1000))
         self.everyone = [[[draw.randint(-most, most) for _ in range(count)] for count in self.counts] for _ in NAMES]
         ends = [0]
@@ -225,7 +225,7 @@ class Table:
         is within reach."""
         people = People([1] * sum(self.counts) if over_people else self.counts, self.inside, self.fewest)
         groups = [self.behind(rows) for rows in self.groups] if over_people else self.groups
-        return [Sums(people, groups, self.width, 1024 if over_people else self.reach), Maxima(people), Maxima(people)]
+        return [Sums(people, groups, self.width, 4096 if over_people else self.reach), Maxima(people), Maxima(people)]
 
     def numbers(self, column, rows):
         return [number for row in rows for number in self.everyone[column][row]]
@@ -272,7 +272,7 @@ class Audit:
             return verdict
         over_people = self.by_people[column].verdict(self.table.behind(rows))
         far = verdict == "wide" and over_people != "wide"
-        assert verdict == over_people or far and self.table.reach < 1024, f"{verdict} over rows, {over_people} over people"
+        assert verdict == over_people or far and self.table.reach < 4096, f"{verdict} over rows, {over_people} over people"
         return verdict
 
     def reply(self, ask, rows):

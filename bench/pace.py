@@ -1,12 +1,12 @@
 #!/usr/bin/env python3
 """Times the built program beside the plain one on the same workloads. bench/pace.sh builds the plain one and calls this.
 
-    pace.py AUDITOR PLAIN [--rounds 3] [--only 1024-intervals-max] [--opening] [--shared] [KEY=VALUE ..]
+    pace.py AUDITOR PLAIN LARGE [--rounds 3] [--only 1024-intervals-max] [--opening] [--shared] [KEY=VALUE ..]
 
 Runs both in turn in the folder that it is called in, and prints for each workload the least processor time of each, the
 auditor's peak of memory, and the ratio of the two times: 1 is as fast as the plain program, 2 twice as fast. With --opening
 it times a run without questions over the journal that the workload left, which decides each record again. With --shared every
-other row stands for three people. KEY=VALUE are further keys of the schema. The exit status is 1 if replies differ."""
+other row stands for three people. LARGE is the plain program that is built for tables of 4,096 rows, and is asked over these. KEY=VALUE are further keys of the schema. The exit status is 1 if replies differ."""
 import argparse
 import json
 import os
@@ -118,6 +118,7 @@ def main():
     words = argparse.ArgumentParser()
     words.add_argument("auditor")
     words.add_argument("plain")
+    words.add_argument("large")
     words.add_argument("--rounds", type=int, default=3)
     words.add_argument("--only", default="")
     words.add_argument("--opening", action="store_true")
@@ -125,10 +126,10 @@ def main():
     words.add_argument("keys", nargs="*", metavar="KEY=VALUE")
     given = words.parse_intermixed_args()
     keys = {key: json.loads(value) for key, value in (word.split("=", 1) for word in given.keys)}
-    programs = {"auditor": given.auditor, "plain": given.plain}
     print(f"{'workload':32} {'auditor s':>10} {'plain s':>9} {'ratio':>7} {'MiB':>6}")
     ratios, all_equal = [], True
-    for rows in (200, 1024):
+    for rows, plain in ((200, given.plain), (1024, given.plain), (4096, given.large)):
+        programs = {"auditor": given.auditor, "plain": plain}
         for sets, ask, count, groups in WORKLOADS:
             name = f"{rows}-{sets}-{ask}" + (f"-{groups}-protected" if groups else "")
             if given.only not in name:
@@ -136,11 +137,11 @@ def main():
             write_table(rows, groups, given.shared, **keys)
             write_questions(sets, ask, rows, count)
             best, equal = compare(programs, given.rounds, given.opening)
-            (auditor, peak), (plain, _) = best["auditor"], best["plain"]
-            ratios.append(plain / auditor)
+            (spent, peak), (beside, _) = best["auditor"], best["plain"]
+            ratios.append(beside / spent)
             all_equal = all_equal and equal
             note = "" if equal else "  replies differ"
-            print(f"{name:32} {auditor:10.3f} {plain:9.3f} {ratios[-1]:7.2f} {peak:6.1f}{note}", flush=True)
+            print(f"{name:32} {spent:10.3f} {beside:9.3f} {ratios[-1]:7.2f} {peak:6.1f}{note}", flush=True)
     print(f"least ratio {min(ratios):.2f}")
     sys.exit(0 if all_equal else 1)
 

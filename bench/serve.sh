@@ -51,7 +51,7 @@ timed() {
         awk '{ printf "  %-8s %8.2f s %8.0f questions/s %8.1f MiB\n", $1, $3 - $2, $5 / ($3 - $2), $4 }'
 }
 
-for rows in 200 1024; do
+for rows in 200 1024 4096; do
     for kind in sums maxima both; do
         table "$rows"
         if [ "$kind" = maxima ]; then lines "$rows" "$kind" $((most / 4)); else lines "$rows" "$kind" "$most"; fi

@@ -24,10 +24,10 @@ import operator
 import re
 import sys
 
-from check_report import BOUNDS, KINDS, People, Wrong, are_whole, need, records, records_of_table, schema, secret_columns, stated
+from check_report import BOUNDS, KINDS, MOST_ROWS, People, Wrong, are_whole, need, records, records_of_table, schema, secret_columns, stated
 
 LARGEST = 2**112
-MOST_TERMS = 1024
+MOST_TERMS = MOST_ROWS  # no more sets are independent
 LONGEST_LINE = 8192
 MOST_TOKENS = 512
 DEEPEST = 64

@@ -19,6 +19,7 @@ import sys
 from fractions import Fraction
 
 KINDS = {"sum": 1, "max": 2, "min": 3}
+MOST_ROWS = 4096  # of a table
 # The word before a list of numbers, and what an answer is of the numbers of its rows.
 BOUNDS = {"max": ("high", max), "min": ("low", min)}
 
@@ -56,7 +57,7 @@ def records_of_table():
             header, *rows = [record for record in csv.reader(file) if record]
     except (csv.Error, ValueError):
         raise Wrong("no table") from None
-    need(1 <= len(rows) <= 1024, "no table of 1 to 1,024 rows")
+    need(1 <= len(rows) <= MOST_ROWS, f"no table of 1 to {MOST_ROWS:,} rows")
     return header, rows
 
 
@@ -114,7 +115,7 @@ def records(columns, rows):
         at += 2
         if count == 0:
             grown = int.from_bytes(data[at : at + 2], "big")
-            need(in_force < grown <= 1024, f"no growth at byte {at - 2}")
+            need(in_force < grown <= MOST_ROWS, f"no growth at byte {at - 2}")
             in_force, at = grown, at + 2
         size = 9 + (in_force + 7) // 8
         for place in range(at, at + count * size, size):

@@ -20,6 +20,8 @@ import sys
 import tempfile
 import time
 
+from preparing.largest import MOST_ROWS
+
 HERE = pathlib.Path(__file__).resolve().parent
 JOURNAL, SPARE, KEYS = "answers.journal", "answers.spare", "keys.csv"
 DOOR, TRANSCRIPT = "auditor-door", "transcript.jsonl"
@@ -208,7 +210,7 @@ def most_bytes(folder):
     try:
         rows = len(rows_of(folder / "table.csv")) - 1
     except (OSError, ValueError):
-        rows = 1024
+        rows = MOST_ROWS
     return 21 + RECORDS * (11 + (rows + 7) // 8) + 4 * rows
 
 

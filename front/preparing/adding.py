@@ -9,11 +9,12 @@ import shutil
 from .choices import PUBLIC, SECRET, SEEN
 from .faults import Fault, counted, shown
 from .guards import say_what_is_known, secrets_apart
+from .largest import MOST_ROWS
 from .making import Changes, chosen_columns, convert_all, read_as_chosen, say_changes
 from .ordering import by_public_cells, say_order
 from .protecting import need_totals, say_totals
 from .ranges import need_ranges, say_ranges
-from .splitting import MOST_ROWS, Part
+from .splitting import Part
 from .writing import lines_for, need_few_bytes, put_into_place, said_of_program, try_program
 
 

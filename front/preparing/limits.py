@@ -5,6 +5,8 @@ The program has to know each of them: an older one takes the schema for a faulty
 
 from typing import NamedTuple
 
+from .largest import MOST_ROWS
+
 
 class Limit(NamedTuple):
     """The number that is written unless another one is chosen, the numbers that it may be, and what it does and costs, in words."""
@@ -27,7 +29,7 @@ LIMITS = {
     "reach": Limit(
         50,
         2,
-        1024,
+        MOST_ROWS,
         "a sum is denied if somebody's number would then be open only by a change that alters more people's than that. Of tables that"
         " were tried it takes a report at most one total of 184 besides what the width takes, conditions by chance 3 to 9 of 100, and"
         " drill-downs and intervals none",

@@ -16,11 +16,12 @@ from .faults import Fault, counted, first_numbers, shown
 from .guarding import LEAST, few_of, guard_of, say_guard
 from .guards import say_of_pair, say_of_secret, say_of_two, say_readers, secrets_apart
 from .keys import need_one_table
+from .largest import MOST_ROWS
 from .limits import say_limits, stated
 from .making import MOST_SIZE, chosen_columns, column_words, from_file, say_names, say_next
 from .protecting import need_totals, say_totals
 from .ranges import range_of, say_ranges
-from .splitting import MOST_ROWS, Part, parts, say_parts
+from .splitting import Part, parts, say_parts
 from .streaming import People
 from .writing import need_free, put_into_place, said_of_program, schema_of, try_program, write_folders
 

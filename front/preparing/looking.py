@@ -8,9 +8,10 @@ from . import choices as choosing
 from . import guarding, limits, reading
 from .cells import FORMS, forms_of, unit_of, without_unit
 from .faults import Fault, counted, shown
+from .largest import MOST_ROWS
 from .names import names_of
 from .reading import Layout, choose_layout, decode, encoding_of, is_empty, load, read_rows, records, titles_of, without_separator_line
-from .splitting import MOST_ROWS, say_splits
+from .splitting import say_splits
 from .streaming import People, first_piece
 from .tallying import MOST_DIFFERENT, Tally, tallies_of
 from .workbooks import is_workbook

@@ -4,10 +4,11 @@ from .choices import SECRET
 from .faults import MOST_SHOWN, counted, first_numbers
 from .guards import line_through, rule_words, say_what_is_known
 from .keys import CURRENT, publics, secrets
+from .largest import MOST_ROWS
 from .making import say_changes
 from .protecting import say_totals, total_words
 from .ranges import say_ranges
-from .splitting import MOST_ROWS, Part
+from .splitting import Part
 
 
 def say_renewal(renewal, folder, export, columns, later):

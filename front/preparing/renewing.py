@@ -16,13 +16,13 @@ from .choices import SECRET
 from .faults import Fault, counted, shown
 from .guards import say_readers, secrets_apart
 from .keys import CURRENT, KEY, need_told_apart, publics, read_keys, secrets
+from .largest import MOST_ROWS
 from .making import Changes, Column, columns_with_current, from_file, need_columns, only, people_of, read_as_chosen
 from .ordering import by_public_cells
 from .protecting import need_totals
 from .ranges import need_ranges
 from .reading import Table
 from .renewal_words import change_of, say_renewal
-from .splitting import MOST_ROWS
 from .writing import need_free, notes, put_into_place, said_of_program, schema_of, try_program, write_folder
 
 LARGE_PART = 5                      # one in so many people, past which a change needs a word

@@ -1,4 +1,4 @@
-"""Tables of more than 1,024 rows, cut into parts by public columns.
+"""Tables of too many rows, cut into parts by public columns.
 
 No question goes over two parts, so each is a table with a journal of its own.
 """
@@ -8,9 +8,9 @@ import dataclasses
 import itertools
 
 from .faults import Fault, counted, listed, shown
+from .largest import MOST_ROWS
 from .names import free, plain
 
-MOST_ROWS = 1024
 FEWEST_ROWS_A_PART = 20
 SMALL_PART = 3
 MOST_TRIED = 30
@@ -38,7 +38,7 @@ def sizes_by(columns):
 
 
 def splits(names, columns):
-    """The columns, or if none will do the pairs of columns, by which every part has at most 1,024 rows."""
+    """The columns, or if none will do the pairs of columns, by which no part has too many rows."""
     coarse = [place for place, cells in enumerate(columns) if len(set(cells)) * FEWEST_ROWS_A_PART <= len(cells)]
     for together in (1, 2):
         found = []

@@ -13,8 +13,8 @@ from .choosing import follow, name_by_steps
 from .coarsening import read_bands
 from .condensing import Condenser
 from .guarding import ASKERS, LEAST, OUTSIDE, few_of
+from .largest import MOST_ROWS
 from .making import columns_to_write
-from .splitting import MOST_ROWS
 from .streaming import People
 
 MOST_BANDS, FEWEST_BANDS, MOST_WIDTHS = 20, 2, 4

@@ -1,9 +1,9 @@
 """Questions a second through the door, beside a program that answers each line alone, and a start over a long history.
 
-    AUDITOR=.. /usr/bin/python3 bench.py [SECONDS]
+    AUDITOR=.. /usr/bin/python3 bench.py [SECONDS [ROWS]]
 
-Each client asks one question after the other: sums, maxima and counts over random intervals of 1,000 rows, hardly one
-twice. Each sync takes 2.5 ms (slow_sync.c), for the door and the program alike. The clients' own work is on the same
+Each client asks one question after the other: sums, maxima and counts over random intervals of 1,000 rows, or of as
+many as are given, hardly one twice. Each sync takes 2.5 ms (slow_sync.c), for the door and the program alike. The clients' own work is on the same
 processors. The last row is of a door with tokens, limits and a list of who asked. The last lines say what has to be reached; the exit status is 1 if
 something isn't. AUDITOR has to be the built program: one that is compiled without optimisation takes a millisecond of a processor for each question,
 which no batch makes less.
@@ -20,6 +20,7 @@ import time
 from kit import AUDITOR, FRONT, HERE, Door, Folder, health, line_of
 
 SECONDS = float(sys.argv[1]) if len(sys.argv) > 1 else 5
+ROWS = int(sys.argv[2]) if len(sys.argv) > 2 else 1000
 LONG = 60_000                       # answers of the long history
 HEAD = b"POST /ask HTTP/1.1\r\nHost: door\r\n%sContent-Type: application/json\r\nContent-Length: %d\r\n\r\n"
 MOST = 10**12                       # each limit of its token
@@ -90,7 +91,7 @@ def add_token(folder):
 
 
 async def measure(batch, number, with_tokens=False):
-    folder = Folder(rows=1000)
+    folder = Folder(rows=ROWS)
     token, words = add_token(folder) if with_tokens else ("", [])
     door = Door(folder, "--batch", batch, *words).start()
     async with door.session() as session:
@@ -123,7 +124,7 @@ def write_long_history(folder):
 
 
 async def start_over_a_long_history():
-    folder = Folder(rows=1000)
+    folder = Folder(rows=ROWS)
     answers = write_long_history(folder)
     door, began = Door(folder), time.monotonic()
     door.start()

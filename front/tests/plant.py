@@ -140,7 +140,7 @@ PLANTS = [
     ("a plan weighs rows", "planning/wanted.py", "self.columns.people(rows)", "rows.bit_count()", "test_guarding.Weighing"),
     ("a width of 0 is written", "preparing/limits.py", "        1,\n        2**56,\n", "        0,\n        2**56,\n",
      "test_limits.Both.test_a_number_that_the_schema_may_not_state_is_refused"),
-    ("a reach of 1 is written", "preparing/limits.py", "        2,\n        1024,\n", "        1,\n        1024,\n",
+    ("a reach of 1 is written", "preparing/limits.py", "        2,\n        MOST_ROWS,\n", "        1,\n        MOST_ROWS,\n",
      "test_limits.Both.test_a_number_that_the_schema_may_not_state_is_refused"),
     ("no reach is written", "preparing/limits.py", "for key in LIMITS if choices[key] is not None}", "for key in LIMITS if key == 'width'}",
      "test_limits.Both.test_a_width_of_4_and_a_reach_of_50_are_written_unless_others_are_chosen"),

@@ -97,7 +97,7 @@ class Adding(TableTest):
             (MORE.replace("age", "old"), "aren't those that the choices were made for"),
             (MORE.replace("999", "many"), "row 2, column 'salary': 'many' isn't a number"),
             ("team,age,salary\n", "the file has a header and no row"),
-            ("team,age,salary\n" + "QA,30,5\n" * 1022, "there would be 1,025 rows, and a table has at most 1,024"),
+            ("team,age,salary\n" + "QA,30,5\n" * 4094, "there would be 4,097 rows, and a table has at most 4,096"),
         ):
             with self.subTest(due):
                 self.refused(text, due)

@@ -375,7 +375,7 @@ class Scripted(unittest.TestCase):
         self.assertEqual((headers["Content-Type"], headers["Authorization"]), ("application/json", "Basic eDp5"))
 
     def test_numbers_are_shown_exactly_in_their_unit(self):
-        cases = [("sum", '{"sum":-5}', "-0.05 EUR"), ("sum", '{"sum":1024000000000000}', "10240000000000.00 EUR"), ("sum", '{"sum":0}', "0.00 EUR"),
+        cases = [("sum", '{"sum":-5}', "-0.05 EUR"), ("sum", '{"sum":4096000000000000}', "40960000000000.00 EUR"), ("sum", '{"sum":0}', "0.00 EUR"),
                  ("avg", '{"num":-7,"den":1}', "-0.07 EUR"), ("avg", '{"num":1,"den":2}', "0.005 EUR"),
                  ("avg", '{"num":-1,"den":3}', "-0.00333333 EUR (exactly -1/300)"), ("avg", '{"num":1234567,"den":8}', "1543.20875 EUR")]
         for kind, reply, due in cases:

@@ -24,7 +24,7 @@ class DemoPeople(LinesTest):
     def test_all_of_them_fit_and_some_are_alone(self):
         sizes = collections.Counter((region, sector, age // 10) for region, sector, age, _, _ in demo_people.people(demo_people.PEOPLE))
         self.assertEqual(sum(sizes.values()), 100_000)
-        self.assertLessEqual(len(sizes), 1024)
+        self.assertLessEqual(len(sizes), 4096)
         self.assertIn(1, sizes.values())
 
     def test_the_public_folder_has_no_secret(self):

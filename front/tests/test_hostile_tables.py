@@ -273,7 +273,7 @@ class Hostile(TableTest):
         self.assertEqual(table[0], [column["name"] for column in schema])
         self.assertEqual(public[0], [column["name"] for column in schema if column["is"] in ("text", "number", "count")])
         self.assertEqual(len(table), len(public))
-        self.assertTrue(2 <= len(table) <= 1025)
+        self.assertTrue(2 <= len(table) <= 4097)
         self.assertEqual(sorted(path.name for path in self.folder.iterdir()), ["out", "t.choices.json", "t.csv"])
         for path in [
             *(self.out / "public").iterdir(),

@@ -41,8 +41,8 @@ class Both(WithLimits):
         self.assertIn("\nreach 50: a sum is denied if", said)
 
     def test_another_number_is_written_as_it_is_chosen(self):
-        _, schema = self.written("range=none", f"width={2**56}", "reach=1024")
-        self.assertEqual({key: schema[key] for key in ("width", "reach")}, {"width": 2**56, "reach": 1024})
+        _, schema = self.written("range=none", f"width={2**56}", "reach=4096")
+        self.assertEqual({key: schema[key] for key in ("width", "reach")}, {"width": 2**56, "reach": 4096})
 
     def test_none_leaves_a_limit_out(self):
         said, schema = self.written("range=none", "width=none", "reach=none")
@@ -65,7 +65,7 @@ class Both(WithLimits):
         self.assertEqual({key: self.chosen()[key] for key in ("width", "reach")}, {"width": 4, "reach": 50})
 
     def test_a_number_that_the_schema_may_not_state_is_refused(self):
-        for key, least, most in (("width", 1, 2**56), ("reach", 2, 1024)):
+        for key, least, most in (("width", 1, 2**56), ("reach", 2, 4096)):
             for number, due in ((least - 1, 1), (least, 0), (most, 0), (most + 1, 1)):
                 with self.subTest(key, number=number):
                     self.choices.unlink(missing_ok=True)

@@ -141,9 +141,9 @@ class Making(LinesTest):
         self.assertEqual((self.out / "table.csv").read_text(), "people,pay\n2,12\n")
 
     def test_splitting_is_for_what_condensing_cant_do(self):
-        rows = drawn(6000, values=(4, 8, 60))
+        rows = drawn(12_000, values=(4, 16, 120))
         said = self.not_condensed(text_of(rows), *DRAWN_KINDS)
-        self.assertIn(f"there are {len(plain_lines(rows)) - 1:,} rows, and a table has at most 1,024: prepare.py lines shows", said)
+        self.assertIn(f"there are {len(plain_lines(rows)) - 1:,} rows, and a table has at most 4,096: prepare.py lines shows", said)
         self.choose("split by=region")
         self.assertEqual(self.make()[0], 0)
         parts = [self.out / f"r{number}" for number in range(4)]
@@ -151,10 +151,10 @@ class Making(LinesTest):
         self.assertEqual(sorted(lines), sorted(",".join(line) for line in plain_lines(rows)[1:]))
 
     def test_too_many_rows_are_told_of_lines(self):
-        self.chosen_for(text_of(drawn(1100)), *DRAWN_KINDS, "count=none")
+        self.chosen_for(text_of(drawn(4200)), *DRAWN_KINDS, "count=none")
         status, said = self.make()
         self.assertEqual((status, self.out.exists()), (1, False))
-        self.assertIn("1,100 rows are left, and a table has at most 1,024: choose count=people", said)
+        self.assertIn("4,200 rows are left, and a table has at most 4,096: choose count=people", said)
 
     def test_encodings_and_separators_as_ever(self):
         for encoding, mark, end in (("utf-16", ";", "\r\n"), ("utf-8-sig", "\t", "\r"), ("cp1252", "|", "\n")):
@@ -348,7 +348,7 @@ class Looking(LinesTest):
         self.assertEqual([column["missing is"] for column in self.chosen()["columns"]], [["NA"], ["NA"]])
 
     def test_it_says_what_can_be_done_with_so_many(self):
-        said = self.streamed(text_of(drawn(2000)))[1]
+        said = self.streamed(text_of(drawn(4100)))[1]
         self.assertIn("With count=people a row stands for all people with the same public cells", said)
         self.assertNotIn("split by=", said)
 
@@ -403,8 +403,8 @@ class Adding(LinesTest):
 
     def test_what_doesnt_fit_is_refused_and_leaves_nothing(self):
         before = self.names()
-        many = "dept,age,pay,best,least\n" + "".join(f"d{k},30,{k * k},{k % 5},{k % 7}\n" for k in range(1022))
-        for text, due in ((self.MORE.replace("QA,41,5", "QA,41,x"), "isn't a number"), (many, "there would be 1,025 rows, 1,022 of them of newcomers"),
+        many = "dept,age,pay,best,least\n" + "".join(f"d{k},30,{k * k},{k % 5},{k % 7}\n" for k in range(4094))
+        for text, due in ((self.MORE.replace("QA,41,5", "QA,41,x"), "isn't a number"), (many, "there would be 4,097 rows, 4,094 of them of newcomers"),
                           (self.MORE.replace("dept", "team"), "aren't those that the choices were made for"),
                           ("dept,age,pay,best,least\n", "the file has a header and no row")):
             with self.subTest(due):

@@ -50,7 +50,7 @@ class Scripted(OneTable):
 
     def test_numbers_are_exact_to_the_last_digit(self):
         cases = [("sum", '{"sum":0}', "0.00 EUR"), ("sum", '{"sum":-5}', "-0.05 EUR"), ("sum", '{"sum":-123456}', "-1,234.56 EUR"),
-                 ("sum", '{"sum":1024000000000000}', "10,240,000,000,000.00 EUR"), ("sum", '{"sum":-999999999999999}', "-9,999,999,999,999.99 EUR"),
+                 ("sum", '{"sum":4096000000000000}', "40,960,000,000,000.00 EUR"), ("sum", '{"sum":-4095999999999999}', "-40,959,999,999,999.99 EUR"),
                  ("avg", '{"num":-7,"den":1}', "-0.07 EUR"), ("avg", '{"num":1,"den":2}', "0.005 EUR"),
                  ("avg", '{"num":-1,"den":3}', "≈ -0.0033 EUR"),
                  ("avg", '{"num":1234567,"den":8}', "≈ 1,543.2088 EUR"), ("avg", '{"num":1001,"den":4}', "2.5025 EUR"),
@@ -125,7 +125,7 @@ class Scripted(OneTable):
         self.assertEqual(self.browser.text("limits"), "")
 
     def test_a_width_and_a_reach_are_told_in_words(self):
-        for limits, due in (({}, []), ({"width": 4}, ["a width of 4:"]), ({"reach": 1024}, ["a reach of 1,024:"]),
+        for limits, due in (({}, []), ({"width": 4}, ["a width of 4:"]), ({"reach": 4096}, ["a reach of 4,096:"]),
                             ({"width": 2**56, "reach": 2}, ["a width of more than 9,007,199,254,740,991:", "a reach of 2:"]), ({"width": "4"}, [])):
             with self.subTest(limits=limits):
                 self.open("", {"schema.json": json.dumps({"columns": COLUMNS, **limits})})
@@ -389,7 +389,7 @@ class Scripted(OneTable):
         columns = [{"name": name, "is": "text"}, {"name": "pay", "is": "sum"}]
         notes = {"title": "T" * 100, "columns": {"pay": {"title": "Very " * 20, "decimals": 2, "unit": "EUR per month"}}}
         self.browser.screen(360)
-        self.open('{"sum":-1024000000000000}', {"schema.json": json.dumps({"columns": columns}), "notes.json": json.dumps(notes),
+        self.open('{"sum":-4096000000000000}', {"schema.json": json.dumps({"columns": columns}), "notes.json": json.dumps(notes),
                                                 "table.csv": f"{name}\n{value}\n{value}y\n"})
         self.browser.click("#add")
         self.browser.choose("li select[aria-label=comparison]", "in")

@@ -460,14 +460,14 @@ class Splits(TableTest):
             f"{number},{'r' + str(number % regions)},{number * number % 97}\n" for number in range(rows)
         )
 
-    def test_1024_rows_are_one_table_and_1025_arent(self):
-        self.made(self.long(1024), "id=number", "region=text", "pay=sum")
-        self.assertEqual(len(self.table()), 1025)
+    def test_4096_rows_are_one_table_and_4097_arent(self):
+        self.made(self.long(4096), "id=number", "region=text", "pay=sum")
+        self.assertEqual(len(self.table()), 4097)
         self.choices.unlink()
         self.out = self.folder / "more"
-        said = self.refused(self.long(1025), "id=number", "region=text", "pay=sum")
-        self.assertIn("split by=region: 3 parts of 341 to 342 rows", said)
-        self.assertIn("1,025 rows are left", said)
+        said = self.refused(self.long(4097), "id=number", "region=text", "pay=sum")
+        self.assertIn("split by=region: 3 parts of 1,365 to 1,366 rows", said)
+        self.assertIn("4,097 rows are left", said)
 
     def test_each_part_is_a_folder_with_its_rows(self):
         said = self.made(self.long(1300), "id=number", "region=text", "pay=sum", "split by=region")
@@ -478,12 +478,12 @@ class Splits(TableTest):
         self.assertEqual({row[1] for row in self.table("r1/public")[1:]}, {"r1"})
 
     def test_a_part_that_is_still_too_long_is_refused(self):
-        said = self.refused(self.long(1026, regions=1), "id=number", "region=text", "pay=sum", "split by=region")
-        self.assertIn("region 'r0': 1,026 rows", said)
+        said = self.refused(self.long(4098, regions=1), "id=number", "region=text", "pay=sum", "split by=region")
+        self.assertIn("region 'r0': 4,098 rows", said)
 
     def test_two_columns_together_split(self):
-        rows = "".join(f"{'ab'[number % 2]},{'cd'[number // 2 % 2]},{number}\n" for number in range(2400))
-        self.assertIn("split by=x,y: 4 parts of 600 to 600 rows", self.look("x,y,pay\n" + rows)[1])
+        rows = "".join(f"{'ab'[number % 2]},{'cd'[number // 2 % 2]},{number}\n" for number in range(9600))
+        self.assertIn("split by=x,y: 4 parts of 2,400 to 2,400 rows", self.look("x,y,pay\n" + rows)[1])
         self.choose("x=text", "y=text", "pay=sum", "protect=none", "range=none", "split by=x,y")
         self.assertEqual(self.make()[0], 0)
         self.assertEqual(sorted(path.name for path in self.out.iterdir()), ["a_c", "a_d", "b_c", "b_d"])

@@ -130,7 +130,7 @@ class Renewing(RenewingTest):
         self.assertEqual(stat.S_IMODE((self.new / "keys.csv").stat().st_mode), 0o600)
         self.assertEqual(stat.S_IMODE((self.new / "table.csv").stat().st_mode), 0o600)
         self.assertIn("people: 6 now; 0 came, 0 left, 0 came back, 0 with another number\n", said)
-        self.assertIn("rows: 0 new ones at the end; 6 of 1,024 are taken, 0 of them no longer current\n", said)
+        self.assertIn("rows: 0 new ones at the end; 6 of 4,096 are taken, 0 of them no longer current\n", said)
         self.assertNotIn("auditor grow", said)
         self.assertNotIn("current is public", said)
         self.assertNotIn("two rows", said)
@@ -389,9 +389,9 @@ class Refused(RenewingTest):
 
     def test_more_rows_than_a_table_has(self):
         header, text = OCTOBER.split("\n", 1)
-        more = "".join(f"b{pay},DEV,{pay % 40},{pay}\n" for pay in range(1000, 2018))
+        more = "".join(f"b{pay},DEV,{pay % 40},{pay}\n" for pay in range(1000, 5090))
         self.begin(f"{header}\n{text}{more}", *KINDS)
-        due = "there would be 1,025 rows, 1 of them no longer current, and a table has at most 1,024. No row can be given up"
+        due = "there would be 4,097 rows, 1 of them no longer current, and a table has at most 4,096. No row can be given up"
         self.refused(with_lines(f"{header}\n{text}{more}", "a4", c1="c1,QA,20,7"), due)
 
     def test_a_secret_that_follows_from_a_public_column_is_refused(self):

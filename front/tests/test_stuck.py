@@ -12,7 +12,7 @@ from table_kit import AUDITOR, TableTest, needs_program, said_by
 
 import ask
 
-NO_SPLIT = "no public column, nor two together, cuts them into parts of 20 to 1,024"
+NO_SPLIT = "no public column, nor two together, cuts them into parts of 20 to 4,096"
 
 
 class Stuck(TableTest):
@@ -37,7 +37,7 @@ class Stuck(TableTest):
     def test_a_large_table_of_few_public_values_is_told_why_and_what_to_do(self):
         text, _ = self.visits()
         said = self.one_sentence(self.refused(text, *self.KINDS))
-        self.assertIn("20,190 rows are left, a table has at most 1,024", said)
+        self.assertIn("20,190 rows are left, a table has at most 4,096", said)
         self.assertIn(NO_SPLIT, said)
         self.assertIn("numbers the rows from 1 to 20", said)
 

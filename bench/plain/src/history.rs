@@ -1,11 +1,12 @@
 //! A journal that isn't trusted: its history, or the first fault that it has, by the rules that docs/FORMATS.md states.
 
 use crate::journal::{header, read_record, set_size, Record, HEADER};
+use crate::limit::ROWS;
 use crate::serve::{Part, MOST_RECORDS};
 use crate::table::{Role, Secret};
 use std::fmt;
 
-const MOST_ROWS: u16 = 1024;
+const MOST_ROWS: u16 = ROWS as u16;
 const MOST_IN_GROUP: u8 = 64;
 
 /// Why a journal isn't one of this table's histories.
@@ -121,7 +122,7 @@ impl Reader<'_> {
             true => matches!(bytes[at], 1..=3),
             false => bytes[at] == 0,
         };
-        if bytes[9] > 4 {
+        if bytes[9] > MOST_ROWS.to_be_bytes()[0] {
             return Err(9);
         }
         if n == 0 || n > MOST_ROWS {
@@ -164,7 +165,7 @@ impl Reader<'_> {
             return Err(self.at + 1);
         }
         let high = self.byte(self.at + 2)?;
-        if high < least.to_be_bytes()[0] || high > 4 {
+        if high < least.to_be_bytes()[0] || high > MOST_ROWS.to_be_bytes()[0] {
             return Err(self.at + 2);
         }
         let n = u16::from_be_bytes([high, self.byte(self.at + 3)?]);

@@ -1,5 +1,6 @@
 //! The journal's file: a header, and groups of records after a byte that says that they count.
 
+use crate::limit::ROWS;
 use crate::row_set::RowSet;
 use crate::table::Role;
 use std::fs::{File, OpenOptions};
@@ -36,7 +37,7 @@ impl Group {
         self.bytes[0] += 1;
         self.bytes.push(record.column);
         self.bytes.extend(record.answer.to_be_bytes());
-        let mut set = [0; 128];
+        let mut set = [0; ROWS / 8];
         for (part, word) in set.chunks_exact_mut(8).zip(&record.rows.words) {
             part.copy_from_slice(&word.to_le_bytes());
         }
@@ -139,7 +140,7 @@ fn read_groups(bytes: &[u8], n: u16) -> (Vec<Record>, usize) {
 
 /// The record at the start of these bytes, whose set has so many bytes, over so many rows.
 pub fn read_record(bytes: &[u8], n: u16, size: usize) -> Record {
-    let mut set = [0; 128];
+    let mut set = [0; ROWS / 8];
     set[..size].copy_from_slice(&bytes[9..9 + size]);
     let mut rows = RowSet::new(n);
     for (word, part) in rows.words.iter_mut().zip(set.chunks_exact(8)) {

@@ -1,6 +1,8 @@
 //! Sets of rows, a bit for each.
 
-const WORDS: usize = 16;
+use crate::limit::ROWS;
+
+const WORDS: usize = ROWS / 64;
 
 #[derive(Clone, Copy, PartialEq, Eq)]
 pub struct RowSet {

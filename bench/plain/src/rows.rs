@@ -1,9 +1,8 @@
 //! The rows of a form, and how one is cleared at a new row's pivot.
 
 use crate::divide::{gcd128, gcd64, Content, Divisor, Quotient};
+use crate::limit::ROWS;
 
-/// The columns of a form of sets of rows.
-pub const ROWS: usize = 1024;
 /// How many free columns the quick test of width looks at.
 pub const FRONT: usize = 8;
 

@@ -3,6 +3,7 @@
 use crate::divide::gcd64;
 use crate::faults::RunFault;
 use crate::history::{self, History};
+use crate::limit::ROWS;
 use crate::reply::Reply;
 use crate::request::{Ask, Request};
 use crate::row_set::RowSet;
@@ -12,7 +13,7 @@ use crate::table::MOST_NUMBER;
 use std::io::{ErrorKind, Write};
 
 /// The greatest size of a sum.
-const MOST_SUM: u64 = 1024 * MOST_NUMBER as u64;
+const MOST_SUM: u64 = ROWS as u64 * MOST_NUMBER as u64;
 
 /// What the reply to a question has to be.
 enum Expected {
