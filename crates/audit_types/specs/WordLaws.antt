@@ -147,7 +147,7 @@ pub rows_used : (n : ℕ) (words : List ℕ) → AreWords n words → (m : ℕ) 
 rows_used n words h m = rows_that_agree _ _ m (λ r l. ap (λ x. bit_at x (r % 64) == 1) (word_used n words h (r / 64)))
 
 -- a list of zeros is 0 everywhere
-zero_at : (k i : ℕ) → ◌≡◌ {A = ℕ} (get_or (replicate k 0) i 0) 0
+pub zero_at : (k i : ℕ) → ◌≡◌ {A = ℕ} (get_or (replicate k 0) i 0) 0
 zero_at zero i = refl
 zero_at (suc k) zero = refl
 zero_at (suc k) (suc i) = zero_at k i
