@@ -1,16 +1,13 @@
 -- Points of columns' own entries, and what lists have at the first place of a new list.
-use Rattle.std.proofs.Common.{◌≡◌, ◌≢◌, ℕ, ◌<◌, ℤ, pos, List, [], ◌∷◌, length, get_or, refl, sym, ap, ◌∙◌, inl, inr, arith}
+use Rattle.std.proofs.Common.{◌≡◌, ◌≢◌, ℕ, ◌<◌, ℤ, pos, List, [], ◌∷◌, get_or, refl, sym, ap, ◌∙◌, inl, inr, arith}
 use Rattle.std.specs.Prelude.{◌+ℤ◌, ◌*ℤ◌}
 use Rattle.std.specs.List.{AllByRecursion}
 use Rattle.std.proofs.lemmas.Int.{ints}
-use Rattle.std.proofs.lemmas.List.{get_or_default}
-use Rattle.std.proofs.lemmas.List.Elements.{recursion_from_All}
 use Rattle.std.proofs.Math.IntN.{pos-*ℤ-pos}
 use Rattle.audit_types.specs.Truth.{number_at}
 use Rattle.audit_types.specs.Form.{pivot}
 use Rattle.audit_types.specs.ListLaws.{all-get_or, all-weaker}
-use Rattle.sum_basis.specs.Basis.{Echelon, IsFreeList, unit_row}
-use Rattle.sum_basis.specs.Elimination.{IsSmallForm}
+use Rattle.sum_basis.specs.Basis.{Echelon, IsFreeList}
 use Rattle.sum_basis.specs.Points.{modulus, IsLeftModulo, IsPointAfter}
 use Rattle.sum_basis.specs.Growth.{IsLeftOver}
 use Rattle.sum_basis.specs.Reach.{IsLeftOverOrNone, times_of}
@@ -20,7 +17,6 @@ use Rattle.sum_basis.specs.declared.points.Point.{Point}
 use Rattle.sum_basis.specs.declared.sparse.FreeEntry.{FreeEntry}
 use Rattle.sum_basis.proofs.KeyProducts.{no_point}
 use Rattle.sum_basis.proofs.LeftModulo.{left_self, left_same}
-use Rattle.sum_basis.proofs.Residues.{residue_of_pivot, residue_of_free}
 use Rattle.sum_basis.proofs.SameModulo.{same_equal}
 use Rattle.sum_basis.proofs.SparseRows.{number_at-row_of, first_value}
 

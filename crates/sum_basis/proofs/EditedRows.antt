@@ -50,10 +50,10 @@ row_listed row (suc k) =
     elim (zero_or_not (number_at row k)) [
       | inl none_there ↦ (before.0, subst (IsPartlyListed row before.0) next (left_out row before.0 k before.1 none_there))
       | inr some ↦ (
-          before.0 ++ record { place = k; value = number_at row k } ∷ [],
-          subst (IsPartlyListed row (before.0 ++ record { place = k; value = number_at row k } ∷ [])) next
-              (one_more_listed row before.0 k (number_at row k) before.1 refl some),
-        )
+        before.0 ++ record { place = k; value = number_at row k } ∷ [],
+        subst (IsPartlyListed row (before.0 ++ record { place = k; value = number_at row k } ∷ [])) next
+            (one_more_listed row before.0 k (number_at row k) before.1 refl some),
+      )
     ]
 
 -- if the row stays small, so does each number that is written

@@ -1,8 +1,7 @@
 -- Points that are foreseen when a new row joins a form: they are right where the row is only cleared, and not divided by anything.
-use Rattle.std.proofs.Common.{◌≡◌, ◌≢◌, ℕ, zero, suc, ◌+◌, ◌<◌, ◌≤◌, ◌^◌, ℤ, pos, List, [], ◌∷◌, ◌++◌, length, get_or, refl, sym, ap, ◌∙◌, subst, arith, inl, inr, ◌⊎◌}
-use Rattle.std.specs.Prelude.{◌+ℤ◌, ◌-ℤ◌, ◌*ℤ◌, neg_ℤ, unsigned_abs, true, false, Option, None, Some, IfSome, Vec}
+use Rattle.std.proofs.Common.{◌≡◌, ◌≢◌, ℕ, ◌+◌, ◌<◌, ◌≤◌, ◌^◌, ℤ, pos, List, [], ◌∷◌, ◌++◌, length, get_or, refl, sym, ap, ◌∙◌, subst, arith, inl, inr}
+use Rattle.std.specs.Prelude.{◌+ℤ◌, ◌-ℤ◌, ◌*ℤ◌, neg_ℤ, unsigned_abs, false, Option, None, Some, IfSome, Vec}
 use Rattle.std.specs.declared.alloc.Global.{Global}
-use Rattle.std.specs.List.{AllByRecursion}
 use Rattle.std.proofs.lemmas.Bool.{cases_eq, cases_lt}
 use Rattle.std.proofs.lemmas.Int.{ints}
 use Rattle.std.proofs.lemmas.List.Elements.{All-from_recursion}
@@ -11,12 +10,12 @@ use Rattle.audit_types.specs.Numbers.{zero_or_not, positive_not_zero}
 use Rattle.audit_types.specs.Products.{neg-times, one-times, zero_product}
 use Rattle.audit_types.specs.Truth.{number_at}
 use Rattle.std.proofs.Math.IntN.{*ℤ_comm, *ℤ-zero}
-use Rattle.audit_types.specs.Form.{IsPrimitive, IsReducedForm, IsEchelon, StandsBefore, pivot, pivot_entry}
+use Rattle.audit_types.specs.Form.{IsPrimitive, IsReducedForm, IsEchelon, pivot, pivot_entry}
 use Rattle.sum_basis.specs.Basis.{Echelon, IsFreeList}
 use Rattle.sum_basis.specs.Elimination.{IsSmallForm}
 use Rattle.sum_basis.specs.Growth.{IsLeftOver}
 use Rattle.sum_basis.specs.Holding.{AreKeptKeys}
-use Rattle.sum_basis.specs.Keys.{AreColumnKeys, AreForeseen, AreWeights, IsForeseen, IsKnown, IsListOfColumn, IsRightWithHead, IsRowPointAfter, IsZeroAtFirst, leading_of, own_entry, point_at}
+use Rattle.sum_basis.specs.Keys.{AreColumnKeys, AreForeseen, AreWeights, IsForeseen, IsListOfColumn, IsRightWithHead, IsRowPointAfter, IsZeroAtFirst, leading_of, own_entry, point_at}
 use Rattle.sum_basis.specs.Points.{IsKey, IsLeftModulo, IsPointAfter, first_weight, second_weight, weighted, weighted_after}
 use Rattle.sum_basis.specs.Reach.{times_of}
 use Rattle.sum_basis.specs.Sparse.{entry_at, row_of}

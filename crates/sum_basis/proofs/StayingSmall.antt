@@ -1,5 +1,5 @@
 -- Rows that stay small when they are cleared: those of a form that is narrow with the new row.
-use Rattle.std.proofs.Common.{ℕ, zero, suc, ◌<◌, ◌≤◌, ◌^◌, ℤ, List, [], ◌∷◌, ◌++◌, length, get_or, arith, inl, inr}
+use Rattle.std.proofs.Common.{ℕ, suc, ◌<◌, ◌≤◌, ◌^◌, ℤ, List, [], ◌∷◌, ◌++◌, length, get_or, arith, inl, inr}
 use Rattle.std.specs.List.{AllByRecursion}
 use Rattle.audit_types.specs.Form.{IsPrimitive, IsReducedForm}
 use Rattle.audit_types.specs.ListLaws.{all-weaker}

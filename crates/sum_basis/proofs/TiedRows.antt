@@ -1,13 +1,12 @@
 -- What the lists of kept rows tell of ties.
 use Rattle.std.proofs.Common.{◌≡◌, ◌≢◌, ℕ, zero, suc, ◌+◌, ◌<◌, ◌≤◌, ◌^◌, ℤ, pos, List, [], ◌∷◌, ◌++◌, map, length, take, slice_index_or, refl, sym, ap, ◌∙◌, subst, arith, inl, inr, ◌⊎◌}
-use Rattle.std.specs.Prelude.{◌+ℤ◌, ◌*ℤ◌, neg_ℤ, unsigned_abs}
+use Rattle.std.specs.Prelude.{◌+ℤ◌, ◌*ℤ◌, unsigned_abs}
 use Rattle.std.specs.List.{AllByRecursion}
-use Rattle.std.proofs.lemmas.Int.{ints}
 use Rattle.std.proofs.lemmas.Bool.{cases_eq, cases_order}
 use Rattle.std.proofs.Math.IntN.{+ℤ_idl, *ℤ_comm, *ℤ-zero}
 use Rattle.audit_types.specs.Truth.{number_at}
 use Rattle.audit_types.specs.Form.{IsEchelon, StandsBefore, pivot}
-use Rattle.audit_types.specs.Products.{times_assoc, times-add, neg-times, zero_product, product_not_zero}
+use Rattle.audit_types.specs.Products.{times_assoc, product_not_zero}
 use Rattle.sum_basis.specs.Elimination.{IsSmall}
 use Rattle.sum_basis.proofs.Sizes.{small_at}
 use Rattle.sum_basis.specs.Ties.{IsRowOf, IsShort, AreParallel, AreLikeLists}

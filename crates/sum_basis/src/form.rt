@@ -243,13 +243,7 @@ impl Form {
         let mut combined = Vec::with_capacity(self.alloc, self.columns as usize)?;
         // The new list's memory, and the room's, are used again for the next row. The row keeps a copy, in memory that nothing longer was in.
         let list = copy_list(self.alloc, &new, self.columns)?;
-        grow_rows(
-            &mut self.rows,
-            self.columns,
-            list,
-            &mut room,
-            &mut combined,
-        );
+        grow_rows(&mut self.rows, self.columns, list, &mut room, &mut combined);
         self.greatest_bound = greatest_bound(&self.rows);
         match common_multiple(&self.rows) {
             Some(common) => self.common = common,

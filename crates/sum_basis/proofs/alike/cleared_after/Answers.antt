@@ -20,4 +20,8 @@ returns-clause-small c =
     left_entries_small c.args.columns c.args.new.now c.args.entries.now c.combine_into.new.out.items c.requires.new c.requires.entries
     c.combine_into.ensures.listed
     (cleared_is c.args.new.now c.args.entries.now c.combine_into.new.out.items by c.args.times none c.requires.times c.requires.some refl
-    (rw (passed c.number-by.result (get_or c.args.new.now 0 none).value fits c.number-by.ensures, to_z-of_z w128 c.args.times c.ranges.times) at c.combine_into.ensures.combined))
+    (rw (
+      passed c.number-by.result
+          (get_or c.args.new.now 0 none).value fits c.number-by.ensures,
+      to_z-of_z w128 c.args.times c.ranges.times,
+    ) at c.combine_into.ensures.combined))

@@ -1,4 +1,4 @@
-use Rattle.std.proofs.Common.{◌≡◌, ◌≤◌, ◌*◌, ◌^◌, ◌∷◌, [], pos, map, length, get_or, take, refl, sym, subst, ap, ◌∙◌, ◌++◌, arith, take_all, append_assoc}
+use Rattle.std.proofs.Common.{◌≤◌, ◌*◌, ◌^◌, ◌∷◌, [], pos, map, length, get_or, take, refl, sym, subst, ap, ◌∙◌, ◌++◌, arith, take_all, append_assoc}
 use Rattle.std.specs.Prelude.{unsigned_abs}
 use Rattle.std.specs.Int.{◌∣◌}
 use Rattle.std.proofs.lemmas.List.{append-nil, map-append, take_more, length-append, length-map, length-take-le}
@@ -28,7 +28,8 @@ push_reserved-requires c =
 
 pub quotient_entry-requires-clause-divides : goal.quotient_entry-requires-clause-divides
 quotient_entry-requires-clause-divides c =
-    subst (λ (e : FreeEntry). c.args.by.now ∣ unsigned_abs e.value) (entry_is c.args.entries.now c.loop-e.e-index c.e-item.result c.loop-e-test.true c.e-item.is)
+    subst (λ (e : FreeEntry). c.args.by.now ∣ unsigned_abs e.value)
+    (entry_is c.args.entries.now c.loop-e.e-index c.e-item.result c.loop-e-test.true c.e-item.is)
     (all-get_or (λ (e : FreeEntry). c.args.by.now ∣ unsigned_abs e.value) c.args.entries.now c.loop-e.e-index none c.requires.divides c.loop-e-test.true)
 
 pub quotient_entry-requires-clause-size : goal.quotient_entry-requires-clause-size
@@ -38,7 +39,8 @@ quotient_entry-requires-clause-size c =
 
 pub quotient_entry-requires-clause-small : goal.quotient_entry-requires-clause-small
 quotient_entry-requires-clause-small c =
-    subst (λ (e : FreeEntry). unsigned_abs e.value ≤ c.args.by.now * 2 ^ 56) (entry_is c.args.entries.now c.loop-e.e-index c.e-item.result c.loop-e-test.true c.e-item.is)
+    subst (λ (e : FreeEntry). unsigned_abs e.value ≤ c.args.by.now * 2 ^ 56)
+    (entry_is c.args.entries.now c.loop-e.e-index c.e-item.result c.loop-e-test.true c.e-item.is)
     (all-get_or (λ (e : FreeEntry). unsigned_abs e.value ≤ c.args.by.now * 2 ^ 56) c.args.entries.now c.loop-e.e-index none c.requires.small c.loop-e-test.true)
 
 pub loop-e-preserved : goal.loop-e-preserved
@@ -49,7 +51,8 @@ loop-e-preserved c =
     record {
       items = ap (map (scaled g)) c.push_reserved.ensures.items
           ∙ map-append (scaled g) c.loop-e.out.items (c.quotient_entry.result ∷ [])
-          ∙ ap (λ (e : FreeEntry). map (scaled g) c.loop-e.out.items ++ e ∷ []) (c.quotient_entry.ensures ∙ (sym (entry_is c.args.entries.now c.loop-e.e-index c.e-item.result c.loop-e-test.true c.e-item.is)))
+          ∙ ap (λ (e : FreeEntry). map (scaled g) c.loop-e.out.items ++ e ∷ []) (c.quotient_entry.ensures ∙ (sym
+          (entry_is c.args.entries.now c.loop-e.e-index c.e-item.result c.loop-e-test.true c.e-item.is)))
           ∙ ap (λ o. o ++ get_or c.args.entries.now k none ∷ []) c.loop-e.invariant.items
           ∙ append_assoc old (take k c.args.entries.now) (get_or c.args.entries.now k none ∷ [])
           ∙ ap (λ l. old ++ l) (sym (take_more c.args.entries.now k none c.loop-e-test.true));

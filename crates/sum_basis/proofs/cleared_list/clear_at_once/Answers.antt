@@ -22,7 +22,8 @@ by_positive n new is = subst (λ z. pos 0 <ℤ z) (is_led n new is).pivot_entry_
 pub product-head-requires-clause-x : goal.product-head-requires-clause-x
 product-head-requires-clause-x c =
     let fits : FitsSigned w128 c.number-by.result = search rules in
-    rw (passed c.number-by.result (get_or c.args.new.now 0 none).value fits c.number-by.ensures) (first_small c.args.columns c.args.new.now _ c.requires.new refl)
+    rw (passed c.number-by.result (get_or c.args.new.now 0 none).value fits c.number-by.ensures)
+    (first_small c.args.columns c.args.new.now _ c.requires.new refl)
 
 pub product-head-requires-clause-y : goal.product-head-requires-clause-y
 product-head-requires-clause-y c =
@@ -34,7 +35,8 @@ first_divisor-divisor-requires-clause-head c =
     let by : FitsSigned w128 c.number-by.result = search rules in
     let head : FitsSigned w128 c.args.row.now.head = search rules in
     let p : FitsSigned w128 c.product-head.result = search rules in
-    rw (product_by c.product-head.result c.number-by.result (get_or c.args.new.now 0 none).value c.args.row.now.head p by head c.number-by.ensures c.product-head.ensures.exact)
+    rw (product_by c.product-head.result c.number-by.result
+    (get_or c.args.new.now 0 none).value c.args.row.now.head p by head c.number-by.ensures c.product-head.ensures.exact)
     (let size = product_small (get_or c.args.new.now 0 none).value c.args.row.now.head (first_small c.args.columns c.args.new.now _ c.requires.new refl)
     (head_small c.args.columns c.args.row.now c.requires.kept c.requires.small) in (
       positive_times (get_or c.args.new.now 0 none).value c.args.row.now.head
@@ -45,7 +47,8 @@ first_divisor-divisor-requires-clause-head c =
 pub first_divisor-divisor-requires-clause-by : goal.first_divisor-divisor-requires-clause-by
 first_divisor-divisor-requires-clause-by c =
     let fits : FitsSigned w128 c.number-by.result = search rules in
-    rw (passed c.number-by.result (get_or c.args.new.now 0 none).value fits c.number-by.ensures) (first_small c.args.columns c.args.new.now _ c.requires.new refl)
+    rw (passed c.number-by.result (get_or c.args.new.now 0 none).value fits c.number-by.ensures)
+    (first_small c.args.columns c.args.new.now _ c.requires.new refl)
 
 pub first_divisor-divisor-requires-clause-times : goal.first_divisor-divisor-requires-clause-times
 first_divisor-divisor-requires-clause-times c =
@@ -74,7 +77,8 @@ first_divisor-divisor-requires-clause-second_small c =
 pub combine_over-requires-clause-by : goal.combine_over-requires-clause-by
 combine_over-requires-clause-by c =
     let fits : FitsSigned w128 c.number-by.result = search rules in
-    rw (passed c.number-by.result (get_or c.args.new.now 0 none).value fits c.number-by.ensures) (first_small c.args.columns c.args.new.now _ c.requires.new refl)
+    rw (passed c.number-by.result (get_or c.args.new.now 0 none).value fits c.number-by.ensures)
+    (first_small c.args.columns c.args.new.now _ c.requires.new refl)
 
 pub combine_over-requires-clause-first : goal.combine_over-requires-clause-first
 combine_over-requires-clause-first c =
@@ -118,9 +122,11 @@ returns c =
     (greatest_of g c.product-head.result c.number-by.result c.args.times c.deref.result.now new p by c.ranges.times first.greatest) in
     let whole = at_once c.args.columns c.args.row.now new made g c.args.times c.product-head.result c.quotient.result c.requires.kept c.requires.primitive
     c.requires.new c.requires.before c.requires.times
-    (sym (to_z-of_z w128 c.product-head.result p) ∙ product_by c.product-head.result c.number-by.result (get_or new 0 none).value c.args.row.now.head p by head c.number-by.ensures c.product-head.ensures.exact)
+    (sym (to_z-of_z w128 c.product-head.result p) ∙ product_by c.product-head.result c.number-by.result
+    (get_or new 0 none).value c.args.row.now.head p by head c.number-by.ensures c.product-head.ensures.exact)
     (c.combine_over.ensures.listed done)
-    (combined_is (pos g) row new made c.deref-2.result.now c.number-by.result (get_or new 0 none).value c.args.times by c.number-by.ensures c.ranges.times c.deref-2.ensures.value
+    (combined_is (pos g) row new made c.deref-2.result.now c.number-by.result
+    (get_or new 0 none).value c.args.times by c.number-by.ensures c.ranges.times c.deref-2.ensures.value
     (c.combine_over.ensures.combined done))
     first.positive (subst (λ (z : ℤ). g ∣ unsigned_abs z) (to_z-of_z w128 c.product-head.result p) first.divides)
     (subst (λ (l : List FreeEntry). (d : ℕ) → d ∣ unsigned_abs c.product-head.result

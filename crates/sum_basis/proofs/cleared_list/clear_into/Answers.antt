@@ -1,13 +1,11 @@
-use Rattle.std.proofs.Common.{ℕ, ℤ, ◌<◌, ◌≤◌, pos, List, ◌∷◌, length, refl, ap, ◌∙◌, arith, rules, subst, sym}
-use Rattle.std.specs.Prelude.{FitsSigned, unsigned_abs, ◌<ℤ◌, ◌^◌}
+use Rattle.std.proofs.Common.{◌≤◌, ◌∷◌, length, ap, ◌∙◌, arith, rules, subst, sym}
+use Rattle.std.specs.Prelude.{FitsSigned, unsigned_abs, ◌^◌}
 use Rattle.std.specs.Int.{w128}
 use Rattle.std.specs.List.{AllByRecursion}
-use mir.Val.{to_z, of_z}
 use Rattle.std.proofs.lemmas.Int.{to_z-of_z}
 use Rattle.sum_basis.specs.declared.sparse.FreeEntry.{FreeEntry}
-use Rattle.sum_basis.specs.Sparse.{IsOverContent}
 use Rattle.sum_basis.proofs.SparseRows.{small_values, listed_length}
-use Rattle.sum_basis.proofs.ClearedLists.{IsResult, result_of_bits}
+use Rattle.sum_basis.proofs.ClearedLists.{result_of_bits}
 use Rattle.sum_basis.proofs.cleared_list.clear_into.Goals as goal
 
 pub combine_at_pivot-head-requires-clause-room : goal.combine_at_pivot-head-requires-clause-room

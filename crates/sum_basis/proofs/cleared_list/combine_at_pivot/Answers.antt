@@ -20,7 +20,8 @@ by_positive n new is = subst (λ z. pos 0 <ℤ z) (is_led n new is).pivot_entry_
 pub combine_into-requires-clause-by : goal.combine_into-requires-clause-by
 combine_into-requires-clause-by c =
     let fits : FitsSigned w128 c.number-by.result = search rules in
-    rw (passed c.number-by.result (get_or c.args.new.now 0 none).value fits c.number-by.ensures) (first_small c.args.columns c.args.new.now _ c.requires.new refl)
+    rw (passed c.number-by.result (get_or c.args.new.now 0 none).value fits c.number-by.ensures)
+    (first_small c.args.columns c.args.new.now _ c.requires.new refl)
 
 pub combine_into-requires-clause-first : goal.combine_into-requires-clause-first
 combine_into-requires-clause-first c =
@@ -41,7 +42,8 @@ combine_into-requires-clause-second_small c = small_values c.args.columns c.args
 pub product-requires-clause-x : goal.product-requires-clause-x
 product-requires-clause-x c =
     let fits : FitsSigned w128 c.number-by.result = search rules in
-    rw (passed c.number-by.result (get_or c.args.new.now 0 none).value fits c.number-by.ensures) (first_small c.args.columns c.args.new.now _ c.requires.new refl)
+    rw (passed c.number-by.result (get_or c.args.new.now 0 none).value fits c.number-by.ensures)
+    (first_small c.args.columns c.args.new.now _ c.requires.new refl)
 
 pub product-requires-clause-y : goal.product-requires-clause-y
 product-requires-clause-y c =
@@ -88,7 +90,8 @@ returns-clause-leading c =
     let x : FitsSigned w128 c.number-by.result = search rules in
     let y : FitsSigned w128 c.args.row.now.head = search rules in
     let p : FitsSigned w128 c.product.result = search rules in
-    rw (product_by c.product.result c.number-by.result (get_or c.args.new.now 0 none).value c.args.row.now.head p x y c.number-by.ensures c.product.ensures.exact)
+    rw (product_by c.product.result c.number-by.result
+    (get_or c.args.new.now 0 none).value c.args.row.now.head p x y c.number-by.ensures c.product.ensures.exact)
     (let size = product_small (get_or c.args.new.now 0 none).value c.args.row.now.head (first_small c.args.columns c.args.new.now _ c.requires.new refl)
     (head_small c.args.columns c.args.row.now c.requires.kept c.requires.small) in (
       positive_times (get_or c.args.new.now 0 none).value c.args.row.now.head
@@ -99,7 +102,8 @@ returns-clause-leading c =
 pub combine_into-requires-clause-by_some : goal.combine_into-requires-clause-by_some
 combine_into-requires-clause-by_some c =
     let by : FitsSigned w128 c.number-by.result = search rules in
-    rw (passed c.number-by.result (get_or c.args.new.now 0 none).value by c.number-by.ensures) (first_some c.args.columns c.args.new.now c.requires.new.listed c.requires.new.some)
+    rw (passed c.number-by.result (get_or c.args.new.now 0 none).value by c.number-by.ensures)
+    (first_some c.args.columns c.args.new.now c.requires.new.listed c.requires.new.some)
 
 pub combine_into-requires-clause-second : goal.combine_into-requires-clause-second
 combine_into-requires-clause-second c = c.requires.new.listed

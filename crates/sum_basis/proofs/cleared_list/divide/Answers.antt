@@ -42,7 +42,8 @@ loop-k-preserved c =
     record {
       scaled =
           one_more_scaled c.args.entries.now.items c.loop-k.entries.items _ c.loop-k.k _ (omega arith) c.loop-k.invariant.scaled
-          (here ∙ multiple c.index.result.now (pos c.args.by.now) (to_z w128 (of_z w128 c.quotient-value.result)) is ∙ ap (scaled (pos c.args.by.now)) (sym made));
+          (here ∙ multiple c.index.result.now (pos c.args.by.now) (to_z w128 (of_z w128 c.quotient-value.result)) is ∙ ap (scaled (pos c.args.by.now))
+          (sym made));
       length = length-set c.loop-k.entries.items c.loop-k.k _ ∙ c.loop-k.invariant.length;
       capacity = c.loop-k.invariant.capacity;
     }

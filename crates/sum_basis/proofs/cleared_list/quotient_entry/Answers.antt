@@ -1,9 +1,8 @@
-use Rattle.std.proofs.Common.{◌≡◌, ℕ, ◌≤◌, ◌*◌, ◌^◌, ℤ, pos, sym, ap, ◌∙◌, refl, arith, rules, subst}
-use Rattle.std.specs.Prelude.{FitsSigned, unsigned_abs, ◌*ℤ◌}
-use Rattle.std.specs.Int.{w64, w128, ◌∣◌}
+use Rattle.std.proofs.Common.{◌≡◌, ℕ, ◌*◌, ◌^◌, ℤ, pos, sym, ap, ◌∙◌, arith, rules}
+use Rattle.std.specs.Prelude.{FitsSigned, ◌*ℤ◌}
+use Rattle.std.specs.Int.{w64, w128}
 use mir.Val.{to_z, of_z}
 use Rattle.std.proofs.lemmas.Int.{to_z-of_z, fits_signed_from_abs}
-use Rattle.sum_basis.specs.declared.sparse.FreeEntry.{FreeEntry}
 use Rattle.sum_basis.specs.Sparse.{scaled}
 use Rattle.sum_basis.proofs.WithinLimit.{comes_within}
 use Rattle.sum_basis.proofs.MergedNumbers.{passed}

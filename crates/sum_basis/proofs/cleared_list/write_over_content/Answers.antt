@@ -1,7 +1,6 @@
-use Rattle.std.proofs.Common.{◌≡◌, ℕ, ℤ, ◌<◌, ◌≤◌, ◌*◌, ◌^◌, ◌∷◌, ◌++◌, [], pos, List, map, length, sym, ap, ◌∙◌, subst, arith, rules}
+use Rattle.std.proofs.Common.{ℕ, ℤ, ◌^◌, ◌∷◌, ◌++◌, pos, List, map, length, sym, ap, ◌∙◌, subst, arith, rules}
 use Rattle.std.specs.Prelude.{FitsSigned, ◌*ℤ◌, unsigned_abs, int_div}
 use Rattle.std.specs.Int.{◌∣◌, w128}
-use Rattle.std.specs.List.{AllByRecursion}
 use mir.Val.{to_z, of_z}
 use Rattle.std.proofs.lemmas.Int.{ints, to_z-of_z}
 use Rattle.audit_types.specs.Form.{IsContent}

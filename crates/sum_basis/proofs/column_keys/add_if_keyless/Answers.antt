@@ -1,4 +1,4 @@
-use Rattle.std.proofs.Common.{ℕ, List, refl, sym, ap, ◌∙◌, inl, inr, arith}
+use Rattle.std.proofs.Common.{ℕ, List, refl, sym, ap, ◌∙◌, arith}
 use Rattle.audit_types.specs.Rows.{has_row}
 use Rattle.sum_basis.proofs.ColumnLists.{not_added}
 use Rattle.sum_basis.proofs.column_keys.add_if_keyless.Goals as goal

@@ -1,9 +1,9 @@
-use Rattle.std.proofs.Common.{◌≡◌, ℕ, ℤ, pos, List, [], length, get_or, refl, sym, ap, ◌∙◌, subst, arith}
-use Rattle.std.specs.Prelude.{true, false, not}
+use Rattle.std.proofs.Common.{◌≡◌, ℕ, ℤ, pos, List, [], length, get_or, sym, ap, ◌∙◌, subst, arith}
+use Rattle.std.specs.Prelude.{true, not}
 use Rattle.std.proofs.lemmas.Bool.{true≢false}
 use Rattle.std.proofs.lemmas.List.{length-replicate, get_or-replicate}
 use Rattle.std.proofs.lemmas.List.Elements.{All-from_recursion}
-use Rattle.audit_types.specs.Rows.{has_row, complement}
+use Rattle.audit_types.specs.Rows.{has_row}
 use Rattle.audit_types.specs.Form.{IsPrimitive, pivot, pivot_entry}
 use Rattle.audit_types.specs.Numbers.{positive_not_zero}
 use Rattle.audit_types.specs.RowLaws.{has-rows_that}

@@ -1,5 +1,5 @@
 use Rattle.std.proofs.Common.{◌≡◌, ◌≢◌, ℕ, ◌<◌, ◌≤◌, ◌^◌, ℤ, pos, List, [], length, get_or, set, refl, sym, ap, ◌∙◌, subst, inl, inr, arith, rules, get_or-set_other, get_or-set_same}
-use Rattle.std.specs.Prelude.{FitsSigned, unsigned_abs, true, false, ◌*ℤ◌}
+use Rattle.std.specs.Prelude.{FitsSigned, unsigned_abs, ◌*ℤ◌}
 use Rattle.std.specs.Vec.{with_item}
 use Rattle.std.specs.Int.{w128}
 use Rattle.std.proofs.lemmas.Bool.{true≢false}
@@ -11,13 +11,12 @@ use Rattle.audit_types.specs.Truth.{number_at}
 use Rattle.audit_types.specs.Form.{pivot, pivot_entry}
 use Rattle.sum_basis.specs.Keys.{IsListOfColumn, IsZeroAtFirst, leading_of, point_at}
 use Rattle.sum_basis.specs.Points.{IsPointAfter}
-use Rattle.sum_basis.specs.declared.points.Point.{Point}
 use Rattle.sum_basis.specs.declared.sparse.FreeEntry.{FreeEntry}
 use Rattle.sum_basis.proofs.MergedNumbers.{passed}
 use Rattle.sum_basis.proofs.ColumnLists.{first_number, not_added}
 use Rattle.sum_basis.proofs.ForeseenPoints.{foreseen_touched, foreseen_untouched, known_list, leading_is, leading_small}
 use Rattle.sum_basis.proofs.KeyProducts.{no_point}
-use Rattle.sum_basis.proofs.SmallEntries.{free_small, new_small, times_small}
+use Rattle.sum_basis.proofs.SmallEntries.{free_small, times_small}
 use Rattle.sum_basis.proofs.SparseRows.{listed_to}
 use Rattle.sum_basis.proofs.column_keys.foresee.Goals as goal
 
@@ -91,7 +90,8 @@ returns-clause-kept c =
     let inside : place < length kept.heads.items = omega (arith, below, are.heads_each) in
     let point_inside : place < length kept.points.items = omega (arith, below, are.points_each) in
     let number : c.product.result ≡ leading_of list *ℤ pivot_entry row =
-    c.product.ensures.exact ∙ ap (λ z. z *ℤ to_z w128 (of_z w128 c.entry.result)) (passed c.number.result (get_or list 0 none).value first_fits c.number.ensures)
+    c.product.ensures.exact ∙ ap (λ z. z *ℤ to_z w128 (of_z w128 c.entry.result)) (passed c.number.result
+    (get_or list 0 none).value first_fits c.number.ensures)
     ∙ ap (λ z. (get_or list 0 none).value *ℤ z) (to_z-of_z w128 c.entry.result entry_fits ∙ c.entry.ensures ∙ ap (number_at row) at)
     ∙ ap (λ z. z *ℤ pivot_entry row) (leading_is list none c.requires.list.0.some) in
     let head = to_z w128 (of_z w128 c.product.result) in

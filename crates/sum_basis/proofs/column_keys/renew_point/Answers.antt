@@ -1,19 +1,16 @@
-use Rattle.std.proofs.Common.{◌≡◌, ◌≢◌, ℕ, ◌<◌, ℤ, List, [], length, get_or, refl, sym, ap, ◌∙◌, subst, arith, set, get_or-set_other, get_or-set_same, inl, inr}
-use Rattle.std.specs.Prelude.{true, false}
-use Rattle.std.specs.List.{AllByRecursion}
+use Rattle.std.proofs.Common.{◌≡◌, ◌≢◌, ℕ, ◌<◌, ℤ, List, [], length, get_or, sym, ap, ◌∙◌, subst, arith, set, get_or-set_other, get_or-set_same, inl, inr}
 use Rattle.std.proofs.lemmas.Bool.{cases_eq, true≢false}
 use Rattle.std.proofs.lemmas.List.{length-set}
 use Rattle.std.proofs.lemmas.List.Elements.{All-from_recursion}
 use Rattle.audit_types.specs.Rows.{has_row}
 use Rattle.audit_types.specs.Form.{pivot}
-use Rattle.sum_basis.specs.Points.{IsPointAfter, IsKey}
-use Rattle.sum_basis.specs.Keys.{IsColumnPoint, own_entry, point_at}
+use Rattle.sum_basis.specs.Points.{IsPointAfter}
+use Rattle.sum_basis.specs.Keys.{point_at}
 use Rattle.sum_basis.specs.Reach.{AreSmallEntries}
 use Rattle.sum_basis.specs.declared.points.Point.{Point}
 use Rattle.sum_basis.specs.Basis.{IsFreeList}
 use Rattle.sum_basis.specs.declared.sparse.FreeEntry.{FreeEntry}
 use Rattle.sum_basis.proofs.ForeseenPoints.{free_lists_same, pivots_apart}
-use Rattle.sum_basis.proofs.KeyProducts.{no_point}
 use Rattle.sum_basis.proofs.SmallEntries.{free_small}
 use Rattle.sum_basis.proofs.column_keys.renew_point.Goals as goal
 

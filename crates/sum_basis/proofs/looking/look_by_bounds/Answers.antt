@@ -3,7 +3,6 @@ use Rattle.std.specs.Prelude.{unsigned_abs, ◌<ℤ◌, FitsSigned}
 use Rattle.std.specs.Int.{◌∣◌, w128}
 use Rattle.std.specs.List.{AllByRecursion}
 use Rattle.std.proofs.lemmas.List.{length-map}
-use Rattle.std.proofs.lemmas.Int.{to_z-of_z}
 use Rattle.std.proofs.lemmas.Bool.{eqb-true, eq-eqb, ne_eqb, true≢false}
 use Rattle.audit_types.specs.Truth.{number_at}
 use Rattle.audit_types.specs.Form.{IsPrimitive, pivot, pivot_entries}

@@ -1,4 +1,4 @@
-use Rattle.std.proofs.Common.{◌≡◌, ◌≤◌, pos, ◌++◌, length, map, drop, get_or, ap, ◌∙◌, arith, rules, inl, inr, ◌⊎◌}
+use Rattle.std.proofs.Common.{◌≡◌, ◌≤◌, ◌++◌, length, map, drop, get_or, ap, ◌∙◌, arith, rules, inl, inr, ◌⊎◌}
 use Rattle.std.specs.Prelude.{FitsSigned}
 use Rattle.std.specs.Int.{w128}
 use mir.Val.{to_z, of_z}
@@ -16,7 +16,8 @@ product-requires-clause-x c = rw (to_z-of_z w128 c.args.by.now (limit_fits c.arg
 pub product-requires-clause-y : goal.product-requires-clause-y
 product-requires-clause-y c =
     let x : FitsSigned w128 c.number.result = search rules in
-    widened_small c.number.result (get_or c.args.first.now c.loop-i.i none).value x c.number.ensures (value_small c.args.first.now c.loop-i.i c.loop-i-test.true c.requires.first_small)
+    widened_small c.number.result (get_or c.args.first.now c.loop-i.i none).value x c.number.ensures
+    (value_small c.args.first.now c.loop-i.i c.loop-i-test.true c.requires.first_small)
 
 pub overflow_sub-times : goal.overflow_sub-times
 overflow_sub-times c = rw (to_z-of_z w128 c.args.times.now (limit_fits c.args.times.now c.requires.times)) (negated c.args.times.now c.requires.times)
@@ -27,7 +28,8 @@ product-requires-then-other-one-clause-x c = minus_small c.args.times.now (limit
 pub product-requires-then-other-one-clause-y : goal.product-requires-then-other-one-clause-y
 product-requires-then-other-one-clause-y c =
     let x : FitsSigned w128 c.number-then-other-one.result = search rules in
-    widened_small c.number-then-other-one.result (get_or c.args.second.now c.loop-i.j none).value x c.number-then-other-one.ensures (value_small c.args.second.now c.loop-i.j c.if-j-second.true c.requires.second_small)
+    widened_small c.number-then-other-one.result (get_or c.args.second.now c.loop-i.j none).value x c.number-then-other-one.ensures
+    (value_small c.args.second.now c.loop-i.j c.if-j-second.true c.requires.second_small)
 
 pub difference-requires-clause-by : goal.difference-requires-clause-by
 difference-requires-clause-by c = rw (to_z-of_z w128 c.args.by.now (limit_fits c.args.by.now c.requires.by)) c.requires.by
@@ -35,7 +37,8 @@ difference-requires-clause-by c = rw (to_z-of_z w128 c.args.by.now (limit_fits c
 pub difference-requires-clause-x : goal.difference-requires-clause-x
 difference-requires-clause-x c =
     let x : FitsSigned w128 c.number-else-other-one.result = search rules in
-    widened_small c.number-else-other-one.result (get_or c.args.first.now c.loop-i.i none).value x c.number-else-other-one.ensures (value_small c.args.first.now c.loop-i.i c.loop-i-test.true c.requires.first_small)
+    widened_small c.number-else-other-one.result (get_or c.args.first.now c.loop-i.i none).value x c.number-else-other-one.ensures
+    (value_small c.args.first.now c.loop-i.i c.loop-i-test.true c.requires.first_small)
 
 pub difference-requires-clause-times : goal.difference-requires-clause-times
 difference-requires-clause-times c = rw (to_z-of_z w128 c.args.times.now (limit_fits c.args.times.now c.requires.times)) c.requires.times
@@ -43,7 +46,8 @@ difference-requires-clause-times c = rw (to_z-of_z w128 c.args.times.now (limit_
 pub difference-requires-clause-y : goal.difference-requires-clause-y
 difference-requires-clause-y c =
     let x : FitsSigned w128 c.number-else-other-one-2.result = search rules in
-    widened_small c.number-else-other-one-2.result (get_or c.args.second.now c.loop-i.j none).value x c.number-else-other-one-2.ensures (value_small c.args.second.now c.loop-i.j c.if-j-second.true c.requires.second_small)
+    widened_small c.number-else-other-one-2.result (get_or c.args.second.now c.loop-i.j none).value x c.number-else-other-one-2.ensures
+    (value_small c.args.second.now c.loop-i.j c.if-j-second.true c.requires.second_small)
 
 pub append-requires-clause-by : goal.append-requires-clause-by
 append-requires-clause-by c = rw (to_z-of_z w128 c.args.by.now (limit_fits c.args.by.now c.requires.by)) c.requires.by
@@ -125,7 +129,8 @@ loop-i-preserved c =
       merging =
           rw c.put-else-other-one.ensures.items
           (both_merged c.args.columns _ c.args.first.now _ c.args.second.now c.loop-i.out.items c.loop-i.i c.loop-i.j c.loop-i.invariant.merging
-          c.loop-i-test.true c.if-j-second.true _ (omega arith) (difference_with _ _ _ _ _ _ _ v c.requires.by x c.requires.times y c.number-else-other-one.ensures
+          c.loop-i-test.true c.if-j-second.true _ (omega arith)
+          (difference_with _ _ _ _ _ _ _ v c.requires.by x c.requires.times y c.number-else-other-one.ensures
           c.number-else-other-one-2.ensures c.difference.ensures.exact));
       capacity = c.put-else-other-one.ensures.capacity ∙ c.loop-i.invariant.capacity;
     }

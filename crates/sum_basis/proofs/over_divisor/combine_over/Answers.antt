@@ -1,10 +1,10 @@
-use Rattle.std.proofs.Common.{◌≡◌, ◌≤◌, pos, ◌++◌, length, map, drop, get_or, sym, ap, ◌∙◌, arith, rules, inl, inr, ◌⊎◌}
+use Rattle.std.proofs.Common.{◌≡◌, ◌≤◌, pos, ◌++◌, length, map, drop, sym, ap, ◌∙◌, arith, rules, inl, inr, ◌⊎◌}
 use Rattle.std.specs.Prelude.{FitsSigned}
 use Rattle.std.specs.Int.{w128}
 use mir.Val.{to_z, of_z}
 use Rattle.std.proofs.lemmas.List.{length-map}
 use Rattle.sum_basis.specs.Sparse.{entry_at, scaled}
-use Rattle.sum_basis.proofs.ListContents.{none, entry_at-scaled, listed_scaled}
+use Rattle.sum_basis.proofs.ListContents.{entry_at-scaled, listed_scaled}
 use Rattle.sum_basis.proofs.Merges.{out_room, first_merged, second_merged, both_merged, whole_listed, whole_is, part_length, whole_length, end_is}
 use Rattle.sum_basis.proofs.MergedNumbers.{limit_fits, product_with, difference_with, turned_product_with, appended_as}
 use Rattle.std.proofs.lemmas.Int.{to_z-of_z}

@@ -13,4 +13,5 @@ returns-clause-items c = λ yes.
     put_scaled (pos c.args.divisor.now) c.in-Some.quotient c.args.value c.args.place out c.put_short.new.out.items
     (some_divisor c.args.divisor.now c.requires.positive)
     (sym (to_z-of_z w128 c.args.value c.ranges.value) ∙ c.in-Some.ensures)
-    (c.put_short.ensures.items ∙ ap (λ v. cond (is_zero v) out (out ++ record { place = c.args.place; value = v } ∷ [])) (to_z-of_z w64 c.in-Some.quotient fits))
+    (c.put_short.ensures.items ∙ ap (λ v. cond (is_zero v) out (out ++ record { place = c.args.place; value = v } ∷ []))
+    (to_z-of_z w64 c.in-Some.quotient fits))

@@ -1,7 +1,6 @@
 use Rattle.std.proofs.Common.{length, get_or, refl, rules}
 use Rattle.std.specs.Prelude.{FitsSigned}
 use Rattle.std.specs.Int.{w128}
-use Rattle.std.proofs.lemmas.Int.{to_z-of_z}
 use Rattle.sum_basis.proofs.MergedNumbers.{passed}
 use Rattle.sum_basis.proofs.ListContents.{none}
 use Rattle.sum_basis.proofs.SparseRows.{stands_within}

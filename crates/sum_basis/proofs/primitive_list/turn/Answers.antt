@@ -24,7 +24,8 @@ loop-k-preserved c =
     let here = entry_is c.loop-k.entries.items c.loop-k.k c.index.result.now (omega arith) c.index.ensures in
     let value : FitsSigned w128 c.value.result = search rules in
     let q : FitsSigned w128 c.negative-value.result = search rules in
-    let is = to_z-of_z w128 c.negative-value.result q ∙ c.negative-value.ensures ∙ ap neg_ℤ (passed c.value.result c.index.result.now.value value c.value.ensures) in
+    let is = to_z-of_z w128 c.negative-value.result q ∙ c.negative-value.ensures ∙ ap neg_ℤ
+    (passed c.value.result c.index.result.now.value value c.value.ensures) in
     let made = c.new.ensures ∙ ap (λ (p : ℕ). record { place = p; value = to_z w128 (of_z w128 c.negative-value.result) }) c.place.ensures in
     record {
       scaled =

@@ -1,4 +1,4 @@
-use Rattle.std.proofs.Common.{◌≡◌, ◌<◌, ◌≤◌, length, get_or, refl, sym, subst, ap, ◌∙◌, arith, inl, inr}
+use Rattle.std.proofs.Common.{◌<◌, ◌≤◌, length, get_or, refl, sym, subst, ap, ◌∙◌, arith, inl, inr}
 use Rattle.std.proofs.lemmas.Bool.{false≢true, eq-eqb, cases_eq}
 use Rattle.sum_basis.specs.declared.sparse.FreeEntry.{FreeEntry}
 use Rattle.sum_basis.proofs.ListContents.{none, entry_is}
@@ -8,7 +8,8 @@ use Rattle.sum_basis.proofs.reach.is_combined_near.Goals as goal
 
 pub bounds-counts-place : goal.bounds-counts-place
 bounds-counts-place c =
-    rw (c.place-place.ensures ∙ ap (λ (x : FreeEntry). x.place) (sym (entry_is c.args.entries.now c.loop-e.e-index c.e-item.result c.loop-e-test.true c.e-item.is)))
+    rw (c.place-place.ensures ∙ ap (λ (x : FreeEntry). x.place) (sym
+    (entry_is c.args.entries.now c.loop-e.e-index c.e-item.result c.loop-e-test.true c.e-item.is)))
     (stands_within 0 (length c.args.counts.now) c.args.entries.now c.loop-e.e-index none c.requires c.loop-e-test.true).inside
 
 pub returns-then-counts-place : goal.returns-then-counts-place

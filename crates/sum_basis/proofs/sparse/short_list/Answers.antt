@@ -1,4 +1,4 @@
-use Rattle.std.proofs.Common.{◌≡◌, ◌≤◌, ◌^◌, ◌++◌, ◌∷◌, [], length, get_or, sym, subst, ap, ◌∙◌, arith, take_all}
+use Rattle.std.proofs.Common.{◌≤◌, ◌^◌, ◌++◌, ◌∷◌, [], length, get_or, sym, subst, ap, ◌∙◌, arith, take_all}
 use Rattle.std.specs.Prelude.{unsigned_abs}
 use Rattle.std.proofs.lemmas.List.{take_more, length-take-le}
 use Rattle.audit_types.specs.ListLaws.{all-get_or}
@@ -21,7 +21,8 @@ push_reserved-requires c =
 
 pub short-requires : goal.short-requires
 short-requires c =
-    subst (λ (e : FreeEntry). unsigned_abs e.value ≤ 2 ^ 56) (entry_is c.args.entries.now c.loop-entry.entry-index c.entry-item.result c.loop-entry-test.true c.entry-item.is)
+    subst (λ (e : FreeEntry). unsigned_abs e.value ≤ 2 ^ 56)
+    (entry_is c.args.entries.now c.loop-entry.entry-index c.entry-item.result c.loop-entry-test.true c.entry-item.is)
     (all-get_or (λ (e : FreeEntry). unsigned_abs e.value ≤ 2 ^ 56) c.args.entries.now c.loop-entry.entry-index none c.requires.small c.loop-entry-test.true)
 
 pub loop-entry-preserved : goal.loop-entry-preserved
@@ -29,7 +30,8 @@ loop-entry-preserved c =
     let k = c.loop-entry.entry-index in
     record {
       items = c.push_reserved.ensures.items
-          ∙ ap (λ (e : FreeEntry). c.loop-entry.list.items ++ e ∷ []) (c.short.ensures ∙ sym (entry_is c.args.entries.now c.loop-entry.entry-index c.entry-item.result c.loop-entry-test.true c.entry-item.is))
+          ∙ ap (λ (e : FreeEntry). c.loop-entry.list.items ++ e ∷ []) (c.short.ensures ∙ sym
+          (entry_is c.args.entries.now c.loop-entry.entry-index c.entry-item.result c.loop-entry-test.true c.entry-item.is))
           ∙ ap (λ l. l ++ get_or c.args.entries.now k none ∷ []) c.loop-entry.invariant.items
           ∙ sym (take_more c.args.entries.now k none c.loop-entry-test.true);
       room = let same = c.push_reserved.ensures.capacity in let room = c.loop-entry.invariant.room in omega arith;

@@ -1,4 +1,4 @@
-use Rattle.std.proofs.Common.{◌≡◌, ◌+◌, ◌<◌, ◌≤◌, ◌^◌, ℕ, ℤ, List, [], ◌∷◌, ◌++◌, length, get_or, refl, sym, ap, ◌∙◌, subst, inr, arith, rules}
+use Rattle.std.proofs.Common.{◌≡◌, ◌+◌, ◌<◌, ◌≤◌, ◌^◌, ℕ, ℤ, List, [], ◌∷◌, ◌++◌, length, get_or, refl, sym, ap, ◌∙◌, subst, arith, rules}
 use Rattle.std.specs.Prelude.{FitsSigned, unsigned_abs}
 use Rattle.std.specs.Int.{w128}
 use Rattle.std.proofs.lemmas.Bool.{true≢false}
@@ -9,7 +9,6 @@ use Rattle.sum_basis.specs.Basis.{unit_row}
 use Rattle.sum_basis.specs.Keys.{AreTouchedPoints, HasPoint, IsListOfColumn, point_at}
 use Rattle.sum_basis.specs.Points.{IsPointAfter, Matters}
 use Rattle.sum_basis.specs.declared.points.Point.{Point}
-use Rattle.sum_basis.specs.declared.sparse.FreeEntry.{FreeEntry}
 use Rattle.sum_basis.proofs.ColumnLists.{first_number, on_ok_both, pivot_number, residue_of_column, touched_more, touched_skipped}
 use Rattle.sum_basis.proofs.KeyProducts.{no_point}
 use Rattle.sum_basis.proofs.SmallEntries.{free_small, times_small}

@@ -1,11 +1,10 @@
-use Rattle.std.proofs.Common.{◌≡◌, ◌<◌, ℕ, List, [], length, get_or, refl, sym, ap, ◌∙◌, subst, inl, inr, arith}
-use Rattle.std.specs.Prelude.{Contains, IsTrue, None}
+use Rattle.std.proofs.Common.{◌≡◌, ◌<◌, ℕ, List, [], get_or, refl, sym, ap, ◌∙◌, subst, inl, inr, arith}
+use Rattle.std.specs.Prelude.{Contains, IsTrue}
 use Rattle.std.specs.List.{AllByRecursion}
 use Rattle.std.proofs.lemmas.Result.{IfOk-weaker}
 use Rattle.sum_basis.specs.Basis.{unit_row}
-use Rattle.sum_basis.specs.Keys.{IsKeyAmong, IsNewPoint}
+use Rattle.sum_basis.specs.Keys.{IsKeyAmong}
 use Rattle.sum_basis.specs.Points.{HasKey, Matters}
-use Rattle.sum_basis.specs.declared.points.Point.{Point}
 use Rattle.sum_basis.specs.declared.sparse.FreeEntry.{FreeEntry}
 use Rattle.sum_basis.proofs.ColumnLists.{in_or_not, known_key, new_is_left, none_is_new, not_among, touched_key, untouched_key}
 use Rattle.sum_basis.proofs.telling.write_keys.Goals as goal

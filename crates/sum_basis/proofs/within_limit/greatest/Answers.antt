@@ -1,4 +1,4 @@
-use Rattle.std.proofs.Common.{◌≡◌, ◌≤◌, pos, length, take, get_or, sym, ap, ◌∙◌, subst, arith, rules}
+use Rattle.std.proofs.Common.{◌≡◌, ◌≤◌, length, take, get_or, sym, ap, ◌∙◌, subst, arith, rules}
 use Rattle.std.specs.Prelude.{FitsSigned, unsigned_abs}
 use Rattle.std.specs.Int.{w128}
 use Rattle.std.specs.List.{AllByRecursion}
@@ -14,7 +14,8 @@ pub loop-e-preserved : goal.loop-e-preserved
 loop-e-preserved c =
     let e = get_or c.args.entries.now c.loop-e.e-index none in
     let fits : FitsSigned w128 c.value.result = search rules in
-    let size = c.unsigned_abs.ensures.value ∙ ap unsigned_abs (passed c.value.result e.value fits (c.value.ensures ∙ ap (λ (x : FreeEntry). x.value) (sym (entry_is c.args.entries.now c.loop-e.e-index c.e-item.result c.loop-e-test.true c.e-item.is)))) in
+    let size = c.unsigned_abs.ensures.value ∙ ap unsigned_abs (passed c.value.result e.value fits (c.value.ensures ∙ ap (λ (x : FreeEntry). x.value) (sym
+    (entry_is c.args.entries.now c.loop-e.e-index c.e-item.result c.loop-e-test.true c.e-item.is)))) in
     let old = c.greater-most.ensures.first in
     let now = c.greater-most.ensures.second in
     let before = take c.loop-e.e-index c.args.entries.now in

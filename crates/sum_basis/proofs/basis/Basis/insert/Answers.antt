@@ -1,12 +1,9 @@
-use Rattle.std.proofs.Common.{◌≡◌, ℕ, ℤ, List, [], ◌∷◌, ◌++◌, sym, ap, ◌∙◌, length, arith}
-use Rattle.std.proofs.lemmas.List.{length-take-le}
-use Rattle.audit_types.specs.RowNumbers.{length-set_row}
+use Rattle.std.proofs.Common.{◌≡◌, ℕ, ℤ, List, [], ◌∷◌, ◌++◌, sym, ap, ◌∙◌, arith}
 use Rattle.audit_types.specs.Rows.{Rows}
 use Rattle.audit_types.specs.Form.{set_row, IsReducedForm}
 use Rattle.sum_basis.specs.Basis.{Echelon}
 use Rattle.sum_basis.specs.Growth.{GrowsWide, StaysNarrow}
 use Rattle.sum_basis.specs.declared.basis.Held.{Held}
-use Rattle.sum_basis.proofs.SetRows.{set_bits}
 use Rattle.sum_basis.proofs.Exactness.{not_wide_at, reduced_at, stands_with}
 use Rattle.std.proofs.lemmas.Result.{on_ok_weaker, on_err_weaker}
 use Rattle.sum_basis.proofs.basis.Basis.insert.Goals as goal
