@@ -9,8 +9,8 @@ ghost use Rattle.table_load.specs.Kept.{AreBlocks, block_rows};
 use crate::truth::{greatest_from, sum_over, truth_over};
 use audit_types::{Kind, MOST_ROWS, RowSet};
 
-// The most blocks of a table.
-const MOST_BLOCKS: u16 = MOST_ROWS / 64;
+/// The most blocks of a table.
+pub(crate) const MOST_BLOCKS: u16 = MOST_ROWS / 64;
 
 /// The true answer over each block of 64 rows, and 0 if a table has no whole block.
 pub(crate) type Blocks = [i64; MOST_BLOCKS as usize];

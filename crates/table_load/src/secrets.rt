@@ -6,7 +6,7 @@ ghost use Rattle.audit_types.specs.Shapes.{IsShape, columns, kind_at};
 ghost use Rattle.audit_types.specs.Truth.{truth};
 ghost use Rattle.table_load.specs.Cells.{AreNumbers, IsSecret};
 
-use crate::blocks::{Blocks, blocks_of, greatest_by_blocks, sum_by_blocks};
+use crate::blocks::{Blocks, MOST_BLOCKS, blocks_of, greatest_by_blocks, sum_by_blocks};
 use audit_types::{Kind, RowSet, Shape};
 use std::marker::Model;
 
@@ -40,7 +40,7 @@ impl Secret {
         ensures shape { result.shape ≡ shape }
         ensures lists { result.lists ≡ map (λ v. v.items) lists.items }
     {
-        let mut blocks = [[0; 16]; 8];
+        let mut blocks = [[0; MOST_BLOCKS as usize]; 8];
         for (column, list) in lists.iter().enumerate() {
             blocks[column] = blocks_of(shape.kind(column as u8), list.as_slice(), shape.rows);
         }
