@@ -1,6 +1,6 @@
 //! Which groups of rows a set has rows of, and which of some rows that are spread over the table: a bit for each.
-ghost use Rattle.std.specs.Prelude.{◌≡◌, ◌<◌, ◌≤◌};
-ghost use Rattle.audit_types.specs.Limits.{most_rows};
+ghost use Rattle.std.specs.Prelude.{◌≡◌, ◌+◌, ◌<◌, ◌≤◌};
+ghost use Rattle.audit_types.specs.Limits.{most_rows, most_words};
 ghost use Rattle.audit_types.specs.Rows.{has_row};
 ghost use Rattle.max_bounds.specs.Groups.{step_of, AreGroups, IsSample, IsInGroup};
 
@@ -24,7 +24,7 @@ pub(crate) fn groups_of(rows: &RowSet) -> u64
 fn step_of(n: u16) -> u16
     requires { n ≤ most_rows }
     ensures exact { result ≡ step_of n }
-    ensures small { result ≤ 17 }
+    ensures small { result ≤ most_words + 1 }
 {
     2 * ((n + 63) / 128) + 1
 }
