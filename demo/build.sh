@@ -74,9 +74,10 @@ tell_time() {
     done
 }
 
+# A clock that has hardly begun may miss every other signal.
 stop_clock() {
-    [ -z "$clock" ] || { kill "$clock" 2>/dev/null; wait "$clock" 2>/dev/null; }
-    clock=
+    kill -KILL "$clock" 2>/dev/null
+    wait "$clock" 2>/dev/null
 }
 
 # At a signal the crate that is being proved is left, and then the run. One that has hardly begun may miss the first signal.
@@ -111,7 +112,7 @@ build() {
     number=0 kept=0
     of=$(crates_below | wc -l)
     printf 'proving and building %d crates; stop it when you like, and run it again to go on\n' "$of" >&2
-    stopped='' clock=''
+    stopped=
     trap stop_prover HUP INT TERM
     for crate in $(crates_below); do
         number=$((number + 1))
@@ -138,8 +139,8 @@ build() {
         fi
         seconds=$(($(date +%s) - since))
         if is_new; then
-            echo "$crate $seconds" | tee -a "$took" >>"$proved"
             say_crate
+            echo "$crate $seconds" | tee -a "$took" >>"$proved"
         elif [ ! -f "$proved.crate" ]; then
             kept=$((kept + 1))
             continue
