@@ -111,7 +111,8 @@ def end(path, work):
         print(text)
         with contextlib.redirect_stdout(io.StringIO()) as said:
             answered = ask.answer(trial, text) and answered
-        print("".join(f"    {line}\n" for line in said.getvalue().splitlines()), end="")
+        # Why it is denied can't be asked here.
+        print("".join(f"    {line.partition(' To see why, ask: ')[0]}\n" for line in said.getvalue().splitlines()), end="")
     return answered
 
 

@@ -130,7 +130,7 @@ def say_held_down(name, numbers, known, places, limits):
     if not near:
         return
     if not can_be_wide(numbers, known, parts):
-        say_always_held_down(name, numbers, known, rooms, limits["width"])
+        say_always_held_down(name, numbers, known, rooms, limits)
         return
     least = share_words(rooms[0][0], parts * middle)
     whose = f"those that stand in one change with theirs, at most {limits['reach']:,}" if "reach" in limits else "all others"
@@ -148,8 +148,9 @@ def can_be_wide(numbers, known, parts):
     return any(0 < room and room * NEAR >= parts * abs(number) for number in numbers for room in [least_room(number, known)])
 
 
-def say_always_held_down(name, numbers, known, rooms, width):
+def say_always_held_down(name, numbers, known, rooms, limits):
     """Points out that a width keeps numbers open by less than a tenth of the median whoever is left out, and what a smaller one would do."""
+    width = limits["width"]
     least, middle = rooms[0][0], statistics.median(map(abs, numbers))
     most = max(fractions.Fraction(least_room(number, known), width**2 * abs(number)) for number in numbers if number)
     first = min(width - 1, math.isqrt(int(least * NEAR / middle)))
@@ -163,6 +164,7 @@ def say_always_held_down(name, numbers, known, rooms, width):
             else narrower_words(rooms, numbers, known, middle)
         )
         + " a report over groups alone, and open no door"
+        + (". Against those who know their own number each share is to be divided by twice the width" if is_inside(limits) else "")
     )
 
 

@@ -169,7 +169,9 @@ class HeldDown(WithLimits):
 
     def test_askers_inside_are_told_of_by_their_own_bound(self):
         said, _ = self.written("pay.range=0 to none", "width=4", "askers=inside")
+        # 2 times 4 times 4 times 4 is 128, which is 16 times twice 4.
         self.assertIn("from its ends, over 16, and against those who know their own number, over 128.", said)
+        self.assertIn("Against those who know their own number each share is to be divided by twice the width", said)
 
     def test_with_a_reach_they_hold_down_those_of_one_change(self):
         (said,) = self.careful("pay.range=900 to none", "width=1")
