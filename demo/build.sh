@@ -32,16 +32,17 @@ shares() {
     done
 }
 
-# How long is left, if these crates are: their shares, at the pace of those that this run has proved.
+# How long is left, if these crates are: their shares, at the pace of the last five that were proved on this machine.
 time_left() {
-    crates_below | tail -n "+$number" | awk -v proved="$proved" -v shares="$(shares)" '
+    crates_below | tail -n "+$number" | awk -v took="$took" -v shares="$(shares)" '
         BEGIN {
             while ((getline <shares) > 0) if ($1 !~ /^#/) share[$1] = $2
-            while ((getline <proved) > 0) { took += $2; due += share[$1] }
+            while ((getline <took) > 0) if ($1 in share) { last = last + 1; name[last] = $1; seconds[last] = $2 }
+            for (place = last > 5 ? last - 4 : 1; place <= last; place++) { spent += seconds[place]; due += share[name[place]] }
         }
         { left += share[$1] }
         END {
-            minutes = left * (took + 60) / (due + 60) / 60
+            minutes = left * (spent + 60) / (due + 60) / 60
             if (minutes < 1) print "less than a minute is left"
             else printf "about %d min are left\n", minutes + 0.5
         }'
@@ -50,6 +51,33 @@ time_left() {
 # Whether all of the crate was proved just now, and nothing of it before.
 is_new() {
     grep -q ': proved$' "$proved.said" && ! grep -q 'begins with what a check kept' "$proved.said"
+}
+
+# Says which crate is being proved, after how many were proved before, unless that is said.
+say_crate() {
+    [ ! -f "$proved.crate" ] || return 0
+    : >"$proved.crate"
+    left=$(time_left)
+    [ "$kept" = 0 ] || printf '%d of %d were proved before; %s\n' "$kept" "$of" "$left" >&2
+    printf '%d of %d, %s: proving %s: ' "$number" "$of" "$left" "$crate" >&2
+}
+
+# Says what a crate is at that isn't done in three seconds, as one that was proved before is, and then every ten seconds that it goes on.
+tell_time() {
+    seconds=10
+    sleep 3 >/dev/null 2>&1
+    say_crate
+    sleep 7 >/dev/null 2>&1
+    while printf '%d s, ' "$seconds" >&2; do
+        seconds=$((seconds + 10))
+        sleep 10 >/dev/null 2>&1
+    done
+}
+
+# A clock that has hardly begun may miss every other signal.
+stop_clock() {
+    kill -KILL "$clock" 2>/dev/null
+    wait "$clock" 2>/dev/null
 }
 
 # At a signal the crate that is being proved is left, and then the run. One that has hardly begun may miss the first signal.
@@ -64,16 +92,24 @@ stop_prover() {
 leave_off() {
     wait "$prover" 2>/dev/null
     kill "$again" 2>/dev/null
+    say_crate
     printf 'stopped\nrun it again to go on with %s\n' "$crate" >&2
-    rm -f "$proved" "$proved.said"
+    clear_away
     exit 130
+}
+
+clear_away() {
+    rm -f "$proved" "$proved.said" "$proved.crate"
 }
 
 build() {
     command -v rt >/dev/null || { echo "the Rattle kit is missing, which has rt: without it take a package, which has the built program" >&2; return 1; }
     proved=$(mktemp) || return 1
+    # What each crate took on this machine, of this run and of earlier ones.
+    took=$top/crates/auditor/out/took.txt
+    mkdir -p "$top/crates/auditor/out" || return 1
     began=$(date +%s)
-    number=0
+    number=0 kept=0
     of=$(crates_below | wc -l)
     printf 'proving and building %d crates; stop it when you like, and run it again to go on\n' "$of" >&2
     stopped=
@@ -81,29 +117,41 @@ build() {
     for crate in $(crates_below); do
         number=$((number + 1))
         since=$(date +%s)
-        printf '%d of %d, %s: proving %s: ' "$number" "$of" "$(time_left)" "$crate" >&2
+        rm -f "$proved.crate"
         prover=
         prove "$crate" >"$proved.said" 2>&1 &
         prover=$!
+        tell_time &
+        clock=$!
         # The signal may have come before its number was known.
         [ -z "$stopped" ] || stop_prover
         wait "$prover"
         status=$?
+        stop_clock
         [ -z "$stopped" ] || leave_off
         [ "$crate" != auditor ] || status=$((status - 5))
         if [ "$status" != 0 ]; then
+            say_crate
             printf 'failed\n' >&2
             cat "$proved.said" >&2
-            rm -f "$proved" "$proved.said"
+            clear_away
             return 1
         fi
         seconds=$(($(date +%s) - since))
-        ! is_new || echo "$crate $seconds" >>"$proved"
-        printf '%d s\n' "$seconds" >&2
+        if is_new; then
+            say_crate
+            echo "$crate $seconds" | tee -a "$took" >>"$proved"
+        elif [ ! -f "$proved.crate" ]; then
+            kept=$((kept + 1))
+            continue
+        fi
+        kept=0
+        printf 'done in %d s\n' "$seconds" >&2
     done
     trap - HUP INT TERM
+    [ "$kept" = 0 ] || printf '%d of %d were proved before\n' "$kept" "$of" >&2
     [ "$(wc -l <"$proved")" != "$of" ] || cp "$proved" "$top/crates/auditor/out/shares.txt"
-    rm -f "$proved" "$proved.said"
+    clear_away
     printf 'the program is built, after %d s\n' $(($(date +%s) - began)) >&2
     program=$top/crates/auditor/out/auditor
 }

@@ -58,7 +58,7 @@ stage() {
     done
     (cd "$top/front" && tar --exclude=tests --exclude=check.sh --exclude=__pycache__ -cf - .) | tar -xf - -C "$1/share/auditor/front" || exit 1
     # What makes the package, and what builds the program, is the source's.
-    (cd "$demo" && tar --exclude=debian --exclude='package*' --exclude=build.sh --exclude=try.sh --exclude=shares.txt --exclude=__pycache__ -cf - .) |
+    (cd "$demo" && tar --exclude=debian --exclude='package*' --exclude=build.sh --exclude=try.sh --exclude=trial.py --exclude=shares.txt --exclude=__pycache__ -cf - .) |
         tar -xf - -C "$1/share/auditor/demo" || exit 1
     python3 "$demo/package_pages.py" "$1" || exit 1
     # The modes are those that an install needs, whatever the umask is, here and where the source was fetched.

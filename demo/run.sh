@@ -11,6 +11,17 @@
 #
 #   demo/run.sh [PROGRAM]
 set -u
+usage() {
+    cat <<'WORDS'
+usage: demo/run.sh             proves the program and builds it, half an hour or more the first time, and shows the demo with it
+       demo/run.sh PROGRAM     shows the demo with a built program, in some ten seconds
+It works in a folder that it removes, and says how long is left. Ctrl-C is safe: the next run goes on with the crate that it was at.
+WORDS
+}
+case ${1-} in
+-h | --help) usage; exit 0 ;;
+-*) usage >&2; exit 2 ;;
+esac
 demo=$(cd "$(dirname "$0")" && pwd)
 if [ $# -gt 0 ]; then
     if [ ! -f "$1" ] || [ ! -x "$1" ]; then

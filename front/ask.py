@@ -247,6 +247,8 @@ def main(words):
     options, words = options_of(words)
     if not words or words[0].startswith("-"):
         print(__doc__.strip(), file=sys.stderr)
+        what = f"{words[0]} isn't an option here" if words else "a folder that has the table, or the address of a front door, is missing"
+        say(f"ask: {what}", sys.stderr)
         return 2
     found = shutil.which(os.environ.get("AUDITOR", "auditor"))
     there = None

@@ -13,6 +13,7 @@ import json
 import os
 import pathlib
 import pwd
+import shlex
 import shutil
 import stat
 import subprocess
@@ -55,7 +56,10 @@ def of_files(folder, program):
         yield wrong(f"{' and '.join(missing)}: not in {folder}. front/prepare.py makes both of a CSV file")
         return
     if program is None:
-        yield look("not read by the program: no auditor is in the path, nor named by --auditor or AUDITOR")
+        yield wrong("no program: auditor isn't in the path, nor named by --auditor or AUDITOR, so nothing can be asked. In the source demo/run.sh builds it;"
+                    " then PATH=$PATH:.../crates/auditor/out")
+        if not (folder / JOURNAL).exists():
+            yield wrong(no_journal(folder))
         return
     if (folder / JOURNAL).exists():
         status, said = said_by(["sh", HERE / "explain.sh", folder, program], folder)
@@ -66,7 +70,11 @@ def of_files(folder, program):
             os.symlink((folder / name).resolve(), f"{copy}/{name}")
         status, said = said_by([program, "init"], copy)
     yield wrong(f"auditor init: {said}") if status else ok("schema and table are read by the program")
-    yield look(f"{JOURNAL}: there is none yet. auditor init makes it, once; if there was one, put it back")
+    yield wrong(no_journal(folder))
+
+
+def no_journal(folder):
+    return f"{JOURNAL}: there is none, so nothing can be asked. If there never was one: (cd {shlex.quote(str(folder))} && auditor init). If there was, put it back"
 
 
 def of_journal(path):

@@ -12,10 +12,16 @@ import pathlib
 import signal
 import sys
 
-from aiohttp import web
-from aiohttp.http_exceptions import HttpProcessingError
-
 from doorway import settings as arguments
+
+# What the arguments lack, and --help, is said without aiohttp.
+SETTINGS = arguments.read() if __name__ == "__main__" else None
+try:
+    from aiohttp import web
+    from aiohttp.http_exceptions import HttpProcessingError
+except ModuleNotFoundError:
+    sys.exit("door: aiohttp is missing: apt-get install --no-install-recommends python3-aiohttp, and run it with /usr/bin/python3")
+
 from doorway.access import AccessLog
 from doorway.askers import WRITE, Askers, Tokens
 from doorway.gates import GatedRunner, Gates, most_connections, say_little
@@ -142,8 +148,7 @@ def is_ours(record):
     return not (record.exc_info and isinstance(record.exc_info[1], HttpProcessingError))
 
 
-def main():
-    settings = arguments.read()
+def main(settings):
     logging.getLogger("aiohttp.server").addFilter(is_ours)
     # A sync that has returned is to be seen soon, also while many requests are at work.
     sys.setswitchinterval(0.0005)
@@ -154,4 +159,4 @@ def main():
 
 
 if __name__ == "__main__":
-    main()
+    main(SETTINGS)

@@ -3,7 +3,7 @@
 
     plan.py PROGRAM PUBLIC WANTED
 
-PROGRAM is auditor, PUBLIC a folder with schema.json and the public columns as table.csv, WANTED a file or - for standard input. Each of
+PROGRAM is auditor, in the path or by a path, PUBLIC a folder with schema.json and the public columns as table.csv, WANTED a file or - for standard input. Each of
 its lines is a question as the program takes it, as ask.py takes it, or a table: by team, site of sum salary with margins. A question of
 JSON may have a "weight".
 
@@ -15,6 +15,7 @@ The status is 0, or 1 if a line wasn't a question, if it was interrupted, or if 
 """
 import argparse
 import pathlib
+import shutil
 import signal
 import sys
 
@@ -22,14 +23,14 @@ from planning.columns import read_columns
 from planning.making import make, percent, report_lines
 from planning.simulating import Simulate
 from planning.wanted import Reader
-from preparing.faults import Fault, counted, listed, os_words
+from preparing.faults import Fault, counted, listed, os_words, shown
 
 
 def read(arguments):
     words = argparse.ArgumentParser(prog="plan.py", usage="plan.py PROGRAM PUBLIC WANTED [OPTION ..]", description=__doc__.split("\n\n")[0],
                                     epilog=__doc__.split("\n\n", 2)[2], formatter_class=argparse.RawDescriptionHelpFormatter)
     add = words.add_argument
-    add("program", metavar="PROGRAM", help="auditor")
+    add("program", metavar="PROGRAM", help="auditor, in the path or by a path")
     add("public", metavar="PUBLIC", help="the folder with schema.json and the public columns as table.csv")
     add("wanted", metavar="WANTED", help="the file of what is wanted; - for standard input")
     add("--weights", choices=("rows", "equal"), default="rows",
@@ -50,10 +51,18 @@ def say(text):
     print(f"plan: {text}", file=sys.stderr, flush=True)
 
 
+def program_of(named):
+    """The path of the program, or a Fault."""
+    found = shutil.which(named)
+    if found is None:
+        raise Fault(f"there is no program {shown(named)}, in the path or by that path: in the source demo/run.sh builds it, at crates/auditor/out/auditor")
+    return found
+
+
 def run(settings):
     """Prints the plan, and returns whether all went well."""
     transcript = pathlib.Path(settings.transcript).read_bytes() if settings.transcript else b""
-    simulate = Simulate(settings.program, settings.public, transcript)
+    simulate = Simulate(program_of(settings.program), settings.public, transcript)
     simulate.need_files()
     if settings.report:
         open(settings.report, "a").close()      # what can't be written is said before the work

@@ -3,6 +3,8 @@
 
     prepare.py look FILE [encoding=NAME] [separator=NAME] [untitled=first] [sheet=NAME]
         says what the file has in it, and writes FILE.choices.json with a ? for each choice that is yours
+    prepare.py look --more
+        says what each choice means, and what it costs
     prepare.py choose CHOICES [NAME=KIND | NAME.KEY=VALUE | KEY=VALUE | others=KIND | missing=WHAT | range=RANGE ..]
         fills in choices, as salary=sum salary.range="0 to none"; without any it asks for each that is open
     prepare.py lines FILE CHOICES [NAME.bands=10 | NAME.join="A+B as AB" | NAME="leave out" ..]
@@ -33,6 +35,7 @@ program itself, auditor in the path or the one that AUDITOR names, reads both fo
 """
 
 import os
+import re
 import shutil
 import sys
 
@@ -41,7 +44,7 @@ from preparing.choosing import choose
 from preparing.comparing import check
 from preparing.faults import Fault, shown, status_of
 from preparing.lines import add_lines, make_lines, stands_for_people
-from preparing.looking import look
+from preparing.looking import look, say_more
 from preparing.making import make
 from preparing.queries import say_sql
 from preparing.renewing import renew
@@ -49,6 +52,8 @@ from preparing.taking import take
 from preparing.trying import say_tries
 
 OPTIONS = ("encoding", "separator", "untitled", "sheet")
+COMMANDS = ("look", "choose", "lines", "make", "renew", "add", "sql", "take", "check")
+HELP = ("-h", "--help")
 
 
 def options_of(words):
@@ -71,10 +76,28 @@ def program():
     return os.path.abspath(found) if found else None
 
 
+def usage_of(command):
+    """What the text above says of one command."""
+    return "".join(re.findall(rf"(?m)^    prepare\.py {command} .*\n(?: {{8}}.*\n)*", __doc__)).rstrip()
+
+
+def need_arguments(words):
+    """Says what the arguments lack, last, and gives the status."""
+    known = words[:1] and words[0] in COMMANDS
+    print(usage_of(words[0]) if known else __doc__.strip(), file=sys.stderr)
+    lacks = f"{words[0]} takes the arguments above" if known else f"there is no command {shown(words[0])}." if words else "a command is missing."
+    print(f"prepare: {lacks}" + ("" if known else f" There are {', '.join(COMMANDS)}"), file=sys.stderr)
+    return 2
+
+
 def run(words):
     """Does what the arguments say."""
     match words:
-        case ["look", path, *options]:
+        case [command, *_, last] if command in COMMANDS and last in HELP:
+            print(usage_of(command))
+        case ["look", "--more"]:
+            say_more()
+        case ["look", path, *options] if not path.startswith("--"):
             look(path, **options_of(options))
         case ["choose", path, *choices]:
             choose(path, choices)
@@ -99,8 +122,7 @@ def run(words):
         case ["-h" | "--help" | "help"]:
             print(__doc__.strip())
         case _:
-            print(__doc__.strip(), file=sys.stderr)
-            return 2
+            return need_arguments(words)
     return 0
 
 

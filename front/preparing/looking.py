@@ -8,6 +8,7 @@ from . import choices as choosing
 from . import guarding, limits, reading
 from .cells import FORMS, forms_of, unit_of, without_unit
 from .faults import Fault, counted, shown
+from .guessing import guessed, line_to_copy
 from .largest import MOST_ROWS
 from .names import names_of
 from .reading import Layout, choose_layout, decode, encoding_of, is_empty, load, read_rows, records, titles_of, without_separator_line
@@ -62,7 +63,8 @@ def look(path, encoding=None, separator=None, untitled=None, sheet=None):
     limits.fill_in(choices)
     choices |= {choosing.COUNT: None, guarding.ASKERS: choosing.OPEN, guarding.FEWEST: None}
     choosing.write(out, choices, fresh=True)
-    say_next(out, choices)
+    say_open(out, choices)
+    say_guess(out, guessed(choices, seen.tallies, seen.rows))
 
 
 def seen_in_memory(found, said, layout, text):
@@ -246,9 +248,34 @@ def step(decimals):
     return "1" if decimals == 0 else "0." + "0" * (decimals - 1) + "1"
 
 
-def say_next(out, choices):
-    """What is open, and how it is closed."""
-    print(f"written: {out}, with a ? for each choice that is yours: " + ", ".join(choosing.open_choices(choices)))
+def say_open(out, choices):
+    """What is open, a line a choice, and what is set."""
+    still_open = choosing.open_choices(choices)
+    print(f"written: {out}, with a ? for each choice that is yours: {', '.join(still_open)}; and a range of each secret column")
+    lines = [
+        ("a column", "text or number: public, anyone who asks can learn every cell; sum, max or min: secret, to be asked for that; or leave out"),
+        ("NAME.missing", "what becomes of a row that lacks this cell: drop the row, keep a text as it stands, or mark a number"),
+        ("NAME.written as", "in which of two forms its numbers or dates are written"),
+        ("NAME.decimals", "how many decimals are kept"),
+        ("range", "what people know of a secret number before they ask, as 0 to none if none is below 0, or none; it sets warnings alone"),
+        ("protect", "totals that must stay open, whatever is asked, as \"salary where dept = 'QA'\", or none"),
+        (guarding.ASKERS, f"{guarding.INSIDE} if people in the table may ask, as staff do of a table of staff: each knows her own number; else {guarding.OUTSIDE}"),
+    ]
+    for key, words in lines:
+        if not key.startswith("NAME.") or any(choice.endswith(key.removeprefix("NAME")) for choice in still_open):
+            print(f"  {key:<15} {words}")
+    print(f"set for you: {' and '.join(f'{key} {choices[key]}' for key in limits.LIMITS)}, which protect numbers within such a range, at the price of some answers")
+
+
+def say_guess(out, words):
+    """The line that fills everything in."""
+    print("All of it at the safest guess, which is only a guess: change what is wrong in this line, and run it.")
+    print(f"  {line_to_copy(out, words)}")
+    print("prepare.py look --more says more of each choice.")
+
+
+def say_more():
+    """What each choice means and costs."""
     print(
         f"A column is one of: {', '.join(choosing.KINDS)}. text and number are public: anyone who asks can learn every"
         " cell."
@@ -278,4 +305,4 @@ def say_next(out, choices):
         "If people move, leave, come back or get other numbers, leave a column out by which they are known, and make the table with"
         " key=TITLE, that column's title: prepare.py renew then writes it anew by each export."
     )
-    print(f'Go on with an editor, or with: prepare.py choose {out} NAME=KIND .. others="leave out"')
+    print('The choices are a file of JSON: an editor sets them, or prepare.py choose CHOICES NAME=KIND .. others="leave out".')

@@ -3,6 +3,7 @@
 import collections
 import dataclasses
 import enum
+import shlex
 
 from . import choices as choosing
 from .cells import FORMS, without_unit
@@ -87,7 +88,7 @@ def make(path, choices_path, folder, program, key=None):
     say_parts(tables)
     say_totals(totals, columns, tables)
     say_what_is_known(rows, public, [column.name for column in secret])
-    say_ranges(rows, secret, places, limits)
+    say_ranges(rows, secret, places, {**limits, **guard})
     if any(column.kind == "sum" for column in secret):
         say_of_two(guard)
     say_readers(path)
@@ -105,17 +106,16 @@ def say_key():
 
 
 def say_next(folder, choices):
-    """What is written, and what comes before the first question."""
-    each = "each folder of " if choices["split by"] else ""
+    """What is written, and what comes next, in its order."""
+    split = bool(choices["split by"])
+    each, place = ("each folder of ", f"{folder}/PART") if split else ("", str(folder))
+    print(f"written: {each}{folder}, with the public columns alone in public. Next, in this order" + (", for each PART:" if split else ":"))
+    print(f"  (cd {shlex.quote(place)} && auditor init)     once: makes answers.journal, for the answers")
     print(
-        f"written: {each}{folder}, with the public columns alone in public. Next: auditor init in {each}{folder}, once;"
-        " then ask.py with it"
+        f"  plan.py auditor {shlex.quote(place)}/public WANTED > first.jsonl     before anybody asks, since each answer may close others: of the questions in"
+        " WANTED those that would be answered, and in which order"
     )
-    print(
-        "Before anybody asks, plan the report that is wanted: each answer may close others. plan.py AUDITOR"
-        f" {folder}/{'PART/' if choices['split by'] else ''}public WANTED > first.jsonl says which questions would be"
-        " answered, and in which order; ask these first, as door.py --first does"
-    )
+    print(f"  ask.py {shlex.quote(place)}     asks; door.py --first asks first.jsonl before it lets others ask")
 
 
 def read_as_chosen(path, choices):

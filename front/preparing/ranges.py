@@ -3,12 +3,15 @@
 It is chosen as text in the file's own units, such as `0 to 2500.50` or `0 to none`, and kept in steps of the column's decimals.
 """
 
+import fractions
+import math
 import statistics
 
 from nearing.ranges import Range
 
 from .cells import FORMS
 from .faults import Fault, counted, first_numbers, listed, shown
+from .guarding import is_inside
 
 WORDS = "LOW to HIGH, as 0 to none, each a number or none; or none, if people know no range"
 NUMBER = FORMS["1234.5"]
@@ -76,7 +79,7 @@ def say_ranges(rows, secret, places, limits):
         if column.kind in EXTREMES:
             say_at_end(column, numbers, known, places)
         elif "width" in limits:
-            say_kept_open(column.name, numbers, known, limits["width"])
+            say_kept_open(column.name, limits)
             say_held_down(column.name, numbers, known, places, limits)
         else:
             say_near_ends(column.name, numbers, known, places)
@@ -107,28 +110,74 @@ def say_near_ends(name, numbers, known, places):
         )
 
 
-def say_kept_open(name, numbers, known, width):
+def say_kept_open(name, limits):
     """Points out what a width keeps open within a range that people know, and against whom it doesn't."""
+    width = limits["width"]
+    own = f", and against those who know their own number, over {2 * width**3:,}" if is_inside(limits) else ""
     print(
         f"CAREFUL: people know a range of {name}. Width {width:,} keeps each number open within it by at least the least distance of any"
-        f" number from its ends, over {width**2:,}. It does nothing against whoever knows a list that the numbers come from, or what goes"
+        f" number from its ends, over {width**2:,}{own}. It does nothing against whoever knows a list that the numbers come from, or what goes"
         ' together with them (THREATS.md, "What a range gives away")'
     )
 
 
 def say_held_down(name, numbers, known, places, limits):
-    """Points out by how little a width keeps numbers open, if that is less than a tenth of the median, and who holds it down."""
+    """Points out by how little a width keeps numbers open, if that is less than a tenth of the median, and who holds it down; or what helps if it is
+    below a tenth whoever is left out."""
     parts, middle = limits["width"] ** 2, statistics.median(map(abs, numbers))
     rooms = sorted((least_room(number, known), place) for number, place in zip(numbers, places))
     near = [place for room, place in rooms if room * NEAR < parts * middle]
-    if near:
-        whose = f"those that stand in one change with theirs, at most {limits['reach']:,}" if "reach" in limits else "all others"
-        print(
-            f"CAREFUL: the least distance of any number of {name} from the range's ends, over {parts:,}, is"
-            f" {share_words(rooms[0][0], parts * middle)} % of the median, and below a tenth of it. {counted(len(near), 'row')}"
-            f" {'holds' if len(near) == 1 else 'hold'} it down, for {whose} too. Leave out those that are nearest to an end, make one row"
-            f" of each and of others, with their total, or choose a smaller width. {rows_words(near)}, the nearest first"
+    if not near:
+        return
+    if not can_be_wide(numbers, known, parts):
+        say_always_held_down(name, numbers, known, rooms, limits)
+        return
+    least = share_words(rooms[0][0], parts * middle)
+    whose = f"those that stand in one change with theirs, at most {limits['reach']:,}" if "reach" in limits else "all others"
+    print(
+        f"CAREFUL: the least distance of any number of {name} from the range's ends, over {parts:,}, is"
+        f" {least} % of the median, and below a tenth of it. {counted(len(near), 'row')}"
+        f" {'holds' if len(near) == 1 else 'hold'} it down, for {whose} too. Leave out those that are nearest to an end, make one row"
+        f" of each and of others, with their total, or choose a smaller width. {rows_words(near)}, the nearest first"
+    )
+
+
+def can_be_wide(numbers, known, parts):
+    """Whether the least distance of some of the numbers, over so many parts, can be a tenth of their median. If it is, the distance of the number in
+    their middle, which is no less, is a tenth of that number: so it is enough to look at each number by itself."""
+    return any(0 < room and room * NEAR >= parts * abs(number) for number in numbers for room in [least_room(number, known)])
+
+
+def say_always_held_down(name, numbers, known, rooms, limits):
+    """Points out that a width keeps numbers open by less than a tenth of the median whoever is left out, and what a smaller one would do."""
+    width = limits["width"]
+    least, middle = rooms[0][0], statistics.median(map(abs, numbers))
+    most = max(fractions.Fraction(least_room(number, known), width**2 * abs(number)) for number in numbers if number)
+    first = min(width - 1, math.isqrt(int(least * NEAR / middle)))
+    better = next((smaller for smaller in range(first, 0, -1) if least // smaller**2 * NEAR >= middle), None)
+    print(
+        f"CAREFUL: width {width:,} is sure to keep every number of {name} open within the range by {share_words(least, width**2 * middle)} % of the"
+        f" median, and by no more than {math.ceil(most * 10000) / 100:g} % whoever is left out. "
+        + (
+            f"A width of {better:,} is sure of {share_words(least // better**2, middle)} %, and denies more: choose width={better}, or publish"
+            if better
+            else narrower_words(rooms, numbers, known, middle)
         )
+        + " a report over groups alone, and open no door"
+        + (". Against those who know their own number each share is to be divided by twice the width" if is_inside(limits) else "")
+    )
+
+
+def narrower_words(rooms, numbers, known, middle):
+    """What helps if a smaller width alone doesn't."""
+    least = f"Even a width of 1 is sure of {share_words(rooms[0][0], middle)} % alone"
+    if not can_be_wide(numbers, known, 1):
+        return f"{least}, whoever is left out: publish"
+    near = [place for room, place in rooms if room * NEAR < middle]
+    return (
+        f"{least}: {counted(len(near), 'row')} {'holds' if len(near) == 1 else 'hold'} it down. {rows_words(near)}, the nearest first. Leave these out"
+        " and choose a smaller width, or publish"
+    )
 
 
 def share_words(room, whole):

@@ -59,7 +59,7 @@ class Adding(TableTest):
 
     def test_look_says_what_it_takes_to_add_rows_later(self):
         self.choices.unlink()
-        self.assertIn("rows may be added later: choose wave=1", self.look(STAFF)[1])
+        self.assertIn("rows may be added later: choose wave=1", self.prepare("look", "--more")[1])
 
     def test_each_time_the_rows_are_of_the_next_wave(self):
         self.add(MORE)

@@ -57,11 +57,9 @@ class Doctor(unittest.TestCase):
         self.assertEqual(doctor(self.path).returncode, 0)
         run.communicate()
 
-    def test_a_missing_journal_is_to_look_at(self):
+    def test_a_missing_journal_is_wrong_since_nothing_can_be_asked(self):
         (self.path / "answers.journal").unlink()
-        done = doctor(self.path)
-        self.assertEqual(done.returncode, 0, done.stdout)
-        self.assertIn("look   answers.journal: there is none yet", done.stdout)
+        self.assert_wrong(f"answers.journal: there is none, so nothing can be asked. If there never was one: (cd {self.path} && auditor init)")
 
     def test_missing_files(self):
         (self.path / "public" / "table.csv").unlink()
@@ -156,8 +154,12 @@ class Doctor(unittest.TestCase):
 
     def test_without_the_program(self):
         done = doctor(self.path, program="/nothing/auditor")
-        self.assertEqual(done.returncode, 0, done.stdout)
-        self.assertIn("look   not read by the program", done.stdout)
+        self.assertEqual(done.returncode, 1, done.stdout)
+        self.assertIn("WRONG  no program", done.stdout)
+        self.assertIn("demo/run.sh builds it", done.stdout)
+        self.assertIn("\n1 wrong, ", done.stdout)
+        (self.path / "answers.journal").unlink()
+        self.assertIn("\n2 wrong, ", doctor(self.path, program="/nothing/auditor").stdout)
 
     def test_wrong_arguments(self):
         for words in ((), ("/nothing",), (self.path, "--wrong")):

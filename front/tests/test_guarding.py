@@ -29,7 +29,8 @@ class Guarding(TableTest):
         return json.loads((self.out / "schema.json").read_text(encoding="utf-8"))
 
     def test_who_asks_is_a_choice_that_make_waits_for(self):
-        said = self.looked_at()
+        self.assertIn("\n  askers          inside if people in the table may ask", self.looked_at())
+        said = self.prepare("look", "--more")[1]
         self.assertIn("askers=inside if people in the table may ask too", said)
         self.assertIn("85 of 100 in place of 96", said)
         chosen = [word for word in PLAIN if word != "askers=outside"]

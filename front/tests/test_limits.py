@@ -58,8 +58,9 @@ class Both(WithLimits):
                 self.assertEqual(list(schema), ["columns", other])
                 self.assertEqual([word for word in ("\nwidth 4: ", "\nreach 50: ") if word in said], [f"\n{other} {schema[other]}: "])
 
-    def test_look_says_what_they_are_and_cost(self):
-        said = self.look(TEXT)[1]
+    def test_look_says_what_they_are_and_more_what_they_cost(self):
+        self.assertIn("set for you: width 4 and reach 50", self.look(TEXT)[1])
+        said = self.prepare("look", "--more")[1]
         self.assertIn('"width" is 4 unless you choose another width, from 1 on, or width=none: a sum is denied if', said)
         self.assertIn('"reach" is 50 unless you choose another reach, from 2 on, or reach=none: a sum is denied if', said)
         self.assertEqual({key: self.chosen()[key] for key in ("width", "reach")}, {"width": 4, "reach": 50})
@@ -131,6 +132,46 @@ class HeldDown(WithLimits):
         (said,) = self.careful("pay.range=880 to 1700", "width=1")
         # 1610 is 90 from the high end, 1000 is 120 from the low one.
         self.assertTrue(said.endswith("Counted with the header as row 1: 8, 2, the nearest first"), said)
+
+    def always(self, *words):
+        """What is said where nobody who is left out helps."""
+        said, _ = self.written(*words)
+        return [line for line in said.splitlines() if "is sure to keep every number of pay open" in line]
+
+    def test_where_nobody_left_out_helps_no_row_is_named(self):
+        # Within 0 to none a number is as far from the end as it is large: over 16 that is 6.25 % of itself, so of a median of some at most.
+        # 1,000 over 16 is 62.5, so 62, of 1,300 4.8 %; over 9 it is 111, 8.5 %; over 4 it is 250, 19.2 %.
+        (said,) = self.always("pay.range=0 to none", "width=4")
+        self.assertIn("by 4.8 % of the median, and by no more than 6.25 % whoever is left out", said)
+        self.assertIn("A width of 2 is sure of 19.2 %, and denies more: choose width=2, or publish a report over groups alone, and open no door", said)
+        self.assertNotIn("row 1", said)
+
+    def test_where_one_number_alone_would_do_rows_are_named(self):
+        # Over 9 the numbers of 0 to none are 11.1 % of themselves.
+        (said,) = self.careful("pay.range=0 to none", "width=3")
+        self.assertIn("over 9, is 8.5 % of the median, and below a tenth of it. 2 rows hold it down", said)
+
+    def test_where_a_smaller_width_needs_somebody_left_out_too(self):
+        # 1,000 is 20 from the end, 1.5 % of 1,300, and 1,100 is 120, 9.2 %. 1,610, the farthest, is 630: over 16 that is 2.4 % of itself.
+        (said,) = self.always("pay.range=980 to none", "width=4")
+        self.assertIn("Even a width of 1 is sure of 1.5 % alone: 2 rows hold it down. Counted with the header as row 1: 2, 3, the nearest first", said)
+        self.assertIn("Leave these out and choose a smaller width, or publish a report over groups alone", said)
+
+    def test_where_no_width_helps(self):
+        # Of 1,000 to 1,006 within 999 to 1,007 none is farther from an end than 4.
+        text = "team,pay\n" + "".join(f"t{row % 3},{1000 + row}\n" for row in range(7))
+        said = self.made(text, "team=text", "pay=sum", "pay.range=999 to 1007", "width=4", "reach=50")
+        self.assertIn("Even a width of 1 is sure of 0 % alone, whoever is left out: publish a report over groups alone", said)
+
+    def test_a_very_great_width_is_no_work(self):
+        (said,) = self.always("pay.range=0 to none", f"width={2**56}")
+        self.assertIn("A width of 2 is sure of 19.2 %", said)
+
+    def test_askers_inside_are_told_of_by_their_own_bound(self):
+        said, _ = self.written("pay.range=0 to none", "width=4", "askers=inside")
+        # 2 times 4 times 4 times 4 is 128, which is 16 times twice 4.
+        self.assertIn("from its ends, over 16, and against those who know their own number, over 128.", said)
+        self.assertIn("Against those who know their own number each share is to be divided by twice the width", said)
 
     def test_with_a_reach_they_hold_down_those_of_one_change(self):
         (said,) = self.careful("pay.range=900 to none", "width=1")

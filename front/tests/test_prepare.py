@@ -25,12 +25,14 @@ class Reading(TableTest):
                 )
                 self.assertIn("'mäßig'", said)
 
-    def test_the_last_sentence_says_to_plan_the_report_first(self):
+    def test_the_last_lines_say_to_init_then_to_plan_then_to_ask(self):
         said = self.made(STAFF, *STAFF_KINDS)
-        last = said.strip().rsplit("\n", 1)[-1]
-        self.assertIn("plan the report that is wanted", last)
-        self.assertIn(f"plan.py AUDITOR {self.out}/public WANTED > first.jsonl", last)
-        self.assertIn("door.py --first", last)
+        init, plan, ask = said.strip().split("\n")[-3:]
+        self.assertIn(f"(cd {self.out} && auditor init)", init)
+        self.assertIn(f"plan.py auditor {self.out}/public WANTED > first.jsonl", plan)
+        self.assertIn("before anybody asks, since each answer may close others", plan)
+        self.assertIn(f"ask.py {self.out} ", ask)
+        self.assertIn("door.py --first", ask)
 
     def test_an_encoding_can_be_named(self):
         status, said = self.look("Größe;Lohn\nx;5\ny;7\n".encode("cp850"), "encoding=cp850")
@@ -780,10 +782,28 @@ class Written(TableTest):
                     self.assertEqual(self.names(), before)
 
     def test_wrong_arguments_show_the_usage(self):
-        for words, due in (((), 2), (("look",), 2), (("make", "a", "b"), 2), (("help", "me"), 2), (("help",), 0), (("--help",), 0)):
+        for words, due in (((), 2), (("look",), 2), (("look", "--most"), 2), (("help", "me"), 2), (("help",), 0), (("--help",), 0), (("look", "--help"), 0)):
             status, said = self.prepare(*words)
             self.assertEqual(status, due)
             self.assertIn("prepare.py look FILE", said)
+        status, said = self.prepare("make", "a", "b")
+        self.assertEqual(status, 2)
+        self.assertIn("prepare.py make FILE CHOICES FOLDER", said)
+        self.assertNotIn("prepare.py look FILE", said)
+
+    def test_help_on_one_command_reads_no_file(self):
+        for command in ("look", "choose", "lines", "make", "renew", "add", "sql", "take", "check"):
+            for word in ("-h", "--help"):
+                status, said = self.prepare(command, word)
+                self.assertEqual(status, 0, said)
+                self.assertTrue(said.startswith(f"    prepare.py {command} "), said)
+                self.assertLessEqual(len(said.splitlines()), 8)
+
+    def test_what_is_missing_is_said_last(self):
+        self.assertEqual(self.prepare()[1].splitlines()[-1],
+                         "prepare: a command is missing. There are look, choose, lines, make, renew, add, sql, take, check")
+        self.assertEqual(self.prepare("make", "a")[1].splitlines()[-1], "prepare: make takes the arguments above")
+        self.assertTrue(self.prepare("maek", "a")[1].splitlines()[-1].startswith("prepare: there is no command 'maek'."))
         self.assertIn("isn't an option of look", self.prepare("look", self.file, "seperator=;")[1])
 
 

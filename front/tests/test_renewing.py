@@ -107,7 +107,7 @@ class Made(RenewingTest):
 
     def test_look_says_that_a_table_may_be_renewed(self):
         self.choices.unlink()
-        self.assertIn("make the table with key=TITLE", self.look(OCTOBER)[1])
+        self.assertIn("make the table with key=TITLE", self.prepare("look", "--more")[1])
 
     def test_two_columns_of_one_title_are_no_key(self):
         with self.assertRaisesRegex(renewing.Fault, "two columns are called 'id'"):

@@ -57,7 +57,8 @@ class Always(Warnings):
                 ' questions that are all answered (THREATS.md, "What a range gives away")'])
 
     def test_look_says_that_a_range_is_for_the_warnings_alone(self):
-        self.assertIn("It is for the warnings of make alone: it protects nothing.", self.look("team,pay\nA,5\nB,7\n")[1])
+        self.assertIn("it sets warnings alone", self.look("team,pay\nA,5\nB,7\n")[1])
+        self.assertIn("It is for the warnings of make alone: it protects nothing.", self.prepare("look", "--more")[1])
 
     def test_a_sum_over_two_people_is_spoken_of_once_where_there_are_sums(self):
         for kind, times in (("sum", 1), ("max", 0)):
