@@ -11,8 +11,8 @@ use Rattle.std.proofs.lemmas.List.{length-take-le, length-drop, length-append, g
 use Rattle.std.proofs.lemmas.List.FromFn.{length-map-range_with_len, get_or-map-range_with_len, fill_by_all}
 use Rattle.std.proofs.lemmas.List.Edits.{length-insert, get_or-insert_below, get_or-insert_at, get_or-insert_above}
 use Rattle.audit_types.specs.Limits.{most_words}
-use Rattle.audit_types.specs.Rows.{Rows, rows_that, has_row, intersection}
-use Rattle.audit_types.specs.RowLaws.{has-rows_that, rows_that_agree, rows_that_none}
+use Rattle.audit_types.specs.Rows.{AreRows, Rows, rows_that, has_row, intersection}
+use Rattle.audit_types.specs.RowLaws.{AreRows-rows_that, has-rows_that, rows_that_agree, rows_that_none}
 use Rattle.audit_types.specs.Words.{has_bit, AreWords}
 use Rattle.audit_types.specs.WordLaws.{min_test, below_by_bits, same_place, no_one}
 use Rattle.audit_types.specs.RowSets.{ListOfRows, no_rows, rows_at, HasRoom}
@@ -57,6 +57,11 @@ module _ (a : Inside) (now : ListOfRows) (is : sets_of a ≡ now) where
   pub same_n : AllByRecursion (λ (s : Rows). s.n ≡ now.n) now.list
   same_n = subst (λ (l : ListOfRows). AllByRecursion (λ (s : Rows). s.n ≡ l.n) l.list) is
       (all_range (λ (s : Rows). s.n ≡ a.n) (set_at a.n a.words.items) (λ k. refl) 0 a.len)
+
+  -- and has rows of the table
+  pub are_rows : AllByRecursion (λ (s : Rows). AreRows now.n s.list) now.list
+  are_rows = subst (λ (l : ListOfRows). AllByRecursion (λ (s : Rows). AreRows l.n s.list) l.list) is
+      (all_range (λ (s : Rows). AreRows a.n s.list) (set_at a.n a.words.items) (λ k. AreRows-rows_that (has_bit (words_at (width_of a.n) a.words.items k)) a.n) 0 a.len)
 
   -- the set at a place is that of its words
   pub get-set : (k : ℕ) → k < a.len → get_or now.list k no_rows ≡ set_at a.n a.words.items k
@@ -377,17 +382,17 @@ module _ (a : Inside) (now : ListOfRows) (is : sets_of a ≡ now) (inv : ArePack
     are_own : AreWords a.n own
     are_own = subst (λ m. AreWords m own) same_rows are
 
-    are_rows : rows_that (has_bit (take w own)) a.n ≡ rows.list
-    are_rows = front_rows a.n own are_own ∙ ap (rows_that (has_bit own)) (sym same_rows) ∙ is_own
+    own_rows : rows_that (has_bit (take w own)) a.n ≡ rows.list
+    own_rows = front_rows a.n own are_own ∙ ap (rows_that (has_bit own)) (sym same_rows) ∙ is_own
 
     pub long_own : length (take w own) ≡ w
     long_own = front_long a.n own are_own
 
     pub among_words : at * w ≤ length items
-    among_words = start_within at among rows (take w own) same long_own are_rows (front_none a.n own are_own)
+    among_words = start_within at among rows (take w own) same long_own own_rows (front_none a.n own are_own)
 
     pub joined : ArePackedWords a.n (a.len + 1) (take (at * w) items ++ (take w own ++ drop (at * w) items))
-    joined = packed-insert at among rows (take w own) same long_own are_rows (front_none a.n own are_own)
+    joined = packed-insert at among rows (take w own) same long_own own_rows (front_none a.n own are_own)
 
     pub joined_sets : sets_at a.n (take (at * w) items ++ (take w own ++ drop (at * w) items)) (a.len + 1) ≡ insert now.list at rows
-    joined_sets = sets-insert at among rows (take w own) same long_own are_rows (front_none a.n own are_own)
+    joined_sets = sets-insert at among rows (take w own) same long_own own_rows (front_none a.n own are_own)
