@@ -152,7 +152,8 @@ place_of_values sets x i point = place_after sets x i (
 )
 
 -- and so is an end
-pub end_of_values : (sets : List AnsweredMax) (x : ℤ) (i : ℕ) → IsPartitionPoint (λ v. not (int_lt v x) ≡ true) (λ v. not (int_lt v x) ≡ false) (values sets) i →
+pub end_of_values : (sets : List AnsweredMax) (x : ℤ) (i : ℕ) → IsPartitionPoint (λ v. not (int_lt v x) ≡ true) (λ v. not (int_lt v x) ≡ false)
+    (values sets) i →
     IsEndOf x sets i
 end_of_values sets x i point = end_before sets x i (
   (λ k d from first. subst (λ v. not (int_lt v x) ≡ true) (at_values sets k d) (point.0 k d.answer from first)),

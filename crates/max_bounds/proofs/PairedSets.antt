@@ -50,10 +50,12 @@ insert-paired [] [] (suc k) answer rows e = refl
 insert-paired [] (s ∷ sets) k answer rows e = absurd (omega arith)
 insert-paired (a ∷ answers) [] k answer rows e = absurd (omega arith)
 insert-paired (a ∷ answers) (s ∷ sets) zero answer rows e = refl
-insert-paired (a ∷ answers) (s ∷ sets) (suc k) answer rows e = ap (λ l. record { answer = a; rows = s } ∷ l) (insert-paired answers sets k answer rows (omega arith))
+insert-paired (a ∷ answers) (s ∷ sets) (suc k) answer rows e = ap (λ l. record { answer = a; rows = s } ∷ l)
+    (insert-paired answers sets k answer rows (omega arith))
 
 -- what holds of all sets holds of them with their answers
-pub all-paired : (P : Rows → Type 0) (answers : List ℤ) (sets : List Rows) → AllByRecursion P sets → AllByRecursion (λ (p : AnsweredMax). P p.rows) (paired answers sets)
+pub all-paired : (P : Rows → Type 0) (answers : List ℤ) (sets : List Rows) → AllByRecursion P sets → AllByRecursion (λ (p : AnsweredMax). P p.rows)
+    (paired answers sets)
 all-paired P [] sets h = tt
 all-paired P (a ∷ answers) [] h = tt
 all-paired P (a ∷ answers) (s ∷ sets) h = (h.0, all-paired P answers sets h.1)

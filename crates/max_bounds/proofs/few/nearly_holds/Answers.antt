@@ -28,9 +28,10 @@ loop-k-init c =
     let within : first.result ≤ length least = omega (arith, first.ensures.within, long, ap length c.of-marked.ensures) in
     let people = c.args.people.now in
     let rows = c.args.rows.now in
+    let same_n = subst (λ m. AllByRecursion (λ p. p.rows.n ≡ m) c.args.least.now.items) c.requires.same_n c.n.ensures.same_n in
     record {
       in_range = within;
-      seen = enough_until marking least c.of-marked.result.now rows.n rows.list c.lacking_of-lacking.result.bits is (subst (λ m. AllByRecursion (λ p. p.rows.n ≡ m) c.args.least.now.items) c.requires.same_n c.n.ensures.same_n)
+      seen = enough_until marking least c.of-marked.result.now rows.n rows.list c.lacking_of-lacking.result.bits is same_n
           c.lacking_of-lacking.ensures (λ i. (c.type_inv.marked i).fits) people.people people.n c.n-2.ensures.counted c.enough-enough.result 0 first.result
           c.enough-enough.ensures (omega arith) within first.ensures.shown (none_seen people.people rows.list);
     }
@@ -47,11 +48,13 @@ returns-in-Nothing c =
     let least = c.args.least.now.items in
     let rows = c.args.rows.now.list in
     let k = c.loop-k.k in
+    let inside : k < length least = omega arith in
+    let here_is = read_is least k c.get-set.result inside c.get-set.ensures in
     let x = answer_of c.get-set.result in
     let seen = answers_of (take k least) in
     let others : c.flip.new.self.list ≡ complement c.flip.new.self.n rows = c.flip.ensures.others ∙ ap (λ m. complement m rows) (sym c.flip.ensures.n) in
     let rest = answers_of (drop (suc k) least) in
-    let split : answers_of least ≡ seen ++ x ∷ rest = answers_split least k c.get-set.result (let inside : c.loop-k.k < length c.args.least.now.items = omega arith in inside) (read_is least k c.get-set.result (let inside : c.loop-k.k < length c.args.least.now.items = omega arith in inside) c.get-set.ensures) in
+    let split : answers_of least ≡ seen ++ x ∷ rest = answers_split least k c.get-set.result inside here_is in
     let low = descends_after seen x rest (subst Descend split c.requires.descend) in (
       λ yes. absurd (true≢false (sym yes)),
       λ held. absurd (held_never people seen rows x rest low c.loop-k.invariant.seen (c.in-Nothing.ensures rows others)
@@ -64,11 +67,13 @@ returns-in-Few c =
     let least = c.args.least.now.items in
     let rows = c.args.rows.now.list in
     let k = c.loop-k.k in
+    let inside : k < length least = omega arith in
+    let here_is = read_is least k c.get-set.result inside c.get-set.ensures in
     let x = answer_of c.get-set.result in
     let seen = answers_of (take k least) in
     let others : c.flip.new.self.list ≡ complement c.flip.new.self.n rows = c.flip.ensures.others ∙ ap (λ m. complement m rows) (sym c.flip.ensures.n) in
     let rest = answers_of (drop (suc k) least) in
-    let split : answers_of least ≡ seen ++ x ∷ rest = answers_split least k c.get-set.result (let inside : c.loop-k.k < length c.args.least.now.items = omega arith in inside) (read_is least k c.get-set.result (let inside : c.loop-k.k < length c.args.least.now.items = omega arith in inside) c.get-set.ensures) in
+    let split : answers_of least ≡ seen ++ x ∷ rest = answers_split least k c.get-set.result inside here_is in
     let low = descends_after seen x rest (subst Descend split c.requires.descend) in
     let fits : SFits w64 c.get-set.result.answer = search rules in
     let told = subst (λ v. IsTrue c.has_within.result ↔ HasWithin (answers_of least) rows v) (to_z-of_z w64 c.get-set.result.answer fits)
@@ -89,6 +94,8 @@ loop-k-preserved c =
     let least = c.args.least.now.items in
     let rows = c.args.rows.now.list in
     let k = c.loop-k.k in
+    let inside : k < length least = omega arith in
+    let here_is = read_is least k c.get-set.result inside c.get-set.ensures in
     let next = c.next_maybe_few-k-in-loop-k in
     let x = answer_of c.get-set.result in
     let seen = answers_of (take k least) in
@@ -97,12 +104,13 @@ loop-k-preserved c =
     let long = marks_length marking least (marks_of marking c.args.marks.now) (c.requires.marked marking) in
     let others : c.flip.new.self.list ≡ complement c.flip.new.self.n rows = c.flip.ensures.others ∙ ap (λ m. complement m rows) (sym c.flip.ensures.n) in
     let more : answers_of (take (k + 1) least) ≡ seen ++ x ∷ [] =
-    map_more answer_of least k c.get-set.result (let inside : c.loop-k.k < length c.args.least.now.items = omega arith in inside) ∙ ap (λ y. seen ++ answer_of y ∷ []) (sym (read_is least k c.get-set.result (let inside : c.loop-k.k < length c.args.least.now.items = omega arith in inside) c.get-set.ensures)) in
+    map_more answer_of least k c.get-set.result inside ∙ ap (λ y. seen ++ answer_of y ∷ []) (sym here_is) in
     let left = c.in-Enough.ensures rows others in
     let within : next.result ≤ length least = omega (arith, next.ensures.within, long, ap length c.of-marked.ensures) in
+    let same_n = subst (λ m. AllByRecursion (λ p. p.rows.n ≡ m) c.args.least.now.items) c.requires.same_n c.n.ensures.same_n in
     record {
       in_range = within;
-      seen = enough_until marking least c.of-marked.result.now c.args.rows.now.n rows c.lacking_of-lacking.result.bits is (subst (λ m. AllByRecursion (λ p. p.rows.n ≡ m) c.args.least.now.items) c.requires.same_n c.n.ensures.same_n)
+      seen = enough_until marking least c.of-marked.result.now c.args.rows.now.n rows c.lacking_of-lacking.result.bits is same_n
           c.lacking_of-lacking.ensures (λ i. (c.type_inv.marked i).fits) people c.args.people.now.n c.n-2.ensures.counted c.enough-enough.result (k + 1)
           next.result c.enough-enough.ensures next.ensures.later within next.ensures.shown
           (subst (λ l. AreSeen people l rows) (sym more) (seen_more people seen rows x c.loop-k.invariant.seen left.0 left.1));
@@ -112,4 +120,5 @@ pub returns : goal.returns
 returns c =
     let seen = subst (λ l. AreSeen c.args.people.now.people (answers_of l) c.args.rows.now.list)
     (take_all c.loop-k.k c.args.least.now.items (omega arith)) c.loop-k.invariant.seen in
-    ((λ yes. absurd (true≢false (sym yes))), (λ held. absurd (none_held c.args.people.now.people (answers_of c.args.least.now.items) c.args.rows.now.list seen held)))
+    ((λ yes. absurd (true≢false (sym yes))),
+      (λ held. absurd (none_held c.args.people.now.people (answers_of c.args.least.now.items) c.args.rows.now.list seen held)))

@@ -15,5 +15,6 @@ pub loop-k-preserved : goal.loop-k-preserved
 loop-k-preserved c =
     let more = map_more answer_of c.args.pairs.now.items c.loop-k.k c.get-pair.result (omega arith) in
     let fits : SFits w64 c.get-pair.result.answer = search rules in
-    rw (more, ← (read_is c.args.pairs.now.items c.loop-k.k c.get-pair.result (omega arith) c.get-pair.ensures)) (AreBounds-push _ (answer_of c.get-pair.result) c.loop-k.bounds c.lower.new.bounds c.loop-k.invariant (λ r.
+    let is = read_is c.args.pairs.now.items c.loop-k.k c.get-pair.result (omega arith) c.get-pair.ensures in
+    rw (more, ← is) (AreBounds-push _ (answer_of c.get-pair.result) c.loop-k.bounds c.lower.new.bounds c.loop-k.invariant (λ r.
     c.lower.ensures.lowered r ∙ ap (λ a. bound_with c.get-pair.result.rows.list a r (bound_at c.loop-k.bounds r)) (widened c.get-pair.result.answer fits)))

@@ -34,9 +34,10 @@ loop-k-init c =
     let value : ℤ = to_z w64 (of_z w64 c.args.answer) in
     let marking = c.lacking_of-lacking.result.marking in
     let is = subst (AreMarkedBy marking least) (sym c.of-marked.ensures) (c.requires.marked marking) in
+    let same_n = subst (λ m. AllByRecursion (λ p. p.rows.n ≡ m) c.args.least.now.items) c.requires.same_n c.n.ensures.same_n in
     record {
       in_range = c.next_maybe_within-k.ensures.within;
-      none = within_until marking least c.of-marked.result.now c.args.rows.now.n rows c.lacking_of-lacking.result.bits is (subst (λ m. AllByRecursion (λ p. p.rows.n ≡ m) c.args.least.now.items) c.requires.same_n c.n.ensures.same_n)
+      none = within_until marking least c.of-marked.result.now c.args.rows.now.n rows c.lacking_of-lacking.result.bits is same_n
           c.lacking_of-lacking.ensures (λ i. (c.type_inv.marked i).fits) value c.place_of-first.result c.next_maybe_within-k.result
           c.next_maybe_within-k.ensures.later
           (omega (arith, c.next_maybe_within-k.ensures.within, c.max-end.ensures, c.place_of-first.ensures.at_most, c.end_of.ensures.at_most))
@@ -73,9 +74,10 @@ loop-k-preserved c =
     let seen = answers_of (take k least) in
     let more : answers_of (take (k + 1) least) ≡ seen ++ answer_of x ∷ [] =
     map_more answer_of least k x within ∙ ap (λ y. seen ++ answer_of y ∷ []) (sym (read_is least k (pair_at least k) within refl)) in
+    let same_n = subst (λ m. AllByRecursion (λ p. p.rows.n ≡ m) c.args.least.now.items) c.requires.same_n c.n.ensures.same_n in
     record {
       in_range = next.ensures.within;
-      none = within_until marking least c.of-marked.result.now c.args.rows.now.n rows c.lacking_of-lacking.result.bits is (subst (λ m. AllByRecursion (λ p. p.rows.n ≡ m) c.args.least.now.items) c.requires.same_n c.n.ensures.same_n)
+      none = within_until marking least c.of-marked.result.now c.args.rows.now.n rows c.lacking_of-lacking.result.bits is same_n
           c.lacking_of-lacking.ensures (λ i. (c.type_inv.marked i).fits) value (k + 1) next.result next.ensures.later
           (omega (arith, next.ensures.within, ends)) next.ensures.shown
           (λ found. within-push seen (answer_of x) rows value c.loop-k.invariant.none
