@@ -11,8 +11,8 @@ use Rattle.std.proofs.lemmas.List.{length-take-le, length-drop, length-append, g
 use Rattle.std.proofs.lemmas.List.FromFn.{length-map-range_with_len, get_or-map-range_with_len, fill_by_all}
 use Rattle.std.proofs.lemmas.List.Edits.{length-insert, get_or-insert_below, get_or-insert_at, get_or-insert_above}
 use Rattle.audit_types.specs.Limits.{most_words}
-use Rattle.audit_types.specs.Rows.{Rows, rows_that, has_row, intersection}
-use Rattle.audit_types.specs.RowLaws.{has-rows_that, rows_that_agree, rows_that_none}
+use Rattle.audit_types.specs.Rows.{AreRows, Rows, rows_that, has_row, intersection}
+use Rattle.audit_types.specs.RowLaws.{AreRows-rows_that, has-rows_that, rows_that_agree, rows_that_none}
 use Rattle.audit_types.specs.Words.{has_bit, AreWords}
 use Rattle.audit_types.specs.WordLaws.{min_test, below_by_bits, same_place, no_one}
 use Rattle.audit_types.specs.RowSets.{ListOfRows, no_rows, rows_at, HasRoom}
@@ -58,9 +58,16 @@ module _ (a : Inside) (now : ListOfRows) (is : sets_of a ≡ now) where
   same_n = subst (λ (l : ListOfRows). AllByRecursion (λ (s : Rows). s.n ≡ l.n) l.list) is
       (all_range (λ (s : Rows). s.n ≡ a.n) (set_at a.n a.words.items) (λ k. refl) 0 a.len)
 
+  -- and has rows of the table
+  pub are_rows : AllByRecursion (λ (s : Rows). AreRows now.n s.list) now.list
+  are_rows = subst (λ (l : ListOfRows). AllByRecursion (λ (s : Rows). AreRows l.n s.list) l.list) is
+      (all_range (λ (s : Rows). AreRows a.n s.list) (set_at a.n a.words.items)
+        (λ k. AreRows-rows_that (has_bit (words_at (width_of a.n) a.words.items k)) a.n) 0 a.len)
+
   -- the set at a place is that of its words
   pub get-set : (k : ℕ) → k < a.len → get_or now.list k no_rows ≡ set_at a.n a.words.items k
-  get-set k l = ap (λ (s : ListOfRows). get_or s.list k no_rows) (sym is) ∙ get_or-map-range_with_len (set_at a.n a.words.items) 0 a.len k k no_rows l (omega arith)
+  get-set k l = ap (λ (s : ListOfRows). get_or s.list k no_rows) (sym is)
+      ∙ get_or-map-range_with_len (set_at a.n a.words.items) 0 a.len k k no_rows l (omega arith)
 
   -- where there is room, it is for the words of one set more
   pub room : 0 < width_of a.n → HasRoom now → (a.len + 1) * width_of a.n ≤ vec_capacity a.words
@@ -99,13 +106,15 @@ module _ (n : ℕ) (a b : List ℕ) where
         | inr above ↦ bit_at_above (bit_and (get_or a k 0) (get_or b k 0)) 64 i fits above
         | inl below ↦ no_one _ i (both_bits (get_or a k 0) (get_or b k 0) i ∙ elim (cases_lt (64 * k + i) n) [
           | inl l ↦
-              ap (λ x. x && (bit_at (get_or b k 0) i == 1)) (sym (same_place a k i below)) ∙ ap (λ x. has_bit a (64 * k + i) && x) (sym (same_place b k i below))
+              ap (λ x. x && (bit_at (get_or b k 0) i == 1)) (sym (same_place a k i below))
+                ∙ ap (λ x. has_bit a (64 * k + i) && x) (sym (same_place b k i below))
               ∙ sym (ap (λ x. x && has_row (rows_that (has_bit b) n) (64 * k + i)) (has-rows_that (has_bit a) n (64 * k + i) l)
               ∙ ap (λ x. has_bit a (64 * k + i) && x) (has-rows_that (has_bit b) n (64 * k + i) l))
               ∙ sym (has-rows_that (λ r. has_row (rows_that (has_bit a) n) r && has_row (rows_that (has_bit b) n) r) n (64 * k + i) l)
               ∙ ap (λ rows. has_row rows (64 * k + i)) empty
           | inr past ↦
-              ap (λ x. (bit_at (get_or a k 0) i == 1) && x) (sym (same_place b k i below) ∙ are.none_above (64 * k + i) past) ∙ no_and (bit_at (get_or a k 0) i == 1)
+              ap (λ x. (bit_at (get_or a k 0) i == 1) && x) (sym (same_place b k i below) ∙ are.none_above (64 * k + i) past)
+                ∙ no_and (bit_at (get_or a k 0) i == 1)
         ])
       ]) in
       omega (arith, small)
@@ -137,7 +146,8 @@ module _ (w place : ℕ) (front : List ℕ) (some : 0 < w) (at : length front �
         let start : (place + k + 1) * w ≡ (place * w + w) + k * w = omega (arith, next (place + k) w, parts) in
         ap (λ i. take w (drop i all)) start
         ∙ ap (take w) (sym (drop-drop (k * w) (place * w + w) all))
-        ∙ ap (λ xs. take w (drop (k * w) xs)) (sym (drop-drop w (place * w) all) ∙ ap (drop w) (drop_at front (new ++ back) (place * w) at) ∙ drop_at new back w long)
+        ∙ ap (λ xs. take w (drop (k * w) xs))
+          (sym (drop-drop w (place * w) all) ∙ ap (drop w) (drop_at front (new ++ back) (place * w) at) ∙ drop_at new back w long)
 
 -- a width of some rows
 pub some_width : (n : ℕ) → 0 < n → 0 < width_of n
@@ -160,8 +170,10 @@ pub turned : (words new : List ℕ) (start w : ℕ) → start ≤ length words �
     ≡ take start words ++ (new ++ drop start words)
 turned words new start w l long =
     let rest : length (words ++ new) - w ≡ length words = omega (arith, length-append words new) in
-    ap (λ xs. xs ++ (drop (length (words ++ new) - w) (words ++ new) ++ take (length (words ++ new) - w - start) (drop start (words ++ new)))) (take-append-le start words new l)
-    ∙ ap (λ xs. take start words ++ (xs ++ take (length (words ++ new) - w - start) (drop start (words ++ new)))) (ap (λ i. drop i (words ++ new)) rest ∙ drop_at words new (length words) refl)
+    ap (λ xs. xs ++ (drop (length (words ++ new) - w) (words ++ new) ++ take (length (words ++ new) - w - start) (drop start (words ++ new))))
+      (take-append-le start words new l)
+    ∙ ap (λ xs. take start words ++ (xs ++ take (length (words ++ new) - w - start) (drop start (words ++ new))))
+      (ap (λ i. drop i (words ++ new)) rest ∙ drop_at words new (length words) refl)
     ∙ ap (λ xs. take start words ++ (new ++ xs)) (ap (λ i. take (i - start) (drop start (words ++ new))) rest
     ∙ ap (take (length words - start)) (drop-append-le start words new l) ∙ take_at (drop start words) new (length words - start) (length-drop start words))
 
@@ -289,10 +301,12 @@ module _ (a : Inside) (now : ListOfRows) (is : sets_of a ≡ now) (inv : ArePack
       pub sets-and : sets_at a.n words a.len ≡ set now.list k (record { n = now.n; list = intersection now.n (rows_at now.list k) other.list })
       sets-and =
           let new : Rows = record { n = now.n; list = intersection now.n (rows_at now.list k) other.list } in
-          let here : set_at a.n words k ≡ new = ap (λ rs. record { n = a.n; list = rs }) (rows-both a.n (words_at w items k) b (words_at w words k) word-both ∙ shared_is)
+          let here : set_at a.n words k ≡ new = ap (λ rs. record { n = a.n; list = rs })
+            (rows-both a.n (words_at w items k) b (words_at w words k) word-both ∙ shared_is)
           ∙ ap (λ m. record { n = m; list = intersection now.n (rows_at now.list k) other.list }) same_table in
           sym (fill_by_all (set_at a.n words) (set now.list k new) a.len no_rows (length-set now.list k new ∙ count a now is) (λ m l. elim (cases_eq m k) [
-            | inl e ↦ subst (λ i. get_or (set now.list k new) i no_rows ≡ set_at a.n words i) (sym e) (get_or-set_same now.list k new no_rows within_sets ∙ sym here)
+            | inl e ↦ subst (λ i. get_or (set now.list k new) i no_rows ≡ set_at a.n words i) (sym e)
+              (get_or-set_same now.list k new no_rows within_sets ∙ sym here)
             | inr ne ↦ get_or-set_other now.list k m new no_rows ne ∙ get-set a now is m l
                 ∙ ap (λ ws. record { n = a.n; list = rows_that (has_bit ws) a.n }) (sym (words-other m l ne))
           ]))
@@ -332,7 +346,8 @@ module _ (a : Inside) (now : ListOfRows) (is : sets_of a ≡ now) (inv : ArePack
         ∙ ap (λ i. take w (drop i items)) (sum ∙ ap (λ i. i * w) whole)
 
     -- what holds of the new set and of the others holds of all
-    each : (P : ℕ → List ℕ → Type 0) → P at new → ((m : ℕ) → m < at → P m (words_at w items m)) → ((k : ℕ) → at ≤ k → k < a.len → P (k + 1) (words_at w items k)) →
+    each : (P : ℕ → List ℕ → Type 0) → P at new → ((m : ℕ) → m < at → P m (words_at w items m)) →
+      ((k : ℕ) → at ≤ k → k < a.len → P (k + 1) (words_at w items k)) →
         (m : ℕ) → m < a.len + 1 → P m (words_at w words m)
     each P here lower upper m l = elim (cases_lt m at) [
       | inl below ↦ subst (P m) (sym (words-lower m below)) (lower m below)
@@ -340,7 +355,8 @@ module _ (a : Inside) (now : ListOfRows) (is : sets_of a ≡ now) (inv : ArePack
         | inl e ↦ subst (λ i. P i (words_at w words i)) (sym e) (subst (P at) (sym words-new) here)
         | inr ne ↦
             let up : m - 1 + 1 ≡ m = omega arith in
-            subst (λ i. P i (words_at w words i)) up (subst (P (m - 1 + 1)) (sym (words-upper (m - 1) (omega arith))) (upper (m - 1) (omega arith) (omega arith)))
+            subst (λ i. P i (words_at w words i)) up
+              (subst (P (m - 1 + 1)) (sym (words-upper (m - 1) (omega arith))) (upper (m - 1) (omega arith) (omega arith)))
       ]
     ]
 
@@ -362,7 +378,8 @@ module _ (a : Inside) (now : ListOfRows) (is : sets_of a ≡ now) (inv : ArePack
     sets-insert =
         let set_of : List ℕ → Rows = λ ws. record { n = a.n; list = rows_that (has_bit ws) a.n } in
         let here : set_of new ≡ rows = ap (λ rs. record { n = a.n; list = rs }) is_new ∙ ap (λ m. record { n = m; list = rows.list }) (same_table ∙ sym same) in
-        sym (fill_by_all (set_at a.n words) (insert now.list at rows) (a.len + 1) no_rows (length-insert now.list at rows among ∙ ap (λ i. i + 1) (count a now is))
+        sym (fill_by_all (set_at a.n words) (insert now.list at rows) (a.len + 1) no_rows
+          (length-insert now.list at rows among ∙ ap (λ i. i + 1) (count a now is))
         (each (λ i ws. get_or (insert now.list at rows) i no_rows ≡ set_of ws)
         (get_or-insert_at now.list at rows no_rows among ∙ sym here)
         (λ m below. get_or-insert_below now.list at rows no_rows m below among ∙ get-set a now is m (let sets = count a now is in omega arith))
@@ -377,17 +394,17 @@ module _ (a : Inside) (now : ListOfRows) (is : sets_of a ≡ now) (inv : ArePack
     are_own : AreWords a.n own
     are_own = subst (λ m. AreWords m own) same_rows are
 
-    are_rows : rows_that (has_bit (take w own)) a.n ≡ rows.list
-    are_rows = front_rows a.n own are_own ∙ ap (rows_that (has_bit own)) (sym same_rows) ∙ is_own
+    own_rows : rows_that (has_bit (take w own)) a.n ≡ rows.list
+    own_rows = front_rows a.n own are_own ∙ ap (rows_that (has_bit own)) (sym same_rows) ∙ is_own
 
     pub long_own : length (take w own) ≡ w
     long_own = front_long a.n own are_own
 
     pub among_words : at * w ≤ length items
-    among_words = start_within at among rows (take w own) same long_own are_rows (front_none a.n own are_own)
+    among_words = start_within at among rows (take w own) same long_own own_rows (front_none a.n own are_own)
 
     pub joined : ArePackedWords a.n (a.len + 1) (take (at * w) items ++ (take w own ++ drop (at * w) items))
-    joined = packed-insert at among rows (take w own) same long_own are_rows (front_none a.n own are_own)
+    joined = packed-insert at among rows (take w own) same long_own own_rows (front_none a.n own are_own)
 
     pub joined_sets : sets_at a.n (take (at * w) items ++ (take w own ++ drop (at * w) items)) (a.len + 1) ≡ insert now.list at rows
-    joined_sets = sets-insert at among rows (take w own) same long_own are_rows (front_none a.n own are_own)
+    joined_sets = sets-insert at among rows (take w own) same long_own own_rows (front_none a.n own are_own)

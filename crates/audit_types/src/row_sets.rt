@@ -2,7 +2,7 @@
 ghost use Rattle.std.specs.Prelude.{◌≡◌, ◌↔◌, ℕ, ◌<◌, ◌≤◌, [], length, set, IsTrue, OnOk};
 ghost use Rattle.std.specs.List.{AllByRecursion, insert};
 ghost use Rattle.audit_types.specs.Limits.{most_rows};
-ghost use Rattle.audit_types.specs.Rows.{has_row, intersection};
+ghost use Rattle.audit_types.specs.Rows.{AreRows, has_row, intersection};
 ghost use Rattle.audit_types.specs.RowSets.{rows_at, HasRoom};
 
 use crate::NoMemory;
@@ -55,6 +55,7 @@ impl RowSets {
         ensures some { 0 < self.now.n }
         ensures at_most { self.now.n ≤ most_rows }
         ensures same_n { AllByRecursion (λ s. s.n ≡ self.now.n) self.now.list }
+        ensures are_rows { AllByRecursion (λ s. AreRows self.now.n s.list) self.now.list }
     {
         self.n
     }

@@ -70,7 +70,9 @@ fn least_few(
     // A set says of itself that its rows are rows of the table.
     let _ = rows.n();
     let mut first = None;
-    for pair in bounds.pairs() {
+    let pairs = bounds.pairs();
+    for k in 0..pairs.len() {
+        let pair = pairs.get(k);
         let left = few_left(
             bounds,
             people,

@@ -86,8 +86,10 @@ fn holding_of(bounds: &Bounds, people: &CountedRows, others: &RowSet) -> Holding
         whole: BELOW_ALL,
         stranded: BELOW_ALL,
     };
-    for pair in bounds.pairs() {
-        let left = left_outside(bounds, people, others, pair);
+    let pairs = bounds.pairs();
+    for k in 0..pairs.len() {
+        let pair = pairs.get(k);
+        let left = left_outside(bounds, people, others, &pair);
         holding = holding.and(left, pair.answer);
     }
     holding

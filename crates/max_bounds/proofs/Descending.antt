@@ -13,6 +13,8 @@ use Rattle.max_bounds.specs.Outside.{outside}
 use Rattle.max_bounds.specs.Maxima.{answer_of, answers_of}
 use Rattle.max_bounds.specs.Kept.{lowered_set, Descend, IsPlaceOf, IsEndOf}
 use Rattle.max_bounds.specs.declared.answered.AnsweredMax.{AnsweredMax}
+use Rattle.audit_types.specs.RowSets.{no_rows}
+use Rattle.std.proofs.lemmas.List.{length-map}
 use Rattle.max_bounds.proofs.HighRows.{all_inserted}
 
 -- the answers after one are not above it
@@ -111,6 +113,53 @@ end_before sets x i point =
       after sets zero (λ k d late within. low (suc k) d (omega arith) (omega (arith, within))),
     )
     after (y ∷ sets) (suc i) low = after sets i (λ k d late within. low (suc k) d (omega (arith, late)) (omega (arith, within)))
+
+-- the answers of sets, as a list
+abbrev values : List AnsweredMax → List ℤ
+values sets = map (λ (s : AnsweredMax). s.answer) sets
+
+-- at each place the answer of the set there
+at_values : (sets : List AnsweredMax) (k : ℕ) (d : AnsweredMax) → get_or (values sets) k d.answer ≡ (get_or sets k d).answer
+at_values [] k d = refl
+at_values (y ∷ sets) zero d = refl
+at_values (y ∷ sets) (suc k) d = at_values sets k d
+
+-- a set of an answer, which stands for one past the last
+abbrev set_of : ℤ → AnsweredMax
+set_of x = record { answer = x; rows = no_rows }
+
+-- those above a number come first among them
+pub values_above_first : (sets : List AnsweredMax) (x : ℤ) → Descend (answers_of sets) → IsPartitionedBy (λ v. int_lt x v) (values sets)
+values_above_first sets x h i j d order within above =
+    subst (λ v. int_lt x v ≡ true) (sym (at_values sets i (set_of d)))
+    (above_come_first sets x h i j (set_of d) order (omega (arith, within, length-map sets (λ (s : AnsweredMax). s.answer)))
+    (subst (λ v. int_lt x v ≡ true) (at_values sets j (set_of d)) above))
+
+-- and so do those that aren't below it
+pub values_low_last : (sets : List AnsweredMax) (x : ℤ) → Descend (answers_of sets) → IsPartitionedBy (λ v. not (int_lt v x)) (values sets)
+values_low_last sets x h i j d order within high =
+    subst (λ v. not (int_lt v x) ≡ true) (sym (at_values sets i (set_of d)))
+    (low_come_last sets x h i j (set_of d) order (omega (arith, within, length-map sets (λ (s : AnsweredMax). s.answer)))
+    (subst (λ v. not (int_lt v x) ≡ true) (at_values sets j (set_of d)) high))
+
+-- a place among them is one among the sets
+pub place_of_values : (sets : List AnsweredMax) (x : ℤ) (i : ℕ) → IsPartitionPoint (λ v. int_lt x v ≡ true) (λ v. int_lt x v ≡ false) (values sets) i →
+    IsPlaceOf x sets i
+place_of_values sets x i point = place_after sets x i (
+  (λ k d from first. subst (λ v. int_lt x v ≡ true) (at_values sets k d) (point.0 k d.answer from first)),
+  (λ k d late within. subst (λ v. int_lt x v ≡ false) (at_values sets k d)
+      (point.1 k d.answer late (omega (arith, within, length-map sets (λ (s : AnsweredMax). s.answer))))),
+)
+
+-- and so is an end
+pub end_of_values : (sets : List AnsweredMax) (x : ℤ) (i : ℕ) → IsPartitionPoint (λ v. not (int_lt v x) ≡ true) (λ v. not (int_lt v x) ≡ false)
+    (values sets) i →
+    IsEndOf x sets i
+end_of_values sets x i point = end_before sets x i (
+  (λ k d from first. subst (λ v. not (int_lt v x) ≡ true) (at_values sets k d) (point.0 k d.answer from first)),
+  (λ k d late within. subst (λ v. not (int_lt v x) ≡ false) (at_values sets k d)
+      (point.1 k d.answer late (omega (arith, within, length-map sets (λ (s : AnsweredMax). s.answer))))),
+)
 
 -- a lowered set keeps its answer
 value_kept : (x : ℤ) (rows : List ℕ) (a : Answer) → (lowered_set x rows a).value ≡ a.value

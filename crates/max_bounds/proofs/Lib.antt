@@ -20,3 +20,4 @@ pub mod WithinSets
 pub mod MissingPeople
 pub mod HighestPeople
 pub mod NearlyHeld
+pub mod PairedSets

@@ -6,8 +6,9 @@ use Rattle.audit_types.specs.Rows.{AreRows}
 use Rattle.audit_types.specs.Extremes.{upper_bound, is_bound, extremes, IsConsistent}
 use Rattle.std.specs.Int.{w64, w128}
 use Rattle.std.proofs.lemmas.Int.{ints, to_z-of_z}
+use Rattle.std.proofs.lemmas.List.{get_or_default}
 use Rattle.max_bounds.specs.declared.answered.AnsweredMax.{AnsweredMax}
-use Rattle.max_bounds.specs.Maxima.{answer_of, answers_of}
+use Rattle.max_bounds.specs.Maxima.{answer_of, answers_of, no_pair, pair_at}
 use Rattle.max_bounds.specs.RowListLaws.{filter-ascends}
 
 module _ (P : Answer → Type 0) where
@@ -57,6 +58,10 @@ pub one_here : (pairs : List AnsweredMax) (i : ℕ) (x : AnsweredMax) → i < le
 one_here [] i x within is = absurd (omega arith)
 one_here (y ∷ pairs) zero x within is = inl (ap answer_of (sym is))
 one_here (y ∷ pairs) (suc i) x within is = inr (one_here pairs i x (omega arith) is)
+
+-- what is read at a place is what stands there
+pub read_is : (pairs : List AnsweredMax) (i : ℕ) (x : AnsweredMax) → i < length pairs → x ≡ pair_at pairs i → x ≡ get_or pairs i x
+read_is pairs i x within is = is ∙ get_or_default pairs i no_pair x within
 
 -- an answer of 64 bits, as one of 128
 pub widened : (a : ℤ) → SFits w64 a → to_z w128 (of_z w128 (to_z w64 (of_z w64 a))) ≡ a

@@ -109,11 +109,12 @@ pub record TellsExtremes (extreme_rows : Answer → List ℕ) (answers : List An
 -- what is true of the fields of all kept maxima
 pub record IsKept (b : Inside) : Type 0 where
   pub at_most : b.n ≤ most_rows
+  pub table : b.pairs.n ≡ b.n
   pub same_n : AllByRecursion (λ p. p.rows.n ≡ b.n) b.pairs.items
   pub are_rows : AllByRecursion (λ a. AreRows b.n a.rows) (answers_of b.pairs.items)
   pub one_each : length b.upper.items ≡ b.n
   pub bounds : (r : ℕ) → bound_at b.upper.items r ≡ upper_bound (answers_of b.pairs.items) r
-  pub same_n_least : AllByRecursion (λ p. p.rows.n ≡ b.n) b.least.items
+  pub same_n_least : b.least.n ≡ b.n
   pub descend : Descend (answers_of b.least.items)
   pub marked : AreMarked b.least.items b.marks
   pub high : AllByRecursion (IsHigh b.n (bound_at b.upper.items)) b.high.items

@@ -1,4 +1,5 @@
 pub mod Maxima
+pub mod Paired
 pub mod Reaching
 pub mod Outside
 pub mod Groups

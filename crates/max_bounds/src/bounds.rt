@@ -4,7 +4,7 @@ ghost use Rattle.audit_types.specs.Limits.{most_rows};
 ghost use Rattle.audit_types.specs.Column.{Answer};
 ghost use Rattle.audit_types.specs.Extremes.{upper_bound, extremes, IsConsistent, IsLeastLone};
 ghost use Rattle.std.specs.List.{AllByRecursion};
-ghost use Rattle.max_bounds.specs.Maxima.{Maxima, answers_of, and_answer};
+ghost use Rattle.max_bounds.specs.Maxima.{Maxima, answers_of, and_answer, HasSpace};
 ghost use Rattle.max_bounds.specs.Few.{HasFewPeople, IsFewByExtremes};
 ghost use Rattle.max_bounds.specs.Outside.{HasExtremesWithin, IsLeastOwnLone};
 ghost use Rattle.max_bounds.specs.Kept.{extreme_counts};
@@ -12,6 +12,7 @@ ghost use Rattle.max_bounds.specs.Marks.{marks_of, HaveRoom};
 ghost use Rattle.max_bounds.specs.declared.marks.Marking.{Marking};
 
 use crate::answered::AnsweredMax;
+use crate::answered_maxima::AnsweredMaxima;
 use crate::few::nearly_holds;
 use crate::high_rows::{HighRows, few_highest_of, reach_high, renew_high};
 use crate::kept::{fall, insert};
@@ -28,7 +29,7 @@ use std::marker::Model;
 #[derive(Drop)]
 pub struct Bounds {
     n: u16,
-    pairs: Vec<AnsweredMax>,
+    pairs: AnsweredMaxima,
     // The bound of each row.
     upper: Vec<Option<i64>>,
     // The number of extreme rows of each pair, and the least of these numbers.
@@ -36,7 +37,7 @@ pub struct Bounds {
     fewest: u16,
     // Extreme rows of pairs, with their answer, in descending order of answers. Each pair has such a set of its own answer and
     // with no other rows.
-    least: Vec<AnsweredMax>,
+    least: AnsweredMaxima,
     // The marks of these sets.
     marks: Marks,
     // The rows with high bounds, for cuts in descending order. Most questions are told by them alone.
@@ -56,23 +57,25 @@ impl Model for Bounds {
 
 // Makes room for one answer more.
 fn make_room(
-    pairs: &mut Vec<AnsweredMax>,
+    pairs: &mut AnsweredMaxima,
     counts: &mut Vec<u16>,
-    least: &mut Vec<AnsweredMax>,
+    least: &mut AnsweredMaxima,
     marks: &mut Marks,
 ) -> Result<(), NoMemory>
+    ensures pairs_n { pairs.new.n ≡ pairs.old.n }
+    ensures least_n { least.new.n ≡ least.old.n }
     ensures pairs { pairs.new.items ≡ pairs.old.items }
     ensures counts { counts.new.items ≡ counts.old.items }
     ensures least { least.new.items ≡ least.old.items }
     ensures marks { (marking : Marking) → marks_of marking marks.new ≡ marks_of marking marks.old }
-    ensures pairs_room { OnOk result (vec_len pairs.new < vec_capacity pairs.new) }
+    ensures pairs_room { OnOk result (HasSpace pairs.new) }
     ensures counts_room { OnOk result (vec_len counts.new < vec_capacity counts.new) }
-    ensures least_room { OnOk result (vec_len least.new < vec_capacity least.new) }
+    ensures least_room { OnOk result (HasSpace least.new) }
     ensures marks_room { OnOk result (HaveRoom marks.new) }
 {
-    pairs.reserve(1)?;
+    pairs.reserve()?;
     counts.reserve(1)?;
-    least.reserve(1)?;
+    least.reserve()?;
     marks.reserve()?;
     Ok(())
 }
@@ -87,11 +90,11 @@ impl Bounds {
         let upper = vec![in alloc; None; n as usize]?;
         Ok(Bounds {
             n,
-            pairs: Vec::new(alloc),
+            pairs: AnsweredMaxima::new(alloc, n),
             upper,
             counts: Vec::new(alloc),
             fewest: u16::MAX,
-            least: Vec::new(alloc),
+            least: AnsweredMaxima::new(alloc, n),
             marks: Marks::new(alloc),
             high: Vec::new(alloc),
         })
@@ -146,15 +149,16 @@ impl Bounds {
             &latest,
             &self.pairs,
         );
-        self.pairs.push_reserved(latest);
+        let last = self.pairs.len();
+        self.pairs.insert_reserved(last, rows, answer);
         renew_high(&mut self.high, &self.upper, &affected, rows, answer);
         Ok(())
     }
 
     /// The answers, in order.
-    pub fn pairs(&self) -> &[AnsweredMax]
-        ensures answers { answers_of result.now ≡ self.now.answers }
-        ensures same_n { AllByRecursion (λ p. p.rows.n ≡ self.now.n) result.now }
+    pub fn pairs(&self) -> &AnsweredMaxima
+        ensures answers { answers_of result.now.items ≡ self.now.answers }
+        ensures same_n { AllByRecursion (λ p. p.rows.n ≡ self.now.n) result.now.items }
     {
         &self.pairs
     }

@@ -1,6 +1,5 @@
 //! Sets of extreme rows of which a question's set leaves few people.
 ghost use Rattle.std.specs.Prelude.{◌≡◌, ◌↔◌, ◌+◌, ℕ, List, IsTrue};
-ghost use Rattle.std.specs.List.{AllByRecursion};
 ghost use Rattle.audit_types.specs.Rows.{complement};
 ghost use Rattle.max_bounds.specs.Maxima.{answers_of};
 ghost use Rattle.max_bounds.specs.Outside.{outside};
@@ -8,7 +7,7 @@ ghost use Rattle.max_bounds.specs.Kept.{Descend};
 ghost use Rattle.max_bounds.specs.Marks.{AreMarked};
 ghost use Rattle.max_bounds.specs.Few.{HasNearlyHeld, IsLeft};
 
-use crate::answered::AnsweredMax;
+use crate::answered_maxima::AnsweredMaxima;
 use crate::marks::{Marks, lacking_of};
 use crate::people::{are_fewer, enough};
 use crate::unshown::next_maybe_few;
@@ -45,26 +44,27 @@ fn left_outside(extremes: &RowSet, others: &RowSet, people: &CountedRows, enough
 
 /// Whether the question's rows leave of some set rows of few people, while each set that lies there whole has a lower answer.
 pub(crate) fn nearly_holds(
-    least: &[AnsweredMax],
+    least: &AnsweredMaxima,
     marks: &Marks,
     rows: &RowSet,
     people: &CountedRows,
 ) -> bool
-    requires same_n { AllByRecursion (λ p. p.rows.n ≡ rows.now.n) least.now }
-    requires descend { Descend (answers_of least.now) }
-    requires marked { AreMarked least.now marks.now }
-    ensures { IsTrue result ↔ HasNearlyHeld people.now.people (λ a. a.rows) (answers_of least.now) rows.now.list }
+    requires same_n { least.now.n ≡ rows.now.n }
+    requires descend { Descend (answers_of least.now.items) }
+    requires marked { AreMarked least.now.items marks.now }
+    ensures { IsTrue result ↔ HasNearlyHeld people.now.people (λ a. a.rows) (answers_of least.now.items) rows.now.list }
 {
     let mut others = *rows;
     others.flip();
     let lacking = lacking_of(rows, &others, least.len());
     let marked = marks.of(lacking.marking);
-    // The people say of themselves that somebody stands behind each row.
+    // A list says of its n that each set has it, and the people of themselves that somebody stands behind each row.
+    let _ = least.n();
     let _ = people.n();
     let enough = enough(people);
     let mut k = next_maybe_few(marked, 0, lacking.bits, enough);
     while k < least.len() {
-        let set = &least[k];
+        let set = least.get(k);
         match left_outside(&set.rows, &others, people, enough) {
             Left::Nothing => return false,
             // No set before it lies there whole, but one of its answer may.

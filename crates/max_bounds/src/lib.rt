@@ -5,6 +5,7 @@
 #![tactic(auto)]
 
 mod answered;
+mod answered_maxima;
 mod bounds;
 mod counts;
 mod extreme_rows;
@@ -24,6 +25,7 @@ mod upper_bounds;
 mod within;
 
 pub use answered::AnsweredMax;
+pub use answered_maxima::AnsweredMaxima;
 pub use bounds::Bounds;
 pub use people::are_few;
 pub use survey::Trial;

@@ -4,7 +4,7 @@ ghost use Rattle.audit_types.specs.Extremes.{upper_bound};
 ghost use Rattle.max_bounds.specs.Maxima.{answers_of, and_answer};
 ghost use Rattle.max_bounds.specs.Reaching.{bound_at, own_of, lesser_of, TellsOf};
 
-use crate::answered::AnsweredMax;
+use crate::answered_maxima::AnsweredMaxima;
 use crate::extreme_rows::{ExtremeRows, extreme_rows};
 use crate::upper_bounds::{UpperBounds, lower, upper_bounds};
 use audit_types::RowSet;
@@ -51,14 +51,15 @@ fn lesser(one: Option<u16>, other: Option<u16>) -> Option<u16>
 }
 
 // What these answers tell if the bounds are given.
-fn survey_under(bounds: &UpperBounds, pairs: &[AnsweredMax], shared: &RowSet) -> Trial
-    ensures tells { TellsOf (bound_at bounds.now) shared.now.list (answers_of pairs.now) result }
+fn survey_under(bounds: &UpperBounds, pairs: &AnsweredMaxima, shared: &RowSet) -> Trial
+    ensures tells { TellsOf (bound_at bounds.now) shared.now.list (answers_of pairs.now.items) result }
 {
     let mut trial = Trial {
         consistent: true,
         lone: None,
     };
-    for pair in pairs {
+    for k in 0..pairs.len() {
+        let pair = pairs.get(k);
         let extremes = extreme_rows(bounds, &pair.rows, pair.answer as i128);
         trial = trial.and(extremes, shared);
     }
@@ -66,20 +67,20 @@ fn survey_under(bounds: &UpperBounds, pairs: &[AnsweredMax], shared: &RowSet) ->
 }
 
 /// What the answers tell.
-pub(crate) fn survey(pairs: &[AnsweredMax], shared: &RowSet) -> Trial
-    ensures tells { TellsOf (upper_bound (answers_of pairs.now)) shared.now.list (answers_of pairs.now) result }
+pub(crate) fn survey(pairs: &AnsweredMaxima, shared: &RowSet) -> Trial
+    ensures tells { TellsOf (upper_bound (answers_of pairs.now.items)) shared.now.list (answers_of pairs.now.items) result }
 {
     survey_under(&upper_bounds(pairs), pairs, shared)
 }
 
 /// What the answers and one more tell.
 pub(crate) fn survey_with(
-    pairs: &[AnsweredMax],
+    pairs: &AnsweredMaxima,
     rows: &RowSet,
     answer: i128,
     shared: &RowSet,
 ) -> Trial
-    ensures tells { TellsOf (upper_bound (and_answer (answers_of pairs.now) rows.now.list answer)) shared.now.list (and_answer (answers_of pairs.now) rows.now.list answer) result }
+    ensures tells { TellsOf (upper_bound (and_answer (answers_of pairs.now.items) rows.now.list answer)) shared.now.list (and_answer (answers_of pairs.now.items) rows.now.list answer) result }
 {
     let mut bounds = upper_bounds(pairs);
     lower(&mut bounds, rows, answer);

@@ -4,7 +4,7 @@ ghost use Rattle.audit_types.specs.Extremes.{least_of, upper_bound};
 ghost use Rattle.max_bounds.specs.Maxima.{answers_of};
 ghost use Rattle.max_bounds.specs.Reaching.{bound_at, bound_with};
 
-use crate::answered::AnsweredMax;
+use crate::answered_maxima::AnsweredMaxima;
 use audit_types::{MOST_ROWS, RowSet};
 
 /// An entry for each row that a table can have: its upper bound, if some set holds it.
@@ -32,11 +32,12 @@ pub(crate) fn lower(bounds: &mut UpperBounds, rows: &RowSet, answer: i128)
 }
 
 /// The upper bound of each row, in a step for each row of each set.
-pub(crate) fn upper_bounds(pairs: &[AnsweredMax]) -> UpperBounds
-    ensures exact { (r : ℕ) → bound_at result r ≡ upper_bound (answers_of pairs.now) r }
+pub(crate) fn upper_bounds(pairs: &AnsweredMaxima) -> UpperBounds
+    ensures exact { (r : ℕ) → bound_at result r ≡ upper_bound (answers_of pairs.now.items) r }
 {
     let mut bounds = [None; MOST_ROWS as usize];
-    for pair in pairs {
+    for k in 0..pairs.len() {
+        let pair = pairs.get(k);
         lower(&mut bounds, &pair.rows, pair.answer as i128);
     }
     bounds

@@ -3,7 +3,7 @@
 -- To know the number of q is to have it answered as a sum over q alone. So the row is spanned by the sets and the unit row of q, and what is
 -- left of it when that is taken off is a row of the span that is 0 but at the two; or a direction of the sets that is 0 at q isn't 0 there.
 use Rattle.std.proofs.Common.{true, ◌≡◌, ◌≢◌, ℕ, ◌<◌, ◌≤◌, false, ◌||◌, ℤ, pos, List, [], ◌∷◌, ◌++◌, map, length, refl, sym, ap, ◌∙◌, subst, arith, inl, inr, ◌⊎◌, ◌==◌, append-nil}
-use Rattle.std.specs.Prelude.{◌↔◌, ◌+ℤ◌, ◌*ℤ◌, neg_ℤ, All, Contains}
+use Rattle.std.specs.Prelude.{◌↔◌, ◌*ℤ◌, neg_ℤ, All, Contains}
 use Rattle.std.proofs.lemmas.List.Elements.{All-contains}
 use Rattle.std.specs.List.{AllByRecursion}
 use Rattle.std.proofs.lemmas.Int.{ints}
@@ -31,7 +31,7 @@ use Rattle.sum_basis.specs.CombinedRows.{number_at-combine}
 use Rattle.sum_basis.specs.Basis.{Echelon, unit_row}
 use Rattle.sum_basis.specs.Growth.{HasOwnUnit, SpansOneOf}
 use Rattle.sum_basis.specs.Asking.{SpansOneBeside}
-use Rattle.sum_basis.specs.Ties.{Ties, ShowsTie, TiesByForm, TieSomeBut}
+use Rattle.sum_basis.specs.Ties.{Ties, TiesByForm, TieSomeBut}
 use Rattle.sum_basis.specs.EntryLaws.{unit_here, unit_elsewhere}
 use Rattle.sum_audit.specs.DotLaws.{dot_two}
 use Rattle.sum_audit.specs.Knowing.{IsStillFor, StillByTies, TiedOrOpen, TiesTell, OpenByForm, PinsByForm, GroupsByForm}

@@ -11,7 +11,6 @@ use Rattle.std.proofs.lemmas.List.Elements.{All-contains}
 use Rattle.audit_types.specs.Rows.{AreRows, has_row}
 use Rattle.audit_types.specs.Headcount.{CountPeople, AreFew, shared_in}
 use Rattle.audit_types.specs.HeadcountLaws.{few_by_rows}
-use Rattle.audit_types.specs.declared.shapes.Kind.{Kind}
 use Rattle.audit_types.specs.declared.shapes.Kind.TheVariants.{Sum}
 use Rattle.sum_audit.proofs.DangerousByPins.{sum_not_max}
 use Rattle.audit_types.specs.Truth.{number_at, sum_over}

@@ -4,6 +4,6 @@ use Rattle.max_bounds.specs.Maxima.{answers_of}
 use Rattle.denial_proof.specs.Outlook.{IsHolding}
 use Rattle.denial_proof.proofs.outlook.holding_of.Given as goal
 
-abbrev pub invariant-loop-pair : goal.invariant-loop-pair
-invariant-loop-pair l = (asked : List ℕ) → l.others.list ≡ complement l.others.n asked →
-    IsHolding l.bounds.answers l.people.people asked (answers_of (take l.pair-index l.pair-items)) l.holding
+abbrev pub invariant-loop-k : goal.invariant-loop-k
+invariant-loop-k l = (asked : List ℕ) → l.others.list ≡ complement l.others.n asked →
+    IsHolding l.bounds.answers l.people.people asked (answers_of (take l.k l.pairs.items)) l.holding

@@ -5,8 +5,8 @@ use Rattle.max_audit.specs.Candidates.{IsBelowAll, IsNearRange}
 use Rattle.max_audit.proofs.CandidateLists.{around}
 use Rattle.max_audit.proofs.candidates.candidates_of.Given as goal
 
-abbrev pub invariant-loop-pair : goal.invariant-loop-pair
-invariant-loop-pair l = record {
-  gathered : (lowest : ℤ) × IsBelowAll (answers_of l.pairs) lowest × (l.candidates.items ≡ lowest ∷ around (answers_of (take l.pair-index l.pairs)));
+abbrev pub invariant-loop-k : goal.invariant-loop-k
+invariant-loop-k l = record {
+  gathered : (lowest : ℤ) × IsBelowAll (answers_of l.pairs.items) lowest × (l.candidates.items ≡ lowest ∷ around (answers_of (take l.k l.pairs.items)));
   near : All IsNearRange l.candidates.items;
 }

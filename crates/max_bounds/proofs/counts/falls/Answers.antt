@@ -2,13 +2,13 @@ use Rattle.std.proofs.Common.{◌≡◌, inl, inr, rules, SFits, ◌+◌, arith,
 use Rattle.std.specs.Int.{w64}
 use Rattle.std.proofs.lemmas.Int.{ints, to_z-of_z}
 use Rattle.audit_types.specs.RowLaws.{walk_row, walk_more, length-rows}
-use Rattle.max_bounds.specs.Maxima.{answer_of}
+use Rattle.max_bounds.specs.Maxima.{answer_of, pair_at}
 use Rattle.max_bounds.specs.Reaching.{bound_at}
 use Rattle.max_bounds.specs.Kept.{falls_of}
 use Rattle.max_bounds.proofs.Walks.{walk_ends, counted-push, counted-same, filter-shorter}
 use Rattle.max_bounds.proofs.Ranges.{falls-outside}
 use Rattle.max_bounds.proofs.counts.falls.Goals as goal
-use Rattle.max_bounds.proofs.counts.falls.Goals.{then-pair-range-via-then-pair-range, then-pair-range-via-else-pair-range+then-pair-range-2}
+use Rattle.max_bounds.proofs.counts.falls.Goals.{then-answer-range-via-then-answer-range, then-answer-range-via-else-answer-range+then-answer-range-2}
 
 pub bounds-upper-row : goal.bounds-upper-row
 bounds-upper-row c =
@@ -20,7 +20,7 @@ pub is_extreme-requires : goal.is_extreme-requires
 is_extreme-requires c =
     let below = walk_row c.args.falling.now.n c.loop-row.yielded c.loop-row.row-iterator c.next.new.self c.args.falling.now.list c.in-Some.row
     c.n.ensures.are_rows c.loop-row.invariant.together c.in-Some.ensures.steps in
-    omega (arith, c.requires.same_n)
+    record { place = c.requires.place; row = omega (arith, c.requires.same_n) }
 
 pub overflow_add-count : goal.overflow_add-count
 overflow_add-count c =
@@ -49,18 +49,20 @@ loop-row-preserved c = record {
 pub returns : goal.returns
 returns c =
     let all = walk_ends c.loop-row.yielded c.loop-row.row-iterator c.args.falling.now.list c.loop-row.invariant.together c.in-None.ensures.steps.0 in
-    c.loop-row.invariant.counted ∙ ap (λ l. length (falls_of (bound_at c.args.upper.now) l (answer_of c.args.pair.now))) all
+    c.loop-row.invariant.counted ∙ ap (λ l. length (falls_of (bound_at c.args.upper.now) l (answer_of (pair_at c.args.pairs.now.items c.args.k)))) all
 
-pub returns-then-pair-range : goal.returns-then-pair-range
-returns-then-pair-range c =
-    let fits : SFits w64 c.args.pair.now.answer = search rules in
+pub returns-then-answer-range : goal.returns-then-answer-range
+returns-then-answer-range c =
+    let pair = pair_at c.args.pairs.now.items c.args.k in
+    let fits : SFits w64 c.answer-answer.result = search rules in
     let low_fits : SFits w64 c.args.range.low = search rules in
     let high_fits : SFits w64 c.args.range.high = search rules in
-    let same = to_z-of_z w64 c.args.pair.now.answer fits in
+    let same = to_z-of_z w64 c.answer-answer.result fits in
     let low = to_z-of_z w64 c.args.range.low low_fits in
     let high = to_z-of_z w64 c.args.range.high high_fits in
-    sym (ap length (falls-outside (bound_at c.args.upper.now) c.args.falling.now.list c.args.range (answer_of c.args.pair.now) c.requires.holds
-    (elim c.then-pair-range.branch [
-      | then-pair-range-via-then-pair-range w ↦ inl (omega (arith, ints))
-      | then-pair-range-via-else-pair-range+then-pair-range-2 w ↦ inr (omega (arith, ints))
+    let read = c.answer-answer.ensures in
+    sym (ap length (falls-outside (bound_at c.args.upper.now) c.args.falling.now.list c.args.range (answer_of pair) c.requires.holds
+    (elim c.then-answer-range.branch [
+      | then-answer-range-via-then-answer-range w ↦ inl (omega (arith, ints))
+      | then-answer-range-via-else-answer-range+then-answer-range-2 w ↦ inr (omega (arith, ints))
     ])))

@@ -1,13 +1,13 @@
-use Rattle.std.proofs.Common.{ℕ, ◌-◌, ◌≤◌, length, take}
+use Rattle.std.proofs.Common.{◌-◌, ◌≤◌, length, take}
 use Rattle.max_bounds.specs.Maxima.{answers_of}
 use Rattle.max_bounds.proofs.NearlyHeld.{AreSeen}
 use Rattle.max_bounds.proofs.few.nearly_holds.Given as goal
 
 abbrev pub invariant-loop-k : goal.invariant-loop-k
 invariant-loop-k l = record {
-  in_range : l.k ≤ length l.least;
-  seen : AreSeen l.people.people (answers_of (take l.k l.least)) l.rows.list;
+  in_range : l.k ≤ length l.least.items;
+  seen : AreSeen l.people.people (answers_of (take l.k l.least.items)) l.rows.list;
 }
 
 abbrev pub decreases-loop-k : goal.decreases-loop-k
-decreases-loop-k l = length l.least - l.k
+decreases-loop-k l = length l.least.items - l.k

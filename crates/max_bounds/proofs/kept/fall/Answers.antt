@@ -15,7 +15,7 @@ use Rattle.max_bounds.proofs.kept.fall.Goals as goal
 
 pub returns-then-is_empty-clause-tells : goal.returns-then-is_empty-clause-tells
 returns-then-is_empty-clause-tells c =
-    let answers = answers_of c.args.pairs.now in
+    let answers = answers_of c.args.pairs.now.items in
     let rows = c.args.latest.now.rows.list in
     let x = c.args.latest.now.answer in
     let none : rows_above (upper_bound answers) x rows ≡ [] = ap (λ u. rows_above u x rows) (sym (fun_ext c.requires.bounds)) ∙ sym c.requires.falling
@@ -26,19 +26,20 @@ returns-then-is_empty-clause-tells c =
           c.requires.told.counted
           ∙ map_agree (λ a. length (extremes answers a)) (λ a. length (extremes (and_answer answers rows x) a)) answers (λ a one. ap length (sym (same a one)));
       fewest_is = c.requires.told.fewest_is;
-      are_least = least_same answers rows x (answers_of c.args.least.now) same c.requires.told.are_least;
+      are_least = least_same answers rows x (answers_of c.args.least.now.items) same c.requires.told.are_least;
     }
 
 pub lower_counts-requires-clause-same_n : goal.lower_counts-requires-clause-same_n
-lower_counts-requires-clause-same_n c = subst (λ n. AllByRecursion (λ p. p.rows.n ≡ n) c.args.pairs.now) (sym c.requires.same_n_falling) c.requires.same_n
+lower_counts-requires-clause-same_n c = c.requires.same_n ∙ sym c.requires.same_n_falling
 
 pub lower_counts-requires-clause-counted : goal.lower_counts-requires-clause-counted
 lower_counts-requires-clause-counted c =
-    c.requires.told.counted ∙ ap (λ u. map (λ (a : Answer). length (reaching u a.rows a.value)) (answers_of c.args.pairs.now)) (sym (fun_ext c.requires.bounds))
+    c.requires.told.counted
+      ∙ ap (λ u. map (λ (a : Answer). length (reaching u a.rows a.value)) (answers_of c.args.pairs.now.items)) (sym (fun_ext c.requires.bounds))
 
 pub lower_counts-requires-clause-few : goal.lower_counts-requires-clause-few
 lower_counts-requires-clause-few c =
-    let answers = answers_of c.args.pairs.now in
+    let answers = answers_of c.args.pairs.now.items in
     let rows = c.args.latest.now.rows.list in
     let x = c.args.latest.now.answer in
     let n = c.args.latest.now.rows.n in
@@ -53,7 +54,7 @@ lower_counts-requires-clause-few c =
 
 pub returns-clause-tells : goal.returns-clause-tells
 returns-clause-tells c =
-    let answers = answers_of c.args.pairs.now in
+    let answers = answers_of c.args.pairs.now.items in
     let rows = c.args.latest.now.rows.list in
     let x = c.args.latest.now.answer in
     let n = c.args.latest.now.rows.n in
@@ -71,10 +72,10 @@ returns-clause-tells c =
       fewest_is = c.fewest.ensures;
       are_least =
           subst (AreLeast (extremes (and_answer answers rows x)) answers)
-          (sym (c.lower_sets.ensures.lowered ∙ ap (λ a. map (lowered_set a rows) (answers_of c.args.least.now)) same))
-          (least_lowered answers rows x (answers_of c.args.least.now) c.requires.told.are_least);
+          (sym (c.lower_sets.ensures.lowered ∙ ap (λ a. map (lowered_set a rows) (answers_of c.args.least.now.items)) same))
+          (least_lowered answers rows x (answers_of c.args.least.now.items) c.requires.told.are_least);
     }
 
 pub returns-clause-descend : goal.returns-clause-descend
 returns-clause-descend c =
-    subst Descend (sym c.lower_sets.ensures.lowered) (lowered_descend _ c.args.latest.now.rows.list (answers_of c.args.least.now) c.requires.descend)
+    subst Descend (sym c.lower_sets.ensures.lowered) (lowered_descend _ c.args.latest.now.rows.list (answers_of c.args.least.now.items) c.requires.descend)

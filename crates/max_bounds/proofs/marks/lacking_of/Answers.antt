@@ -1,4 +1,4 @@
-use Rattle.std.proofs.Common.{sym, ap, ◌∙◌, subst, arith}
+use Rattle.std.proofs.Common.{ap, ◌∙◌, subst}
 use Rattle.audit_types.specs.Rows.{complement, AreRows}
 use Rattle.max_bounds.specs.Groups.{IsSample, AreGroups}
 use Rattle.max_bounds.proofs.MarkedSets.{lacks_none, lacks_samples, lacks_touched, lacks_filled}

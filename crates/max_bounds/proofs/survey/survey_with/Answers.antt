@@ -15,10 +15,10 @@ returns c =
     let same : to_z w128 (of_z w128 c.args.answer) ≡ c.args.answer = to_z-of_z w128 c.args.answer c.ranges.answer in
     let bounds = fun_ext (λ r.
     c.lower.ensures.lowered r ∙ ap (λ a. bound_with last.rows a r (bound_at c.upper_bounds-bounds.result r)) same
-    ∙ ap (bound_with last.rows last.value r) (c.upper_bounds-bounds.ensures.exact r) ∙ sym (upper_bound-push (answers_of c.args.pairs.now) last r)) in
+    ∙ ap (bound_with last.rows last.value r) (c.upper_bounds-bounds.ensures.exact r) ∙ sym (upper_bound-push (answers_of c.args.pairs.now.items) last r)) in
     record {
-      tells = subst (λ bound. TellsOf bound c.args.shared.now.list (and_answer (answers_of c.args.pairs.now) last.rows last.value) c.and.result) bounds
-          (TellsOf-push (bound_at c.lower.new.bounds) c.args.shared.now.list (answers_of c.args.pairs.now) last c.survey_under.result c.and.result
+      tells = subst (λ bound. TellsOf bound c.args.shared.now.list (and_answer (answers_of c.args.pairs.now.items) last.rows last.value) c.and.result) bounds
+          (TellsOf-push (bound_at c.lower.new.bounds) c.args.shared.now.list (answers_of c.args.pairs.now.items) last c.survey_under.result c.and.result
           c.extreme_rows-extremes.result.count
           c.extreme_rows-extremes.result.lone c.survey_under.ensures.tells
           (c.extreme_rows-extremes.ensures.count ∙ ap (λ a. length (reaching (bound_at c.lower.new.bounds) last.rows a)) same)

@@ -3,5 +3,5 @@ use Rattle.max_bounds.specs.Maxima.{answers_of}
 use Rattle.max_bounds.proofs.Lowering.{AreBounds}
 use Rattle.max_bounds.proofs.upper_bounds.upper_bounds.Given as goal
 
-abbrev pub invariant-loop-pair : goal.invariant-loop-pair
-invariant-loop-pair l = AreBounds (answers_of (take l.pair-index l.pairs)) l.bounds
+abbrev pub invariant-loop-k : goal.invariant-loop-k
+invariant-loop-k l = AreBounds (answers_of (take l.k l.pairs.items)) l.bounds

@@ -1,4 +1,4 @@
-use Rattle.std.proofs.Common.{ℕ, ◌-◌, ◌≤◌, take}
+use Rattle.std.proofs.Common.{◌-◌, ◌≤◌, take}
 use Rattle.max_bounds.specs.Maxima.{answers_of}
 use Rattle.max_bounds.specs.Outside.{HasWithin}
 use Rattle.max_bounds.proofs.within.has_within.Given as goal
@@ -6,7 +6,7 @@ use Rattle.max_bounds.proofs.within.has_within.Given as goal
 abbrev pub invariant-loop-k : goal.invariant-loop-k
 invariant-loop-k l = record {
   in_range : l.k ≤ l.end;
-  none : HasWithin (answers_of (take l.k l.least)) l.rows.list l.answer → ⊥;
+  none : HasWithin (answers_of (take l.k l.least.items)) l.rows.list l.answer → ⊥;
 }
 
 abbrev pub decreases-loop-k : goal.decreases-loop-k

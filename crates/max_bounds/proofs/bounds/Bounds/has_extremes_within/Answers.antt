@@ -1,11 +1,9 @@
 use Rattle.std.proofs.Common.{◌≡◌, ℤ, sym, ap, ◌∙◌, subst, to_z, of_z}
 use Rattle.std.specs.Int.{w64}
 use Rattle.std.specs.Prelude.{◌↔◌, IsTrue}
-use Rattle.std.specs.List.{AllByRecursion}
 use Rattle.std.proofs.lemmas.Int.{to_z-of_z}
 use Rattle.max_bounds.specs.Maxima.{Maxima, answers_of}
-use Rattle.max_bounds.specs.Outside.{HasWithin, HasExtremesWithin}
-use Rattle.max_bounds.specs.Kept.{Descend}
+use Rattle.max_bounds.specs.Outside.{HasExtremesWithin}
 use Rattle.max_bounds.proofs.HeldExtremes.{extremes_of_set, set_of_extremes}
 use Rattle.max_bounds.proofs.bounds.Bounds.has_extremes_within.Goals as goal
 
@@ -13,10 +11,9 @@ pub has_within-requires : goal.has_within-requires
 has_within-requires c =
     let same_n : c.self.inside.n ≡ c.args.rows.now.n = ap (λ (m : Maxima). m.n) c.self.view_is ∙ sym c.requires.same_n in
     record {
-      same_n = subst (AllByRecursion (λ p. p.rows.n ≡ c.args.rows.now.n)) (sym c.deref.ensures.value)
-          (subst (λ n. AllByRecursion (λ p. p.rows.n ≡ n) c.self.inside.least.items) same_n c.self.invariant.same_n_least);
-      descend = subst (λ l. Descend (answers_of l)) (sym c.deref.ensures.value) c.self.invariant.descend;
-      marked = rw c.deref.ensures.value c.self.invariant.marked;
+      same_n = c.self.invariant.same_n_least ∙ same_n;
+      descend = c.self.invariant.descend;
+      marked = c.self.invariant.marked;
     }
 
 pub returns : goal.returns
@@ -25,10 +22,9 @@ returns c =
     let sets = answers_of c.self.inside.least.items in
     let rows = c.args.rows.now.list in
     let least = c.self.invariant.tells.are_least in
-    let same : answers_of c.deref.result.now ≡ sets = ap answers_of c.deref.ensures.value in
     let value : ℤ = to_z w64 (of_z w64 c.args.answer) in
     subst (λ (m : Maxima). IsTrue c.has_within.result ↔ HasExtremesWithin m.answers rows c.args.answer) c.self.view_is
     (subst (λ v. IsTrue c.has_within.result ↔ HasExtremesWithin answers rows v) (to_z-of_z w64 c.args.answer c.ranges.answer) (
-      (λ yes. extremes_of_set answers sets least rows value (subst (λ l. HasWithin l rows value) same (c.has_within.ensures.0 yes))),
-      (λ held. c.has_within.ensures.1 (subst (λ l. HasWithin l rows value) (sym same) (set_of_extremes answers sets least rows value held))),
+      (λ yes. extremes_of_set answers sets least rows value (c.has_within.ensures.0 yes)),
+      (λ held. c.has_within.ensures.1 (set_of_extremes answers sets least rows value held)),
     ))

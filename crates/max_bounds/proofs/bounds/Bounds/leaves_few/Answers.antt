@@ -1,13 +1,11 @@
 use Rattle.std.proofs.Common.{◌≡◌, ◌<◌, inl, inr, arith, refl, sym, ap, ◌∙◌, subst}
 use Rattle.std.specs.Prelude.{◌↔◌, IsTrue, false}
-use Rattle.std.specs.List.{AllByRecursion}
 use Rattle.std.proofs.Math.Path.{fun_ext}
 use Rattle.std.proofs.lemmas.Bool.{true≢false}
 use Rattle.audit_types.specs.Extremes.{upper_bound, IsConsistent}
 use Rattle.max_bounds.specs.Maxima.{Maxima, answers_of}
 use Rattle.max_bounds.specs.Reaching.{bound_at}
-use Rattle.max_bounds.specs.Few.{HasFewPeople, HasFewHighest, HasNearlyHeld, IsFewByExtremes}
-use Rattle.max_bounds.specs.Kept.{Descend}
+use Rattle.max_bounds.specs.Few.{HasFewPeople, HasFewHighest, IsFewByExtremes}
 use Rattle.max_bounds.proofs.DangerCases.{decides, held_answer, consistent, not_consistent}
 use Rattle.max_bounds.proofs.bounds.Bounds.leaves_few.Goals as goal
 
@@ -42,10 +40,9 @@ pub nearly_holds-requires : goal.nearly_holds-requires
 nearly_holds-requires c =
     let same_n : c.self.inside.n ≡ c.args.rows.now.n = ap (λ (m : Maxima). m.n) c.self.view_is ∙ sym c.requires.same_n in
     record {
-      same_n = subst (AllByRecursion (λ p. p.rows.n ≡ c.args.rows.now.n)) (sym c.deref-else-few_highest_of.ensures.value)
-          (subst (λ n. AllByRecursion (λ p. p.rows.n ≡ n) c.self.inside.least.items) same_n c.self.invariant.same_n_least);
-      descend = subst (λ l. Descend (answers_of l)) (sym c.deref-else-few_highest_of.ensures.value) c.self.invariant.descend;
-      marked = rw c.deref-else-few_highest_of.ensures.value c.self.invariant.marked;
+      same_n = c.self.invariant.same_n_least ∙ same_n;
+      descend = c.self.invariant.descend;
+      marked = c.self.invariant.marked;
     }
 
 pub returns-then-few_highest_of : goal.returns-then-few_highest_of
@@ -72,7 +69,6 @@ returns-else-few_highest_of c =
     let sets = answers_of c.self.inside.least.items in
     let rows = c.args.rows.now.list in
     let bounds : bound_at c.deref-2.result.now ≡ upper_bound answers = ap bound_at c.deref-2.ensures.value ∙ fun_ext kept.bounds in
-    let least : answers_of c.deref-else-few_highest_of.result.now ≡ sets = ap answers_of c.deref-else-few_highest_of.ensures.value in
     let some : 0 < c.self.inside.fewest = omega arith in
     let none : HasFewPeople people answers → ⊥ =
     λ few. true≢false (sym (c.has_few.ensures.1 (subst (λ (m : Maxima). HasFewPeople people m.answers) c.self.view_is few)) ∙ c.if-has_few.false) in
@@ -80,10 +76,9 @@ returns-else-few_highest_of c =
       (λ yes. record {
         consistent = consistent answers counts c.self.inside.fewest sets kept.tells some;
         cause = inr (inr (held_answer answers counts c.self.inside.fewest sets kept.tells c.self.inside.n kept.are_rows people rows
-            (subst (λ l. HasNearlyHeld people (λ a. a.rows) l rows) least (c.nearly_holds.ensures.0 yes))));
+            (c.nearly_holds.ensures.0 yes)));
       }),
-      (λ told. c.nearly_holds.ensures.1 (subst (λ l. HasNearlyHeld people (λ a. a.rows) l rows) (sym least)
-          (decides answers counts c.self.inside.fewest sets kept.tells c.self.inside.n kept.are_rows people rows none told
+      (λ told. c.nearly_holds.ensures.1 (decides answers counts c.self.inside.fewest sets kept.tells c.self.inside.n kept.are_rows people rows none told
           (λ highest. true≢false (sym (c.few_highest_of.ensures.1 (subst (λ u. HasFewHighest people u rows) (sym bounds) highest))
-          ∙ c.if-few_highest_of.false))))),
+          ∙ c.if-few_highest_of.false)))),
     )

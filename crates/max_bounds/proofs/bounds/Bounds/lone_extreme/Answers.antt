@@ -1,4 +1,4 @@
-use Rattle.std.proofs.Common.{◌≡◌, ℕ, List, false, arith, ap, ◌∙◌, subst, None}
+use Rattle.std.proofs.Common.{◌≡◌, ℕ, List, false, arith, ap, subst, None}
 use Rattle.audit_types.specs.Rows.{has_row}
 use Rattle.audit_types.specs.Extremes.{IsLeastLone, IsLone}
 use Rattle.max_bounds.specs.Maxima.{Maxima, answers_of}
@@ -17,7 +17,7 @@ returns-then-self-gt1 c =
 
 pub returns : goal.returns
 returns c =
-    let answers : answers_of c.deref.result.now ≡ c.args.self.now.answers = ap answers_of c.deref.ensures.value ∙ ap (λ m. m.answers) c.self.view_is in
+    let answers : answers_of c.self.inside.pairs.items ≡ c.args.self.now.answers = ap (λ m. m.answers) c.self.view_is in
     same_least (λ r. IsLone c.args.self.now.answers r × (has_row c.new.result.list r ≡ false)) (IsLone c.args.self.now.answers) c.survey.result.lone
     (λ r found. found.0)
     (λ r lone. (lone, ap (λ (l : List ℕ). has_row l r) c.new.ensures.empty)) (rw answers at c.survey.ensures.tells.lone)

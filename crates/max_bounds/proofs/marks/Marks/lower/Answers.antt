@@ -1,5 +1,4 @@
-use Rattle.std.proofs.Common.{◌≡◌, ℕ, sym, ap, ◌∙◌, arith}
-use Rattle.max_bounds.specs.declared.marks.Marking.{Marking}
+use Rattle.std.proofs.Common.{arith}
 use Rattle.max_bounds.specs.declared.marks.Marking.TheVariants.{Samples, Touched, Filled}
 use Rattle.max_bounds.proofs.marks.Marks.lower.Goals as goal
 
