@@ -33,8 +33,9 @@ loop-e-preserved c =
     let common : IsGcd c.loop-e.divisor (unsigned_abs (get_or c.args.entries.now c.loop-e.e-index
     (record { place = 0; value = pos 0 })).value) c.with-divisor.result =
     subst (λ (m : ℤ). IsGcd c.loop-e.divisor (unsigned_abs m) c.with-divisor.result)
-    (passed c.value.result (get_or c.args.entries.now c.loop-e.e-index (record { place = 0; value = pos 0 })).value value (c.value.ensures ∙ ap (λ
-    (x : FreeEntry). x.value) (sym (entry_is c.args.entries.now c.loop-e.e-index c.e-item.result c.loop-e-test.true c.e-item.is)))) c.with-divisor.ensures in
+    (passed c.value.result (get_or c.args.entries.now c.loop-e.e-index (record { place = 0; value = pos 0 })).value value (c.value.ensures
+    ∙ ap (λ (x : FreeEntry). x.value) (sym (entry_is c.args.entries.now c.loop-e.e-index c.e-item.result c.loop-e-test.true c.e-item.is))))
+    c.with-divisor.ensures in
     record {
       content =
           one_more_value (to_z w128
@@ -49,8 +50,8 @@ new-divisor-requires c = rw (to_z-of_z w128 c.args.head c.ranges.head) c.require
 pub with-divisor-requires : goal.with-divisor-requires
 with-divisor-requires c =
     let value : FitsSigned w128 c.value.result = search rules in
-    rw (passed c.value.result (get_or c.args.entries.now c.loop-e.e-index (record { place = 0; value = pos 0 })).value value (c.value.ensures ∙ ap (λ
-    (x : FreeEntry). x.value) (sym (entry_is c.args.entries.now c.loop-e.e-index c.e-item.result c.loop-e-test.true c.e-item.is))))
+    rw (passed c.value.result (get_or c.args.entries.now c.loop-e.e-index (record { place = 0; value = pos 0 })).value value (c.value.ensures
+    ∙ ap (λ (x : FreeEntry). x.value) (sym (entry_is c.args.entries.now c.loop-e.e-index c.e-item.result c.loop-e-test.true c.e-item.is))))
     (all-get_or (λ (e : FreeEntry). unsigned_abs e.value ≤ 2 ^ 126) c.args.entries.now c.loop-e.e-index (record { place = 0; value = pos 0 })
     c.requires.entries c.loop-e-test.true)
 

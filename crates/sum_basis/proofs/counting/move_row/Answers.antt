@@ -71,7 +71,12 @@ loop-e-preserved c =
     let value_fits : FitsSigned w128 c.number.result = search rules in
     let by_fits : FitsSigned w128 c.number-by.result = search rules in
     let is =
-    rw (passed c.number-by.result by by_fits c.number-by.ensures, to_z-of_z w128 before fits, to_z-of_z w128 c.args.times c.ranges.times, passed c.number.result e.value value_fits c.number.ensures)
+    rw (
+      passed c.number-by.result by by_fits c.number-by.ensures,
+      to_z-of_z w128 before fits,
+      to_z-of_z w128 c.args.times c.ranges.times,
+      passed c.number.result e.value value_fits c.number.ensures,
+    )
     at c.moved.ensures in
     let own = own_value 0 (length c.args.counts.now) new c.loop-e.e-index none c.requires.new.0 c.loop-e-test.true in
     let left = ap one_if (without_at new f none e.place e.value (let within = c.loop-e-test.true in omega arith) own

@@ -18,7 +18,12 @@ inside : (n : ℕ) (new : List FreeEntry) (old rows : List SparseRow) (k : ℕ) 
 inside n new old rows k part h = let same = part.same_length in omega arith
 
 pub loop-k-init : goal.loop-k-init
-loop-k-init c = record { cleared = none_cleared c.args.columns c.args.new.now c.args.rows.now.items; capacity = refl; room = c.requires.room; combined_room = c.requires.combined_room }
+loop-k-init c = record {
+  cleared = none_cleared c.args.columns c.args.new.now c.args.rows.now.items;
+  capacity = refl;
+  room = c.requires.room;
+  combined_room = c.requires.combined_room;
+}
 
 pub clear-requires-clause-primitive : goal.clear-requires-clause-primitive
 clear-requires-clause-primitive c =

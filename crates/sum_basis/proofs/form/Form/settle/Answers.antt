@@ -125,9 +125,9 @@ returns-clause-within c =
 pub short_list-requires-clause-length : goal.short_list-requires-clause-length
 short_list-requires-clause-length c =
     let n = c.args.self.now.n in
-    let listed = made_listed n c.remainder.new.row c.in_ok-list.list.items c.make_primitive.new.entries.items c.remainder.ensures.length c.in_ok-list.ensures.listed
-    c.in_ok-list.ensures.is (not_empty c.in_ok-list.list.len c.in_ok-list.list.items c.is_empty.result c.in_ok-list.list.ok.0 c.is_empty.ensures
-    c.if-is_empty.false) c.make_primitive.ensures.made in
+    let listed = made_listed n c.remainder.new.row c.in_ok-list.list.items c.make_primitive.new.entries.items c.remainder.ensures.length
+    c.in_ok-list.ensures.listed c.in_ok-list.ensures.is (not_empty c.in_ok-list.list.len c.in_ok-list.list.items c.is_empty.result c.in_ok-list.list.ok.0
+    c.is_empty.ensures c.if-is_empty.false) c.make_primitive.ensures.made in
     let all = listed_length 0 n c.make_primitive.new.entries.items (omega arith) listed in
     let same = ap (λ (e : Echelon). e.n) c.self.view_is in
     let list = ap length c.deref-2.ensures.value in
