@@ -153,7 +153,7 @@ PLANTS = [
     ("rows are named though nobody who is left out helps", "preparing/ranges.py", "    if not can_be_wide(numbers, known, parts):\n", "    if False:\n",
      "test_limits.HeldDown.test_where_nobody_left_out_helps_no_row_is_named"),
     ("a smaller width is called enough that isn't", "preparing/ranges.py", "if least // smaller**2 * NEAR >= middle", "if least * NEAR >= middle",
-     "test_limits.HeldDown.test_where_nobody_left_out_helps_no_row_is_named"),
+     "test_limits.HeldDown.test_a_smaller_width_counts_in_whole_numbers"),
     ("the guess lets people in the table go unguarded", "preparing/guessing.py", "{guarding.ASKERS}={guarding.INSIDE}", "{guarding.ASKERS}={guarding.OUTSIDE}",
      "test_guessing.Guessing.test_the_line_fills_in_all_that_is_open"),
     ("the guess keeps what tells people apart", "preparing/guessing.py", '"leave out" if len(tally.cells) * 2 > tally.rows else "text"', '"text"',
