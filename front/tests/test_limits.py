@@ -163,6 +163,12 @@ class HeldDown(WithLimits):
         said = self.made(text, "team=text", "pay=sum", "pay.range=999 to 1007", "width=4", "reach=50")
         self.assertIn("Even a width of 1 is sure of 0 % alone, whoever is left out: publish a report over groups alone", said)
 
+    def test_a_smaller_width_counts_in_whole_numbers(self):
+        # 6 over 4 is 1, and a tenth of 15 isn't reached; over 1 it is 6, which is 40 %.
+        text = "team,pay\n" + "".join(f"t{row % 3},{pay}\n" for row, pay in enumerate([6, 15, 15, 17, 14]))
+        said = self.made(text, "team=text", "pay=sum", "pay.range=0 to none", "width=4", "reach=50")
+        self.assertIn("A width of 1 is sure of 40 %, and denies more", said)
+
     def test_a_very_great_width_is_no_work(self):
         (said,) = self.always("pay.range=0 to none", f"width={2**56}")
         self.assertIn("A width of 2 is sure of 19.2 %", said)
