@@ -62,7 +62,7 @@ module _ (a : Inside) (now : ListOfRows) (is : sets_of a ≡ now) where
   pub are_rows : AllByRecursion (λ (s : Rows). AreRows now.n s.list) now.list
   are_rows = subst (λ (l : ListOfRows). AllByRecursion (λ (s : Rows). AreRows l.n s.list) l.list) is
       (all_range (λ (s : Rows). AreRows a.n s.list) (set_at a.n a.words.items)
-        (λ k. AreRows-rows_that (has_bit (words_at (width_of a.n) a.words.items k)) a.n) 0 a.len)
+      (λ k. AreRows-rows_that (has_bit (words_at (width_of a.n) a.words.items k)) a.n) 0 a.len)
 
   -- the set at a place is that of its words
   pub get-set : (k : ℕ) → k < a.len → get_or now.list k no_rows ≡ set_at a.n a.words.items k
@@ -107,14 +107,14 @@ module _ (n : ℕ) (a b : List ℕ) where
         | inl below ↦ no_one _ i (both_bits (get_or a k 0) (get_or b k 0) i ∙ elim (cases_lt (64 * k + i) n) [
           | inl l ↦
               ap (λ x. x && (bit_at (get_or b k 0) i == 1)) (sym (same_place a k i below))
-                ∙ ap (λ x. has_bit a (64 * k + i) && x) (sym (same_place b k i below))
+              ∙ ap (λ x. has_bit a (64 * k + i) && x) (sym (same_place b k i below))
               ∙ sym (ap (λ x. x && has_row (rows_that (has_bit b) n) (64 * k + i)) (has-rows_that (has_bit a) n (64 * k + i) l)
               ∙ ap (λ x. has_bit a (64 * k + i) && x) (has-rows_that (has_bit b) n (64 * k + i) l))
               ∙ sym (has-rows_that (λ r. has_row (rows_that (has_bit a) n) r && has_row (rows_that (has_bit b) n) r) n (64 * k + i) l)
               ∙ ap (λ rows. has_row rows (64 * k + i)) empty
           | inr past ↦
               ap (λ x. (bit_at (get_or a k 0) i == 1) && x) (sym (same_place b k i below) ∙ are.none_above (64 * k + i) past)
-                ∙ no_and (bit_at (get_or a k 0) i == 1)
+              ∙ no_and (bit_at (get_or a k 0) i == 1)
         ])
       ]) in
       omega (arith, small)
@@ -147,7 +147,7 @@ module _ (w place : ℕ) (front : List ℕ) (some : 0 < w) (at : length front �
         ap (λ i. take w (drop i all)) start
         ∙ ap (take w) (sym (drop-drop (k * w) (place * w + w) all))
         ∙ ap (λ xs. take w (drop (k * w) xs))
-          (sym (drop-drop w (place * w) all) ∙ ap (drop w) (drop_at front (new ++ back) (place * w) at) ∙ drop_at new back w long)
+        (sym (drop-drop w (place * w) all) ∙ ap (drop w) (drop_at front (new ++ back) (place * w) at) ∙ drop_at new back w long)
 
 -- a width of some rows
 pub some_width : (n : ℕ) → 0 < n → 0 < width_of n
@@ -171,9 +171,9 @@ pub turned : (words new : List ℕ) (start w : ℕ) → start ≤ length words �
 turned words new start w l long =
     let rest : length (words ++ new) - w ≡ length words = omega (arith, length-append words new) in
     ap (λ xs. xs ++ (drop (length (words ++ new) - w) (words ++ new) ++ take (length (words ++ new) - w - start) (drop start (words ++ new))))
-      (take-append-le start words new l)
+    (take-append-le start words new l)
     ∙ ap (λ xs. take start words ++ (xs ++ take (length (words ++ new) - w - start) (drop start (words ++ new))))
-      (ap (λ i. drop i (words ++ new)) rest ∙ drop_at words new (length words) refl)
+    (ap (λ i. drop i (words ++ new)) rest ∙ drop_at words new (length words) refl)
     ∙ ap (λ xs. take start words ++ (new ++ xs)) (ap (λ i. take (i - start) (drop start (words ++ new))) rest
     ∙ ap (take (length words - start)) (drop-append-le start words new l) ∙ take_at (drop start words) new (length words - start) (length-drop start words))
 
@@ -302,11 +302,11 @@ module _ (a : Inside) (now : ListOfRows) (is : sets_of a ≡ now) (inv : ArePack
       sets-and =
           let new : Rows = record { n = now.n; list = intersection now.n (rows_at now.list k) other.list } in
           let here : set_at a.n words k ≡ new = ap (λ rs. record { n = a.n; list = rs })
-            (rows-both a.n (words_at w items k) b (words_at w words k) word-both ∙ shared_is)
+          (rows-both a.n (words_at w items k) b (words_at w words k) word-both ∙ shared_is)
           ∙ ap (λ m. record { n = m; list = intersection now.n (rows_at now.list k) other.list }) same_table in
           sym (fill_by_all (set_at a.n words) (set now.list k new) a.len no_rows (length-set now.list k new ∙ count a now is) (λ m l. elim (cases_eq m k) [
             | inl e ↦ subst (λ i. get_or (set now.list k new) i no_rows ≡ set_at a.n words i) (sym e)
-              (get_or-set_same now.list k new no_rows within_sets ∙ sym here)
+                (get_or-set_same now.list k new no_rows within_sets ∙ sym here)
             | inr ne ↦ get_or-set_other now.list k m new no_rows ne ∙ get-set a now is m l
                 ∙ ap (λ ws. record { n = a.n; list = rows_that (has_bit ws) a.n }) (sym (words-other m l ne))
           ]))
@@ -347,7 +347,7 @@ module _ (a : Inside) (now : ListOfRows) (is : sets_of a ≡ now) (inv : ArePack
 
     -- what holds of the new set and of the others holds of all
     each : (P : ℕ → List ℕ → Type 0) → P at new → ((m : ℕ) → m < at → P m (words_at w items m)) →
-      ((k : ℕ) → at ≤ k → k < a.len → P (k + 1) (words_at w items k)) →
+        ((k : ℕ) → at ≤ k → k < a.len → P (k + 1) (words_at w items k)) →
         (m : ℕ) → m < a.len + 1 → P m (words_at w words m)
     each P here lower upper m l = elim (cases_lt m at) [
       | inl below ↦ subst (P m) (sym (words-lower m below)) (lower m below)
@@ -356,7 +356,7 @@ module _ (a : Inside) (now : ListOfRows) (is : sets_of a ≡ now) (inv : ArePack
         | inr ne ↦
             let up : m - 1 + 1 ≡ m = omega arith in
             subst (λ i. P i (words_at w words i)) up
-              (subst (P (m - 1 + 1)) (sym (words-upper (m - 1) (omega arith))) (upper (m - 1) (omega arith) (omega arith)))
+            (subst (P (m - 1 + 1)) (sym (words-upper (m - 1) (omega arith))) (upper (m - 1) (omega arith) (omega arith)))
       ]
     ]
 
@@ -379,7 +379,7 @@ module _ (a : Inside) (now : ListOfRows) (is : sets_of a ≡ now) (inv : ArePack
         let set_of : List ℕ → Rows = λ ws. record { n = a.n; list = rows_that (has_bit ws) a.n } in
         let here : set_of new ≡ rows = ap (λ rs. record { n = a.n; list = rs }) is_new ∙ ap (λ m. record { n = m; list = rows.list }) (same_table ∙ sym same) in
         sym (fill_by_all (set_at a.n words) (insert now.list at rows) (a.len + 1) no_rows
-          (length-insert now.list at rows among ∙ ap (λ i. i + 1) (count a now is))
+        (length-insert now.list at rows among ∙ ap (λ i. i + 1) (count a now is))
         (each (λ i ws. get_or (insert now.list at rows) i no_rows ≡ set_of ws)
         (get_or-insert_at now.list at rows no_rows among ∙ sym here)
         (λ m below. get_or-insert_below now.list at rows no_rows m below among ∙ get-set a now is m (let sets = count a now is in omega arith))

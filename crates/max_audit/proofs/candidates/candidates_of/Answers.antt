@@ -36,7 +36,7 @@ returns-clause-exact c =
     let whole : take c.loop-k.k c.args.pairs.now.items ≡ c.args.pairs.now.items = take_all c.loop-k.k c.args.pairs.now.items (omega arith) in
     let gathered = c.loop-k.invariant.gathered in
     AreCandidates-sorted (answers_of c.args.pairs.now.items) gathered.0 c.loop-k.candidates.items c.sort_unstable.new.self.items
-      c.dedup.new.self.items gathered.1
+    c.dedup.new.self.items gathered.1
     (rw whole at gathered.2) c.sort_unstable.ensures.permutation c.sort_unstable.ensures.sorted (dedup_is _ _ _ c.dedup.ensures.filtered)
 
 pub returns-clause-near : goal.returns-clause-near

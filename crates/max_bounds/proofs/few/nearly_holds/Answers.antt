@@ -119,6 +119,7 @@ loop-k-preserved c =
 pub returns : goal.returns
 returns c =
     let seen = subst (λ l. AreSeen c.args.people.now.people (answers_of l) c.args.rows.now.list)
-    (take_all c.loop-k.k c.args.least.now.items (omega arith)) c.loop-k.invariant.seen in
-    ((λ yes. absurd (true≢false (sym yes))),
-      (λ held. absurd (none_held c.args.people.now.people (answers_of c.args.least.now.items) c.args.rows.now.list seen held)))
+    (take_all c.loop-k.k c.args.least.now.items (omega arith)) c.loop-k.invariant.seen in (
+      (λ yes. absurd (true≢false (sym yes))),
+      (λ held. absurd (none_held c.args.people.now.people (answers_of c.args.least.now.items) c.args.rows.now.list seen held)),
+    )

@@ -35,7 +35,7 @@ lower_counts-requires-clause-same_n c = c.requires.same_n ∙ sym c.requires.sam
 pub lower_counts-requires-clause-counted : goal.lower_counts-requires-clause-counted
 lower_counts-requires-clause-counted c =
     c.requires.told.counted
-      ∙ ap (λ u. map (λ (a : Answer). length (reaching u a.rows a.value)) (answers_of c.args.pairs.now.items)) (sym (fun_ext c.requires.bounds))
+    ∙ ap (λ u. map (λ (a : Answer). length (reaching u a.rows a.value)) (answers_of c.args.pairs.now.items)) (sym (fun_ext c.requires.bounds))
 
 pub lower_counts-requires-clause-few : goal.lower_counts-requires-clause-few
 lower_counts-requires-clause-few c =

@@ -8,6 +8,6 @@ pub returns-clause-end : goal.returns-clause-end
 returns-clause-end c =
     let parted = values_low_last c.args.least.now.items c.args.answer c.requires.descend in
     let point = IsPartitionPoint-from_clause (λ (v : ℤ). not (int_lt v c.args.answer)) _ _
-      (rw c.answers.ensures at c.partition_point.ensures.partitioned) parted
+    (rw c.answers.ensures at c.partition_point.ensures.partitioned) parted
     (λ a r q k. search rules) in
     end_of_values c.args.least.now.items c.args.answer c.partition_point.result point

@@ -17,7 +17,7 @@ and_packed-requires-clause-within c =
 pub invariant_of-self : goal.invariant_of-self
 invariant_of-self c =
     subst (ArePackedWords c.self.inside.n c.self.inside.len)
-      (sym (with_items_is c.self.inside.words c.and_packed.new.words (c.and_packed.ensures.words_are ∙ c.deref_mut.ensures.len)))
+    (sym (with_items_is c.self.inside.words c.and_packed.new.words (c.and_packed.ensures.words_are ∙ c.deref_mut.ensures.len)))
     (packed-and c.self.inside c.args.self.now c.self.view_is c.self.invariant c.args.k c.requires.place c.args.other.now c.words.result.now c.requires.same_n
     c.words.ensures.words c.words.ensures.rows c.and_packed.new.words
     (rw c.deref_mut.ensures.value at c.and_packed.ensures.words_are)
@@ -28,7 +28,7 @@ invariant_of-self c =
 pub returns-clause-both : goal.returns-clause-both
 returns-clause-both c =
     ap (λ xs. sets_at c.self.inside.n xs c.self.inside.len)
-      (with_items_is c.self.inside.words c.and_packed.new.words (c.and_packed.ensures.words_are ∙ c.deref_mut.ensures.len))
+    (with_items_is c.self.inside.words c.and_packed.new.words (c.and_packed.ensures.words_are ∙ c.deref_mut.ensures.len))
     ∙ sets-and c.self.inside c.args.self.now c.self.view_is c.self.invariant c.args.k c.requires.place c.args.other.now c.words.result.now c.requires.same_n
     c.words.ensures.words c.words.ensures.rows c.and_packed.new.words
     (rw c.deref_mut.ensures.value at c.and_packed.ensures.words_are)

@@ -20,9 +20,9 @@ returns-clause-both c =
     let after : Rows = record { n = a.sets.n; list = intersection a.sets.n (get_or a.sets.list k no_rows).list others } in
     ap (paired a.answers.items) c.and_with.ensures.both ∙ set-paired a.answers.items a.sets.list k after c.self.invariant
     ∙ ap (λ (l : List AnsweredMax). set l k (record { answer = get_or a.answers.items k (pos 0); rows = after }))
-      (ap (λ (m : ListOfMaxima). m.items) c.self.view_is)
+    (ap (λ (m : ListOfMaxima). m.items) c.self.view_is)
     ∙ ap (λ (n : ℕ). set now.items k
-      (record { answer = get_or a.answers.items k (pos 0); rows = record { n = n; list = intersection n (get_or a.sets.list k no_rows).list others } }))
+    (record { answer = get_or a.answers.items k (pos 0); rows = record { n = n; list = intersection n (get_or a.sets.list k no_rows).list others } }))
     (ap (λ (m : ListOfMaxima). m.n) c.self.view_is)
     ∙ ap (λ (p : AnsweredMax). set now.items k (record { answer = p.answer; rows = record { n = now.n; list = intersection now.n p.rows.list others } }))
     (sym (pair_is a now c.self.view_is c.self.invariant k))

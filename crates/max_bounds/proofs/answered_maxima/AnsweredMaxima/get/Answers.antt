@@ -27,11 +27,11 @@ returns c =
     let now = c.args.self.now in
     let fits : SFits w64 c.index.result.now = search rules in
     let value = to_z-of_z w64 c.index.result.now fits
-      ∙ sym (answer_is a now c.self.view_is c.self.invariant c.args.k c.index.result.now c.requires c.index.ensures) in
+    ∙ sym (answer_is a now c.self.view_is c.self.invariant c.args.k c.index.result.now c.requires c.index.ensures) in
     let place = within a now c.self.view_is c.self.invariant c.args.k c.requires in
     let set = get_or a.sets.list c.args.k no_rows in
     let n : set.n ≡ a.sets.n = all-get_or (λ (s : Rows). s.n ≡ a.sets.n) a.sets.list c.args.k no_rows c.n.ensures.same_n place in
     let rows : c.get.result ≡ set = same_set c.get.result set.n set.list (c.get.ensures.n ∙ sym n) c.get.ensures.rows in
     ap (λ (v : ℤ). record { answer = v; rows = c.get.result }) value
     ∙ ap (λ (s : Rows). record { answer = (pair_at now.items c.args.k).answer; rows = s })
-      (rows ∙ ap (λ (p : AnsweredMax). p.rows) (sym (pair_is a now c.self.view_is c.self.invariant c.args.k)))
+    (rows ∙ ap (λ (p : AnsweredMax). p.rows) (sym (pair_is a now c.self.view_is c.self.invariant c.args.k)))

@@ -13,7 +13,7 @@ pub insert_reserved-requires-clause-room : goal.insert_reserved-requires-clause-
 insert_reserved-requires-clause-room c =
     let sets = count c.self.inside c.args.self.now c.self.view_is c.self.invariant in
     let capacity : min c.self.inside.sets.capacity (vec_capacity c.self.inside.answers) ≡ c.args.self.now.capacity = ap
-      (λ (m : ListOfMaxima). m.capacity) c.self.view_is in
+    (λ (m : ListOfMaxima). m.capacity) c.self.view_is in
     omega (arith, c.requires.room)
 
 pub insert_reserved-requires-clause-place : goal.insert_reserved-requires-clause-place
@@ -32,7 +32,7 @@ free c =
     let sets = count c.self.inside c.args.self.now c.self.view_is c.self.invariant in
     let long : vec_len c.self.inside.answers ≡ length c.self.inside.answers.items = search rules in
     let capacity : min c.self.inside.sets.capacity (vec_capacity c.self.inside.answers) ≡ c.args.self.now.capacity = ap
-      (λ (m : ListOfMaxima). m.capacity) c.self.view_is in
+    (λ (m : ListOfMaxima). m.capacity) c.self.view_is in
     omega (arith, c.requires.room, c.self.invariant)
 
 pub unwrap-requires : goal.unwrap-requires

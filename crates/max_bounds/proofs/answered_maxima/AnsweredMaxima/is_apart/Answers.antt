@@ -12,6 +12,6 @@ is_apart-requires-clause-place c = within c.self.inside c.args.self.now c.self.v
 pub returns : goal.returns
 returns c =
     subst (λ n. IsTrue c.is_apart.result ↔ (intersection n (pair_at c.args.self.now.items c.args.k).rows.list c.args.other.now.list ≡ []))
-      (ap (λ (m : ListOfMaxima). m.n) c.self.view_is)
+    (ap (λ (m : ListOfMaxima). m.n) c.self.view_is)
     (subst (λ (p : AnsweredMax). IsTrue c.is_apart.result ↔ (intersection c.self.inside.sets.n p.rows.list c.args.other.now.list ≡ []))
     (sym (pair_is c.self.inside c.args.self.now c.self.view_is c.self.invariant c.args.k)) c.is_apart.ensures)
