@@ -58,19 +58,17 @@ say_crate() {
     [ ! -f "$proved.crate" ] || return 0
     : >"$proved.crate"
     left=$(time_left)
-    [ "$kept" = 0 ] || printf '%d of %d were proved before; %s\n' "$kept" "$of" "$left" >&2
+    [ "$kept" = "$told" ] || printf '%d of %d were proved before; %s\n' "$kept" "$of" "$left" >&2
     printf '%d of %d, %s: proving %s: ' "$number" "$of" "$left" "$crate" >&2
 }
 
-# Says what a crate is at that isn't done in three seconds, as one that was proved before is, and then every ten seconds that it goes on.
+# Names a crate that isn't done in ten seconds, as one that was proved before would be, and says every ten seconds that it is still at work.
 tell_time() {
     seconds=10
-    sleep 3 >/dev/null 2>&1
-    say_crate
-    sleep 7 >/dev/null 2>&1
-    while printf '%d s, ' "$seconds" >&2; do
+    while sleep 10 >/dev/null 2>&1; do
+        say_crate
+        printf '%d s, ' "$seconds" >&2
         seconds=$((seconds + 10))
-        sleep 10 >/dev/null 2>&1
     done
 }
 
@@ -109,7 +107,7 @@ build() {
     took=$top/crates/auditor/out/took.txt
     mkdir -p "$top/crates/auditor/out" || return 1
     began=$(date +%s)
-    number=0 kept=0
+    number=0 kept=0 told=0
     of=$(crates_below | wc -l)
     printf 'proving and building %d crates; stop it when you like, and run it again to go on\n' "$of" >&2
     stopped=
@@ -141,15 +139,15 @@ build() {
         if is_new; then
             say_crate
             echo "$crate $seconds" | tee -a "$took" >>"$proved"
-        elif [ ! -f "$proved.crate" ]; then
+        else
             kept=$((kept + 1))
-            continue
+            [ -f "$proved.crate" ] || continue
         fi
-        kept=0
+        told=$kept
         printf 'done in %d s\n' "$seconds" >&2
     done
     trap - HUP INT TERM
-    [ "$kept" = 0 ] || printf '%d of %d were proved before\n' "$kept" "$of" >&2
+    [ "$kept" = "$told" ] || printf '%d of %d were proved before\n' "$kept" "$of" >&2
     [ "$(wc -l <"$proved")" != "$of" ] || cp "$proved" "$top/crates/auditor/out/shares.txt"
     clear_away
     printf 'the program is built, after %d s\n' $(($(date +%s) - began)) >&2
