@@ -10,7 +10,7 @@ use crate::alone::is_alone_anew;
 use crate::elimination::write_set;
 use crate::form::{Form, Left};
 use crate::sparse::FreeEntry;
-use audit_types::{MOST_ROWS, MOST_WIDTH, NoMemory, RowSet};
+use audit_types::{MOST_WIDTH, NoMemory, RowSet};
 
 // The rows that no asker knows, or whose asker knows the set's total by her number alone.
 fn not_asking(several: &RowSet, set: &RowSet) -> RowSet
@@ -52,13 +52,14 @@ pub(crate) fn spans_with_one(form: &Form, set: &RowSet, several: &RowSet) -> Res
     requires several { several.now.n ≡ form.now.n }
     ensures { IfOk result (λ told. IsTrue told ↔ SpansBeside form.now several.now.list set.now.list) }
 {
-    let n = set.n();
+    // A set says of itself that its rows are rows of the table.
+    let _ = set.n();
     if set.is_empty() {
         return Ok(false);
     }
     let but = not_asking(several, set);
-    let mut room = [0; MOST_ROWS as usize];
-    let row = &mut room[..n as usize];
+    let mut room = form.zeros()?;
+    let row = room.as_mut_slice();
     write_set(row, set);
     // What every form is: its width isn't above the greatest.
     let _ = form.columns();

@@ -95,6 +95,14 @@ impl Form {
         })
     }
 
+    /// A row of zeros, over the form's columns.
+    pub(crate) fn zeros(&self) -> Result<Vec<i128>, NoMemory>
+        ensures { IfOk result (λ row. length row.items ≡ self.now.n) }
+    {
+        let alloc = self.alloc;
+        Ok(vec![in alloc; 0; self.columns as usize]?)
+    }
+
     // What the form leaves of a multiple of a row of zeros and ones: zeros exactly if the row lies in the span.
     pub(crate) fn remainder(&self, row: &mut [i128])
         requires length { length row.old ≡ self.now.n }
@@ -266,8 +274,10 @@ impl Form {
         ensures wide { IfOk result (λ grown. (grown ≡ Wide) ↔ GrowsWide self.old (map pos row.now)) }
         ensures err { OnErr result (self.new ≡ self.old) }
     {
-        let mut room = [0; MOST_COLUMNS];
-        let whole = &mut room[..self.columns() as usize];
+        // What every form is: its rows are a form, and narrow.
+        let _ = self.columns();
+        let mut room = self.zeros()?;
+        let whole = room.as_mut_slice();
         write_bits(whole, row);
         self.join(whole)
     }
@@ -278,8 +288,10 @@ impl Form {
         requires bits { AllByRecursion (λ b. b ≤ 1) row.now }
         ensures { IfOk result (IsRowWith self.now (map pos row.now) pivot) }
     {
-        let mut room = [0; MOST_COLUMNS];
-        let whole = &mut room[..self.columns() as usize];
+        // What every form is: its rows are a form, and narrow.
+        let _ = self.columns();
+        let mut room = self.zeros()?;
+        let whole = room.as_mut_slice();
         write_bits(whole, row);
         let Weighed { prospect, list } = self.weigh(whole)?;
         if let Prospect::Wide = prospect {

@@ -16,7 +16,7 @@ ghost use Rattle.sum_basis.specs.Reach.{IsNear, IsReached, IsLeftOverOrNone, Rea
 ghost use Rattle.sum_basis.specs.Sparse.{entry_at, row_of, IsListed, IsNew};
 
 use crate::cleared_list::value_at;
-use crate::counting::{are_below, are_surely_below, count_grown, count_rows, times_at};
+use crate::counting::{are_below, are_surely_below, count_grown, counts_of, times_at};
 use crate::elimination::write_set;
 use crate::form::Form;
 use crate::merging::combine_into;
@@ -365,12 +365,10 @@ fn is_within_counted(
     if are_surely_below(before, reach, new) {
         return Ok(true);
     }
-    let mut zeros = [0; MOST_ROWS as usize];
-    let counts = &mut zeros[..columns];
-    counts.copy_from_slice(before);
-    count_grown(form, counts, new);
+    let mut counts = before.to_vec(alloc)?;
+    count_grown(form, &mut counts, new);
     let mut room = Vec::with_capacity(alloc, columns)?;
-    Ok(is_within(form, new, counts, reach, shared, sets, &mut room))
+    Ok(is_within(form, new, &counts, reach, shared, sets, &mut room))
 }
 
 // The same, if the form isn't counted yet.
@@ -389,10 +387,8 @@ fn is_within_after(
     requires new { IsLeftOverOrNone form.now new.now }
     ensures { IfOk result (λ within. (grown : List (List ℤ)) → IsGrownBy form.now new.now grown → IsTrue within ↔ ReachesAll form.now.n reach shared.now.list (map (λ s. s.list) sets.now) grown) }
 {
-    let mut zeros = [0; MOST_ROWS as usize];
-    let counts = &mut zeros[..form.columns() as usize];
-    count_rows(form, counts);
-    is_within_counted(form, alloc, counts, new, reach, shared, sets)
+    let counts = counts_of(form, alloc)?;
+    is_within_counted(form, alloc, &counts, new, reach, shared, sets)
 }
 
 /// Whether all that is guarded is within reach of the form with a new list, or as it is if the list is empty: the number of each row that

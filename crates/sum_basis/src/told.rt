@@ -14,7 +14,7 @@ use crate::points::new_point;
 use crate::sparse::FreeEntry;
 use crate::suspects::tells_surely;
 use crate::telling::{tells_surely_none, write_keys};
-use audit_types::{MOST_ROWS, NoMemory, RowSet};
+use audit_types::{NoMemory, RowSet};
 use std::alloc::Global;
 
 /// What a form tells an asker of rows or sets that are guarded from her.
@@ -47,8 +47,8 @@ pub(crate) fn surely_told(
 {
     let weights = &kept.weights;
     let new = new_point(weights, list);
-    let mut room = [0; MOST_ROWS as usize];
-    let keys = &mut room[..form.columns() as usize];
+    let mut room = vec![in alloc; 0; form.columns() as usize]?;
+    let keys = room.as_mut_slice();
     if !write_keys(form, alloc, kept, list, &new, beside, several, keys)? {
         return Ok(Told::Unsure);
     }

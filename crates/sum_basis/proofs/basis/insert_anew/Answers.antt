@@ -1,21 +1,14 @@
 use Rattle.std.proofs.Common.{ℕ, ℤ, List, [], ◌∷◌, ◌++◌, sym, ap, ◌∙◌, length, subst, arith}
 use Rattle.std.specs.Prelude.{OnOk}
-use Rattle.std.proofs.lemmas.List.{length-take-le}
 use Rattle.audit_types.specs.RowNumbers.{length-set_row}
 use Rattle.audit_types.specs.Form.{set_row, IsReducedForm}
 use Rattle.sum_basis.specs.Growth.{GrowsWide}
 use Rattle.sum_basis.proofs.SetRows.{set_bits}
 use Rattle.sum_basis.proofs.basis.insert_anew.Goals as goal
 
-pub slice_bounds-room-end : goal.slice_bounds-room-end
-slice_bounds-room-end c = omega (arith, c.columns.ensures.columns, c.requires.at_most)
-
-pub slice_bounds-row-end : goal.slice_bounds-row-end
-slice_bounds-row-end c = sym (length-take-le c.columns.result _ (omega (arith, c.columns.ensures.columns, c.requires.at_most)))
-
 pub write_set-requires : goal.write_set-requires
 write_set-requires c =
-    length-take-le c.columns.result _ (omega (arith, c.columns.ensures.columns, c.requires.at_most)) ∙ c.columns.ensures.columns ∙ sym c.requires.n
+    ap length c.as_mut_slice-row.ensures.value ∙ c.in_ok-room.ensures ∙ sym c.requires.n
 
 pub insert-requires-clause-length : goal.insert-requires-clause-length
 insert-requires-clause-length c = ap length c.write_set.ensures ∙ length-set_row c.args.rows.now.n c.args.rows.now.list ∙ c.requires.n

@@ -39,8 +39,8 @@ returns-in-Large c =
           (subst (λ (v : List ℤ). LeavesLarge form v (2 ^ 56)) is (c.in_ok-settle.ensures.large c.in-Large.is)) beside),
     )
 
-pub returns-in-Entries : goal.returns-in-Entries
-returns-in-Entries c =
+pub returns : goal.returns
+returns c =
     let form = c.args.form.now in
     let set = c.args.set.now.list in
     let is : c.write_set.new.row ≡ set_row form.n set = c.write_set.ensures ∙ ap (λ k. set_row k set) c.requires.set in

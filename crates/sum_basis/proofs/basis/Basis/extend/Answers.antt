@@ -1,5 +1,4 @@
 use Rattle.std.proofs.Common.{subst, length, sym, ap, ◌∙◌, arith, ◌≡◌, ℕ, ℤ, List}
-use Rattle.std.proofs.lemmas.List.{length-take-le}
 use Rattle.audit_types.specs.RowNumbers.{length-set_row}
 use Rattle.audit_types.specs.Form.{set_row, IsNarrow}
 use Rattle.sum_basis.specs.Basis.{Echelon}
@@ -18,16 +17,9 @@ use Rattle.sum_basis.proofs.basis.Basis.extend.Goals as goal
 pub join-requires-clause-bits : goal.join-requires-clause-bits
 join-requires-clause-bits c = set_bits c.args.rows.now.n c.args.rows.now.list c.write_set.new.row c.write_set.ensures
 
-pub slice_bounds-room-end : goal.slice_bounds-room-end
-slice_bounds-room-end c = omega (arith, c.columns.ensures.columns, c.self.invariant.0)
-
-pub slice_bounds-row-end : goal.slice_bounds-row-end
-slice_bounds-row-end c = sym (length-take-le c.columns.result _ (omega (arith, c.columns.ensures.columns, c.self.invariant.0)))
-
 pub write_set-requires : goal.write_set-requires
 write_set-requires c =
-    length-take-le c.columns.result _ (omega (arith, c.columns.ensures.columns, c.self.invariant.0)) ∙ c.columns.ensures.columns
-    ∙ ap (λ (e : Echelon). e.n) c.self.view_is ∙ sym c.requires
+    ap length c.as_mut_slice-row.ensures.value ∙ c.in_ok-room.ensures ∙ ap (λ (e : Echelon). e.n) c.self.view_is ∙ sym c.requires
 
 pub join-requires-clause-length : goal.join-requires-clause-length
 join-requires-clause-length c =

@@ -43,8 +43,8 @@ returns-in-Large c =
     absurd (never_large c.self.inside.form c.args.self.now c.write_set.new.row c.args.rows.now.n c.args.rows.now.list c.self.view_is c.write_set.ensures
     c.requires.n left.1 other grows)
 
-pub returns-in-Entries : goal.returns-in-Entries
-returns-in-Entries c =
+pub returns : goal.returns
+returns c =
     let form = c.self.inside.form in
     let left = rw c.in-Entries.is at c.in_ok-settle.ensures.left in
     let list = c.deref.result.now in

@@ -1,5 +1,4 @@
 use Rattle.std.proofs.Common.{◌≡◌, ◌++◌, ◌∷◌, [], ℕ, ℤ, List, None, length, sym, ap, ◌∙◌, subst, arith}
-use Rattle.std.proofs.lemmas.List.{length-take-le}
 use Rattle.audit_types.specs.Form.{set_row, IsReducedForm}
 use Rattle.audit_types.specs.Rows.{IsLeast}
 use Rattle.audit_types.specs.RowNumbers.{length-set_row}
@@ -13,16 +12,9 @@ use Rattle.sum_basis.proofs.PinnedSets.{with_list, with_nothing, with_large}
 use Rattle.sum_basis.proofs.SetRows.{set_bits}
 use Rattle.sum_basis.proofs.basis.Basis.unshared_unit_row_with.Goals as goal
 
-pub slice_bounds-room-end : goal.slice_bounds-room-end
-slice_bounds-room-end c = omega (arith, c.columns.ensures.columns, c.self.invariant.0)
-
-pub slice_bounds-row-end : goal.slice_bounds-row-end
-slice_bounds-row-end c = sym (length-take-le c.columns.result _ (omega (arith, c.columns.ensures.columns, c.self.invariant.0)))
-
 pub write_set-requires : goal.write_set-requires
 write_set-requires c =
-    length-take-le c.columns.result _ (omega (arith, c.columns.ensures.columns, c.self.invariant.0)) ∙ c.columns.ensures.columns
-    ∙ ap (λ (e : Echelon). e.n) c.self.view_is ∙ sym c.requires.rows
+    ap length c.as_mut_slice-row.ensures.value ∙ c.in_ok-room.ensures ∙ ap (λ (e : Echelon). e.n) c.self.view_is ∙ sym c.requires.rows
 
 pub settle-requires-clause-length : goal.settle-requires-clause-length
 settle-requires-clause-length c =
@@ -61,8 +53,8 @@ returns-in-Large c =
     subst (λ (e : Echelon). IsLeastOwnUnitWith e c.args.shared.now.list c.args.rows.now.list None) c.self.view_is
     (with_large form c.columns.ensures.fits.1 c.write_set.new.row c.args.rows.now.list c.args.shared.now.list is None left.1)
 
-pub returns-in-Entries : goal.returns-in-Entries
-returns-in-Entries c =
+pub returns : goal.returns
+returns c =
     let form = c.self.inside.form in
     let left = rw c.in-Entries.is at c.in_ok-settle.ensures.left in
     let is = row_is form c.args.self.now c.args.rows.now.n c.args.rows.now.list c.write_set.new.row c.self.view_is c.write_set.ensures c.requires.rows in

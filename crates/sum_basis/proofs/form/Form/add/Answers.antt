@@ -1,5 +1,5 @@
 use Rattle.std.proofs.Common.{ℤ, List, pos, map, subst, length, sym, ap, ◌∙◌, arith}
-use Rattle.std.proofs.lemmas.List.{length-map, length-take-le}
+use Rattle.std.proofs.lemmas.List.{length-map}
 use Rattle.sum_basis.specs.Growth.{Grows, GrowsForRows}
 use Rattle.sum_basis.proofs.SetRows.{bits_small}
 use Rattle.sum_basis.proofs.Exactness.{stands_for_rows, same_told, wide_told}
@@ -13,16 +13,8 @@ use Rattle.sum_basis.proofs.form.Form.add.Goals as goal
 pub join-requires-clause-bits : goal.join-requires-clause-bits
 join-requires-clause-bits c = bits_small c.args.row.now c.write_bits.new.row c.write_bits.ensures c.requires.bits
 
-pub slice_bounds-room-end : goal.slice_bounds-room-end
-slice_bounds-room-end c = omega (arith, c.columns.ensures.columns, c.columns.ensures.at_most)
-
-pub slice_bounds-whole-end : goal.slice_bounds-whole-end
-slice_bounds-whole-end c = sym (length-take-le c.columns.result _ (omega (arith, c.columns.ensures.columns, c.columns.ensures.at_most)))
-
 pub write_bits-requires : goal.write_bits-requires
-write_bits-requires c =
-    length-take-le c.columns.result _ (omega (arith, c.columns.ensures.columns, c.columns.ensures.at_most)) ∙ c.columns.ensures.columns
-    ∙ sym c.requires.length
+write_bits-requires c = ap length c.as_mut_slice-whole.ensures.value ∙ c.in_ok-room.ensures ∙ sym c.requires.length
 
 pub join-requires-clause-length : goal.join-requires-clause-length
 join-requires-clause-length c = ap length c.write_bits.ensures ∙ length-map c.args.row.now pos ∙ c.requires.length

@@ -1,7 +1,7 @@
 use Rattle.std.proofs.Common.{◌≤◌, ◌^◌, ℤ, List, pos, subst, length, sym, ap, ◌∙◌, arith}
 use Rattle.std.specs.List.{AllByRecursion}
 use Rattle.std.specs.Prelude.{IfOk}
-use Rattle.std.proofs.lemmas.List.{length-map, length-take-le}
+use Rattle.std.proofs.lemmas.List.{length-map}
 use Rattle.std.proofs.lemmas.Result.{IfOk-weaker}
 use Rattle.sum_basis.specs.Basis.{Echelon}
 use Rattle.sum_basis.specs.Elimination.{IsSmallForm, IsZeroAtPivots, StaysSmall}
@@ -21,16 +21,8 @@ use Rattle.sum_basis.proofs.form.Form.row_with.Goals as goal
 pub weigh-requires-clause-bits : goal.weigh-requires-clause-bits
 weigh-requires-clause-bits c = bits_small c.args.row.now c.write_bits.new.row c.write_bits.ensures c.requires.bits
 
-pub slice_bounds-room-end : goal.slice_bounds-room-end
-slice_bounds-room-end c = omega (arith, c.columns.ensures.columns, c.columns.ensures.at_most)
-
-pub slice_bounds-whole-end : goal.slice_bounds-whole-end
-slice_bounds-whole-end c = sym (length-take-le c.columns.result _ (omega (arith, c.columns.ensures.columns, c.columns.ensures.at_most)))
-
 pub write_bits-requires : goal.write_bits-requires
-write_bits-requires c =
-    length-take-le c.columns.result _ (omega (arith, c.columns.ensures.columns, c.columns.ensures.at_most)) ∙ c.columns.ensures.columns
-    ∙ sym c.requires.length
+write_bits-requires c = ap length c.as_mut_slice-whole.ensures.value ∙ c.in_ok-room.ensures ∙ sym c.requires.length
 
 pub weigh-requires-clause-length : goal.weigh-requires-clause-length
 weigh-requires-clause-length c = ap length c.write_bits.ensures ∙ length-map c.args.row.now pos ∙ c.requires.length
