@@ -13,10 +13,10 @@ use Rattle.std.proofs.lemmas.List.Edits.{length-insert, get_or-insert_below, get
 use Rattle.audit_types.specs.Limits.{most_words}
 use Rattle.audit_types.specs.Rows.{AreRows, Rows, rows_that, has_row, intersection}
 use Rattle.audit_types.specs.RowLaws.{AreRows-rows_that, has-rows_that, rows_that_agree, rows_that_none}
-use Rattle.audit_types.specs.Words.{has_bit, AreWords}
+use Rattle.audit_types.specs.Words.{has_bit, AreWords, words_over}
 use Rattle.audit_types.specs.WordLaws.{min_test, below_by_bits, same_place, no_one}
 use Rattle.audit_types.specs.RowSets.{ListOfRows, no_rows, rows_at, HasRoom}
-use Rattle.audit_types.specs.PackedWords.{width_of, words_at, set_at, sets_at, sets_of, ArePackedWords}
+use Rattle.audit_types.specs.PackedWords.{words_at, set_at, sets_at, sets_of, ArePackedWords}
 use Rattle.audit_types.specs.declared.row_sets.RowSets.TheInside.{Inside}
 
 -- the words of a set lie among those of all
@@ -40,7 +40,7 @@ pub length-words_at : (w : ℕ) (words : List ℕ) (k : ℕ) → k * w + w ≤ l
 length-words_at w words k l = length-take-le w (drop (k * w) words) (omega (arith, length-drop (k * w) words))
 
 -- the word of a row of the table is one of them
-pub row_within : (n r : ℕ) → r < n → r / 64 < width_of n
+pub row_within : (n r : ℕ) → r < n → r / 64 < words_over n
 row_within n r l = omega arith
 
 -- what holds of each value holds of all
@@ -62,7 +62,7 @@ module _ (a : Inside) (now : ListOfRows) (is : sets_of a ≡ now) where
   pub are_rows : AllByRecursion (λ (s : Rows). AreRows now.n s.list) now.list
   are_rows = subst (λ (l : ListOfRows). AllByRecursion (λ (s : Rows). AreRows l.n s.list) l.list) is
       (all_range (λ (s : Rows). AreRows a.n s.list) (set_at a.n a.words.items)
-      (λ k. AreRows-rows_that (has_bit (words_at (width_of a.n) a.words.items k)) a.n) 0 a.len)
+      (λ k. AreRows-rows_that (has_bit (words_at (words_over a.n) a.words.items k)) a.n) 0 a.len)
 
   -- the set at a place is that of its words
   pub get-set : (k : ℕ) → k < a.len → get_or now.list k no_rows ≡ set_at a.n a.words.items k
@@ -70,18 +70,18 @@ module _ (a : Inside) (now : ListOfRows) (is : sets_of a ≡ now) where
       ∙ get_or-map-range_with_len (set_at a.n a.words.items) 0 a.len k k no_rows l (omega arith)
 
   -- where there is room, it is for the words of one set more
-  pub room : 0 < width_of a.n → HasRoom now → (a.len + 1) * width_of a.n ≤ vec_capacity a.words
+  pub room : 0 < words_over a.n → HasRoom now → (a.len + 1) * words_over a.n ≤ vec_capacity a.words
   room some has =
-      let capacity : vec_capacity a.words / width_of a.n ≡ now.capacity = ap (λ (s : ListOfRows). s.capacity) is in
+      let capacity : vec_capacity a.words / words_over a.n ≡ now.capacity = ap (λ (s : ListOfRows). s.capacity) is in
       let sets = count in
-      (le-div_iff_mul-le {k = width_of a.n} {x = a.len + 1} {y = vec_capacity a.words} some).0 (omega arith)
+      (le-div_iff_mul-le {k = words_over a.n} {x = a.len + 1} {y = vec_capacity a.words} some).0 (omega arith)
 
 -- a row's bit in both words
 both_bits : (x y i : ℕ) → (bit_at (bit_and x y) i == 1) ≡ ((bit_at x i == 1) && (bit_at y i == 1))
 both_bits x y i = ap (λ b. b == 1) (bit_at_and x y i) ∙ min_test _ _ (bit_at-lt x i) (bit_at-lt y i)
 
 -- the rows that have a bit in each of two lists of words
-pub rows-both : (n : ℕ) (a b both : List ℕ) → ((k : ℕ) → k < width_of n → get_or both k 0 ≡ bit_and (get_or a k 0) (get_or b k 0)) →
+pub rows-both : (n : ℕ) (a b both : List ℕ) → ((k : ℕ) → k < words_over n → get_or both k 0 ≡ bit_and (get_or a k 0) (get_or b k 0)) →
     rows_that (has_bit both) n ≡ intersection n (rows_that (has_bit a) n) (rows_that (has_bit b) n)
 rows-both n a b both each = rows_that_agree (has_bit both) (λ r. has_row (rows_that (has_bit a) n) r && has_row (rows_that (has_bit b) n) r) n (λ r l.
     ap (λ x. bit_at x (r % 64) == 1) (each (r / 64) (row_within n r l)) ∙ both_bits (get_or a (r / 64) 0) (get_or b (r / 64) 0) (r % 64)
@@ -92,7 +92,7 @@ module _ (n : ℕ) (a b : List ℕ) where
   shared = intersection n (rows_that (has_bit a) n) (rows_that (has_bit b) n)
 
   -- no row has a bit in both if no word does
-  pub apart : ((k : ℕ) → k < width_of n → bit_and (get_or a k 0) (get_or b k 0) ≡ 0) → shared ≡ []
+  pub apart : ((k : ℕ) → k < words_over n → bit_and (get_or a k 0) (get_or b k 0) ≡ 0) → shared ≡ []
   apart none = rows_that_none _ n (λ r l.
       ap (λ x. x && has_row (rows_that (has_bit b) n) r) (has-rows_that (has_bit a) n r l) ∙ ap (λ x. has_bit a r && x) (has-rows_that (has_bit b) n r l)
       ∙ sym (both_bits (get_or a (r / 64) 0) (get_or b (r / 64) 0) (r % 64))
@@ -150,14 +150,14 @@ module _ (w place : ℕ) (front : List ℕ) (some : 0 < w) (at : length front �
         (sym (drop-drop w (place * w) all) ∙ ap (drop w) (drop_at front (new ++ back) (place * w) at) ∙ drop_at new back w long)
 
 -- a width of some rows
-pub some_width : (n : ℕ) → 0 < n → 0 < width_of n
+pub some_width : (n : ℕ) → 0 < n → 0 < words_over n
 some_width n some = omega arith
 
 -- room for the words of one set more is room for the set
-pub room_for : (n len : ℕ) (words : List ℕ) (used capacity : ℕ) → 0 < n → used ≡ len * width_of n → used + width_of n ≤ capacity →
-    length (sets_at n words len) < capacity / width_of n
+pub room_for : (n len : ℕ) (words : List ℕ) (used capacity : ℕ) → 0 < n → used ≡ len * words_over n → used + words_over n ≤ capacity →
+    length (sets_at n words len) < capacity / words_over n
 room_for n len words used capacity some is enough =
-    let fits = (le-div_iff_mul-le {k = width_of n} {x = len + 1} {y = capacity} (some_width n some)).1 (omega (arith, next len (width_of n))) in
+    let fits = (le-div_iff_mul-le {k = words_over n} {x = len + 1} {y = capacity} (some_width n some)).1 (omega (arith, next len (words_over n))) in
     omega (arith, length-map-range_with_len (set_at n words) 0 len, fits)
 
 -- a word past the last has no bit
@@ -179,27 +179,27 @@ turned words new start w l long =
 
 module _ (n : ℕ) (words : List ℕ) (are : AreWords n words) where
   -- the words that the rows of a set take
-  pub front_long : length (take (width_of n) words) ≡ width_of n
-  front_long = length-take-le (width_of n) words (omega (arith, are.words_are, are.at_most))
+  pub front_long : length (take (words_over n) words) ≡ words_over n
+  front_long = length-take-le (words_over n) words (omega (arith, are.words_are, are.at_most))
 
   -- have its bits
-  front_bit : (r : ℕ) → r / 64 < width_of n → has_bit (take (width_of n) words) r ≡ has_bit words r
-  front_bit r l = ap (λ x. bit_at x (r % 64) == 1) (get_or-take (width_of n) words (r / 64) 0 l)
+  front_bit : (r : ℕ) → r / 64 < words_over n → has_bit (take (words_over n) words) r ≡ has_bit words r
+  front_bit r l = ap (λ x. bit_at x (r % 64) == 1) (get_or-take (words_over n) words (r / 64) 0 l)
 
   -- and its rows
-  pub front_rows : rows_that (has_bit (take (width_of n) words)) n ≡ rows_that (has_bit words) n
-  front_rows = rows_that_agree (has_bit (take (width_of n) words)) (has_bit words) n (λ r l. front_bit r (row_within n r l))
+  pub front_rows : rows_that (has_bit (take (words_over n) words)) n ≡ rows_that (has_bit words) n
+  front_rows = rows_that_agree (has_bit (take (words_over n) words)) (has_bit words) n (λ r l. front_bit r (row_within n r l))
 
   -- and no others
-  pub front_none : (r : ℕ) → n ≤ r → has_bit (take (width_of n) words) r ≡ false
-  front_none r above = elim (cases_lt (r / 64) (width_of n)) [
+  pub front_none : (r : ℕ) → n ≤ r → has_bit (take (words_over n) words) r ≡ false
+  front_none r above = elim (cases_lt (r / 64) (words_over n)) [
     | inl l ↦ front_bit r l ∙ are.none_above r above
-    | inr l ↦ past_words (take (width_of n) words) r (omega (arith, front_long))
+    | inr l ↦ past_words (take (words_over n) words) r (omega (arith, front_long))
   ]
 
 module _ (a : Inside) (now : ListOfRows) (is : sets_of a ≡ now) (inv : ArePackedWords a.n a.len a.words.items) where
   abbrev w : ℕ
-  w = width_of a.n
+  w = words_over a.n
 
   abbrev items : List ℕ
   items = a.words.items

@@ -1,5 +1,5 @@
 -- What contracts see of a walk over the rows of a set.
-use Rattle.std.specs.Prelude.{◌≡◌, ℕ, ◌/◌, ◌%◌, ◌^◌, ◌<◌, ◌≤◌, Bool, cond, ◌&&◌, ◌==◌, nat_lt, List, length}
+use Rattle.std.specs.Prelude.{ℕ, ◌/◌, ◌%◌, ◌^◌, ◌<◌, ◌≤◌, Bool, cond, ◌&&◌, ◌==◌, nat_lt, List, length}
 use Rattle.std.specs.Int.{bit_at}
 use Rattle.audit_types.specs.Limits.{most_rows, most_words}
 use Rattle.audit_types.specs.Rows.{rows_that}

@@ -1,16 +1,9 @@
 //! The words of one set among those of many, of which each has as many as the rows of its table take.
 ghost use Rattle.std.specs.Prelude.{◌≡◌, ◌↔◌, ℕ, ◌+◌, ◌-◌, ◌*◌, ◌<◌, ◌≤◌, ◌++◌, IsTrue, length, take, drop, slice_index, bit_and};
 ghost use Rattle.audit_types.specs.Limits.{most_words};
-ghost use Rattle.audit_types.specs.PackedWords.{width_of, words_at};
+ghost use Rattle.audit_types.specs.PackedWords.{words_at};
 
 use crate::words::MOST_WORDS;
-
-/// How many words the rows of a table take.
-pub(crate) fn width_of(n: u16) -> usize
-    ensures { result ≡ width_of n }
-{
-    (n as usize).div_ceil(64)
-}
 
 /// The words of the set at a place.
 pub(crate) fn words_at(words: &[u64], width: usize, k: usize) -> &[u64]

@@ -6,8 +6,9 @@ ghost use Rattle.audit_types.specs.Rows.{AreRows, has_row, intersection};
 ghost use Rattle.audit_types.specs.RowSets.{rows_at, HasRoom};
 
 use crate::NoMemory;
-use crate::packed::{and_packed, are_apart, bring_back, unpack, width_of, words_at};
+use crate::packed::{and_packed, are_apart, bring_back, unpack, words_at};
 use crate::rows::RowSet;
+use crate::words::words_over;
 use std::alloc::Global;
 use std::marker::Model;
 
@@ -73,7 +74,7 @@ impl RowSets {
         ensures same { self.new.list ≡ self.old.list }
         ensures room { OnOk result (HasRoom self.new) }
     {
-        self.words.reserve(width_of(self.n))?;
+        self.words.reserve(words_over(self.n))?;
         Ok(())
     }
 
@@ -83,7 +84,7 @@ impl RowSets {
         ensures n { result.n ≡ self.now.n }
         ensures rows { result.list ≡ rows_at self.now.list k }
     {
-        let words = words_at(&self.words, width_of(self.n), k);
+        let words = words_at(&self.words, words_over(self.n), k);
         RowSet::with_words(unpack(words), self.n)
     }
 
@@ -93,7 +94,7 @@ impl RowSets {
         requires row { row < self.now.n }
         ensures { result ≡ has_row (rows_at self.now.list k) row }
     {
-        let word = words_at(&self.words, width_of(self.n), k)[(row / 64) as usize];
+        let word = words_at(&self.words, words_over(self.n), k)[(row / 64) as usize];
         (word >> (row % 64)) & 1 == 1
     }
 
@@ -103,7 +104,7 @@ impl RowSets {
         requires same_n { other.now.n ≡ self.now.n }
         ensures { IsTrue result ↔ (intersection self.now.n (rows_at self.now.list k) other.now.list ≡ []) }
     {
-        are_apart(words_at(&self.words, width_of(self.n), k), other.words())
+        are_apart(words_at(&self.words, words_over(self.n), k), other.words())
     }
 
     /// The set at a place becomes its intersection with another.
@@ -114,7 +115,7 @@ impl RowSets {
         ensures both { self.new.list ≡ set self.old.list k (record { n = self.old.n; list = intersection self.old.n (rows_at self.old.list k) other.now.list }) }
         ensures capacity { self.new.capacity ≡ self.old.capacity }
     {
-        let width = width_of(self.n);
+        let width = words_over(self.n);
         and_packed(&mut self.words, k * width, width, other.words());
     }
 
@@ -126,7 +127,7 @@ impl RowSets {
         ensures n { self.new.n ≡ self.old.n }
         ensures inserted { self.new.list ≡ insert self.old.list place rows.now }
     {
-        let width = width_of(self.n);
+        let width = words_over(self.n);
         let words = &rows.words()[..width];
         // There is room for them.
         self.words.extend_from_slice(words).unwrap();

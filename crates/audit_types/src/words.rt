@@ -10,8 +10,8 @@ use crate::MOST_ROWS;
 /// The words of a set: each has the bits of 64 rows.
 pub(crate) const MOST_WORDS: usize = MOST_ROWS as usize / 64;
 
-// How many words n rows take.
-fn words_over(n: u16) -> usize
+/// How many words n rows take.
+pub(crate) fn words_over(n: u16) -> usize
     requires { n ≤ most_rows }
     ensures { result ≡ words_over n }
 {

@@ -8,11 +8,11 @@ pub overflow_mul-k : goal.overflow_mul-k
 overflow_mul-k c =
     let end = fits c.self.inside c.args.self.now c.self.view_is c.self.invariant c.args.k c.requires.place in
     let small : length c.self.inside.words.items < 2 ^ 63 = search rules in
-    rw c.width_of-width.ensures (omega arith)
+    rw c.words_over-width.ensures (omega arith)
 
 pub and_packed-requires-clause-within : goal.and_packed-requires-clause-within
 and_packed-requires-clause-within c =
-    rw (c.width_of-width.ensures, c.deref_mut.ensures.value) (fits c.self.inside c.args.self.now c.self.view_is c.self.invariant c.args.k c.requires.place)
+    rw (c.words_over-width.ensures, c.deref_mut.ensures.value) (fits c.self.inside c.args.self.now c.self.view_is c.self.invariant c.args.k c.requires.place)
 
 pub invariant_of-self : goal.invariant_of-self
 invariant_of-self c =
@@ -21,9 +21,9 @@ invariant_of-self c =
     (packed-and c.self.inside c.args.self.now c.self.view_is c.self.invariant c.args.k c.requires.place c.args.other.now c.words.result.now c.requires.same_n
     c.words.ensures.words c.words.ensures.rows c.and_packed.new.words
     (rw c.deref_mut.ensures.value at c.and_packed.ensures.words_are)
-    (rw (c.width_of-width.ensures, c.deref_mut.ensures.value) at c.and_packed.ensures.both)
-    (rw (c.width_of-width.ensures, c.deref_mut.ensures.value) at c.and_packed.ensures.before)
-    (rw (c.width_of-width.ensures, c.deref_mut.ensures.value) at c.and_packed.ensures.after))
+    (rw (c.words_over-width.ensures, c.deref_mut.ensures.value) at c.and_packed.ensures.both)
+    (rw (c.words_over-width.ensures, c.deref_mut.ensures.value) at c.and_packed.ensures.before)
+    (rw (c.words_over-width.ensures, c.deref_mut.ensures.value) at c.and_packed.ensures.after))
 
 pub returns-clause-both : goal.returns-clause-both
 returns-clause-both c =
@@ -32,6 +32,6 @@ returns-clause-both c =
     ∙ sets-and c.self.inside c.args.self.now c.self.view_is c.self.invariant c.args.k c.requires.place c.args.other.now c.words.result.now c.requires.same_n
     c.words.ensures.words c.words.ensures.rows c.and_packed.new.words
     (rw c.deref_mut.ensures.value at c.and_packed.ensures.words_are)
-    (rw (c.width_of-width.ensures, c.deref_mut.ensures.value) at c.and_packed.ensures.both)
-    (rw (c.width_of-width.ensures, c.deref_mut.ensures.value) at c.and_packed.ensures.before)
-    (rw (c.width_of-width.ensures, c.deref_mut.ensures.value) at c.and_packed.ensures.after)
+    (rw (c.words_over-width.ensures, c.deref_mut.ensures.value) at c.and_packed.ensures.both)
+    (rw (c.words_over-width.ensures, c.deref_mut.ensures.value) at c.and_packed.ensures.before)
+    (rw (c.words_over-width.ensures, c.deref_mut.ensures.value) at c.and_packed.ensures.after)

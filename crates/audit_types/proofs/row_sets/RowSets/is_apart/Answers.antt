@@ -1,18 +1,19 @@
 use Rattle.std.proofs.Common.{◌≡◌, get_or, ap, ◌∙◌, sym, subst, arith, length, bit_and}
-use Rattle.audit_types.specs.PackedWords.{width_of, words_at}
+use Rattle.audit_types.specs.PackedWords.{words_at}
+use Rattle.audit_types.specs.Words.{words_over}
 use Rattle.audit_types.proofs.PackedSets.{fits, apart_is, length-words_at}
 use Rattle.audit_types.proofs.row_sets.RowSets.is_apart.Goals as goal
 
 pub words_at-requires : goal.words_at-requires
 words_at-requires c =
-    rw (c.width_of.ensures, c.deref.ensures.value) (fits c.self.inside c.args.self.now c.self.view_is c.self.invariant c.args.k c.requires.place)
+    rw (c.words_over.ensures, c.deref.ensures.value) (fits c.self.inside c.args.self.now c.self.view_is c.self.invariant c.args.k c.requires.place)
 
 pub returns : goal.returns
 returns c =
     let a = c.self.inside in
-    let w = width_of a.n in
+    let w = words_over a.n in
     let words : c.words_at.result.now ≡ words_at w a.words.items c.args.k =
-    c.words_at.ensures ∙ ap (λ v. words_at v c.deref.result.now c.args.k) c.width_of.ensures ∙ ap (λ xs. words_at w xs c.args.k) c.deref.ensures.value in
+    c.words_at.ensures ∙ ap (λ v. words_at v c.deref.result.now c.args.k) c.words_over.ensures ∙ ap (λ xs. words_at w xs c.args.k) c.deref.ensures.value in
     let long : length c.words_at.result.now ≡ w =
     ap length words ∙ length-words_at w a.words.items c.args.k (fits a c.args.self.now c.self.view_is c.self.invariant c.args.k c.requires.place) in
     let b = c.words.result.now in
