@@ -2,7 +2,9 @@ use Rattle.std.proofs.Common.{ℕ, true, refl, sym, ap, subst, ◌∙◌}
 use Rattle.audit_core.specs.Audited.{Audited}
 use Rattle.table_load.specs.Cells.{SecretView}
 use Rattle.audit_store.specs.Stores.{IsStore, IsAuditedBy}
+use Rattle.audit_store.specs.Starting.{StartsUnlessFailed}
 use Rattle.audit_store.specs.StoreLaws.{store_in, table_by, recovered_groups, recovered_store}
+use Rattle.audit_store.proofs.StoreFaults.{of_refusal}
 use Rattle.audit_store.proofs.store.Store.start.Goals as goal
 
 pub invariant_of-result : goal.invariant_of-result
@@ -24,3 +26,8 @@ returns-clause-store g c =
       refl,
       (invariant_of-result g c).0,
     )
+
+pub returns-in_err-journal-clause-opens : goal.returns-in_err-journal-clause-opens
+returns-in_err-journal-clause-opens g c = λ history told stands legal.
+    of_refusal c.from_residual.result c.in_err-journal.field-0.0 c.from_residual.ensures StartsUnlessFailed
+    (c.in_err-journal.ensures.opens history told stands legal)
