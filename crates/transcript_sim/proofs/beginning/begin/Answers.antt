@@ -1,4 +1,4 @@
-use Rattle.std.proofs.Common.{rules, ◌≡◌, List, sym, subst}
+use Rattle.std.proofs.Common.{rules, ◌≡◌, List, Err, ap, sym, subst}
 use Rattle.audit_types.specs.History.{Protection, setting_of}
 use Rattle.audit_types.specs.declared.records.Answered.{Answered}
 use Rattle.audit_types.specs.declared.shapes.Shape.{Shape}
@@ -18,3 +18,6 @@ returns-in-Ok-clause-cause g c = λ told.
     subst (λ (p : Protection). EndBegins c.audited.result file (setting_of c.args.shape p)) same
     (told_by_audit file (setting_of c.args.shape c.in_ok-protected.protected) c.shape.result c.deref.result.now journal.gate read c.audited.result
     c.audited.ensures.released c.audited.ensures.cause)
+
+pub returns-in-Err-Damaged-clause-cause : goal.returns-in-Err-Damaged-clause-cause
+returns-in-Err-Damaged-clause-cause g c = λ told. c.in-Err-Damaged.ensures.damaged c.in-Err-Damaged.at told (ap Err c.in-Err-Damaged.field-0-is)
