@@ -9,3 +9,7 @@ most_columns = 2 * most_rows
 -- what the rows of a form leave of small numbers is smaller: each takes at most 2 ^ 112
 abbrev pub most_remainder : ℕ
 most_remainder = 2 ^ 112 * (most_columns + 1)
+
+-- so many rows are few
+abbrev pub few_rows : ℕ
+few_rows = 1024
