@@ -1,10 +1,10 @@
 -- The extreme rows of each answer once the asked set has another: those of its rows that can reach it, but for the asked ones if the new answer is
 -- lower.
-use Rattle.std.proofs.Common.{◌≡◌, ℕ, Bool, true, false, not, cond, ◌&&◌, ℤ, List, [], ◌∷◌, refl, sym, ap, ◌∙◌, arith, inl, inr, Option, Some, None}
+use Rattle.std.proofs.Common.{◌≡◌, ℕ, Bool, true, false, not, cond, ℤ, List, [], ◌∷◌, refl, sym, ap, ◌∙◌, arith, Option, Some, None}
 use Rattle.std.specs.Prelude.{◌<ℤ◌, ◌≤ℤ◌, int_lt}
 use Rattle.std.specs.List.{filter}
 use Rattle.std.proofs.lemmas.Int.{ints}
-use Rattle.std.proofs.lemmas.Bool.{true≢false, cases_lt}
+use Rattle.std.proofs.lemmas.Bool.{true≢false}
 use Rattle.audit_types.specs.Rows.{has_row, AreRows, intersection, complement}
 use Rattle.audit_types.specs.Column.{Answer, IsOneOf}
 use Rattle.audit_types.specs.Extremes.{upper_bound, is_bound, extremes}

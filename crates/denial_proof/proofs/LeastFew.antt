@@ -1,12 +1,12 @@
 -- The first name of extreme rows of few people, as the answers are gone through.
-use Rattle.std.proofs.Common.{◌≡◌, ◌≢◌, ℕ, ◌<◌, List, [], ◌∷◌, ◌++◌, length, Option, Some, None, sym, ap, ◌∙◌, subst, arith, inl, inr}
-use Rattle.audit_types.specs.Rows.{Rows, AreRows}
+use Rattle.std.proofs.Common.{◌≡◌, ◌≢◌, ℕ, List, [], ◌∷◌, ◌++◌, length, Option, Some, None, sym, ap, ◌∙◌, subst, arith, inl, inr}
+use Rattle.audit_types.specs.Rows.{Rows}
 use Rattle.audit_types.specs.Headcount.{Headcount, CountPeople, AreFew}
 use Rattle.std.specs.Prelude.{ℤ, IfSome, IfNone}
 use Rattle.audit_types.specs.Column.{Answer, IsOneOf, IsWellFormed, known_max, guarding}
 use Rattle.max_audit.specs.Laws.{LeavesFewPeople}
 use Rattle.max_bounds.specs.Maxima.{and_answer}
-use Rattle.audit_types.specs.Extremes.{upper_bound, is_bound, extremes, IsConsistent}
+use Rattle.audit_types.specs.Extremes.{extremes, IsConsistent}
 use Rattle.max_bounds.specs.AnswerLaws.{one_of_front, one_of_last, front_or_last, extreme_rows, some_extreme}
 use Rattle.denial_proof.specs.declared.few_rows.FewRows.{FewRows}
 use Rattle.denial_proof.specs.FewRows.{AreFoundFew, name_of, ComesBefore, IsFirstName, IsFirstWith, IsLeastFew, IsLeastFewFound}

@@ -40,6 +40,7 @@ pub mod FewOutlook
 pub mod FewNames
 pub mod FewWalks
 pub mod PeopleCounted
+pub mod PossibleAnswers
 pub mod FewLeft
 pub mod LeastFew
 mod Tests

@@ -1,6 +1,6 @@
 -- What the answers before a question say of each answer to it: below which numbers one takes all extreme rows of some answer, or all but
 -- few, and up to which rows of the set can reach one.
-use Rattle.std.specs.Prelude.{◌≡◌, ◌⊎◌, ℕ, ◌^◌, ℤ, pos, neg_ℤ, ◌<ℤ◌, ◌≤ℤ◌, Bool, true, cond, List, [], Option, Some, None}
+use Rattle.std.specs.Prelude.{◌≡◌, ◌≢◌, ◌⊎◌, ℕ, ◌^◌, ℤ, pos, neg_ℤ, ◌<ℤ◌, ◌≤ℤ◌, Bool, true, cond, List, [], Option, Some, None}
 use Rattle.std.specs.Int.{int_max}
 use Rattle.std.specs.List.{AllByRecursion}
 use Rattle.audit_types.specs.Rows.{has_row}
@@ -30,7 +30,7 @@ reach_of (Some b) = b
 -- what is left of rows
 abbrev pub IsLeft : Headcount → List ℕ → Left → Type 0
 IsLeft people rows Nothing = rows ≡ []
-IsLeft people rows Few = Unit {0}
+IsLeft people rows Few = rows ≢ []
 IsLeft people rows More = ¬ (AreFew people [] rows)
 
 -- all extreme rows of an answer lie in the set
@@ -47,18 +47,20 @@ HoldsAfter old Nothing answer new = (new.whole ≡ int_max old.whole answer) × 
 HoldsAfter old Few answer new = (new.whole ≡ old.whole) × (new.stranded ≡ int_max old.stranded answer)
 HoldsAfter old More answer new = new ≡ old
 
--- `whole` is one of the answers that the set holds whole, and every answer seen above `stranded` has more than few extreme rows outside
+-- `whole` is the greatest of the answers seen that the set holds whole, and every one above `stranded` has more than few extreme rows outside
 pub record IsHolding (answers : List Answer) (people : Headcount) (rows : List ℕ) (seen : List Answer) (holding : Holding) : Type 0 where
   pub whole : (holding.whole ≡ below_all) ⊎ ((a : Answer) × IsOneOf a answers × IsHeldWhole answers rows a × (a.value ≡ holding.whole))
+  pub greatest : AllByRecursion (λ a. (¬ (IsHeldWhole answers rows a)) ⊎ (a.value ≤ℤ holding.whole)) seen
   pub others : AllByRecursion (λ a. HasMoreOutside answers people rows a ⊎ (a.value ≤ℤ holding.stranded)) seen
 
 -- with one row more, which can be this high, and by whether more than few can
 abbrev pub ReachesAfter : Reach → ℤ → Bool → Reach → Type 0
 ReachesAfter old height are_many new = (new.top ≡ int_max old.top height) × (new.many ≡ cond are_many height old.many)
 
--- no row of the set can be above `top`, and more than few can reach `many`
+-- no row of the set can be above `top`, which some row can reach, and more than few can reach `many`
 pub record IsReach (answers : List Answer) (people : Headcount) (rows : List ℕ) (reach : Reach) : Type 0 where
   pub top : (r : ℕ) → has_row rows r ≡ true → reach_of (upper_bound answers r) ≤ℤ reach.top
+  pub reached : (reach.top ≡ below_all) ⊎ ((r : ℕ) × (has_row rows r ≡ true) × (reach.top ≤ℤ reach_of (upper_bound answers r)))
   pub many : (reach.many ≤ℤ below_all) ⊎ (¬ (AreFew people [] (rows_at_least (upper_bound answers) reach.many rows)))
 
 -- what the answers say of a question on these rows

@@ -82,6 +82,8 @@ fn holding_of(bounds: &Bounds, people: &CountedRows, others: &RowSet) -> Holding
     requires others { others.now.n ≡ bounds.now.n }
     ensures { (asked : List ℕ) → others.now.list ≡ complement others.now.n asked → IsHolding bounds.now.answers people.now.people asked bounds.now.answers result }
 {
+    // Counted rows say of themselves that nobody is few people.
+    let _ = people.n();
     let mut holding = Holding {
         whole: BELOW_ALL,
         stranded: BELOW_ALL,

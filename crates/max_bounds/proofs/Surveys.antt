@@ -7,7 +7,7 @@ use Rattle.audit_types.specs.Limits.{most_rows}
 use Rattle.audit_types.specs.Rows.{AreRows, has_row, IsLeast}
 use Rattle.audit_types.specs.Extremes.{is_bound}
 use Rattle.audit_types.specs.Column.{Answer}
-use Rattle.max_bounds.specs.declared.survey.Trial.{Trial}
+use Rattle.max_bounds.specs.declared.survey.Findings.{Findings}
 use Rattle.max_bounds.specs.Reaching.{reaching, lone_of, own_of, lesser_of, IsAlone, TellsOf}
 use Rattle.max_bounds.specs.AnswerLaws.{one_of_front, one_of_last, front_or_last}
 use Rattle.audit_types.specs.FilteredRows.{rows_within}
@@ -114,17 +114,17 @@ module _ (bound : ℕ → Option ℤ) (shared : List ℕ) where
   TellsOf-none = record { consistent = (λ e. tt, λ t. refl); lone = λ r (alone, own). absurd alone.1 }
 
   -- what is told with one answer more
-  pub TellsOf-push : (answers : List Answer) (x : Answer) (trial after : Trial) (count : ℕ) (only : Option ℕ) → TellsOf bound shared answers trial →
+  pub TellsOf-push : (answers : List Answer) (x : Answer) (found after : Findings) (count : ℕ) (only : Option ℕ) → TellsOf bound shared answers found →
       count ≡ length (reaching bound x.rows x.value) → only ≡ lone_of (reaching bound x.rows x.value) →
-      IsTrue after.consistent ↔ (IsTrue trial.consistent × (0 < count)) → after.lone ≡ lesser_of trial.lone (own_of shared only) →
+      IsTrue after.consistent ↔ (IsTrue found.consistent × (0 < count)) → after.lone ≡ lesser_of found.lone (own_of shared only) →
       TellsOf bound shared (answers ++ x ∷ []) after
-  TellsOf-push answers x trial after count only h counted alone both least = record {
+  TellsOf-push answers x found after count only h counted alone both least = record {
     consistent = (
       (λ yes. let parts = both.0 yes in all-push (λ a. 0 < length (reaching bound a.rows a.value)) answers x (h.consistent.0 parts.0) (omega (arith, parts.1))),
       (λ all. let parts = all-front (λ a. 0 < length (reaching bound a.rows a.value)) answers x all in both.1 (h.consistent.1 parts.0, omega (arith, parts.1))),
     );
     lone = subst (IsLeast (Own (answers ++ x ∷ []))) (sym least)
-        (same_least (λ r. Own answers r ⊎ OwnOf r) (Own (answers ++ x ∷ [])) (lesser_of trial.lone (own_of shared only))
+        (same_least (λ r. Own answers r ⊎ OwnOf r) (Own (answers ++ x ∷ [])) (lesser_of found.lone (own_of shared only))
         (λ r either. elim either [
           | inl ((a, one, is), own) ↦ ((a, one_of_front answers x a one, is), own)
           | inr (is, own) ↦ ((x, one_of_last answers x, is), own)
@@ -133,7 +133,7 @@ module _ (bound : ℕ → Option ℤ) (shared : List ℕ) where
           | inl front ↦ inl ((a, front, is), own)
           | inr last ↦ inr (ap (λ (y : Answer). reaching bound y.rows y.value) last ∙ is, own)
         ])
-        (lesser_is_least (Own answers) OwnOf trial.lone (own_of shared only) h.lone
+        (lesser_is_least (Own answers) OwnOf found.lone (own_of shared only) h.lone
         (subst (λ (o : Option ℕ). IsLeast OwnOf (own_of shared o)) (sym alone) (own_is_least shared (reaching bound x.rows x.value)))));
   }
     where

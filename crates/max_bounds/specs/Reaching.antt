@@ -4,7 +4,7 @@ use Rattle.std.specs.List.{filter, slice_index_or, AllByRecursion}
 use Rattle.audit_types.specs.Rows.{has_row, IsLeast}
 use Rattle.audit_types.specs.Column.{Answer, IsOneOf}
 use Rattle.audit_types.specs.Extremes.{least_of, is_bound}
-use Rattle.max_bounds.specs.declared.survey.Trial.{Trial}
+use Rattle.max_bounds.specs.declared.survey.Findings.{Findings}
 
 -- the bound of a row, in a list with one for each row
 abbrev pub bound_at : List (Option ℤ) → ℕ → Option ℤ
@@ -40,6 +40,6 @@ abbrev pub IsAlone : (ℕ → Option ℤ) → List Answer → ℕ → Type 0
 IsAlone bound answers r = (a : Answer) × IsOneOf a answers × (reaching bound a.rows a.value ≡ r ∷ [])
 
 -- whether each answer is reached, and the least row that alone reaches one and isn't shared
-pub record TellsOf (bound : ℕ → Option ℤ) (shared : List ℕ) (answers : List Answer) (trial : Trial) : Type 0 where
-  pub consistent : IsTrue trial.consistent ↔ AllByRecursion (λ a. 0 < length (reaching bound a.rows a.value)) answers
-  pub lone : IsLeast (λ r. IsAlone bound answers r × (has_row shared r ≡ false)) trial.lone
+pub record TellsOf (bound : ℕ → Option ℤ) (shared : List ℕ) (answers : List Answer) (found : Findings) : Type 0 where
+  pub consistent : IsTrue found.consistent ↔ AllByRecursion (λ a. 0 < length (reaching bound a.rows a.value)) answers
+  pub lone : IsLeast (λ r. IsAlone bound answers r × (has_row shared r ≡ false)) found.lone

@@ -19,7 +19,7 @@ use crate::kept::{fall, insert};
 use crate::marks::Marks;
 use crate::people::enough;
 use crate::reach::settle;
-use crate::survey::{Trial, survey, survey_with};
+use crate::survey::survey;
 use crate::within::has_within;
 use audit_types::{CountedRows, NoMemory, RowSet};
 use std::alloc::Global;
@@ -203,19 +203,6 @@ impl Bounds {
         }
         // No row is shared.
         survey(&self.pairs, &RowSet::new(1)).lone
-    }
-
-    /// Whether each answer would have an extreme row with this answer after the others, and the least row that isn't shared and would be the
-    /// only one of some answer. It takes no memory.
-    pub fn trial(&self, rows: &RowSet, answer: i128, shared: &RowSet) -> Trial
-        requires same_n { rows.now.n ≡ self.now.n }
-        requires some { rows.now.list ≢ [] }
-        requires low { neg_ℤ (pos (2 ^ 63 + 1)) ≤ℤ answer }
-        requires high { answer ≤ℤ pos (2 ^ 63) }
-        ensures consistent { IsTrue result.consistent ↔ IsConsistent (and_answer self.now.answers rows.now.list answer) }
-        ensures lone { IsLeastOwnLone shared.now.list (and_answer self.now.answers rows.now.list answer) result.lone }
-    {
-        survey_with(&self.pairs, rows, answer, shared)
     }
 
     /// Whether all extreme rows of some answer with this number are in the set. It takes no memory.

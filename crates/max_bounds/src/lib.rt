@@ -1,7 +1,7 @@
 //! Upper bounds and extreme rows of answered maxima.
 //!
 //! Start with `Bounds`: it keeps the answers of a column of maxima. `Bounds::leaves_few` says whether a question is
-//! dangerous after them, and `Bounds::trial` what one answer more would do.
+//! dangerous after them.
 #![tactic(auto)]
 
 mod answered;
@@ -28,4 +28,3 @@ pub use answered::AnsweredMax;
 pub use answered_maxima::AnsweredMaxima;
 pub use bounds::Bounds;
 pub use people::are_few;
-pub use survey::Trial;

@@ -6,24 +6,23 @@ ghost use Rattle.max_bounds.specs.Reaching.{bound_at, own_of, lesser_of, TellsOf
 
 use crate::answered_maxima::AnsweredMaxima;
 use crate::extreme_rows::{ExtremeRows, extreme_rows};
-use crate::upper_bounds::{UpperBounds, lower, upper_bounds};
+use crate::upper_bounds::{UpperBounds, upper_bounds};
 use audit_types::RowSet;
 
-/// What `Bounds` would answer with one answer more: whether each answer has an extreme row, and the least row that is
-/// the only one of some answer and isn't shared.
+/// What answers tell together: whether each has an extreme row, and the least row that is the only one of some answer and isn't shared.
 #[derive(Clone, Copy)]
-pub struct Trial {
+pub(crate) struct Findings {
     pub consistent: bool,
     pub lone: Option<u16>,
 }
 
-impl Trial {
+impl Findings {
     // With the extreme rows of one answer more.
-    fn and(self, extremes: ExtremeRows, shared: &RowSet) -> Trial
+    fn and(self, extremes: ExtremeRows, shared: &RowSet) -> Findings
         ensures consistent { IsTrue result.consistent ↔ (IsTrue self.consistent × (0 < extremes.count)) }
         ensures lone { result.lone ≡ lesser_of self.lone (own_of shared.now.list extremes.lone) }
     {
-        Trial {
+        Findings {
             consistent: self.consistent && extremes.count > 0,
             lone: lesser(self.lone, own(extremes.lone, shared)),
         }
@@ -51,39 +50,24 @@ fn lesser(one: Option<u16>, other: Option<u16>) -> Option<u16>
 }
 
 // What these answers tell if the bounds are given.
-fn survey_under(bounds: &UpperBounds, pairs: &AnsweredMaxima, shared: &RowSet) -> Trial
+fn survey_under(bounds: &UpperBounds, pairs: &AnsweredMaxima, shared: &RowSet) -> Findings
     ensures tells { TellsOf (bound_at bounds.now) shared.now.list (answers_of pairs.now.items) result }
 {
-    let mut trial = Trial {
+    let mut found = Findings {
         consistent: true,
         lone: None,
     };
     for k in 0..pairs.len() {
         let pair = pairs.get(k);
         let extremes = extreme_rows(bounds, &pair.rows, pair.answer as i128);
-        trial = trial.and(extremes, shared);
+        found = found.and(extremes, shared);
     }
-    trial
+    found
 }
 
 /// What the answers tell.
-pub(crate) fn survey(pairs: &AnsweredMaxima, shared: &RowSet) -> Trial
+pub(crate) fn survey(pairs: &AnsweredMaxima, shared: &RowSet) -> Findings
     ensures tells { TellsOf (upper_bound (answers_of pairs.now.items)) shared.now.list (answers_of pairs.now.items) result }
 {
     survey_under(&upper_bounds(pairs), pairs, shared)
-}
-
-/// What the answers and one more tell.
-pub(crate) fn survey_with(
-    pairs: &AnsweredMaxima,
-    rows: &RowSet,
-    answer: i128,
-    shared: &RowSet,
-) -> Trial
-    ensures tells { TellsOf (upper_bound (and_answer (answers_of pairs.now.items) rows.now.list answer)) shared.now.list (and_answer (answers_of pairs.now.items) rows.now.list answer) result }
-{
-    let mut bounds = upper_bounds(pairs);
-    lower(&mut bounds, rows, answer);
-    let extremes = extreme_rows(&bounds, rows, answer);
-    survey_under(&bounds, pairs, shared).and(extremes, shared)
 }

@@ -3,7 +3,7 @@ use Rattle.std.specs.Int.{w128}
 use Rattle.std.proofs.lemmas.Int.{to_z-of_z}
 use Rattle.audit_types.specs.RowLaws.{walk_row, walk_more}
 use Rattle.denial_proof.specs.Outlook.{reach_of, ReachesAfter}
-use Rattle.denial_proof.proofs.OutlookWalks.{top_after, many_after}
+use Rattle.denial_proof.proofs.OutlookWalks.{top_after, reached_after, many_after}
 use Rattle.denial_proof.proofs.outlook.reach_in.Goals as goal
 
 pub upper-requires : goal.upper-requires
@@ -27,6 +27,8 @@ loop-row-preserved c =
           c.in-Some.ensures.steps;
       top = top_after answers c.loop-row.yielded c.in-Some.row c.loop-row.reach c.and-reach.result c.are_many-many.result c.loop-row.invariant.top
           (subst (λ (h : ℤ). ReachesAfter c.loop-row.reach h c.are_many-many.result c.and-reach.result) height after);
+      reached = reached_after answers c.loop-row.yielded c.in-Some.row c.loop-row.reach c.and-reach.result c.are_many-many.result
+          c.loop-row.invariant.reached (subst (λ (h : ℤ). ReachesAfter c.loop-row.reach h c.are_many-many.result c.and-reach.result) height after);
       many = many_after answers people rows high c.loop-row.reach c.and-reach.result c.are_many-many.result c.loop-row.invariant.many
           (rw same at c.are_many-many.ensures) after;
     }

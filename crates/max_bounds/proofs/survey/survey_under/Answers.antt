@@ -13,9 +13,9 @@ loop-k-preserved c =
     let fits : SFits w64 c.get-pair.result.answer = search rules in
     let same = widened c.get-pair.result.answer fits in
     rw (more, ← (read_is c.args.pairs.now.items c.loop-k.k c.get-pair.result (omega arith) c.get-pair.ensures))
-    (TellsOf-push (bound_at c.args.bounds.now) c.args.shared.now.list _ (answer_of c.get-pair.result) c.loop-k.trial c.and-trial.result
+    (TellsOf-push (bound_at c.args.bounds.now) c.args.shared.now.list _ (answer_of c.get-pair.result) c.loop-k.found c.and-found.result
     c.extreme_rows-extremes.result.count
     c.extreme_rows-extremes.result.lone c.loop-k.invariant
     (c.extreme_rows-extremes.ensures.count ∙ ap (λ a. length (reaching (bound_at c.args.bounds.now) c.get-pair.result.rows.list a)) same)
     (c.extreme_rows-extremes.ensures.lone ∙ ap (λ a. lone_of (reaching (bound_at c.args.bounds.now) c.get-pair.result.rows.list a)) same)
-    c.and-trial.ensures.consistent c.and-trial.ensures.lone)
+    c.and-found.ensures.consistent c.and-found.ensures.lone)
