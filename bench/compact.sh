@@ -1,8 +1,8 @@
 #!/bin/sh
 # Times `auditor compact` over full journals, 65,536 records over 1,024 rows, or as many as are given, beside opening them: sums and maxima over random
 # intervals, and maxima that are all the same number over sets of which none is within another, which makes the most work. Prints the
-# seconds and the peak of memory of both, and how many records were kept; ends with 1 if compact takes more than 5 seconds or 64 MiB for
-# each 1,024 rows.
+# seconds and the peak of memory of both, and how many records were kept; ends with 1 if compact takes more than 10 seconds
+# for each 1,024 rows, or 160 MiB and 64 for each 1,024 rows past the first.
 # Build the program first: demo/run.sh does.
 #
 #   bench/compact.sh [ROWS]
@@ -19,7 +19,7 @@ compact_full() {
     printf '%s: opened in %s s with %s MiB, ' "$2" "$seconds" "$mebibytes"
     measure "$program" compact >counts || { echo "compact: the journal of $1 isn't compacted" >&2; exit 1; }
     echo "compacted in $seconds s with $mebibytes MiB: $(cat counts)"
-    echo "$seconds $mebibytes $rows" | awk '{ exit $1 > 5 * $3 / 1024 || $2 > 64 * $3 / 1024 }' || slow=1
+    echo "$seconds $mebibytes $rows" | awk '{ exit $1 > 10 * $3 / 1024 || $2 > 96 + 64 * $3 / 1024 }' || slow=1
 }
 
 compact_full sums 'sums over intervals'

@@ -2,7 +2,7 @@
 # Times the built program when it opens a full journal, 65,536 records of sums and maxima in turn over random pairs of rows
 # joined, none of which separates the two rows of a pair, so that no question is denied: over 200 rows, over 1,024 rows with
 # 64 protected groups of half of the rows each, and over 4,096 rows. Prints the seconds and the peak of memory of each, and ends with 1 if
-# these are more than 5, 30 and 30 seconds, or 64, 64 and 256 MiB, or if a journal isn't full. Then it opens a journal that grew 1,000 times, from 24
+# these are more than 5, 30 and 30 seconds, or 80, 96 and 256 MiB, or if a journal isn't full. Then it opens a journal that grew 1,000 times, from 24
 # rows to 1,024, and one of the same records without a growth, three times each, then the same over 4,096 rows, and ends with 1 if the first takes more than twice as
 # long. Build the program first: demo/run.sh does.
 #
@@ -78,8 +78,8 @@ open_grown() {
     echo "$least $without" | awk '{ exit $1 > 2 * $2 }'
 }
 
-open_full 200 0 5 64 || exit 1
-open_full 1024 64 30 64 || exit 1
+open_full 200 0 5 80 || exit 1
+open_full 1024 64 30 96 || exit 1
 open_full 4096 0 30 256 || exit 1
 open_grown 1024 1,024 1,000 || exit 1
 open_grown 4096 4,096 4,072
