@@ -212,16 +212,20 @@ class Build(Demo):
         kept = [line.split()[0] for line in (TOP / "demo/shares.txt").read_text().splitlines() if not line.startswith("#")]
         self.assertEqual(kept, names)
 
-    def test_it_can_be_stopped_and_taken_up(self):
+    def stop_once_it_says(self, words):
+        """Stops a run whose kit hangs at a crate, which then says how to go on and leaves nothing behind."""
         run = subprocess.Popen(self.build, env=self.world | {"HANGS": "table_load"}, stderr=subprocess.PIPE, text=True)
         said = ""
-        while "proving table_load: " not in said:
+        while words not in said:
             said += run.stderr.read(1)
         run.send_signal(signal.SIGTERM)
         said += run.stderr.read()
         self.assertEqual(run.wait(PATIENCE), 130)
         self.assertIn("run it again to go on with table_load", said)
         self.assertEqual(os.listdir(self.top / "tmp"), [])
+
+    def test_it_can_be_stopped_and_taken_up(self):
+        self.stop_once_it_says("proving table_load: ")
         done = self.run_it(*self.build)
         self.assertEqual(done.returncode, 0, done.stderr)
         names = re.findall(r"(?m)^([a-z_]+)\b", (TOP / "demo/shares.txt").read_text())
@@ -257,15 +261,7 @@ class Build(Demo):
     def test_it_ticks_while_a_crate_is_being_proved(self):
         (self.top / "bin/sleep").write_text("#!/bin/sh\nexec /bin/sleep 0.02\n")
         (self.top / "bin/sleep").chmod(0o755)
-        run = subprocess.Popen(self.build, env=self.world | {"HANGS": "table_load"}, stderr=subprocess.PIPE, text=True)
-        said = ""
-        while "proving table_load: 10 s, 20 s, 30 s, " not in said:
-            said += run.stderr.read(1)
-        run.send_signal(signal.SIGTERM)
-        said += run.stderr.read()
-        self.assertEqual(run.wait(PATIENCE), 130)
-        self.assertIn("run it again to go on with table_load", said)
-        self.assertEqual(os.listdir(self.top / "tmp"), [])
+        self.stop_once_it_says("proving table_load: 10 s, 20 s, 30 s, ")
 
     def test_a_crate_that_is_not_proved_ends_it(self):
         done = self.run_it(*self.build, FAILS="sum_basis")
