@@ -20,7 +20,9 @@ abbrev pub EndLines : Result (Unit {0}) Stop → List ℕ → List ℕ → List 
 EndLines (Ok done) input left asked = asked ≡ counted_lines input
 EndLines (Err stop.Input) input left asked = AreRead input left asked
 EndLines (Err stop.Limit) input left asked = AreWithin input asked
-EndLines ended input left asked = AreFirst (counted_lines input) asked
+EndLines (Err stop.Bench) input left asked = AreFirst (counted_lines input) asked
+EndLines (Err stop.NoMemory) input left asked = AreFirst (counted_lines input) asked
+EndLines ended input left asked = ⊥
 
 -- ---- what was sent
 
