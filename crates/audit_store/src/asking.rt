@@ -150,11 +150,7 @@ pub fn keep_ready<B: Bench>(
 
 /// Appends records to the journal as one group, if there are any. All memory is taken before the first call of the
 /// bench.
-pub fn keep<B: Bench>(
-    journal: &mut Journal,
-    bench: &mut B,
-    group: &[Answered],
-) -> Result<(), Stop>
+pub fn keep<B: Bench>(journal: &mut Journal, bench: &mut B, group: &[Answered]) -> Result<(), Stop>
     requires usable { journal.old.usable ≡ true }
     requires group { length group.now ≤ 64 }
     requires fit { All (λ r. FitsShape journal.old.shape r.column r.rows) group.now }

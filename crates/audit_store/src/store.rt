@@ -280,11 +280,7 @@ impl Store {
 
     /// Goes on with records that its journal lacks, and brings that up to them, in groups of up to 64. They aren't decided again.
     /// After a refusal the store isn't usable, and some of them may have been appended.
-    pub fn bring_up<B: Bench>(
-        &mut self,
-        bench: &mut B,
-        missing: &[Answered],
-    ) -> Result<(), Stop>
+    pub fn bring_up<B: Bench>(&mut self, bench: &mut B, missing: &[Answered]) -> Result<(), Stop>
         requires usable { self.old.usable ≡ true }
         requires legal { IsLegal (table_of self.old) (self.old.history ++ missing.now) }
         requires stands { B.told → IsAsLeft (B.file bench.old) self.old }

@@ -1,4 +1,4 @@
-use Rattle.std.proofs.Common.{◌≡◌, refl, ℕ, ◌∙◌, ◌+◌, ◌++◌, List, length, Result, Err, sym, subst, rules}
+use Rattle.std.proofs.Common.{◌≡◌, refl, ℕ, ◌∙◌, ◌+◌, ◌++◌, List, length, Result, Err, sym, subst}
 use Rattle.std.specs.Prelude.{IfErr}
 use Rattle.std.proofs.lemmas.Bool.{false≢true}
 use Rattle.std.proofs.lemmas.Result.{IfOk-from_err}

@@ -25,7 +25,7 @@ pub returns-in_err-send : goal.returns-in_err-send
 returns-in_err-send g c =
     let e = c.in_err-send.ensures in
     of_refusal c.from_residual.result stop.Bench c.from_residual.ensures
-    (λ r. SendsLine g.B.Bench c.args.line.now c.args.bench.now c.send.new.bench r)
+    (λ r. SendsLine g.B.Bench c.args.line.now c.args.bench.now c.send.new.self r)
     record {
       sends = λ told. tt;
       part = e.part;
