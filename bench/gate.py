@@ -1,6 +1,6 @@
 #!/usr/bin/env python3
-"""Measures what the gate costs: `rt ci --anew` of a commit, or of two one after the other, each in a fresh clone where nothing that
-was kept counts. Writes a table by crate, for docs/GATE.md.
+"""Measures what the gate costs: `rt ci`, from nothing, of a commit, or of two one after the other, each in a fresh clone where nothing
+that was kept counts. Writes a table by crate, for docs/GATE.md.
 
     bench/gate.py [OLD] NEW [--processors N]      N is 2 if it isn't given
 
@@ -106,10 +106,17 @@ def wait_for(gate, meter, commit):
         time.sleep(1)
 
 
+def keeps_proofs():
+    """Whether this kit takes over what it proved before. An older one has no word against it, and begins from nothing at each run."""
+    told = subprocess.run(["rt", "help"], capture_output=True, text=True)
+    return "--anew" in told.stdout + told.stderr
+
+
 def start(clone, processors, said):
     """Starts the gate in a clone, on the first few processors."""
     mine = ",".join(map(str, sorted(os.sched_getaffinity(0))[:processors]))
-    words = ["taskset", "-c", mine, "rt", "ci", "--anew"]
+    anew = ["--anew"] if keeps_proofs() else []
+    words = ["taskset", "-c", mine, "rt", "ci", *anew]
     return subprocess.Popen(words, cwd=clone, stdin=subprocess.DEVNULL, stdout=said, stderr=subprocess.STDOUT)
 
 

@@ -170,7 +170,9 @@ def too_long():
             yield f"{page}: {lines} lines, and at most {most} are meant"
 
 
-MOST_EDITS, MOST_EDITS_OF_ALL = 6, 200
+MOST_EDITS, MOST_EDITS_OF_ALL = 3, 110
+# Each of these may have one more.
+HEART = {"sum_basis", "max_bounds", "audit_core", "answer_journal", "audit_store", "audit_session", "auditor_top", "file_adapters"}
 MOST_OF_A_LINE = 160
 
 
@@ -178,8 +180,9 @@ def too_many_edits():
     """Crates with more wrong bodies than the gate may try, and all of them together (GATE.md)."""
     counts = {crate: len(list(TOP.glob(f"crates/{crate}/must-fail/*.edit"))) for crate in sorted(CRATES)}
     for crate, count in counts.items():
-        if count > MOST_EDITS:
-            yield f"crates/{crate}: {count} edits, and {MOST_EDITS} at most"
+        most = MOST_EDITS + (crate in HEART)
+        if count > most:
+            yield f"crates/{crate}: {count} edits, and {most} at most"
     if sum(counts.values()) > MOST_EDITS_OF_ALL:
         yield f"crates: {sum(counts.values())} edits, and {MOST_EDITS_OF_ALL} at most"
 

@@ -23,7 +23,6 @@ use crate::lines::drill_lines;
 use crate::summaries::summary;
 use crate::tables::{drill_schema, drill_table};
 use answer_journal::{Journal, MakeFault};
-use audit_session::EndFault;
 use audit_store::{StartFault, Store};
 use audit_types::{NoMemory, Shape};
 use bench_core::{Bench, MemoryBench, Room, SteadySource, Stop};
@@ -76,9 +75,9 @@ fn answer_over(
     let mut source = SteadySource::new(lines);
     match audit_session::serve(alloc, schema, index, store, &mut source, bench, 1) {
         Ok(()) => Ok(()),
-        Err(fault) => match fault {
-            EndFault::Bench | EndFault::NoMemory => Err(NoMemory),
-            EndFault::Input | EndFault::Limit => unreachable!(),
+        Err(stop) => match stop {
+            Stop::Bench | Stop::NoMemory => Err(NoMemory),
+            Stop::Input | Stop::Limit | Stop::Spare => unreachable!(),
         },
     }
 }
