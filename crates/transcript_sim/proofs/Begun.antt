@@ -52,7 +52,7 @@ said_too X (fault.Stopped stop.Bench) file setting says = tt
 said_too X other file setting says = says
 
 -- what a call tells of its faults goes by the fault alone
-pub told_by_fault : {D : Type 0} (bench : Ghosts D) (old at : D) (X : Type 0) (why : SimulationFault) 
+pub told_by_fault : {D : Type 0} (bench : Ghosts D) (old at : D) (X : Type 0) (why : SimulationFault)
     → TellsFault bench old at (ended_by X why ≡ Err (fault.Stopped stop.Bench)) → TellsFault bench old at (why ≡ fault.Stopped stop.Bench)
 told_by_fault bench old at X why tells = record {
   later = tells.later;
