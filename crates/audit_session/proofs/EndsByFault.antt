@@ -58,7 +58,8 @@ uncalled end.NoMemory is no_bench memory spare = memory refl
 uncalled other is no_bench memory spare = absurd is
 
 -- an answer that was refused without a call of the bench leaves all as it stood
-pub rests_by : {B X : Type 0} (why : Stop) → IsOfBenches why → (IsErrOf {T = X} (Err why) end.Bench → ⊥) → (bench : Ghosts B) (old mid new : B) (was now : StoreContents)
+pub rests_by : {B X : Type 0} (why : Stop) → IsOfBenches why → (IsErrOf {T = X} (Err why) end.Bench → ⊥)
+    → (bench : Ghosts B) (old mid new : B) (was now : StoreContents)
     → (IsErrOf {T = X} (Err why) end.NoMemory → (new ≡ mid) × (now.history ≡ was.history))
     → (IsErrOf {T = X} (Err why) end.Spare → (new ≡ mid) × (now.history ≡ was.history)) → now.secret ≡ was.secret → Rests bench old mid was →
     Rests bench old new now

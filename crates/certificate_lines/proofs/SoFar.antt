@@ -172,8 +172,8 @@ module _ {P B : Type 0} (source : SourceGhosts P) (bench : Ghosts B) (columns : 
     pub wants_memory : (after : P) → source.faults after ≡ source.faults from →
         Explains source bench columns index history first_source after first at (Err stop.NoMemory)
     wants_memory after steady =
-        ends after (Err stop.NoMemory) (search rules) (search rules) (first_lines source first_source from cutter asked so_far.read) so_far.sends.sent (λ t told. tt)
-        (λ t. tt)
+        ends after (Err stop.NoMemory) (search rules) (search rules) (first_lines source first_source from cutter asked so_far.read) so_far.sends.sent
+        (λ t told. tt) (λ t. tt)
         (omega (arith, steady)) (λ is. absurd (search rules)) (λ is. absurd (search rules)) (λ other. steady)
 
     module _ (new : Cutter) (after : P) (cuts : Cuts source cutter new from after) where
@@ -195,12 +195,14 @@ module _ {P B : Type 0} (source : SourceGhosts P) (bench : Ghosts B) (columns : 
       pub cut_short : (why : Stop) → IsUnplanned source cutter new from after why →
           Explains source bench columns index history first_source after first at (Err why)
       cut_short stop.Input short =
-          ends after (Err stop.Input) (search rules) (search rules) (lines_read source first_source from cutter asked so_far.read after new cuts short) so_far.sends.sent
-          (λ t told. tt) (input_read source first_source from cutter asked so_far.read after new cuts short) cuts.later (λ is. short.rose) (λ is. short.last)
+          ends after (Err stop.Input) (search rules) (search rules) (lines_read source first_source from cutter asked so_far.read after new cuts short)
+          so_far.sends.sent (λ t told. tt)
+          (input_read source first_source from cutter asked so_far.read after new cuts short) cuts.later (λ is. short.rose) (λ is. short.last)
           (λ other. absurd (other refl))
       cut_short stop.Limit short =
-          ends after (Err stop.Limit) (search rules) (search rules) (lines_within source first_source from cutter asked so_far.read after new cuts short) so_far.sends.sent
-          (λ t told. tt) (input_over source first_source from cutter asked so_far.read after new cuts short) cuts.later (λ is. absurd (search rules))
+          ends after (Err stop.Limit) (search rules) (search rules) (lines_within source first_source from cutter asked so_far.read after new cuts short)
+          so_far.sends.sent (λ t told. tt)
+          (input_over source first_source from cutter asked so_far.read after new cuts short) cuts.later (λ is. absurd (search rules))
           (λ is. absurd (search rules)) (λ other. short.steady)
       cut_short stop.NoMemory short = wants_memory after short
       cut_short other short = absurd short

@@ -52,7 +52,7 @@ said_too X (fault.Stopped stop.Bench) file setting says = tt
 said_too X other file setting says = says
 
 -- what a call tells of its faults goes by the fault alone
-pub told_by_fault : {D : Type 0} (bench : Ghosts D) (old at : D) (X : Type 0) (why : SimulationFault) 
+pub told_by_fault : {D : Type 0} (bench : Ghosts D) (old at : D) (X : Type 0) (why : SimulationFault)
     → TellsFault bench old at (ended_by X why ≡ Err (fault.Stopped stop.Bench)) → TellsFault bench old at (why ≡ fault.Stopped stop.Bench)
 told_by_fault bench old at X why tells = record {
   later = tells.later;
@@ -125,8 +125,10 @@ module _ {P B : Type 0} (source : SourceGhosts P) (bench : Ghosts B) (columns : 
           (cause : bench.told → EndBegins (ended_by (Unit {0}) why) (bench.file old) (public_setting columns index)) where
         no_verdict : (history : List Answered) (input left : List ℕ) (given : SimulationFault) → IsUnbegun given → OnRefused (ended_by (Unit {0}) given) ⊥ →
             EndVerdicts (Err given) columns index history input left [] × EndSends (Err given) [] (bench.sent old) (bench.sent at)
-        no_verdict history input left (fault.Stopped stop.Bench) is none = (none_begun history (counted_lines input), (0, reads.sent ∙ sym (append-nil (bench.sent old))))
-        no_verdict history input left (fault.Stopped stop.NoMemory) is none = (none_begun history (counted_lines input), reads.sent ∙ sym (append-nil (bench.sent old)))
+        no_verdict history input left (fault.Stopped stop.Bench) is none =
+            (none_begun history (counted_lines input), (0, reads.sent ∙ sym (append-nil (bench.sent old))))
+        no_verdict history input left (fault.Stopped stop.NoMemory) is none =
+            (none_begun history (counted_lines input), reads.sent ∙ sym (append-nil (bench.sent old)))
         no_verdict history input left (fault.Damaged place) is none = absurd none
         no_verdict history input left (fault.OtherShape kept now) is none = absurd none
         no_verdict history input left (fault.Illegal place group) is none = absurd none

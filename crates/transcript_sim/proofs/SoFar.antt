@@ -167,8 +167,9 @@ module _ {P B : Type 0} (source : SourceGhosts P) (bench : Ghosts B) (columns : 
         → (bench.told → EndSends result verdicts (bench.sent first) (bench.sent at)) →
         (source.told → bench.told → OnOk result (bench.moment at ≡ bench.moment first + length (exchanges (counted_lines (source.left first_source))))) →
         (source.told → EndReads result (source.left first_source) (source.left after)) → source.faults from ≤ source.faults after
-        → (result ≡ Err (fault.Stopped stop.Input) → Rose (source.faults from) (source.faults after)) → (result ≡ Err (fault.Stopped stop.Input) → source.last_failed after ≡ true) →
-        (result ≢ Err (fault.Stopped stop.Input) → source.faults after ≡ source.faults from)
+        → (result ≡ Err (fault.Stopped stop.Input) → Rose (source.faults from) (source.faults after))
+        → (result ≡ Err (fault.Stopped stop.Input) → source.last_failed after ≡ true)
+        → (result ≢ Err (fault.Stopped stop.Input) → source.faults after ≡ source.faults from)
         → result ≢ Err (fault.Stopped stop.Spare) → OnRefused result ⊥ → Simulates source bench columns index begun first_source after first at result
     ends after result fine are sends calls reads later rose last steady alone taken = record {
       verdicts = λ t. (verdicts, are t, sends);
@@ -193,8 +194,8 @@ module _ {P B : Type 0} (source : SourceGhosts P) (bench : Ghosts B) (columns : 
     pub wants_memory : (after : P) → source.faults after ≡ source.faults from →
         Simulates source bench columns index begun first_source after first at (Err (fault.Stopped stop.NoMemory))
     wants_memory after steady =
-        ends after (Err (fault.Stopped stop.NoMemory)) (search rules) (λ t. (lines, first_lines source first_source from cutter lines so_far.read t, so_far.are))
-        so_far.sends.sent
+        ends after (Err (fault.Stopped stop.NoMemory)) (search rules)
+        (λ t. (lines, first_lines source first_source from cutter lines so_far.read t, so_far.are)) so_far.sends.sent
         (λ t told. tt) (λ t. tt) (omega (arith, steady)) (λ is. absurd (search rules)) (λ is. absurd (search rules)) (λ other. steady) (search rules) tt
 
     module _ (new : Cutter) (after : P) (cuts : Cuts source cutter new from after) where
@@ -210,8 +211,9 @@ module _ {P B : Type 0} (source : SourceGhosts P) (bench : Ghosts B) (columns : 
             so_far.sends.ticks told,
             length-replies (IsVerdict columns index) begun (exchanges lines) verdicts so_far.are,
             ap (λ (ls : List CountedLine). length (exchanges ls)) (all t),
-          )) (all_input source first_source from cutter lines so_far.read after new cuts gives) cuts.later (λ is. absurd (no_fault (fault.Stopped stop.Input) is))
-          (λ is. absurd (no_fault (fault.Stopped stop.Input) is)) (λ other. gives.steady) (no_fault (fault.Stopped stop.Spare)) tt
+          )) (all_input source first_source from cutter lines so_far.read after new cuts gives) cuts.later
+          (λ is. absurd (no_fault (fault.Stopped stop.Input) is)) (λ is. absurd (no_fault (fault.Stopped stop.Input) is)) (λ other. gives.steady)
+          (no_fault (fault.Stopped stop.Spare)) tt
 
       -- no line was given
       pub cut_short : (why : Stop) → IsUnplanned source cutter new from after why →

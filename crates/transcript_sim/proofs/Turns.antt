@@ -227,7 +227,8 @@ module _ {P B : Type 0} (source : SourceGhosts P) (bench : Ghosts B) (columns : 
     }
 
     -- it couldn't be
-    asked_unsent : FailsSending bench at sending expected → Simulates source bench columns index begun first_source after first sending (Err (fault.Stopped stop.Bench))
+    asked_unsent : FailsSending bench at sending expected →
+        Simulates source bench columns index begun first_source after first sending (Err (fault.Stopped stop.Bench))
     asked_unsent fails =
         question_unsent source bench columns index begun first_source first cutter from at turn.lines turn.verdicts turn.so_far new after question.line
         question.gives cuts

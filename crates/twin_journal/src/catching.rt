@@ -71,8 +71,10 @@ pub(crate) fn catch_up<B: Bench, S: Bench>(
     if place == list.len() {
         return match bring_up(journal, spare, &history[place..]) {
             Ok(()) => Ok(()),
-            Err(Stop::NoMemory) => Err(TwinFault::NoMemory),
-            Err(_) => Err(TwinFault::SpareFailed),
+            Err(stop) => match stop {
+                Stop::NoMemory => Err(TwinFault::NoMemory),
+                _ => Err(TwinFault::SpareFailed),
+            },
         };
     }
     if place < history.len() {
@@ -82,7 +84,9 @@ pub(crate) fn catch_up<B: Bench, S: Bench>(
     }
     match store.bring_up(bench, &list[place..]) {
         Ok(()) => Ok(()),
-        Err(Stop::NoMemory) => Err(TwinFault::NoMemory),
-        Err(_) => Err(TwinFault::MainFailed),
+        Err(stop) => match stop {
+            Stop::NoMemory => Err(TwinFault::NoMemory),
+            _ => Err(TwinFault::MainFailed),
+        },
     }
 }

@@ -100,8 +100,8 @@ returns-in-Ok g c =
       spare_fault = told_as g.S.Bench old new _ _ (λ is. no_refusal _ _ is) (λ is. no_refusal _ _ is) c.in-Ok.ensures.fault;
     }
 
-pub returns-in-Err : goal.returns-in-Err
-returns-in-Err g c =
+pub returns-in_default : goal.returns-in_default
+returns-in_default g c =
     let store = c.args.store.now in
     let main = store.history in
     let shown = c.history-history.result.now in
@@ -118,7 +118,7 @@ returns-in-Err g c =
     let here : g.S.Bench.told → StandsAt (g.S.Bench.file old) journal.shape list journal.gate = λ told.
     subst (λ (s : Shape). StandsAt (g.S.Bench.file old) s list journal.gate) (sym shape) (c.requires.spare_stands told) in
     let many : length list ≡ journal.count = sym c.requires.other.counted in
-    let ended = ended_by_bench c.in-Err.field-0 c.in-Err.ensures.ends c.in-Err.not-NoMemory in
+    let ended = ended_by_bench c.in-Err.stop c.in-Err.ensures.ends c.in_default.not-NoMemory in
     let is : c.bring_up.result ≡ Err stop.Bench = cc in
     record {
       meet = tt;
@@ -153,8 +153,8 @@ returns-in-Err g c =
       spare_fault = told_as g.S.Bench old new _ _ (λ failed. refl) (λ refused. is) c.bring_up.ensures.fault;
     }
 
-pub returns-in-Err-NoMemory : goal.returns-in-Err-NoMemory
-returns-in-Err-NoMemory g c =
+pub returns-in-NoMemory : goal.returns-in-NoMemory
+returns-in-NoMemory g c =
     let store = c.args.store.now in
     let main = store.history in
     let shown = c.history-history.result.now in
@@ -322,8 +322,8 @@ returns-in-Ok-bring_up g c =
       spare_fault = not_called g.S.Bench c.args.spare.now _ (λ is. no_refusal _ _ is);
     }
 
-pub returns-in-Err-bring_up : goal.returns-in-Err-bring_up
-returns-in-Err-bring_up g c =
+pub returns-in_default-stop : goal.returns-in_default-stop
+returns-in_default-stop g c =
     let store = c.args.store.now in
     let main = store.history in
     let shown = c.history-history.result.now in
@@ -336,7 +336,7 @@ returns-in-Err-bring_up g c =
     let all : list ≡ main ++ lacks = main_lacks main shown list place hist c.agreement-place.ensures.same at in
     let old = c.args.bench.now in
     let new = c.bring_up-2.new.bench in
-    let ended = ended_by_bench c.in-Err-bring_up.field-0 c.in-Err-bring_up.ensures.ends c.in-Err-bring_up.not-NoMemory in
+    let ended = ended_by_bench c.in-Err-bring_up.stop c.in-Err-bring_up.ensures.ends c.in_default-stop.not-NoMemory in
     let is : c.bring_up-2.result ≡ Err stop.Bench = cc in
     record {
       meet = tt;
@@ -369,8 +369,8 @@ returns-in-Err-bring_up g c =
       spare_fault = not_called g.S.Bench c.args.spare.now _ (λ refused. let none : ⊥ = cc in absurd none);
     }
 
-pub returns-in-Err-NoMemory-bring_up : goal.returns-in-Err-NoMemory-bring_up
-returns-in-Err-NoMemory-bring_up g c =
+pub returns-in-NoMemory-stop : goal.returns-in-NoMemory-stop
+returns-in-NoMemory-stop g c =
     let store = c.args.store.now in
     let main = store.history in
     let shown = c.history-history.result.now in
