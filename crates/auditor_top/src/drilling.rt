@@ -23,10 +23,9 @@ ghost use Rattle.auditor_top.specs.Stages.{Before, opening_journal, reading_line
 
 use crate::status::Status;
 use answer_journal::{Journal, MakeFault};
-use audit_session::EndFault;
 use audit_store::{StartFault, Store};
 use audit_types::{NoMemory, Shape};
-use bench_core::{Bench, Failed, MemoryBench, Room, SteadySource};
+use bench_core::{Bench, Failed, MemoryBench, Room, SteadySource, Stop};
 use drill_case::laws::lines_of_replies;
 use drill_case::{drill_lines, drill_schema, drill_table, summary, tally};
 use schema_json::{Schema, SchemaFault};
@@ -78,9 +77,9 @@ fn answer_over(
     let mut source = SteadySource::new(lines);
     match audit_session::serve(alloc, schema, index, store, &mut source, bench, 1) {
         Ok(()) => Ok(()),
-        Err(fault) => match fault {
-            EndFault::Bench | EndFault::NoMemory => Err(NoMemory),
-            EndFault::Input | EndFault::Limit => unreachable!(),
+        Err(stop) => match stop {
+            Stop::Bench | Stop::NoMemory => Err(NoMemory),
+            Stop::Input | Stop::Limit | Stop::Spare => unreachable!(),
         },
     }
 }
