@@ -16,6 +16,7 @@ use Rattle.auditor_top.specs.Causes.{FaultCounts, FaultCause, WordCause, FileCau
 use Rattle.auditor_top.specs.Compactions.{CompactEnds}
 use Rattle.auditor_top.specs.Stages.{Before, opening_spare, reading_lines}
 use Rattle.auditor_top.specs.Faults.{compacting_status}
+use Rattle.auditor_top.proofs.StepFaults.{both_same}
 use Rattle.auditor_top.proofs.StepStatuses.{EndsLastStep}
 
 -- what its status says by itself
@@ -43,11 +44,6 @@ pub compact_spare : {X : Type 0} (ended : Result X CompactFault) (file : List �
 compact_spare (Ok done) file already refused = λ made. absurd (false≢true (refused made))
 compact_spare (Err compact.AlreadyThere) file already refused = already refl
 compact_spare ended file already refused = tt
-
--- counts of the bench and of the spare that are as they were
-pub both_same : (before : FaultCounts) (bench spare : ℕ) → bench ≡ before.bench → spare ≡ before.spare → record before { bench = bench; spare = spare } ≡ before
-both_same before bench spare is also =
-    ap (λ (n : ℕ). record before { bench = n; spare = spare }) is ∙ ap (λ (n : ℕ). record before { spare = n }) also
 
 -- the count of the object that failed rose, and no other count changed
 pub compact_faults : {X : Type 0} (ended : Result X CompactFault) (before : FaultCounts) (bench spare : ℕ) →

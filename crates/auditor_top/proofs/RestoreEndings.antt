@@ -14,8 +14,8 @@ use Rattle.auditor_top.specs.declared.status.Status.TheVariants.{Done, SourceFau
 use Rattle.auditor_top.specs.Causes.{BothCause, FaultCounts, FaultCause, WordCause, FileCause, SpareCause, NothingFailed, IsDoneOrWants}
 use Rattle.auditor_top.specs.Stages.{Before, opening_journal, reading_lines}
 use Rattle.auditor_top.specs.Faults.{restoring_status, start_status}
-use Rattle.auditor_top.proofs.CompactEndings.{both_same}
 use Rattle.auditor_top.proofs.StartEndings.{start_says, start_steady}
+use Rattle.auditor_top.proofs.StepFaults.{both_same}
 use Rattle.auditor_top.proofs.StepStatuses.{EndsLastStep}
 
 -- a fault of the journal is its own

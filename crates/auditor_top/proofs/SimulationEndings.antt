@@ -3,6 +3,7 @@ use Rattle.std.proofs.Common.{rules, ◌≡◌, ◌≢◌, ℕ, ◌^◌, ◌≤�
 use Rattle.std.proofs.lemmas.List.{append-nil}
 use Rattle.audit_types.specs.declared.records.Answered.{Answered}
 use Rattle.bench_core.specs.Causes.{Rose}
+use Rattle.bench_core.specs.declared.stops.Stop.TheVariants as stop
 use Rattle.schema_json.specs.Columns.{Column, SchemaView}
 use Rattle.schema_json.specs.Reading.{schema_of}
 use Rattle.set_index.specs.Groups.{Protects}
@@ -78,44 +79,33 @@ pub refused_too : {X P : Type 0} (ended : Result X SimulationFault) → P → On
 refused_too (Err (verdict.Damaged at)) holds = holds
 refused_too (Err (verdict.OtherShape kept now)) holds = holds
 refused_too (Err (verdict.Illegal place group)) holds = holds
-refused_too (Err verdict.Input) holds = tt
-refused_too (Err verdict.Bench) holds = tt
-refused_too (Err verdict.Limit) holds = tt
-refused_too (Err (verdict.Disagrees line due)) holds = tt
-refused_too (Err verdict.NoMemory) holds = tt
-refused_too (Ok done) holds = tt
+refused_too ended holds = tt
 
 pub refused_so : {X P Q : Type 0} (ended : Result X SimulationFault) → (P → Q) → OnRefused ended P → OnRefused ended Q
 refused_so (Err (verdict.Damaged at)) follows holds = follows holds
 refused_so (Err (verdict.OtherShape kept now)) follows holds = follows holds
 refused_so (Err (verdict.Illegal place group)) follows holds = follows holds
-refused_so (Err verdict.Input) follows holds = tt
-refused_so (Err verdict.Bench) follows holds = tt
-refused_so (Err verdict.Limit) follows holds = tt
-refused_so (Err (verdict.Disagrees line due)) follows holds = tt
-refused_so (Err verdict.NoMemory) follows holds = tt
-refused_so (Ok done) follows holds = tt
+refused_so ended follows holds = tt
 
 -- the cause of a refusal is in the journal's file, and any other end has a history to begin with
 pub simulation_cause : {X : Type 0} (ended : Result X SimulationFault) (file : List ℕ) (setting : Setting) → EndBegins ended file setting →
     BeginningCause (simulation_status ended) file setting
-simulation_cause (Err verdict.Input) file setting cause = cause
-simulation_cause (Err verdict.Bench) file setting cause = tt
-simulation_cause (Err verdict.NoMemory) file setting cause = tt
+simulation_cause (Err (verdict.Stopped stop.Bench)) file setting cause = tt
+simulation_cause (Err (verdict.Stopped stop.NoMemory)) file setting cause = tt
 simulation_cause ended file setting cause = cause
 
 -- what its status says by itself
 pub record SimulationSays {X : Type 0} (ended : Result X SimulationFault) : Type 1 where
   pub last : EndsLastStep (simulation_status ended)
-  pub words : WordCause (simulation_status ended) (Some command.Simulate)
-  pub bench : simulation_status ended ≡ BenchFault → ended ≡ Err verdict.Bench
-  pub input : simulation_status ended ≡ SourceFault Input → ended ≡ Err verdict.Input
+  pub words : ended ≢ Err (verdict.Stopped stop.Spare) → WordCause (simulation_status ended) (Some command.Simulate)
+  pub bench : simulation_status ended ≡ BenchFault → ended ≡ Err (verdict.Stopped stop.Bench)
+  pub input : simulation_status ended ≡ SourceFault Input → ended ≡ Err (verdict.Stopped stop.Input)
   pub done : (P : Type 0) → simulation_status ended ≡ Done → OnOk ended P → P
   pub at_lines : (P : Type 0) → OnRefused ended P → Before reading_lines (simulation_status ended) P
   pub file : (file : List ℕ) (table : Guarded) → FileCause (simulation_status ended) command.Simulate file table
 
 pub simulation_says : {X : Type 0} (ended : Result X SimulationFault) → SimulationSays ended
-simulation_says (Err verdict.Input) = search rules
+simulation_says (Err (verdict.Stopped stop.Input)) = search rules
 simulation_says ended = search rules
 
 -- ---- reading the transcript
@@ -124,19 +114,20 @@ simulation_says ended = search rules
 pub simulation_ends : (ended : Result (Unit {0}) SimulationFault) (columns : List Column) (public : IndexView) (history : List Answered) (input left : List ℕ)
     (verdicts : List (Replied Answered)) →
     EndVerdicts ended columns public history input left verdicts → SimulateEnds (simulation_status ended) columns public history input left verdicts
-simulation_ends (Err verdict.Input) columns public history input left verdicts are = are
+simulation_ends (Err (verdict.Stopped stop.Input)) columns public history input left verdicts are = are
 simulation_ends ended columns public history input left verdicts are = are
 
 pub simulation_sends : (ended : Result (Unit {0}) SimulationFault) (verdicts : List (Replied Answered)) (before after : List ℕ) →
     EndSends ended verdicts before after → SendsLines (simulation_status ended) (bytes_of verdicts) before after
-simulation_sends (Err verdict.Input) verdicts before after sends = sends
+simulation_sends (Err (verdict.Stopped stop.Input)) verdicts before after sends = sends
 simulation_sends ended verdicts before after sends = sends
 
 -- how much of the input there was, by the end
 pub simulation_reads : (ended : Result (Unit {0}) SimulationFault) (before after : List ℕ) → EndReads ended before after → OnRefused ended (after ≡ before) →
     InputCause (simulation_status ended) before after
-simulation_reads (Err verdict.Bench) before after reads unread = tt
-simulation_reads (Err verdict.NoMemory) before after reads unread = tt
+simulation_reads (Err (verdict.Stopped stop.Bench)) before after reads unread = tt
+simulation_reads (Err (verdict.Stopped stop.Spare)) before after reads unread = tt
+simulation_reads (Err (verdict.Stopped stop.NoMemory)) before after reads unread = tt
 simulation_reads (Err (verdict.Damaged at)) before after reads unread = unread
 simulation_reads (Err (verdict.OtherShape kept now)) before after reads unread = unread
 simulation_reads (Err (verdict.Illegal place group)) before after reads unread = unread
@@ -144,14 +135,15 @@ simulation_reads ended before after reads unread = reads
 
 -- the count of what failed rose, and no other changed
 pub simulation_faults : (ended : Result (Unit {0}) SimulationFault) (before : FaultCounts) (input bench : ℕ)
-    → (ended ≡ Err verdict.Input → Rose before.input input) → (ended ≢ Err verdict.Input → input ≡ before.input)
-    → (ended ≡ Err verdict.Bench → Rose before.bench bench) → (ended ≢ Err verdict.Bench → bench ≡ before.bench) →
-    FaultCause (simulation_status ended) before (record before { input = input; bench = bench })
-simulation_faults (Err verdict.Input) before input bench input_rose input_same bench_rose bench_same =
+    → (ended ≡ Err (verdict.Stopped stop.Input) → Rose before.input input) → (ended ≢ Err (verdict.Stopped stop.Input) → input ≡ before.input)
+    → (ended ≡ Err (verdict.Stopped stop.Bench) → Rose before.bench bench) → (ended ≢ Err (verdict.Stopped stop.Bench) → bench ≡ before.bench)
+    → ended ≢ Err (verdict.Stopped stop.Spare) → FaultCause (simulation_status ended) before (record before { input = input; bench = bench })
+simulation_faults (Err (verdict.Stopped stop.Input)) before input bench input_rose input_same bench_rose bench_same alone =
     (input_rose refl, same_counts (record before { input = input }) input bench refl (bench_same (search rules)))
-simulation_faults (Err verdict.Bench) before input bench input_rose input_same bench_rose bench_same =
+simulation_faults (Err (verdict.Stopped stop.Bench)) before input bench input_rose input_same bench_rose bench_same alone =
     (bench_rose refl, same_counts (record before { bench = bench }) input bench (input_same (search rules)) refl)
-simulation_faults ended before input bench input_rose input_same bench_rose bench_same =
+simulation_faults (Err (verdict.Stopped stop.Spare)) before input bench input_rose input_same bench_rose bench_same alone = absurd (alone refl)
+simulation_faults ended before input bench input_rose input_same bench_rose bench_same alone =
     same_counts before input bench (input_same (search rules)) (bench_same (search rules))
 
 -- if every reply agrees, the input is within its limit and nothing failed, it is done, or there was no memory
@@ -162,18 +154,15 @@ pub simulation_wants : FirstLinesHaveVerdicts
     → AreVerdicts columns public history (counted_lines input) others → length input ≤ 2 ^ 30 → FaultCause (simulation_status ended) before after →
     NothingFailed before after → IsDoneOrWants (simulation_status ended)
 simulation_wants first (Ok done) columns public history input left verdicts others before after are reads agree within rose none = inl refl
-simulation_wants first (Err verdict.Input) columns public history input left verdicts others before after are reads agree within rose none = absurd
-    (none.input rose.0)
-simulation_wants first (Err verdict.Bench) columns public history input left verdicts others before after are reads agree within rose none = absurd
-    (none.bench rose.0)
-simulation_wants first (Err verdict.Limit) columns public history input left verdicts others before after are reads agree within rose none =
+simulation_wants first (Err (verdict.Stopped stop.Input)) columns public history input left verdicts others before after are reads agree within rose none =
+    absurd (none.input rose.0)
+simulation_wants first (Err (verdict.Stopped stop.Bench)) columns public history input left verdicts others before after are reads agree within rose none =
+    absurd (none.bench rose.0)
+simulation_wants first (Err (verdict.Stopped stop.Limit)) columns public history input left verdicts others before after are reads agree within rose none =
     absurd (omega (arith, reads, within))
 simulation_wants first (Err (verdict.Disagrees line due)) columns public history input left verdicts others before after are reads agree within rose none =
     let begun = first columns public history (counted_lines input) others line agree in
     absurd (are.none_with begun.0 begun.1)
-simulation_wants first (Err verdict.NoMemory) columns public history input left verdicts others before after are reads agree within rose none = inr refl
-simulation_wants first (Err (verdict.Damaged at)) columns public history input left verdicts others before after are reads agree within rose none = absurd are
-simulation_wants first (Err (verdict.OtherShape kept now)) columns public history input left verdicts others before after are reads agree within rose
-    none = absurd are
-simulation_wants first (Err (verdict.Illegal place group)) columns public history input left verdicts others before after are reads agree within rose
-    none = absurd are
+simulation_wants first (Err (verdict.Stopped stop.NoMemory)) columns public history input left verdicts others before after are reads agree within rose none =
+    inr refl
+simulation_wants first ended columns public history input left verdicts others before after are reads agree within rose none = absurd are

@@ -1,8 +1,11 @@
 -- What the end of the last step of `init` and of `serve` comes to, by cases on it.
-use Rattle.std.proofs.Common.{rules, ◌≡◌, ◌≢◌, ℕ, ◌+◌, ◌<◌, ◌≤◌, List, true, [], Result, Ok, Err, IsErr, IsErrOf, OnOk, length, refl, sym, ◌∙◌, ap, inl, inr, arith, subst, Some}
+use Rattle.std.proofs.Common.{rules, ◌≡◌, ◌≢◌, ℕ, ◌+◌, ◌<◌, ◌≤◌, List, true, [], Result, Ok, Err, IfErr, IsErr, IsErrOf, OnOk, length, refl, sym, ◌∙◌, ap, inl, inr, arith, subst, Some}
 use Rattle.std.proofs.lemmas.Bool.{false≢true}
 use Rattle.audit_types.specs.declared.records.Answered.{Answered}
 use Rattle.bench_core.specs.Causes.{Rose}
+use Rattle.bench_core.specs.Stops.{IsOfBench}
+use Rattle.bench_core.specs.declared.stops.Stop.{Stop}
+use Rattle.bench_core.specs.declared.stops.Stop.TheVariants as stop
 use Rattle.audit_types.specs.History.{Table as Guarded}
 use Rattle.table_load.specs.Database.{Database}
 use Rattle.journal_form.specs.Journal.{StandsFor}
@@ -11,19 +14,17 @@ use Rattle.answer_journal.specs.declared.make.MakeFault.{MakeFault}
 use Rattle.answer_journal.specs.declared.make.MakeFault.TheVariants as make
 use Rattle.line_wire.specs.Lines.{counted_lines, most_input}
 use Rattle.audit_session.specs.Ends.{Serves, ServesWhole, ServesSome, limited}
-use Rattle.audit_session.specs.declared.serving.EndFault.{EndFault}
-use Rattle.audit_session.specs.declared.serving.EndFault.TheVariants as end
 use Rattle.auditor_top.specs.declared.words.Command.{Command}
 use Rattle.auditor_top.specs.declared.words.Command.TheVariants.{Init}
 use Rattle.auditor_top.specs.declared.status.Status.{Status}
-use Rattle.auditor_top.specs.declared.status.Status.TheVariants.{Done, BenchFault, SourceFault, NoMemory}
-use Rattle.auditor_top.specs.Faults.{making_status, session_status}
+use Rattle.auditor_top.specs.declared.status.Status.TheVariants.{Done, BenchFault, SourceFault, SpareFault, NoMemory}
+use Rattle.auditor_top.specs.Faults.{ended_status, making_status}
 use Rattle.auditor_top.specs.Ends.{Outside, ServeEnds}
-use Rattle.auditor_top.specs.Causes.{FaultCounts, counts, FaultCause, FileCause, IsReadyFor, InputCause, NothingFailed, IsDoneOrWants, WordCause}
+use Rattle.auditor_top.specs.Causes.{FaultCounts, counts, FaultCause, FileCause, IsReadyFor, IsSpareFor, InputCause, NothingFailed, IsDoneOrWants, SpareCause, WordCause}
 use Rattle.auditor_top.specs.declared.status.Which.TheVariants.{Input}
-use Rattle.auditor_top.specs.Stages.{Before, reading_lines}
+use Rattle.auditor_top.specs.Stages.{Before, opening_spare, reading_lines}
 use Rattle.auditor_top.proofs.StepStatuses.{EndsLastStep}
-use Rattle.auditor_top.specs.Commands.{reads_lines}
+use Rattle.auditor_top.specs.Commands.{calls_spare, reads_lines}
 
 -- an answer isn't good and bad
 pub not_both : {X E : Type 0} (x : X) (e : E) → Ok x ≡ Err e → ⊥
@@ -33,6 +34,11 @@ not_both x e is = search rules
 pub same_counts : (before : FaultCounts) (input bench : ℕ) → input ≡ before.input → bench ≡ before.bench →
     record before { input = input; bench = bench } ≡ before
 same_counts before input bench is also = ap (λ (n : ℕ). record before { input = input; bench = n }) also ∙ ap (λ (n : ℕ). record before { input = n }) is
+
+-- counts of the bench and of the spare that are as they were
+pub both_same : (before : FaultCounts) (bench spare : ℕ) → bench ≡ before.bench → spare ≡ before.spare → record before { bench = bench; spare = spare } ≡ before
+both_same before bench spare is also =
+    ap (λ (n : ℕ). record before { bench = n; spare = spare }) is ∙ ap (λ (n : ℕ). record before { spare = n }) also
 
 -- what is said after counts that are the same
 pub moved : (status : Status) (before : FaultCounts) (schema later_schema table later_table input bench spare : ℕ) → later_schema ≡ schema → later_table ≡ table
@@ -62,19 +68,23 @@ pub making_says : {X : Type 0} (ended : Result X MakeFault) → MakingSays ended
 making_says (Err make.AlreadyThere) = search rules
 making_says ended = search rules
 
--- and of answering lines
-pub record SessionSays {X : Type 0} (ended : Result X EndFault) : Type 1 where
-  pub last : EndsLastStep (session_status ended)
-  pub words : (one : Command) → reads_lines one ≡ true → WordCause (session_status ended) (Some one)
-  pub bench : session_status ended ≡ BenchFault → ended ≡ Err end.Bench
-  pub input : session_status ended ≡ SourceFault Input → ended ≡ Err end.Input
-  pub done : (P : Type 0) → session_status ended ≡ Done → OnOk ended P → P
-  pub at_lines : (P : Type 0) → Before reading_lines (session_status ended) P
-  pub file : (one : Command) (file : List ℕ) (table : Guarded) → IsReadyFor one file table → FileCause (session_status ended) one file table
+-- and of a step that only a call of the outside ends early
+pub record StopSays {X : Type 0} (ended : Result X Stop) : Type 1 where
+  pub last : EndsLastStep (ended_status ended)
+  pub words : (one : Command) → (ended ≡ Err stop.Input → reads_lines one ≡ true) → (ended ≡ Err stop.Limit → reads_lines one ≡ true)
+      → (ended ≡ Err stop.Spare → calls_spare one ≡ true) → WordCause (ended_status ended) (Some one)
+  pub bench : ended_status ended ≡ BenchFault → ended ≡ Err stop.Bench
+  pub spare : ended_status ended ≡ SpareFault → ended ≡ Err stop.Spare
+  pub input : ended_status ended ≡ SourceFault Input → ended ≡ Err stop.Input
+  pub done : (P : Type 0) → ended_status ended ≡ Done → OnOk ended P → P
+  pub at_lines : (P : Type 0) → Before reading_lines (ended_status ended) P
+  pub at_spare : (P : Type 0) → Before opening_spare (ended_status ended) P
+  pub file : (one : Command) (file : List ℕ) (table : Guarded) → IsReadyFor one file table → FileCause (ended_status ended) one file table
+  pub spare_file : (one : Command) (file : List ℕ) → IsSpareFor one file → SpareCause (ended_status ended) one file
 
-pub session_says : {X : Type 0} (ended : Result X EndFault) → SessionSays ended
-session_says (Err end.Input) = search rules
-session_says ended = search rules
+pub stop_says : {X : Type 0} (ended : Result X Stop) → StopSays ended
+stop_says (Err stop.Input) = search rules
+stop_says ended = search rules
 
 -- ---- making a journal
 
@@ -112,48 +122,72 @@ there_is (Ok done) undone fine = absurd (undone refl)
 there_is (Err make.AlreadyThere) undone fine = refl
 there_is (Err make.Failed) undone fine = absurd (fine refl)
 
--- ---- answering lines
+-- ---- a step that only a call of the outside ends early
 
--- the ends of a session are those of the run
-pub session_ends : {X : Type 0} (ended : Result X EndFault) (base : Database) (batch : ℕ) (history now : List Answered) (before after : Outside)
-    → OnOk ended (Serves base history (counted_lines before.input) now before.sent after.sent)
-    → (ended ≡ Err end.Input → ServesWhole base history batch before.input after.input now before.sent after.sent) →
-    (ended ≡ Err end.Limit → ServesWhole base history batch (limited before.input) [] now before.sent after.sent)
-    → (ended ≡ Err end.NoMemory → ServesSome base history batch (counted_lines before.input) now before.sent after.sent) →
-    (ended ≢ Err end.Bench → StandsFor after.file base.secret.shape now) → ServeEnds batch (session_status ended) base history before after
-session_ends (Ok done) base batch history now before after all whole below some stands = (now, all, stands (not_both done end.Bench))
-session_ends (Err end.Input) base batch history now before after all whole below some stands = (now, whole refl, stands (search rules))
-session_ends (Err end.Bench) base batch history now before after all whole below some stands = tt
-session_ends (Err end.Limit) base batch history now before after all whole below some stands = (now, below refl, stands (search rules))
-session_ends (Err end.NoMemory) base batch history now before after all whole below some stands = (now, some refl, stands (search rules))
+-- one that calls one bench, and reads no input
+pub of_bench : {X : Type 0} (ended : Result X Stop) (why : Stop) → IfErr ended IsOfBench → ended ≡ Err why → IsOfBench why
+of_bench ended why ends is = subst (λ r. IfErr r IsOfBench) is ends
+
+-- three counts that are as they were
+all_same : (before : FaultCounts) (input bench spare : ℕ) → input ≡ before.input → bench ≡ before.bench → spare ≡ before.spare →
+    record before { input = input; bench = bench; spare = spare } ≡ before
+all_same before input bench spare is also then =
+    ap (λ (n : ℕ). record before { input = n; bench = bench; spare = spare }) is ∙ both_same before bench spare also then
 
 -- the count of what failed rose, and no other changed
-pub session_faults : {X : Type 0} (ended : Result X EndFault) (before : FaultCounts) (input bench : ℕ) → (ended ≡ Err end.Input → Rose before.input input)
-    → (ended ≢ Err end.Input → input ≡ before.input)
-    → (ended ≡ Err end.Bench → Rose before.bench bench) → (ended ≢ Err end.Bench → bench ≡ before.bench) →
-    FaultCause (session_status ended) before (record before { input = input; bench = bench })
-session_faults (Err end.Input) before input bench input_rose input_same bench_rose bench_same =
-    (input_rose refl, same_counts (record before { input = input }) input bench refl (bench_same (search rules)))
-session_faults (Err end.Bench) before input bench input_rose input_same bench_rose bench_same =
-    (bench_rose refl, same_counts (record before { bench = bench }) input bench (input_same (search rules)) refl)
-session_faults ended before input bench input_rose input_same bench_rose bench_same =
-    same_counts before input bench (input_same (search rules)) (bench_same (search rules))
+pub stop_faults : {X : Type 0} (ended : Result X Stop) (before : FaultCounts) (input bench spare : ℕ) →
+    (ended ≡ Err stop.Input → Rose before.input input) → (ended ≢ Err stop.Input → input ≡ before.input) →
+    (ended ≡ Err stop.Bench → Rose before.bench bench) → (ended ≢ Err stop.Bench → bench ≡ before.bench) →
+    (ended ≡ Err stop.Spare → Rose before.spare spare) → (ended ≢ Err stop.Spare → spare ≡ before.spare) →
+    FaultCause (ended_status ended) before (record before { input = input; bench = bench; spare = spare })
+stop_faults (Err stop.Input) before input bench spare input_rose input_same bench_rose bench_same spare_rose spare_same = (
+  input_rose refl,
+  ap (λ (n : ℕ). record before { input = input; bench = n; spare = spare }) (bench_same (λ is. cc))
+      ∙ ap (λ (n : ℕ). record before { input = input; spare = n }) (spare_same (λ is. cc)),
+)
+stop_faults (Err stop.Bench) before input bench spare input_rose input_same bench_rose bench_same spare_rose spare_same = (
+  bench_rose refl,
+  ap (λ (n : ℕ). record before { input = n; bench = bench; spare = spare }) (input_same (λ is. cc))
+      ∙ ap (λ (n : ℕ). record before { bench = bench; spare = n }) (spare_same (λ is. cc)),
+)
+stop_faults (Err stop.Spare) before input bench spare input_rose input_same bench_rose bench_same spare_rose spare_same = (
+  spare_rose refl,
+  ap (λ (n : ℕ). record before { input = n; bench = bench; spare = spare }) (input_same (λ is. cc))
+      ∙ ap (λ (n : ℕ). record before { bench = n; spare = spare }) (bench_same (λ is. cc)),
+)
+stop_faults ended before input bench spare input_rose input_same bench_rose bench_same spare_rose spare_same =
+    all_same before input bench spare (input_same (λ is. cc)) (bench_same (λ is. cc)) (spare_same (λ is. cc))
 
 -- how much of the input there was, by the end
-pub session_reads : {X : Type 0} (ended : Result X EndFault) (before after : List ℕ) → OnOk ended (after ≡ []) → OnOk ended (length before ≤ most_input)
-    → (ended ≡ Err end.Input → length before ≤ most_input + length after)
-    → (ended ≡ Err end.Limit → most_input + length after < length before) → InputCause (session_status ended) before after
-session_reads (Ok done) before after read within failed limit = (read, within)
-session_reads (Err end.Input) before after read within failed limit = failed refl
-session_reads (Err end.Limit) before after read within failed limit = limit refl
-session_reads ended before after read within failed limit = tt
+pub stop_reads : {X : Type 0} (ended : Result X Stop) (before after : List ℕ) → OnOk ended (after ≡ []) → OnOk ended (length before ≤ most_input)
+    → (ended ≡ Err stop.Input → length before ≤ most_input + length after)
+    → (ended ≡ Err stop.Limit → most_input + length after < length before) → InputCause (ended_status ended) before after
+stop_reads (Ok done) before after read within failed limit = (read, within)
+stop_reads (Err stop.Input) before after read within failed limit = failed refl
+stop_reads (Err stop.Limit) before after read within failed limit = limit refl
+stop_reads ended before after read within failed limit = tt
 
--- if the input is within its limit and nothing failed, it is done, or there was no memory
-pub session_wants : {X : Type 0} (ended : Result X EndFault) (before after : FaultCounts) (input left : List ℕ) → FaultCause (session_status ended) before after
-    → NothingFailed before after → InputCause (session_status ended) input left
-    → length input ≤ most_input → IsDoneOrWants (session_status ended)
-session_wants (Ok done) before after input left rose none cause within = inl refl
-session_wants (Err end.Input) before after input left rose none cause within = absurd (none.input rose.0)
-session_wants (Err end.Bench) before after input left rose none cause within = absurd (none.bench rose.0)
-session_wants (Err end.Limit) before after input left rose none cause within = absurd (omega (arith, cause, within))
-session_wants (Err end.NoMemory) before after input left rose none cause within = inr refl
+-- if nothing failed, and the limit wasn't passed, it is done, or there was no memory
+pub stop_wants : {X : Type 0} (ended : Result X Stop) (before after : FaultCounts) → FaultCause (ended_status ended) before after
+    → NothingFailed before after → ended ≢ Err stop.Limit → ended ≢ Err stop.Spare → IsDoneOrWants (ended_status ended)
+stop_wants (Ok done) before after rose none within alone = inl refl
+stop_wants (Err stop.Input) before after rose none within alone = absurd (none.input rose.0)
+stop_wants (Err stop.Limit) before after rose none within alone = absurd (within refl)
+stop_wants (Err stop.Bench) before after rose none within alone = absurd (none.bench rose.0)
+stop_wants (Err stop.Spare) before after rose none within alone = absurd (alone refl)
+stop_wants (Err stop.NoMemory) before after rose none within alone = inr refl
+
+-- the ends of a session over one journal are those of the run
+pub session_ends : {X : Type 0} (ended : Result X Stop) (base : Database) (batch : ℕ) (history now : List Answered) (before after : Outside)
+    → OnOk ended (Serves base history (counted_lines before.input) now before.sent after.sent)
+    → (ended ≡ Err stop.Input → ServesWhole base history batch before.input after.input now before.sent after.sent) →
+    (ended ≡ Err stop.Limit → ServesWhole base history batch (limited before.input) [] now before.sent after.sent)
+    → (ended ≡ Err stop.NoMemory → ServesSome base history batch (counted_lines before.input) now before.sent after.sent) →
+    (ended ≢ Err stop.Bench → StandsFor after.file base.secret.shape now) → ended ≢ Err stop.Spare →
+    ServeEnds batch (ended_status ended) base history before after
+session_ends (Ok done) base batch history now before after all whole below some stands alone = (now, all, stands (not_both done stop.Bench))
+session_ends (Err stop.Input) base batch history now before after all whole below some stands alone = (now, whole refl, stands (search rules))
+session_ends (Err stop.Limit) base batch history now before after all whole below some stands alone = (now, below refl, stands (search rules))
+session_ends (Err stop.Bench) base batch history now before after all whole below some stands alone = tt
+session_ends (Err stop.Spare) base batch history now before after all whole below some stands alone = absurd (alone refl)
+session_ends (Err stop.NoMemory) base batch history now before after all whole below some stands alone = (now, some refl, stands (search rules))

@@ -4,16 +4,16 @@ use Rattle.std.proofs.lemmas.List.{take_all, take-append-le}
 use Rattle.audit_types.specs.declared.records.Answered.{Answered}
 use Rattle.audit_types.specs.History.{Table as Guarded, IsLegal}
 use Rattle.bench_core.specs.Causes.{Rose}
+use Rattle.bench_core.specs.declared.stops.Stop.{Stop}
+use Rattle.bench_core.specs.declared.stops.Stop.TheVariants as stop
 use Rattle.table_load.specs.Database.{Database}
 use Rattle.audit_core.specs.LegalFronts.{legal_front}
 use Rattle.audit_store.specs.Starting.{GivesUp}
 use Rattle.audit_store.specs.declared.starting.StartFault.{StartFault}
 use Rattle.audit_store.specs.declared.starting.StartFault.TheVariants as start
-use Rattle.line_wire.specs.Lines.{counted_lines, most_input}
+use Rattle.line_wire.specs.Lines.{counted_lines}
 use Rattle.audit_session.specs.Ends.{Serves, ServesWhole, ServesSome, limited}
 use Rattle.audit_session.specs.Stops.{stands_over}
-use Rattle.audit_session.specs.declared.session.TwinEnd.{TwinEnd}
-use Rattle.audit_session.specs.declared.session.TwinEnd.TheVariants as end
 use Rattle.twin_journal.specs.Twins.{KeepWhole, TwinCause, TwinGivesUp}
 use Rattle.twin_journal.specs.declared.starting.TwinFault.{TwinFault}
 use Rattle.twin_journal.specs.declared.starting.TwinFault.TheVariants as twin
@@ -24,11 +24,10 @@ use Rattle.auditor_top.specs.declared.status.Status.TheVariants.{Done, SourceFau
 use Rattle.auditor_top.specs.Causes.{BothCause, FaultCounts, FaultCause, WordCause, FileCause, HoldsLegal, InputCause, SpareCause, NothingFailed, IsDoneOrWants}
 use Rattle.auditor_top.specs.Ends.{Outside}
 use Rattle.auditor_top.specs.Stages.{Before, opening_spare, reading_lines}
-use Rattle.auditor_top.specs.Faults.{start_status, twin_session_status, twin_status}
+use Rattle.auditor_top.specs.Faults.{ended_status, start_status, twin_status}
 use Rattle.auditor_top.specs.Twins.{BothCatchUp, TwinEnds}
-use Rattle.auditor_top.proofs.CompactEndings.{both_same}
 use Rattle.auditor_top.proofs.StartEndings.{start_says, start_steady}
-use Rattle.auditor_top.proofs.StepFaults.{not_both}
+use Rattle.auditor_top.proofs.StepFaults.{both_same, not_both}
 use Rattle.auditor_top.proofs.StepStatuses.{EndsLastStep}
 
 -- ---- they weren't opened
@@ -153,91 +152,32 @@ front_is_legal table file spare whole keeps =
           (legal_front table whole (length main) all.legal),
     )
 
--- what its status says by itself
-pub record TwinsSay {X : Type 0} (ended : Result X TwinEnd) : Type 1 where
-  pub last : EndsLastStep (twin_session_status ended)
-  pub words : (batch : ℕ) → WordCause (twin_session_status ended) (Some (Serve batch true))
-  pub file : (batch : ℕ) (file : List ℕ) (table : Guarded) → HoldsLegal file table → FileCause (twin_session_status ended) (Serve batch true) file table
-  pub spare_file : (batch : ℕ) (file : List ℕ) → SpareCause (twin_session_status ended) (Serve batch true) file
-  pub cause : (batch : ℕ) (file spare : List ℕ) (table : Guarded) → (whole : List Answered) → KeepWhole table file spare whole →
-      BothCause (twin_session_status ended) (Serve batch true) file spare table
-  pub bench : twin_session_status ended ≡ BenchFault → ended ≡ Err end.Bench
-  pub spare : twin_session_status ended ≡ SpareFault → ended ≡ Err end.Spare
-  pub input : twin_session_status ended ≡ SourceFault Input → ended ≡ Err end.Input
-  pub done : (P : Type 0) → twin_session_status ended ≡ Done → OnOk ended P → P
-  pub at_lines : (P : Type 0) → Before reading_lines (twin_session_status ended) P
-  pub at_spare : (P : Type 0) → Before opening_spare (twin_session_status ended) P
-
-pub twins_say : {X : Type 0} (ended : Result X TwinEnd) → TwinsSay ended
-twins_say (Err end.Bench) = search rules
-twins_say ended = search rules
-
--- three counts that are as they were
-all_same : (before : FaultCounts) (input bench spare : ℕ) → input ≡ before.input → bench ≡ before.bench → spare ≡ before.spare →
-    record before { input = input; bench = bench; spare = spare } ≡ before
-all_same before input bench spare is also then =
-    ap (λ (n : ℕ). record before { input = n; bench = bench; spare = spare }) is ∙ both_same before bench spare also then
-
-pub twins_faults : {X : Type 0} (ended : Result X TwinEnd) (before : FaultCounts) (input bench spare : ℕ) →
-    (ended ≡ Err end.Input → Rose before.input input) → (ended ≢ Err end.Input → input ≡ before.input) →
-    (ended ≡ Err end.Bench → Rose before.bench bench) → (ended ≢ Err end.Bench → bench ≡ before.bench) →
-    (ended ≡ Err end.Spare → Rose before.spare spare) → (ended ≢ Err end.Spare → spare ≡ before.spare) →
-    FaultCause (twin_session_status ended) before (record before { input = input; bench = bench; spare = spare })
-twins_faults (Err end.Input) before input bench spare input_rose input_same bench_rose bench_same spare_rose spare_same = (
-  input_rose refl,
-  ap (λ (n : ℕ). record before { input = input; bench = n; spare = spare }) (bench_same (λ is. cc))
-      ∙ ap (λ (n : ℕ). record before { input = input; spare = n }) (spare_same (λ is. cc)),
-)
-twins_faults (Err end.Bench) before input bench spare input_rose input_same bench_rose bench_same spare_rose spare_same = (
-  bench_rose refl,
-  ap (λ (n : ℕ). record before { input = n; bench = bench; spare = spare }) (input_same (λ is. cc))
-      ∙ ap (λ (n : ℕ). record before { bench = bench; spare = n }) (spare_same (λ is. cc)),
-)
-twins_faults (Err end.Spare) before input bench spare input_rose input_same bench_rose bench_same spare_rose spare_same = (
-  spare_rose refl,
-  ap (λ (n : ℕ). record before { input = n; bench = bench; spare = spare }) (input_same (λ is. cc))
-      ∙ ap (λ (n : ℕ). record before { bench = n; spare = spare }) (bench_same (λ is. cc)),
-)
-twins_faults ended before input bench spare input_rose input_same bench_rose bench_same spare_rose spare_same =
-    all_same before input bench spare (input_same (λ is. cc)) (bench_same (λ is. cc)) (spare_same (λ is. cc))
+-- and both keep together, if it came past them
+pub twins_cause : {X : Type 0} (ended : Result X Stop) (batch : ℕ) (file spare : List ℕ) (table : Guarded) (whole : List Answered) →
+    KeepWhole table file spare whole → BothCause (ended_status ended) (Serve batch true) file spare table
+twins_cause (Err stop.Bench) batch file spare table whole keeps = tt
+twins_cause (Err stop.Spare) batch file spare table whole keeps = tt
+twins_cause (Err stop.NoMemory) batch file spare table whole keeps = tt
+twins_cause ended batch file spare table whole keeps = (whole, keeps)
 
 -- which lines were answered, and that both files stand for their records, or that of the bench if the spare failed
-pub twins_end : {X : Type 0} (ended : Result X TwinEnd) (base : Database) (batch : ℕ) (main other whole now : List Answered) (before after : Outside)
+pub twins_end : {X : Type 0} (ended : Result X Stop) (base : Database) (batch : ℕ) (main other whole now : List Answered) (before after : Outside)
     (spare : List ℕ) →
     OnOk ended (Serves base whole (counted_lines before.input) now before.sent after.sent) →
-    (ended ≡ Err end.Input → ServesWhole base whole batch before.input after.input now before.sent after.sent) →
-    (ended ≡ Err end.Limit → ServesWhole base whole batch (limited before.input) [] now before.sent after.sent) →
-    (ended ≡ Err end.NoMemory → ServesSome base whole batch (counted_lines before.input) now before.sent after.sent) →
-    (ended ≡ Err end.Spare → ServesSome base whole batch (counted_lines before.input) now before.sent after.sent) →
-    (ended ≢ Err end.Bench → stands_over base after.file now) → (ended ≢ Err end.Bench → ended ≢ Err end.Spare → stands_over base spare now) →
-    TwinEnds batch (twin_session_status ended) base main other whole before after spare
+    (ended ≡ Err stop.Input → ServesWhole base whole batch before.input after.input now before.sent after.sent) →
+    (ended ≡ Err stop.Limit → ServesWhole base whole batch (limited before.input) [] now before.sent after.sent) →
+    (ended ≡ Err stop.NoMemory → ServesSome base whole batch (counted_lines before.input) now before.sent after.sent) →
+    (ended ≡ Err stop.Spare → ServesSome base whole batch (counted_lines before.input) now before.sent after.sent) →
+    (ended ≢ Err stop.Bench → stands_over base after.file now) → (ended ≢ Err stop.Bench → ended ≢ Err stop.Spare → stands_over base spare now) →
+    TwinEnds batch (ended_status ended) base main other whole before after spare
 twins_end (Ok done) base batch main other whole now before after spare all read below some part stands also =
-    (now, all, stands (not_both done end.Bench), also (not_both done end.Bench) (not_both done end.Spare))
-twins_end (Err end.Input) base batch main other whole now before after spare all read below some part stands also =
+    (now, all, stands (not_both done stop.Bench), also (not_both done stop.Bench) (not_both done stop.Spare))
+twins_end (Err stop.Input) base batch main other whole now before after spare all read below some part stands also =
     (now, read refl, stands (λ is. cc), also (λ is. cc) (λ is. cc))
-twins_end (Err end.Limit) base batch main other whole now before after spare all read below some part stands also =
+twins_end (Err stop.Limit) base batch main other whole now before after spare all read below some part stands also =
     (now, below refl, stands (λ is. cc), also (λ is. cc) (λ is. cc))
-twins_end (Err end.NoMemory) base batch main other whole now before after spare all read below some part stands also =
+twins_end (Err stop.NoMemory) base batch main other whole now before after spare all read below some part stands also =
     inr (now, some refl, stands (λ is. cc), also (λ is. cc) (λ is. cc))
-twins_end (Err end.Spare) base batch main other whole now before after spare all read below some part stands also =
+twins_end (Err stop.Spare) base batch main other whole now before after spare all read below some part stands also =
     inr (now, part refl, stands (λ is. cc))
 twins_end ended base batch main other whole now before after spare all read below some part stands also = tt
-
-pub twins_reads : {X : Type 0} (ended : Result X TwinEnd) (before after : List ℕ) → OnOk ended (after ≡ []) → OnOk ended (length before ≤ most_input) →
-    (ended ≡ Err end.Input → length before ≤ most_input + length after) → (ended ≡ Err end.Limit → most_input + length after < length before) →
-    InputCause (twin_session_status ended) before after
-twins_reads (Ok done) before after read within failed limit = (read, within)
-twins_reads (Err end.Input) before after read within failed limit = failed refl
-twins_reads (Err end.Limit) before after read within failed limit = limit refl
-twins_reads ended before after read within failed limit = tt
-
-pub twins_want : {X : Type 0} (ended : Result X TwinEnd) (before after : FaultCounts) (input left : List ℕ) →
-    FaultCause (twin_session_status ended) before after →
-    NothingFailed before after → (Rose before.spare after.spare → ⊥) → InputCause (twin_session_status ended) input left → length input ≤ most_input →
-    IsDoneOrWants (twin_session_status ended)
-twins_want (Ok done) before after input left rose none fine cause within = inl refl
-twins_want (Err end.Input) before after input left rose none fine cause within = absurd (none.input rose.0)
-twins_want (Err end.Bench) before after input left rose none fine cause within = absurd (none.bench rose.0)
-twins_want (Err end.Spare) before after input left rose none fine cause within = absurd (fine rose.0)
-twins_want (Err end.Limit) before after input left rose none fine cause within = absurd (omega (arith, cause, within))
-twins_want (Err end.NoMemory) before after input left rose none fine cause within = inr refl

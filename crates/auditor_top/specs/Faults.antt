@@ -4,10 +4,6 @@ use Rattle.answer_journal.specs.declared.make.MakeFault.{MakeFault}
 use Rattle.answer_journal.specs.declared.make.MakeFault.TheVariants as make
 use Rattle.bench_core.specs.declared.stops.Stop.{Stop}
 use Rattle.bench_core.specs.declared.stops.Stop.TheVariants as stop
-use Rattle.audit_session.specs.declared.serving.EndFault.{EndFault}
-use Rattle.audit_session.specs.declared.serving.EndFault.TheVariants as end
-use Rattle.audit_session.specs.declared.session.TwinEnd.{TwinEnd}
-use Rattle.audit_session.specs.declared.session.TwinEnd.TheVariants as session
 use Rattle.twin_journal.specs.declared.starting.TwinFault.{TwinFault}
 use Rattle.twin_journal.specs.declared.starting.TwinFault.TheVariants as twin
 use Rattle.twin_journal.specs.declared.restoring.RestoreFault.{RestoreFault}
@@ -19,10 +15,6 @@ use Rattle.audit_store.specs.declared.starting.StartFault.TheVariants as start
 use Rattle.set_index.specs.declared.index.IndexFault.{IndexFault}
 use Rattle.set_index.specs.declared.index.IndexFault.TheVariants as index
 use Rattle.set_index.specs.declared.index.GuardPart.TheVariants as part
-use Rattle.certificate_lines.specs.declared.explaining.ExplainFault.{ExplainFault}
-use Rattle.certificate_lines.specs.declared.explaining.ExplainFault.TheVariants as explain
-use Rattle.journal_audit.specs.declared.faults.AuditFault.{AuditFault}
-use Rattle.journal_audit.specs.declared.faults.AuditFault.TheVariants as report
 use Rattle.transcript_sim.specs.declared.simulating.SimulationFault.{SimulationFault}
 use Rattle.transcript_sim.specs.declared.simulating.SimulationFault.TheVariants as verdict
 use Rattle.journal_compact.specs.declared.compacting.CompactFault.{CompactFault}
@@ -90,29 +82,6 @@ abbrev pub started_status : NotStarted → Status
 started_status (starting.Groups fault) = index_status fault
 started_status (starting.Journal fault) = start_status fault
 
--- of answering lines
-abbrev pub end_status : EndFault → Status
-end_status end.Input = SourceFault Input
-end_status end.Bench = BenchFault
-end_status end.Limit = InputLimit
-end_status end.NoMemory = NoMemory
-
--- explaining lines ends as answering them does
-abbrev pub explain_end : ExplainFault → EndFault
-explain_end explain.Input = end.Input
-explain_end explain.Bench = end.Bench
-explain_end explain.Limit = end.Limit
-explain_end explain.NoMemory = end.NoMemory
-
-abbrev pub as_session : {X : Type 0} → Result X ExplainFault → Result X EndFault
-as_session (Ok done) = Ok done
-as_session (Err fault) = Err (explain_end fault)
-
--- of sending a report
-abbrev pub report_status : AuditFault → Status
-report_status report.Failed = BenchFault
-report_status report.NoMemory = NoMemory
-
 -- of a compaction
 abbrev pub compact_status : CompactFault → Status
 compact_status compact.AlreadyThere = SpareThere
@@ -129,14 +98,6 @@ twin_status twin.MainFailed = BenchFault
 twin_status twin.SpareFailed = SpareFault
 twin_status twin.NoMemory = NoMemory
 
--- of answering lines over them
-abbrev pub twin_end_status : TwinEnd → Status
-twin_end_status session.Input = SourceFault Input
-twin_end_status session.Bench = BenchFault
-twin_end_status session.Spare = SpareFault
-twin_end_status session.Limit = InputLimit
-twin_end_status session.NoMemory = NoMemory
-
 -- of restoring one
 abbrev pub restore_status : RestoreFault → Status
 restore_status restore.NothingLost = NothingLost
@@ -149,16 +110,14 @@ restore_status restore.NoMemory = NoMemory
 
 -- of beginning with a journal, and reading a transcript
 abbrev pub verdict_status : SimulationFault → Status
-verdict_status verdict.Input = SourceFault Input
-verdict_status verdict.Bench = BenchFault
-verdict_status verdict.Limit = InputLimit
+verdict_status (verdict.Stopped why) = stop_status why
 verdict_status (verdict.Disagrees line due) = Disagrees line due
 verdict_status (verdict.Damaged at) = Damaged at
 verdict_status (verdict.OtherShape kept now) = OtherShape kept now
 verdict_status (verdict.Illegal place group) = Illegal place group
-verdict_status verdict.NoMemory = NoMemory
 
--- of a step that only a call of the outside ends early, by how it ended: a drill
+-- of a step that only a call of the outside ends early, by how it ended: answering lines over one journal or two, explaining them, a report,
+-- a drill
 abbrev pub ended_status : {X : Type 0} → Result X Stop → Status
 ended_status (Ok done) = Done
 ended_status (Err why) = stop_status why
@@ -173,16 +132,6 @@ abbrev pub growing_status : {X : Type 0} → Result X GrowFault → Status
 growing_status (Ok done) = Done
 growing_status (Err fault) = grow_status fault
 
--- of a report, by how it ended
-abbrev pub audit_status : {X : Type 0} → Result X AuditFault → Status
-audit_status (Ok done) = Done
-audit_status (Err fault) = report_status fault
-
--- of a session, by how it ended
-abbrev pub session_status : {X : Type 0} → Result X EndFault → Status
-session_status (Ok done) = Done
-session_status (Err fault) = end_status fault
-
 -- of a simulation, by how it ended
 abbrev pub simulation_status : {X : Type 0} → Result X SimulationFault → Status
 simulation_status (Ok done) = Done
@@ -193,12 +142,7 @@ abbrev pub compacting_status : {X : Type 0} → Result X CompactFault → Status
 compacting_status (Ok done) = Done
 compacting_status (Err fault) = compact_status fault
 
--- of answering lines over two journals, by how it ended
-abbrev pub twin_session_status : {X : Type 0} → Result X TwinEnd → Status
-twin_session_status (Ok done) = Done
-twin_session_status (Err fault) = twin_end_status fault
-
--- of restoring one of them, by how it ended
+-- of restoring one of two journals, by how it ended
 abbrev pub restoring_status : {X : Type 0} → Result X RestoreFault → Status
 restoring_status (Ok done) = Done
 restoring_status (Err fault) = restore_status fault

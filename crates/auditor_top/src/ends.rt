@@ -1,43 +1,30 @@
 //! The status of the last step of a command, by how it ended.
 ghost use Rattle.std.specs.Prelude.{◌≡◌};
-ghost use Rattle.auditor_top.specs.Faults.{ended_status, making_status, session_status, audit_status, simulation_status, growing_status, compacting_status, as_session, twin_session_status, restoring_status};
+ghost use Rattle.auditor_top.specs.Faults.{ended_status, making_status, simulation_status, growing_status, compacting_status, restoring_status};
 
 use crate::status::Status;
 use answer_journal::MakeFault;
-use audit_session::{EndFault, TwinEnd};
 use audit_store::GrowFault;
 use bench_core::Stop;
-use certificate_lines::ExplainFault;
-use journal_audit::AuditFault;
 use journal_compact::CompactFault;
 use transcript_sim::SimulationFault;
 use twin_journal::RestoreFault;
+
+/// The status of a last step that ended so: answering lines over one journal or two, explaining them, a report, or a drill.
+pub fn ended(step: Result<(), Stop>) -> Status
+    ensures { result ≡ ended_status step }
+{
+    match step {
+        Ok(()) => Status::Done,
+        Err(stop) => Status::from(stop),
+    }
+}
 
 /// The status of a making that ended so.
 pub fn made(making: Result<(), MakeFault>) -> Status
     ensures { result ≡ making_status making }
 {
     match making {
-        Ok(()) => Status::Done,
-        Err(fault) => Status::from(fault),
-    }
-}
-
-/// The status of a session that ended so.
-pub fn answered(session: Result<(), EndFault>) -> Status
-    ensures { result ≡ session_status session }
-{
-    match session {
-        Ok(()) => Status::Done,
-        Err(fault) => Status::from(fault),
-    }
-}
-
-/// The status of a report that ended so.
-pub fn reported(report: Result<(), AuditFault>) -> Status
-    ensures { result ≡ audit_status report }
-{
-    match report {
         Ok(()) => Status::Done,
         Err(fault) => Status::from(fault),
     }
@@ -53,16 +40,6 @@ pub fn judged(simulation: Result<(), SimulationFault>) -> Status
     }
 }
 
-/// The status of a drill that ended so.
-pub fn drilled(drill: Result<(), Stop>) -> Status
-    ensures { result ≡ ended_status drill }
-{
-    match drill {
-        Ok(()) => Status::Done,
-        Err(stop) => Status::from(stop),
-    }
-}
-
 /// The status of a growth that ended so.
 pub fn grown(growth: Result<(), GrowFault>) -> Status
     ensures { result ≡ growing_status growth }
@@ -73,31 +50,11 @@ pub fn grown(growth: Result<(), GrowFault>) -> Status
     }
 }
 
-/// The status of an explanation that ended so.
-pub fn explained(explanation: Result<(), ExplainFault>) -> Status
-    ensures { result ≡ session_status (as_session explanation) }
-{
-    match explanation {
-        Ok(()) => Status::Done,
-        Err(fault) => Status::from(fault),
-    }
-}
-
 /// The status of a compaction that ended so.
 pub fn compacted(compaction: Result<(), CompactFault>) -> Status
     ensures { result ≡ compacting_status compaction }
 {
     match compaction {
-        Ok(()) => Status::Done,
-        Err(fault) => Status::from(fault),
-    }
-}
-
-/// The status of a session over two journals that ended so.
-pub fn twins_answered(session: Result<(), TwinEnd>) -> Status
-    ensures { result ≡ twin_session_status session }
-{
-    match session {
         Ok(()) => Status::Done,
         Err(fault) => Status::from(fault),
     }

@@ -4,15 +4,29 @@ use crate::opening::OpenFault;
 use crate::starting::NotStarted;
 use crate::status::{Status, Which};
 use answer_journal::MakeFault;
-use audit_session::{EndFault, TwinEnd};
 use audit_store::{GrowFault, StartFault};
 use bench_core::Stop;
-use certificate_lines::ExplainFault;
-use journal_audit::AuditFault;
 use journal_compact::CompactFault;
 use set_index::{GuardPart, IndexFault};
 use transcript_sim::SimulationFault;
 use twin_journal::{RestoreFault, TwinFault};
+
+impl From<Stop> for Status {
+    ghost use Rattle.std.specs.Prelude.{◌≡◌};
+    ghost use Rattle.auditor_top.specs.Faults.{stop_status};
+
+    ghost from_gives = { λ stop status. status ≡ stop_status stop };
+
+    fn from(stop: Stop) -> Status {
+        match stop {
+            Stop::Input => Status::SourceFault(Which::Input),
+            Stop::Limit => Status::InputLimit,
+            Stop::Bench => Status::BenchFault,
+            Stop::Spare => Status::SpareFault,
+            Stop::NoMemory => Status::NoMemory,
+        }
+    }
+}
 
 impl From<OpenFault> for Status {
     ghost use Rattle.std.specs.Prelude.{◌≡◌};
@@ -117,53 +131,6 @@ impl From<GrowFault> for Status {
     }
 }
 
-impl From<Stop> for Status {
-    ghost use Rattle.std.specs.Prelude.{◌≡◌};
-    ghost use Rattle.auditor_top.specs.Faults.{stop_status};
-
-    ghost from_gives = { λ stop status. status ≡ stop_status stop };
-
-    fn from(stop: Stop) -> Status {
-        match stop {
-            Stop::Input => Status::SourceFault(Which::Input),
-            Stop::Limit => Status::InputLimit,
-            Stop::Bench => Status::BenchFault,
-            Stop::Spare => Status::SpareFault,
-            Stop::NoMemory => Status::NoMemory,
-        }
-    }
-}
-
-impl From<EndFault> for Status {
-    ghost use Rattle.std.specs.Prelude.{◌≡◌};
-    ghost use Rattle.auditor_top.specs.Faults.{end_status};
-
-    ghost from_gives = { λ fault status. status ≡ end_status fault };
-
-    fn from(fault: EndFault) -> Status {
-        match fault {
-            EndFault::Input => Status::SourceFault(Which::Input),
-            EndFault::Bench => Status::BenchFault,
-            EndFault::Limit => Status::InputLimit,
-            EndFault::NoMemory => Status::NoMemory,
-        }
-    }
-}
-
-impl From<AuditFault> for Status {
-    ghost use Rattle.std.specs.Prelude.{◌≡◌};
-    ghost use Rattle.auditor_top.specs.Faults.{report_status};
-
-    ghost from_gives = { λ fault status. status ≡ report_status fault };
-
-    fn from(fault: AuditFault) -> Status {
-        match fault {
-            AuditFault::Failed => Status::BenchFault,
-            AuditFault::NoMemory => Status::NoMemory,
-        }
-    }
-}
-
 impl From<CompactFault> for Status {
     ghost use Rattle.std.specs.Prelude.{◌≡◌};
     ghost use Rattle.auditor_top.specs.Faults.{compact_status};
@@ -176,22 +143,6 @@ impl From<CompactFault> for Status {
             CompactFault::Spare => Status::SpareFault,
             CompactFault::Bench => Status::BenchFault,
             CompactFault::NoMemory => Status::NoMemory,
-        }
-    }
-}
-
-impl From<ExplainFault> for Status {
-    ghost use Rattle.std.specs.Prelude.{◌≡◌};
-    ghost use Rattle.auditor_top.specs.Faults.{end_status, explain_end};
-
-    ghost from_gives = { λ fault status. status ≡ end_status (explain_end fault) };
-
-    fn from(fault: ExplainFault) -> Status {
-        match fault {
-            ExplainFault::Input => Status::SourceFault(Which::Input),
-            ExplainFault::Bench => Status::BenchFault,
-            ExplainFault::Limit => Status::InputLimit,
-            ExplainFault::NoMemory => Status::NoMemory,
         }
     }
 }
@@ -210,23 +161,6 @@ impl From<TwinFault> for Status {
             TwinFault::MainFailed => Status::BenchFault,
             TwinFault::SpareFailed => Status::SpareFault,
             TwinFault::NoMemory => Status::NoMemory,
-        }
-    }
-}
-
-impl From<TwinEnd> for Status {
-    ghost use Rattle.std.specs.Prelude.{◌≡◌};
-    ghost use Rattle.auditor_top.specs.Faults.{twin_end_status};
-
-    ghost from_gives = { λ fault status. status ≡ twin_end_status fault };
-
-    fn from(fault: TwinEnd) -> Status {
-        match fault {
-            TwinEnd::Input => Status::SourceFault(Which::Input),
-            TwinEnd::Bench => Status::BenchFault,
-            TwinEnd::Spare => Status::SpareFault,
-            TwinEnd::Limit => Status::InputLimit,
-            TwinEnd::NoMemory => Status::NoMemory,
         }
     }
 }
@@ -258,14 +192,11 @@ impl From<SimulationFault> for Status {
 
     fn from(fault: SimulationFault) -> Status {
         match fault {
-            SimulationFault::Input => Status::SourceFault(Which::Input),
-            SimulationFault::Bench => Status::BenchFault,
-            SimulationFault::Limit => Status::InputLimit,
+            SimulationFault::Stopped(stop) => Status::from(stop),
             SimulationFault::Disagrees { line, due } => Status::Disagrees { line, due },
             SimulationFault::Damaged { at } => Status::Damaged { at },
             SimulationFault::OtherShape { kept, now } => Status::OtherShape { kept, now },
             SimulationFault::Illegal { place, group } => Status::Illegal { place, group },
-            SimulationFault::NoMemory => Status::NoMemory,
         }
     }
 }

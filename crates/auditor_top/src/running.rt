@@ -21,10 +21,7 @@ ghost use Rattle.auditor_top.specs.Promise.{GoesOn};
 ghost use Rattle.auditor_top.specs.Runs.{objects, Does};
 ghost use Rattle.auditor_top.specs.Stages.{Before, reading_table, opening_journal, opening_spare, reading_lines};
 
-use crate::ends::{
-    answered, compacted, drilled, explained, grown, judged, made, reported, restored,
-    twins_answered,
-};
+use crate::ends::{compacted, ended, grown, judged, made, restored};
 use crate::laws::{compactions, lives, stops_are_legal};
 use crate::ready::{Ready, open};
 use crate::status::{Status, Which};
@@ -137,26 +134,26 @@ pub fn run<P: Source, I: Source, B: Bench>(
     match open(alloc, command, schema, table, bench) {
         Err(status) => status,
         Ok(Ready::Init(shape)) => made(Journal::make(bench, &shape)),
-        Ok(Ready::Serve(schema, index, mut store, batch)) => answered(audit_session::serve(
+        Ok(Ready::Serve(schema, index, mut store, batch)) => ended(audit_session::serve(
             alloc, &schema, &index, &mut store, input, bench, batch,
         )),
         Ok(Ready::Twin(schema, index, secret, protected, batch)) => match TwinStore::start(
             alloc, secret, protected, bench, spare,
         ) {
-            Ok(mut twin) => twins_answered(serve_twin(
+            Ok(mut twin) => ended(serve_twin(
                 alloc, &schema, &index, &mut twin, input, bench, spare, batch,
             )),
             Err(fault) => Status::from(fault),
         },
         Ok(Ready::Audit(schema, people, store)) => {
-            reported(audit(alloc, &schema, &store, people, bench))
+            ended(audit(alloc, &schema, &store, people, bench))
         }
         Ok(Ready::Simulate(schema, index)) => judged(transcript_sim::simulate(
             alloc, &schema, &index, input, bench,
         )),
-        Ok(Ready::Drill(number)) => drilled(drill(alloc, number, bench)),
+        Ok(Ready::Drill(number)) => ended(drill(alloc, number, bench)),
         Ok(Ready::Grow(secret, protected)) => grown(Store::grow(alloc, secret, protected, bench)),
-        Ok(Ready::Explain(schema, index, store)) => explained(certificate_lines::explain(
+        Ok(Ready::Explain(schema, index, store)) => ended(certificate_lines::explain(
             alloc, &schema, &index, &store, input, bench,
         )),
         Ok(Ready::Compact(store)) => compacted(compact(alloc, &store, bench, spare)),

@@ -1,8 +1,11 @@
 -- What `run` says of `audit`.
-use Rattle.std.proofs.Common.{◌≡◌, ◌+◌, ℕ, Option, List, Some, OnOk, OnErr, refl, sym, ◌∙◌, ap, subst, map, string_bytes}
+use Rattle.std.proofs.Common.{◌≡◌, ◌+◌, ℕ, Option, List, Some, Err, OnOk, OnErr, refl, sym, ◌∙◌, ap, subst, map, string_bytes}
 use Rattle.audit_types.specs.declared.records.Answered.{Answered}
 use Rattle.bench_core.specs.Calls.{LeavesOnly, IsUntouched}
 use Rattle.bench_core.specs.Moments.{joins, weakens}
+use Rattle.bench_core.specs.Stops.{IsOfBench}
+use Rattle.bench_core.specs.declared.stops.Stop.{Stop}
+use Rattle.bench_core.specs.declared.stops.Stop.TheVariants as stop
 use Rattle.table_load.specs.Cells.{PublicView}
 use Rattle.table_load.specs.Database.{Database, base_of, table_in, secret_table}
 use Rattle.journal_audit.specs.Reports.{Subject, audit_of, subjects, Reports, ReportsFront, SendsMeanwhile, TakesOneEach}
@@ -15,14 +18,15 @@ use Rattle.auditor_top.specs.Causes.{FaultCause, IsReadyFor}
 use Rattle.auditor_top.specs.Ends.{AuditEnds, audit_over, people_told, subjects_over}
 use Rattle.auditor_top.specs.Ready.{IsReady, IsReadyOver, IsOpened}
 use Rattle.auditor_top.specs.Runs.{objects, faults_of, Auditing}
-use Rattle.auditor_top.specs.Faults.{audit_status}
-use Rattle.auditor_top.proofs.AuditEndings.{untouched_report, report_ends, report_faults, report_wants, report_says}
+use Rattle.auditor_top.specs.Faults.{ended_status}
+use Rattle.auditor_top.proofs.AuditEndings.{untouched_report, report_ends}
 use Rattle.auditor_top.proofs.OneCommand.{one_command, same_command, asked_for, not_asked, none_asked, takes_step, lacks_step, spare_called}
 use Rattle.auditor_top.proofs.OneRunMore.{does_so, never_goes_on}
 use Rattle.auditor_top.proofs.OneTable.{same_given, carried}
 use Rattle.auditor_top.proofs.Openings.{stays}
 use Rattle.auditor_top.proofs.Refusals.{as_quiet}
 use Rattle.auditor_top.specs.Stages.{opening_spare}
+use Rattle.auditor_top.proofs.StepFaults.{of_bench, stop_faults, stop_says, stop_wants}
 use Rattle.auditor_top.proofs.StepStatuses.{at_lines, EndsLastStep, past_table, past_journal, no_schema_fault, no_table_fault, schema_was_read, table_was_read, always_before}
 use Rattle.auditor_top.proofs.LastSteps.{faults_so, file_so, groups_so, holds_over, holds_so, later_so, schema_so, stands_so, table_so, words_so}
 use Rattle.auditor_top.proofs.running.run.Given.{Over}
@@ -40,16 +44,21 @@ are g c ptold = subst (IsReadyOver _ _) c.in-Ok-Audit.field-0-is (c.in-Ok-Audit.
 opened : (g : Over) (c : goal.After-drop-schema-inside-in-Ok-Audit-3 g) → IsOpened g.B.Bench c.open.new.bench c.in-Ok-Audit.store
 opened g c = (subst (IsReady g.B.Bench c.open.new.bench) c.in-Ok-Audit.field-0-is c.in-Ok-Audit.ensures.ready).0
 
-reported_faults : (g : Over) (c : goal.After-drop-schema-inside-in-Ok-Audit-3 g) → FaultCause c.reported.result
+-- no stop of a source or of a spare
+is_of_bench : (g : Over) (c : goal.After-drop-schema-inside-in-Ok-Audit-3 g) (why : Stop) → c.audit.result ≡ Err why → IsOfBench why
+is_of_bench g c why is = of_bench c.audit.result why c.audit.ensures.ends is
+
+reported_faults : (g : Over) (c : goal.After-drop-schema-inside-in-Ok-Audit-3 g) → FaultCause c.ended.result
     (faults_of g.P.Source g.I.Source g.B.Bench (objects c.args.schema.now c.args.table.now c.args.input.now c.args.bench.now c.args.spare.now))
     (faults_of g.P.Source g.I.Source g.B.Bench (objects c.open.new.schema c.open.new.table c.args.input.now c.audit.new.bench c.args.spare.now))
 reported_faults g c =
-    faults_so c.reported.result _ (faults_of g.P.Source g.I.Source g.B.Bench
+    faults_so c.ended.result _ (faults_of g.P.Source g.I.Source g.B.Bench
     (objects c.args.schema.now c.args.table.now c.args.input.now c.args.bench.now c.args.spare.now)) _
-    _ c.reported.ensures c.in-Ok-Audit.ensures.steady (report_faults c.audit.result _ _ c.audit.ensures.failed c.audit.ensures.steady)
+    _ c.ended.ensures c.in-Ok-Audit.ensures.steady (stop_faults c.audit.result _ _ _ _ (λ is. absurd (is_of_bench g c stop.Input is)) (λ other. refl)
+    c.audit.ensures.failed c.audit.ensures.steady (λ is. absurd (is_of_bench g c stop.Spare is)) (λ other. refl))
 
 reporting : (g : Over) (c : goal.After-drop-schema-inside-in-Ok-Audit-3 g) →
-    Auditing g.P.Source g.I.Source g.B.Bench c.reported.result (objects c.args.schema.now c.args.table.now c.args.input.now c.args.bench.now c.args.spare.now)
+    Auditing g.P.Source g.I.Source g.B.Bench c.ended.result (objects c.args.schema.now c.args.table.now c.args.input.now c.args.bench.now c.args.spare.now)
     (objects c.open.new.schema c.open.new.table c.args.input.now c.audit.new.bench c.args.spare.now)
 reporting g c =
     let at = c.args.bench.now in
@@ -71,9 +80,9 @@ reporting g c =
     λ ptold told base history over. same_given c.one_reading.ensures c.groups_of_a_schema.ensures.entries _ _ file
     (known ptold) base kept history store.journal.gate
     (are g c ptold).1 (stands_so g.B.Bench at c.open.new.bench store (opened g c) reads.file told) over in
-    subst (λ (s : Status). Auditing g.P.Source g.I.Source g.B.Bench s old new) (sym c.reported.ensures) (record {
+    subst (λ (s : Status). Auditing g.P.Source g.I.Source g.B.Bench s old new) (sym c.ended.ensures) (record {
       audited = λ ptold told base history over.
-          carried (λ (b : Database) (h : List Answered). AuditEnds (audit_status c.audit.result) b h sent (g.B.Bench.sent later))
+          carried (λ (b : Database) (h : List Answered). AuditEnds (ended_status c.audit.result) b h sent (g.B.Bench.sent later))
           (known ptold) base kept history
           (given ptold told base history over)
           (report_ends c.audit.result (known ptold) kept sent (g.B.Bench.sent later)
@@ -82,7 +91,7 @@ reporting g c =
           (c.audit.ensures.report told)))
           (subst (λ (p : Option ℕ). OnErr c.audit.result (ReportsFront (audit_of columns store) p sent (g.B.Bench.sent later))) (are g c ptold).2
           (subst (λ (bytes : List ℕ). OnErr c.audit.result (ReportsFront (audit_of columns store) people bytes (g.B.Bench.sent later))) reads.sent
-          (c.audit.ensures.part told))));
+          (c.audit.ensures.part told))) c.audit.ensures.ends);
       auditing = λ ptold told quiet base history over.
           joins g.B.Bench at c.open.new.bench later (SendsMeanwhile (audit_over base history) (subjects_over base) file sent)
           (weakens g.B.Bench at c.open.new.bench (IsUntouched file sent) _
@@ -102,24 +111,26 @@ reporting g c =
           (given ptold told base history over)
           (subst (λ (p : Option ℕ). TakesOneEach (audit_of columns store) (about p) (g.B.Bench.moment at + 2) (g.B.Bench.moment later)) (are g c ptold).2
           (subst (λ (n : ℕ). TakesOneEach (audit_of columns store) (about people) n (g.B.Bench.moment later))
-          (c.in-Ok-Audit.ensures.ticks told (ap opens_store same)) ((report_says c.audit.result).done _ done (c.audit.ensures.ticks told))));
-      audits = λ ptold told base history over none.
-          report_wants c.audit.result (faults_of g.P.Source g.I.Source g.B.Bench old) (faults_of g.P.Source g.I.Source g.B.Bench new)
+          (c.in-Ok-Audit.ensures.ticks told (ap opens_store same)) ((stop_says c.audit.result).done _ done (c.audit.ensures.ticks told))));
+      audits = λ ptold told base history over fine.
+          stop_wants c.audit.result (faults_of g.P.Source g.I.Source g.B.Bench old) (faults_of g.P.Source g.I.Source g.B.Bench new)
           (subst (λ (s : Status). FaultCause s (faults_of g.P.Source g.I.Source g.B.Bench old) (faults_of g.P.Source g.I.Source g.B.Bench new))
-          c.reported.ensures (reported_faults g c)) none;
+          c.ended.ensures (reported_faults g c)) fine (is_of_bench g c stop.Limit) (is_of_bench g c stop.Spare);
     })
 
 pub audit_ends : goal.returns-in-Ok-Audit
 audit_ends g c =
     let store = c.in-Ok-Audit.store in
-    let status = c.reported.result in
+    let status = c.ended.result in
     let reads = c.open.ensures.reads in
     let file = g.B.Bench.file c.args.bench.now in
     let holds = holds_so g.B.Bench c.args.bench.now c.open.new.bench store (opened g c) reads.file in
     let is_named : command_of (map string_bytes c.args.words.now.items) ≡ Some command.Audit =
     asked_for _ _ _ _ c.in-Ok.ensures.command c.in-Ok-Audit.field-0-is c.in-Ok-Audit.ensures.asked in
-    let last = subst EndsLastStep (sym c.reported.ensures) ((report_says c.audit.result).last) in
-    let words = words_so _ command.Audit status _ is_named c.reported.ensures ((report_says c.audit.result).words) in
+    let last = subst EndsLastStep (sym c.ended.ensures) ((stop_says c.audit.result).last) in
+    let words = words_so _ command.Audit status _ is_named c.ended.ensures
+    ((stop_says c.audit.result).words command.Audit (λ is. absurd (is_of_bench g c stop.Input is)) (λ is. absurd (is_of_bench g c stop.Limit is))
+    (λ is. absurd (is_of_bench g c stop.Spare is))) in
     record {
       words = words;
       schema = λ ptold command asked reads. schema_so status _ _ _ last (are g c ptold).1.files;
@@ -128,15 +139,15 @@ audit_ends g c =
       groups = λ ptold command asked reads. groups_so c.groups_of_a_schema.ensures.entries status _ _ _ last (are g c ptold).1;
       own_schema_fault = no_schema_fault status last;
       own_table_fault = no_table_fault status last;
-      file = λ ptold told. file_so _ command.Audit status _ is_named c.reported.ensures refl _ _ file
-          (λ base sound. (report_says c.audit.result).file file (table_in base)
+      file = λ ptold told. file_so _ command.Audit status _ is_named c.ended.ensures refl _ _ file
+          (λ base sound. (stop_says c.audit.result).file command.Audit file (table_in base)
           (holds_over c.groups_of_a_schema.ensures.entries _ _ file _ base (are g c ptold).1 sound (holds told)));
       input = λ itold command asked reads. lacks_step reads_lines _ _ command is_named asked refl reads;
       faults = reported_faults g c;
       schema_last = schema_was_read status last;
       table_last = table_was_read status last;
-      input_last = λ is. absurd ((report_says c.audit.result).no_input (sym c.reported.ensures ∙ is));
-      bench_last = λ is. c.audit.ensures.last_call ((report_says c.audit.result).bench (sym c.reported.ensures ∙ is));
+      input_last = λ is. absurd (is_of_bench g c stop.Input ((stop_says c.audit.result).input (sym c.ended.ensures ∙ is)));
+      bench_last = λ is. c.audit.ensures.last_call ((stop_says c.audit.result).bench (sym c.ended.ensures ∙ is));
       spare_last = spare_called _ _ status is_named refl words;
       spare_file = λ told command asked calls. lacks_step calls_spare _ _ command is_named asked refl calls;
       later = later_so _ _ _ c.open.ensures.later (stays _) c.audit.ensures.later (stays _);
@@ -144,16 +155,16 @@ audit_ends g c =
       table_within = λ ptold. table_was_read status last;
       lives = λ ptold told command asked itold quiet base at goes. never_goes_on _ command _ _ _ _ _ at base is_named asked (λ none. none) goes;
       does = λ command asked. does_so g.P.Source g.I.Source g.B.Bench status _ _ _ _ command is_named asked (reporting g c);
-      nothing_began = λ ptold told command asked opens quiet none.
-          absurd (none _ (are g c ptold).1 (subst (λ (k : Command). IsReadyFor k file (secret_table store.secret store.protected))
+      nothing_began = λ ptold told command asked opens quiet unready.
+          absurd (unready _ (are g c ptold).1 (subst (λ (k : Command). IsReadyFor k file (secret_table store.secret store.protected))
           (one_command _ _ command is_named asked) (holds told)));
       quiet = λ told quiet fine image left.
           as_quiet g.B.Bench _ _ reads quiet image (c.audit.ensures.crash image left) ∙ sym c.audit.ensures.file;
       before_table = past_table _ status last;
       before_bench = past_journal _ status last;
       before_spare = λ other. always_before opening_spare status refl;
-      before_lines = at_lines _ _ _ c.reported.ensures ((report_says c.audit.result).at_lines _);
-      unwritten = λ told. at_lines _ _ _ c.reported.ensures ((report_says c.audit.result).at_lines _);
+      before_lines = at_lines _ _ _ c.ended.ensures ((stop_says c.audit.result).at_lines _);
+      unwritten = λ told. at_lines _ _ _ c.ended.ensures ((stop_says c.audit.result).at_lines _);
       unread = λ none. none_asked _ _ none is_named;
       no_files = λ command asked none. takes_step reads_files _ _ _ is_named asked refl none;
       no_lines = λ command asked none. refl;

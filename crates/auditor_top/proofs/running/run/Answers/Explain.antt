@@ -1,5 +1,5 @@
 -- What `run` says of `explain`.
-use Rattle.std.proofs.Common.{◌≡◌, ◌+◌, ℕ, List, length, Some, refl, sym, ◌∙◌, ap, subst, map, string_bytes}
+use Rattle.std.proofs.Common.{◌≡◌, ◌+◌, ℕ, List, length, Some, refl, sym, ◌∙◌, ap, subst, arith, map, string_bytes}
 use Rattle.std.specs.List.{concat}
 use Rattle.audit_types.specs.declared.records.Answered.{Answered}
 use Rattle.bench_core.specs.Calls.{IsQuiet, IsUntouched, LeavesOnly}
@@ -7,7 +7,7 @@ use Rattle.bench_core.specs.Moments.{joins, weakens}
 use Rattle.table_load.specs.Database.{Database, base_of, table_in, secret_table}
 use Rattle.audit_store.specs.Stores.{IsAsLeft}
 use Rattle.line_wire.specs.Lines.{CountedLine, counted_lines}
-use Rattle.certificate_lines.specs.Ends.{EndSends, ExplainsMeanwhile}
+use Rattle.certificate_lines.specs.Ends.{EndReads, EndSends, ExplainsMeanwhile}
 use Rattle.certificate_lines.specs.Explained.{AreExplained}
 use Rattle.auditor_top.specs.declared.words.Command.{Command}
 use Rattle.auditor_top.specs.declared.words.Command.TheVariants as command
@@ -19,14 +19,14 @@ use Rattle.auditor_top.specs.Ends.{ExplainEnds, LeavesFile, SendsLines, public_p
 use Rattle.auditor_top.specs.Ready.{IsReady, IsReadyOver}
 use Rattle.auditor_top.specs.Runs.{objects, faults_of, Explaining}
 use Rattle.auditor_top.specs.Stages.{opening_spare}
-use Rattle.auditor_top.specs.Faults.{as_session, session_status}
-use Rattle.auditor_top.proofs.ExplainEndings.{explain_ends, explain_reads, explain_sends, untouched_lines, explain_says}
+use Rattle.auditor_top.specs.Faults.{ended_status}
+use Rattle.auditor_top.proofs.ExplainEndings.{explain_ends, explain_reads, explain_sends, untouched_lines}
 use Rattle.auditor_top.proofs.OneRunMore.{does_so, never_goes_on}
 use Rattle.auditor_top.proofs.OneCommand.{one_command, same_command, asked_for, not_asked, none_asked, takes_step, lacks_step, spare_called}
 use Rattle.auditor_top.proofs.OneTable.{same_given, carried}
 use Rattle.auditor_top.proofs.Openings.{stays}
 use Rattle.auditor_top.proofs.Refusals.{as_quiet}
-use Rattle.auditor_top.proofs.StepFaults.{session_faults, session_wants, session_says}
+use Rattle.auditor_top.proofs.StepFaults.{stop_faults, stop_says, stop_wants}
 use Rattle.auditor_top.proofs.StepStatuses.{always_before, at_lines, EndsLastStep, past_table, past_journal, no_schema_fault, no_table_fault, schema_was_read, table_was_read}
 use Rattle.audit_types.specs.History.{Protection, IsLegal}
 use Rattle.auditor_top.proofs.LastSteps.{faults_so, file_so, groups_so, holds_over, later_so, schema_so, table_so, words_so}
@@ -54,20 +54,19 @@ holds g c told =
       subst (λ (p : Protection). IsLegal (secret_table store.secret p) store.history) (sym ready.3) ready.0.is.legal,
     )
 
-explained_faults : (g : Over) (c : goal.After-drop-schema-inside-in-Ok-Explain-3 g) → FaultCause c.explained.result
+explained_faults : (g : Over) (c : goal.After-drop-schema-inside-in-Ok-Explain-3 g) → FaultCause c.ended.result
     (faults_of g.P.Source g.I.Source g.B.Bench (objects c.args.schema.now c.args.table.now c.args.input.now c.args.bench.now c.args.spare.now))
     (faults_of g.P.Source g.I.Source g.B.Bench (objects c.open.new.schema c.open.new.table c.explain.new.source c.explain.new.bench c.args.spare.now))
 explained_faults g c =
     let ended = c.explain.result in
     let does = c.explain.ensures in
-    faults_so c.explained.result _ (faults_of g.P.Source g.I.Source g.B.Bench
+    faults_so c.ended.result _ (faults_of g.P.Source g.I.Source g.B.Bench
     (objects c.args.schema.now c.args.table.now c.args.input.now c.args.bench.now c.args.spare.now)) _
-    _ c.explained.ensures c.in-Ok-Explain.ensures.steady
-    (session_faults (as_session ended) _ _ _ (λ is. does.input ((explain_says ended).input is)) (λ other. does.steady.0 (λ is. other (ap as_session is)))
-    (λ is. does.bench ((explain_says ended).bench is)) (λ other. does.steady.1 (λ is. other (ap as_session is))))
+    _ c.ended.ensures c.in-Ok-Explain.ensures.steady
+    (stop_faults ended _ _ _ _ does.input does.steady.0 does.bench does.steady.1 (λ is. absurd (does.alone is)) (λ other. refl))
 
 explaining : (g : Over) (c : goal.After-drop-schema-inside-in-Ok-Explain-3 g) →
-    Explaining g.P.Source g.I.Source g.B.Bench c.explained.result
+    Explaining g.P.Source g.I.Source g.B.Bench c.ended.result
     (objects c.args.schema.now c.args.table.now c.args.input.now c.args.bench.now c.args.spare.now)
     (objects c.open.new.schema c.open.new.table c.explain.new.source c.explain.new.bench c.args.spare.now)
 explaining g c =
@@ -101,11 +100,11 @@ explaining g c =
     (subst (λ (bytes : List ℕ). LeavesOnly g.B.Bench opened later
     (ExplainsMeanwhile g.I.Source.told columns index kept text (g.B.Bench.file opened) bytes)) reads.sent
     (does.any_moment told (as_quiet g.B.Bench at opened reads quiet)))) in
-    subst (λ (s : Status). Explaining g.P.Source g.I.Source g.B.Bench s old new) (sym c.explained.ensures) (record {
+    subst (λ (s : Status). Explaining g.P.Source g.I.Source g.B.Bench s old new) (sym c.ended.ensures) (record {
       explained = λ ptold itold told base history over.
           carried (λ (b : Database) (h : List Answered). (asked : List CountedLine) × (lines : List (List ℕ)) ×
-          ExplainEnds (session_status (as_session ended)) text left asked × AreExplained b.columns (public_part b) h asked lines ×
-          SendsLines (session_status (as_session ended)) (concat lines) sent (g.B.Bench.sent later)) seen base kept history (given ptold told base history over)
+          ExplainEnds (ended_status ended) text left asked × AreExplained b.columns (public_part b) h asked lines ×
+          SendsLines (ended_status ended) (concat lines) sent (g.B.Bench.sent later)) seen base kept history (given ptold told base history over)
           (let all = does.explains itold in (
             all.0,
             all.1,
@@ -120,27 +119,29 @@ explaining g c =
           (given ptold told base history over) (moments told quiet);
       undisturbed = λ told quiet. weakens g.B.Bench at later _ (LeavesFile file) (λ image bytes found. found.0) (moments told quiet);
       explain_calls = λ itold told done.
-          (explain_says ended).done _ done (does.calls itold told) ∙ ap (λ (n : ℕ). n + length (counted_lines text))
+          (stop_says ended).done _ done (does.calls itold told) ∙ ap (λ (n : ℕ). n + length (counted_lines text))
           (c.in-Ok-Explain.ensures.ticks told (ap opens_store same));
       explains = λ ptold itold told base history over within none.
-          session_wants (as_session ended) (faults_of g.P.Source g.I.Source g.B.Bench old) (faults_of g.P.Source g.I.Source g.B.Bench new) text left
+          stop_wants ended (faults_of g.P.Source g.I.Source g.B.Bench old) (faults_of g.P.Source g.I.Source g.B.Bench new)
           (subst (λ (s : Status). FaultCause s (faults_of g.P.Source g.I.Source g.B.Bench old) (faults_of g.P.Source g.I.Source g.B.Bench new))
-          c.explained.ensures
-          (explained_faults g c)) none (explain_reads ended text left (does.reads itold)) within;
+          c.ended.ensures
+          (explained_faults g c)) none
+          (λ is. let over = subst (λ r. EndReads r text left) is (does.reads itold) in omega (arith, over, within)) does.alone;
     })
 
 pub explanation_ends : goal.returns-in-Ok-Explain
 explanation_ends g c =
-    let status = c.explained.result in
-    let ended = as_session c.explain.result in
+    let status = c.ended.result in
+    let ended = c.explain.result in
     let reads = c.open.ensures.reads in
     let does = c.explain.ensures in
     let file = g.B.Bench.file c.args.bench.now in
     let store = c.in-Ok-Explain.store in
     let is_named : command_of (map string_bytes c.args.words.now.items) ≡ Some command.Explain =
     asked_for _ _ _ _ c.in-Ok.ensures.command c.in-Ok-Explain.field-0-is c.in-Ok-Explain.ensures.asked in
-    let last = subst EndsLastStep (sym c.explained.ensures) ((session_says ended).last) in
-    let words = words_so _ command.Explain status _ is_named c.explained.ensures ((session_says ended).words command.Explain refl) in
+    let last = subst EndsLastStep (sym c.ended.ensures) ((stop_says ended).last) in
+    let words = words_so _ command.Explain status _ is_named c.ended.ensures
+    ((stop_says ended).words command.Explain (λ is. refl) (λ is. refl) (λ is. absurd (does.alone is))) in
     record {
       words = words;
       schema = λ ptold command asked reads. schema_so status _ _ _ last (are g c ptold).files;
@@ -149,17 +150,17 @@ explanation_ends g c =
       groups = λ ptold command asked reads. groups_so c.groups_of_a_schema.ensures.entries status _ _ _ last (are g c ptold);
       own_schema_fault = no_schema_fault status last;
       own_table_fault = no_table_fault status last;
-      file = λ ptold told. file_so _ command.Explain status _ is_named c.explained.ensures refl _ _ file (λ base sound.
-          (session_says ended).file command.Explain file (table_in base)
+      file = λ ptold told. file_so _ command.Explain status _ is_named c.ended.ensures refl _ _ file (λ base sound.
+          (stop_says ended).file command.Explain file (table_in base)
           (holds_over c.groups_of_a_schema.ensures.entries _ _ file _ base (are g c ptold) sound (holds g c told)));
       input = λ itold command asked reads.
-          subst (λ (s : Status). InputCause s (g.I.Source.left c.args.input.now) (g.I.Source.left c.explain.new.source)) (sym c.explained.ensures)
+          subst (λ (s : Status). InputCause s (g.I.Source.left c.args.input.now) (g.I.Source.left c.explain.new.source)) (sym c.ended.ensures)
           (explain_reads c.explain.result _ _ (does.reads itold));
       faults = explained_faults g c;
       schema_last = schema_was_read status last;
       table_last = table_was_read status last;
-      input_last = λ is. does.last_call.0 ((explain_says c.explain.result).input ((session_says ended).input (sym c.explained.ensures ∙ is)));
-      bench_last = λ is. does.last_call.1 ((explain_says c.explain.result).bench ((session_says ended).bench (sym c.explained.ensures ∙ is)));
+      input_last = λ is. does.last_call.0 ((stop_says ended).input (sym c.ended.ensures ∙ is));
+      bench_last = λ is. does.last_call.1 ((stop_says ended).bench (sym c.ended.ensures ∙ is));
       spare_last = spare_called _ _ status is_named refl words;
       spare_file = λ told command asked calls. lacks_step calls_spare _ _ command is_named asked refl calls;
       later = later_so _ _ _ c.open.ensures.later does.later.0 does.later.1 (stays _);
@@ -174,8 +175,8 @@ explanation_ends g c =
       before_table = past_table _ status last;
       before_bench = past_journal _ status last;
       before_spare = λ other. always_before opening_spare status refl;
-      before_lines = at_lines _ _ _ c.explained.ensures ((session_says ended).at_lines _);
-      unwritten = λ told. at_lines _ _ _ c.explained.ensures ((session_says ended).at_lines _);
+      before_lines = at_lines _ _ _ c.ended.ensures ((stop_says ended).at_lines _);
+      unwritten = λ told. at_lines _ _ _ c.ended.ensures ((stop_says ended).at_lines _);
       unread = λ none. none_asked _ _ none is_named;
       no_files = λ command asked none. takes_step reads_files _ _ _ is_named asked refl none;
       no_lines = λ command asked none. takes_step reads_lines _ _ _ is_named asked refl none;

@@ -1,5 +1,5 @@
 -- What `run` says of `serve`.
-use Rattle.std.proofs.Common.{◌≡◌, false, List, Some, refl, sym, ◌∙◌, ap, subst, map, string_bytes}
+use Rattle.std.proofs.Common.{◌≡◌, false, List, Some, refl, sym, ◌∙◌, ap, subst, arith, map, string_bytes}
 use Rattle.audit_types.specs.History.{Protection}
 use Rattle.audit_types.specs.declared.records.Answered.{Answered}
 use Rattle.bench_core.specs.Calls.{LeavesOnly}
@@ -16,14 +16,14 @@ use Rattle.auditor_top.specs.Causes.{InputCause, FaultCause, HoldsLegal, IsReady
 use Rattle.auditor_top.specs.Ends.{outside}
 use Rattle.auditor_top.specs.Ready.{IsReady, IsReadyOver, IsOpened}
 use Rattle.auditor_top.specs.Runs.{objects, faults_of, Serving}
-use Rattle.auditor_top.specs.Faults.{session_status}
+use Rattle.auditor_top.specs.Faults.{ended_status}
 use Rattle.auditor_top.proofs.OneRunMore.{does_so, goes_on}
 use Rattle.auditor_top.proofs.OneCommand.{one_command, same_command, asked_for, not_asked, none_asked, takes_step, lacks_step, spare_called}
 use Rattle.auditor_top.proofs.OneTable.{same_given}
 use Rattle.auditor_top.proofs.Openings.{stays}
 use Rattle.auditor_top.proofs.Refusals.{as_quiet}
 use Rattle.auditor_top.proofs.Sessions.{ends_so, stops_so, harmless_so, calls_so}
-use Rattle.auditor_top.proofs.StepFaults.{session_ends, session_faults, session_reads, session_wants, session_says}
+use Rattle.auditor_top.proofs.StepFaults.{session_ends, stop_faults, stop_reads, stop_says, stop_wants}
 use Rattle.auditor_top.specs.Stages.{opening_spare}
 use Rattle.auditor_top.proofs.StepStatuses.{at_lines, EndsLastStep, past_table, past_journal, no_schema_fault, no_table_fault, schema_was_read, table_was_read, always_before}
 use Rattle.auditor_top.proofs.LastSteps.{faults_so, file_so, groups_so, holds_over, holds_so, later_so, schema_so, stands_so, table_so, words_so}
@@ -49,17 +49,18 @@ holds g c told =
     subst (λ (p : Protection). HoldsLegal (g.B.Bench.file c.args.bench.now) (secret_table c.in-Ok-Serve.store.secret p)) (sym (entries g c))
     (holds_so g.B.Bench c.args.bench.now c.open.new.bench c.in-Ok-Serve.store (opened g c) c.open.ensures.reads.file told)
 
-served_faults : (g : Over) (c : goal.After-drop-schema-inside-in-Ok-Serve-2 g) → FaultCause c.answered.result
+served_faults : (g : Over) (c : goal.After-drop-schema-inside-in-Ok-Serve-2 g) → FaultCause c.ended.result
     (faults_of g.P.Source g.I.Source g.B.Bench (objects c.args.schema.now c.args.table.now c.args.input.now c.args.bench.now c.args.spare.now))
     (faults_of g.P.Source g.I.Source g.B.Bench (objects c.open.new.schema c.open.new.table c.serve.new.source c.serve.new.bench c.args.spare.now))
 served_faults g c =
-    faults_so c.answered.result _ (faults_of g.P.Source g.I.Source g.B.Bench
+    faults_so c.ended.result _ (faults_of g.P.Source g.I.Source g.B.Bench
     (objects c.args.schema.now c.args.table.now c.args.input.now c.args.bench.now c.args.spare.now)) _
-    _ c.answered.ensures c.in-Ok-Serve.ensures.steady
-    (session_faults c.serve.result _ _ _ c.serve.ensures.input c.serve.ensures.steady c.serve.ensures.fault.failed c.serve.ensures.fault.steady)
+    _ c.ended.ensures c.in-Ok-Serve.ensures.steady
+    (stop_faults c.serve.result _ _ _ _ c.serve.ensures.input c.serve.ensures.steady c.serve.ensures.fault.failed c.serve.ensures.fault.steady
+    (λ is. absurd (c.serve.ensures.alone is)) (λ other. refl))
 
 serving : (g : Over) (c : goal.After-drop-schema-inside-in-Ok-Serve-2 g) →
-    Serving g.P.Source g.I.Source g.B.Bench c.in-Ok-Serve.batch c.answered.result
+    Serving g.P.Source g.I.Source g.B.Bench c.in-Ok-Serve.batch c.ended.result
     (objects c.args.schema.now c.args.table.now c.args.input.now c.args.bench.now c.args.spare.now)
     (objects c.open.new.schema c.open.new.table c.serve.new.source c.serve.new.bench c.args.spare.now)
 serving g c =
@@ -77,17 +78,17 @@ serving g c =
     ServesOver (g.P.Source.left old.schema) (g.P.Source.left old.table) (g.B.Bench.file at) base history → (seen g c ≡ base) × (kept ≡ history)) =
     λ ptold told base history over. same_given c.one_reading.ensures c.groups_of_a_schema.ensures.entries _ _ (g.B.Bench.file at) (seen g c) base kept history
     store.journal.gate (are g c ptold) (stands_so g.B.Bench at c.open.new.bench store (opened g c) reads.file told) over in
-    subst (λ (s : Status). Serving g.P.Source g.I.Source g.B.Bench n s old new) (sym c.answered.ensures) (record {
+    subst (λ (s : Status). Serving g.P.Source g.I.Source g.B.Bench n s old new) (sym c.ended.ensures) (record {
       served = λ ptold itold told base history over.
           let after = outside g.I.Source g.B.Bench new.input later in
           ends_so g.B.Bench at c.open.new.bench later reads (seen g c) base kept history (given ptold told base history over) n text
-          (session_status c.serve.result) after
+          (ended_status c.serve.result) after
           (session_ends c.serve.result (seen g c) n kept c.serve.new.store.history
           (record { input = text; sent = g.B.Bench.sent c.open.new.bench; file = g.B.Bench.file at }) after
           (c.serve.ensures.done itold told) (c.serve.ensures.input_end itold told) (c.serve.ensures.limit_end itold told)
           (c.serve.ensures.memory_end itold told)
           (λ fine. subst (λ (s : SecretView). StandsFor after.file s.shape c.serve.new.store.history) c.serve.ensures.table.0
-          (c.serve.ensures.stands told fine)));
+          (c.serve.ensures.stands told fine)) c.serve.ensures.alone);
       any_moment = λ ptold itold told quiet base history over.
           stops_so g.B.Bench at c.open.new.bench later reads (seen g c) base kept history (given ptold told base history over) n text over.stands
           (reads.untouched quiet)
@@ -101,35 +102,35 @@ serving g c =
           (c.serve.ensures.legal told (as_quiet g.B.Bench at c.open.new.bench reads quiet)));
       serve_calls = λ ptold itold told done base history over.
           calls_so g.B.Bench at c.open.new.bench later reads (seen g c) base kept history (given ptold told base history over) n text
-          (c.in-Ok-Serve.ensures.ticks told (ap opens_store same)) ((session_says c.serve.result).done _ done (c.serve.ensures.calls itold told));
+          (c.in-Ok-Serve.ensures.ticks told (ap opens_store same)) ((stop_says c.serve.result).done _ done (c.serve.ensures.calls itold told));
       complete = λ ptold itold told base history over within none.
-          session_wants c.serve.result (faults_of g.P.Source g.I.Source g.B.Bench old) (faults_of g.P.Source g.I.Source g.B.Bench new) text
-          (g.I.Source.left new.input) (subst (λ (s : Status). FaultCause s (faults_of g.P.Source g.I.Source g.B.Bench old)
-          (faults_of g.P.Source g.I.Source g.B.Bench new)) c.answered.ensures (served_faults g c)) none
-          (session_reads c.serve.result text (g.I.Source.left new.input) (c.serve.ensures.read itold) (c.serve.ensures.within itold)
-          (c.serve.ensures.input_within itold) (c.serve.ensures.limit itold)) within;
+          stop_wants c.serve.result (faults_of g.P.Source g.I.Source g.B.Bench old) (faults_of g.P.Source g.I.Source g.B.Bench new)
+          (subst (λ (s : Status). FaultCause s (faults_of g.P.Source g.I.Source g.B.Bench old)
+          (faults_of g.P.Source g.I.Source g.B.Bench new)) c.ended.ensures (served_faults g c)) none
+          (λ is. omega (arith, c.serve.ensures.limit itold is, within)) c.serve.ensures.alone;
     })
 
 served_input : (g : Over) (c : goal.After-drop-schema-inside-in-Ok-Serve-2 g) → g.I.Source.told →
-    InputCause c.answered.result (g.I.Source.left c.args.input.now) (g.I.Source.left c.serve.new.source)
+    InputCause c.ended.result (g.I.Source.left c.args.input.now) (g.I.Source.left c.serve.new.source)
 served_input g c = λ itold.
     let text = g.I.Source.left c.args.input.now in
     let left = g.I.Source.left c.serve.new.source in
-    subst (λ (s : Status). InputCause s text left) (sym c.answered.ensures)
-    (session_reads c.serve.result text left (c.serve.ensures.read itold) (c.serve.ensures.within itold) (c.serve.ensures.input_within itold)
+    subst (λ (s : Status). InputCause s text left) (sym c.ended.ensures)
+    (stop_reads c.serve.result text left (c.serve.ensures.read itold) (c.serve.ensures.within itold) (c.serve.ensures.input_within itold)
     (c.serve.ensures.limit itold))
 
 pub serve_ends : goal.returns-in-Ok-Serve
 serve_ends g c =
     let n = c.in-Ok-Serve.batch in
     let store = c.in-Ok-Serve.store in
-    let status = c.answered.result in
+    let status = c.ended.result in
     let reads = c.open.ensures.reads in
     let file = g.B.Bench.file c.args.bench.now in
     let is_named : command_of (map string_bytes c.args.words.now.items) ≡ Some (command.Serve n false) =
     asked_for _ _ _ _ c.in-Ok.ensures.command c.in-Ok-Serve.field-0-is c.in-Ok-Serve.ensures.asked in
-    let last = subst EndsLastStep (sym c.answered.ensures) ((session_says c.serve.result).last) in
-    let words = words_so _ (command.Serve n false) status _ is_named c.answered.ensures ((session_says c.serve.result).words (command.Serve n false) refl) in
+    let last = subst EndsLastStep (sym c.ended.ensures) ((stop_says c.serve.result).last) in
+    let words = words_so _ (command.Serve n false) status _ is_named c.ended.ensures
+    ((stop_says c.serve.result).words (command.Serve n false) (λ is. refl) (λ is. refl) (λ is. absurd (c.serve.ensures.alone is))) in
     record {
       words = words;
       schema = λ ptold command asked reads. schema_so status _ _ _ last (are g c ptold).files;
@@ -138,15 +139,15 @@ serve_ends g c =
       groups = λ ptold command asked reads. groups_so c.groups_of_a_schema.ensures.entries status _ _ _ last (are g c ptold);
       own_schema_fault = no_schema_fault status last;
       own_table_fault = no_table_fault status last;
-      file = λ ptold told. file_so _ (command.Serve n false) status _ is_named c.answered.ensures refl _ _ file (λ base sound.
-          (session_says c.serve.result).file (command.Serve n false) file (table_in base)
+      file = λ ptold told. file_so _ (command.Serve n false) status _ is_named c.ended.ensures refl _ _ file (λ base sound.
+          (stop_says c.serve.result).file (command.Serve n false) file (table_in base)
           (holds_over c.groups_of_a_schema.ensures.entries _ _ file _ base (are g c ptold) sound (holds g c told)));
       input = λ itold command asked reads. served_input g c itold;
       faults = served_faults g c;
       schema_last = schema_was_read status last;
       table_last = table_was_read status last;
-      input_last = λ is. c.serve.ensures.last_read ((session_says c.serve.result).input (sym c.answered.ensures ∙ is));
-      bench_last = λ is. c.serve.ensures.fault.last_call ((session_says c.serve.result).bench (sym c.answered.ensures ∙ is));
+      input_last = λ is. c.serve.ensures.last_read ((stop_says c.serve.result).input (sym c.ended.ensures ∙ is));
+      bench_last = λ is. c.serve.ensures.fault.last_call ((stop_says c.serve.result).bench (sym c.ended.ensures ∙ is));
       spare_last = spare_called _ _ status is_named refl words;
       spare_file = λ told command asked calls. lacks_step calls_spare _ _ command is_named asked refl calls;
       later = later_so _ _ _ c.open.ensures.later c.serve.ensures.later c.serve.ensures.fault.later (stays _);
@@ -160,12 +161,12 @@ serve_ends g c =
       nothing_began = λ ptold told command asked opens quiet none.
           absurd (none _ (are g c ptold) (subst (λ (k : Command). IsReadyFor k file (table_in (seen g c))) (one_command _ _ command is_named asked)
           (holds g c told)));
-      quiet = λ told quiet fine. c.serve.ensures.quiet told (as_quiet g.B.Bench _ _ reads quiet) (λ is. fine (c.answered.ensures ∙ ap session_status is));
+      quiet = λ told quiet fine. c.serve.ensures.quiet told (as_quiet g.B.Bench _ _ reads quiet) (λ is. fine (c.ended.ensures ∙ ap ended_status is));
       before_table = past_table _ status last;
       before_bench = past_journal _ status last;
       before_spare = λ other. always_before opening_spare status refl;
-      before_lines = at_lines _ _ _ c.answered.ensures ((session_says c.serve.result).at_lines _);
-      unwritten = λ told. at_lines _ _ _ c.answered.ensures ((session_says c.serve.result).at_lines _);
+      before_lines = at_lines _ _ _ c.ended.ensures ((stop_says c.serve.result).at_lines _);
+      unwritten = λ told. at_lines _ _ _ c.ended.ensures ((stop_says c.serve.result).at_lines _);
       unread = λ none. none_asked _ _ none is_named;
       no_files = λ command asked none. takes_step reads_files _ _ _ is_named asked refl none;
       no_lines = λ command asked none. takes_step reads_lines _ _ _ is_named asked refl none;

@@ -48,7 +48,8 @@ judged_faults g c =
     let does = c.simulate.ensures in
     faults_so c.judged.result _ (faults_of g.P.Source g.I.Source g.B.Bench (objects c.args.schema.now c.args.table.now c.args.input.now
     c.args.bench.now c.args.spare.now)) _
-    _ c.judged.ensures c.in-Ok-Simulate.ensures.steady (simulation_faults c.simulate.result _ _ _ does.input does.steady.0 does.bench does.steady.1)
+    _ c.judged.ensures c.in-Ok-Simulate.ensures.steady (simulation_faults c.simulate.result _ _ _ does.input does.steady.0 does.bench does.steady.1
+    does.alone)
 
 judging : (g : Over) (c : goal.After-drop-schema-inside-in-Ok-Simulate-3 g) →
     Simulating g.P.Source g.I.Source g.B.Bench c.judged.result (objects c.args.schema.now c.args.table.now c.args.input.now c.args.bench.now c.args.spare.now)
@@ -131,7 +132,7 @@ simulate_ends g c =
     let is_named : command_of (map string_bytes c.args.words.now.items) ≡ Some command.Simulate =
     asked_for _ _ _ _ c.in-Ok.ensures.command c.in-Ok-Simulate.field-0-is c.in-Ok-Simulate.ensures.asked in
     let last = subst EndsLastStep (sym c.judged.ensures) ((simulation_says c.simulate.result).last) in
-    let words = words_so _ command.Simulate status _ is_named c.judged.ensures ((simulation_says c.simulate.result).words) in
+    let words = words_so _ command.Simulate status _ is_named c.judged.ensures ((simulation_says c.simulate.result).words c.simulate.ensures.alone) in
     record {
       words = words;
       schema = λ ptold command asked reads. schema_read status _ last (schema_is_ok _ _ (are g c ptold).schema_is);

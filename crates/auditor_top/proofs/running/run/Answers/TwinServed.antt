@@ -12,9 +12,10 @@ use Rattle.audit_session.specs.Ends.{KeepsCalls, TakesCalls}
 use Rattle.audit_session.specs.Stops.{IsHarmless, LeavesBoth, SpareStops, StopsOver}
 use Rattle.twin_journal.specs.Twins.{CatchesUpOrStops, SpareCatchesUpOrStops, calls_to_open}
 use Rattle.auditor_top.specs.Ends.{Outside, outside}
-use Rattle.auditor_top.specs.Faults.{twin_session_status}
+use Rattle.auditor_top.specs.Faults.{ended_status}
 use Rattle.auditor_top.specs.Twins.{LeavesTwins, TwinEnds}
-use Rattle.auditor_top.proofs.TwinEndings.{twins_say, twins_end}
+use Rattle.auditor_top.proofs.StepFaults.{stop_says}
+use Rattle.auditor_top.proofs.TwinEndings.{twins_end}
 use Rattle.auditor_top.specs.declared.status.Status.TheVariants.{Done}
 use Rattle.auditor_top.specs.Commands.{AreSoundFilesOf}
 use Rattle.auditor_top.proofs.TwinSessions.{always_harmless, then_spare_stops, then_stops}
@@ -24,7 +25,7 @@ use Rattle.auditor_top.proofs.running.run.Goals as goal
 
 pub served : (g : Over) (c : goal.After-drop-schema-inside-in-Ok-start-3 g) → g.P.Source.told → g.I.Source.told → g.B.Bench.told →
     (base : Database) (main other whole : List Answered) → IsGiven g c base main other whole →
-    TwinEnds c.in-Ok-Twin.batch (twin_session_status c.serve_twin.result) base main other whole (outside g.I.Source g.B.Bench c.args.input.now c.args.bench.now)
+    TwinEnds c.in-Ok-Twin.batch (ended_status c.serve_twin.result) base main other whole (outside g.I.Source g.B.Bench c.args.input.now c.args.bench.now)
     (outside g.I.Source g.B.Bench c.serve_twin.new.source c.serve_twin.new.bench) (g.B.Bench.file c.serve_twin.new.spare)
 served g c ptold itold told base main other whole over =
     let n = c.in-Ok-Twin.batch in
@@ -34,9 +35,9 @@ served g c ptold itold told base main other whole over =
     let spare = g.B.Bench.file c.serve_twin.new.spare in
     let does = c.serve_twin.ensures in
     let now = c.serve_twin.new.twin.store.history in
-    said g c (λ (b : Database) (h : List Answered). TwinEnds n (twin_session_status ended) b main other h before after spare) ptold told base main other whole
+    said g c (λ (b : Database) (h : List Answered). TwinEnds n (ended_status ended) b main other h before after spare) ptold told base main other whole
     over
-    (subst (λ (bytes : List ℕ). TwinEnds n (twin_session_status ended) (asked g c) main other c.in-Ok-start.twin.store.history
+    (subst (λ (bytes : List ℕ). TwinEnds n (ended_status ended) (asked g c) main other c.in-Ok-start.twin.store.history
     (record before { sent = bytes }) after spare)
     (sent_same g c)
     (twins_end ended (asked g c) n main other c.in-Ok-start.twin.store.history now (record before { sent = g.B.Bench.sent c.start.new.bench }) after spare
@@ -126,7 +127,7 @@ spare_discloses_nothing g c ptold told quiet base main other whole over =
     (c.serve_twin.ensures.spare_legal told (spare_quiet_started g c told quiet)))
 
 pub takes_calls : (g : Over) (c : goal.After-drop-schema-inside-in-Ok-start-3 g) → g.P.Source.told → g.I.Source.told → g.B.Bench.told →
-    twin_session_status c.serve_twin.result ≡ Done →
+    ended_status c.serve_twin.result ≡ Done →
     (base : Database) (main other whole : List Answered) → IsGiven g c base main other whole →
     TakesCalls base whole c.in-Ok-Twin.batch (counted_lines (g.I.Source.left c.args.input.now)) (g.B.Bench.moment c.args.bench.now + calls_to_open main whole)
     (g.B.Bench.moment c.serve_twin.new.bench)
@@ -140,10 +141,10 @@ takes_calls g c ptold itold told done base main other whole over =
     main other
     whole over
     (subst (λ (m : ℕ). TakesCalls (asked g c) c.in-Ok-start.twin.store.history n lines m later) ticks
-    ((twins_say c.serve_twin.result).done _ done (c.serve_twin.ensures.calls itold told)))
+    ((stop_says c.serve_twin.result).done _ done (c.serve_twin.ensures.calls itold told)))
 
 pub spare_takes_calls : (g : Over) (c : goal.After-drop-schema-inside-in-Ok-start-3 g) → g.P.Source.told → g.I.Source.told → g.B.Bench.told →
-    twin_session_status c.serve_twin.result ≡ Done →
+    ended_status c.serve_twin.result ≡ Done →
     (base : Database) (main other whole : List Answered) → IsGiven g c base main other whole →
     KeepsCalls base whole c.in-Ok-Twin.batch (counted_lines (g.I.Source.left c.args.input.now)) (g.B.Bench.moment c.args.spare.now + calls_to_open other whole)
     (g.B.Bench.moment c.serve_twin.new.spare)
@@ -156,4 +157,4 @@ spare_takes_calls g c ptold itold told done base main other whole over =
     other whole over
     (subst (λ (m : ℕ). KeepsCalls (asked g c) c.in-Ok-start.twin.store.history n lines m later)
     (c.in-Ok-start.ensures.spare_ticks main other whole told told (keep g c ptold base main other whole over))
-    ((twins_say c.serve_twin.result).done _ done (c.serve_twin.ensures.spare_calls itold told)))
+    ((stop_says c.serve_twin.result).done _ done (c.serve_twin.ensures.spare_calls itold told)))
