@@ -1,18 +1,15 @@
--- A count of the rows that reach their bound, and what the counts of several answers tell.
-use Rattle.std.proofs.Common.{◌≡◌, ◌≢◌, ℕ, ◌+◌, ◌<◌, ◌≤◌, ℤ, Bool, true, false, cond, List, [], ◌∷◌, ◌++◌, length, refl, sym, ap, ◌∙◌, arith, inl, inr, ◌⊎◌, Option, Some, None, append_assoc, append-nil, length-append, subst, min}
-use Rattle.std.specs.Prelude.{◌↔◌, IsTrue}
-use Rattle.std.proofs.lemmas.Bool.{cases_lt, true≢false}
+-- A count of the rows that reach their bound, and the least row that alone reaches one.
+use Rattle.std.proofs.Common.{◌≡◌, ◌≢◌, ℕ, ◌+◌, ◌<◌, ◌≤◌, ℤ, true, false, cond, List, [], ◌∷◌, ◌++◌, length, refl, sym, ap, ◌∙◌, arith, inl, inr, ◌⊎◌, Option, Some, None, append_assoc, append-nil, length-append, subst, min}
+use Rattle.std.proofs.lemmas.Bool.{cases_lt}
 use Rattle.std.specs.List.{AllByRecursion}
 use Rattle.audit_types.specs.Limits.{most_rows}
-use Rattle.audit_types.specs.Rows.{AreRows, has_row, IsLeast}
+use Rattle.audit_types.specs.Rows.{AreRows, IsLeast}
 use Rattle.audit_types.specs.Extremes.{is_bound}
 use Rattle.audit_types.specs.Column.{Answer}
-use Rattle.max_bounds.specs.declared.survey.Findings.{Findings}
-use Rattle.max_bounds.specs.Reaching.{reaching, lone_of, own_of, lesser_of, IsAlone, TellsOf}
+use Rattle.max_bounds.specs.Reaching.{reaching, lone_of, lesser_of, IsAlone}
 use Rattle.max_bounds.specs.AnswerLaws.{one_of_front, one_of_last, front_or_last}
 use Rattle.audit_types.specs.FilteredRows.{rows_within}
 use Rattle.audit_types.specs.RowLaws.{length-rows}
-use Rattle.audit_types.specs.ListLaws.{all-push, all-front}
 
 -- a walk that counts the rows of a set that reach their bound: those seen, and those among the rest, are all
 pub record IsCounting (bound : ℕ → Option ℤ) (rows : List ℕ) (answer : ℤ) (rest : List ℕ) (count : ℕ) (only : Option ℕ) : Type 0 where
@@ -80,14 +77,10 @@ counting_ends bound rows answer count only h =
     (h.counted ∙ ap length all, h.alone ∙ ap lone_of all)
 
 -- a list has at most one lone row
-own_is_least : (shared rows : List ℕ) → IsLeast (λ r. (rows ≡ r ∷ []) × (has_row shared r ≡ false)) (own_of shared (lone_of rows))
-own_is_least shared [] = λ r (e, own). absurd cc
-own_is_least shared (r ∷ []) = by_test (has_row shared r) refl
-  where
-    by_test : (b : Bool) → has_row shared r ≡ b → IsLeast (λ x. (r ∷ [] ≡ x ∷ []) × (has_row shared x ≡ false)) (cond b None (Some r))
-    by_test true test = λ x (e, own). let same : r ≡ x = cc in true≢false (sym test ∙ ap (has_row shared) same ∙ own)
-    by_test false test = ((refl, test), λ q less (e, own). let same : r ≡ q = cc in absurd (omega arith))
-own_is_least shared (r ∷ q ∷ rows) = λ x (e, own). absurd cc
+lone_is_least : (rows : List ℕ) → IsLeast (λ r. rows ≡ r ∷ []) (lone_of rows)
+lone_is_least [] = λ r e. absurd cc
+lone_is_least (r ∷ []) = (refl, λ q less e. let same : r ≡ q = cc in absurd (omega arith))
+lone_is_least (r ∷ q ∷ rows) = λ x e. absurd cc
 
 -- the least row with one of two properties
 lesser_is_least : (P Q : ℕ → Type 0) (a b : Option ℕ) → IsLeast P a → IsLeast Q b → IsLeast (λ r. P r ⊎ Q r) (lesser_of a b)
@@ -104,41 +97,22 @@ lesser_is_least P Q (Some a) (Some b) h k = elim (cases_lt a b) [
 ]
 
 -- the least row with a property, said in another way
-pub same_least : (P Q : ℕ → Type 0) (a : Option ℕ) → ((r : ℕ) → P r → Q r) → ((r : ℕ) → Q r → P r) → IsLeast P a → IsLeast Q a
+same_least : (P Q : ℕ → Type 0) (a : Option ℕ) → ((r : ℕ) → P r → Q r) → ((r : ℕ) → Q r → P r) → IsLeast P a → IsLeast Q a
 same_least P Q None f g h = λ r q. h r (g r q)
 same_least P Q (Some a) f g h = (f a h.0, λ q less y. h.1 q less (g q y))
 
-module _ (bound : ℕ → Option ℤ) (shared : List ℕ) where
-  -- nothing is told of no answers
-  pub TellsOf-none : TellsOf bound shared [] (record { consistent = true; lone = None })
-  TellsOf-none = record { consistent = (λ e. tt, λ t. refl); lone = λ r (alone, own). absurd alone.1 }
-
-  -- what is told with one answer more
-  pub TellsOf-push : (answers : List Answer) (x : Answer) (found after : Findings) (count : ℕ) (only : Option ℕ) → TellsOf bound shared answers found →
-      count ≡ length (reaching bound x.rows x.value) → only ≡ lone_of (reaching bound x.rows x.value) →
-      IsTrue after.consistent ↔ (IsTrue found.consistent × (0 < count)) → after.lone ≡ lesser_of found.lone (own_of shared only) →
-      TellsOf bound shared (answers ++ x ∷ []) after
-  TellsOf-push answers x found after count only h counted alone both least = record {
-    consistent = (
-      (λ yes. let parts = both.0 yes in all-push (λ a. 0 < length (reaching bound a.rows a.value)) answers x (h.consistent.0 parts.0) (omega (arith, parts.1))),
-      (λ all. let parts = all-front (λ a. 0 < length (reaching bound a.rows a.value)) answers x all in both.1 (h.consistent.1 parts.0, omega (arith, parts.1))),
-    );
-    lone = subst (IsLeast (Own (answers ++ x ∷ []))) (sym least)
-        (same_least (λ r. Own answers r ⊎ OwnOf r) (Own (answers ++ x ∷ [])) (lesser_of found.lone (own_of shared only))
-        (λ r either. elim either [
-          | inl ((a, one, is), own) ↦ ((a, one_of_front answers x a one, is), own)
-          | inr (is, own) ↦ ((x, one_of_last answers x, is), own)
-        ])
-        (λ r ((a, one, is), own). elim (front_or_last answers x a one) [
-          | inl front ↦ inl ((a, front, is), own)
-          | inr last ↦ inr (ap (λ (y : Answer). reaching bound y.rows y.value) last ∙ is, own)
-        ])
-        (lesser_is_least (Own answers) OwnOf found.lone (own_of shared only) h.lone
-        (subst (λ (o : Option ℕ). IsLeast OwnOf (own_of shared o)) (sym alone) (own_is_least shared (reaching bound x.rows x.value)))));
-  }
-    where
-      Own : List Answer → ℕ → Type 0
-      Own list r = IsAlone bound list r × (has_row shared r ≡ false)
-
-      OwnOf : ℕ → Type 0
-      OwnOf r = (reaching bound x.rows x.value ≡ r ∷ []) × (has_row shared r ≡ false)
+-- the least row that is alone, with one answer more
+pub alone-push : (bound : ℕ → Option ℤ) (answers : List Answer) (x : Answer) (least after only : Option ℕ) → IsLeast (IsAlone bound answers) least →
+    only ≡ lone_of (reaching bound x.rows x.value) → after ≡ lesser_of least only → IsLeast (IsAlone bound (answers ++ x ∷ [])) after
+alone-push bound answers x least after only h alone is =
+    subst (IsLeast (IsAlone bound (answers ++ x ∷ []))) (sym is)
+    (same_least (λ r. IsAlone bound answers r ⊎ Here r) (IsAlone bound (answers ++ x ∷ [])) (lesser_of least only)
+    (λ r either. elim either [ inl (a, one, same) ↦ (a, one_of_front answers x a one, same) | inr same ↦ (x, one_of_last answers x, same) ])
+    (λ r (a, one, same). elim (front_or_last answers x a one) [
+      | inl front ↦ inl (a, front, same)
+      | inr last ↦ inr (ap (λ (y : Answer). reaching bound y.rows y.value) last ∙ same)
+    ])
+    (lesser_is_least (IsAlone bound answers) Here least only h (subst (IsLeast Here) (sym alone) (lone_is_least (reaching bound x.rows x.value)))))
+  where
+    Here : ℕ → Type 0
+    Here r = reaching bound x.rows x.value ≡ r ∷ []

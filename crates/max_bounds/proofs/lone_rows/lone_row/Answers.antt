@@ -2,9 +2,9 @@ use Rattle.std.proofs.Common.{◌≡◌, sym, ◌∙◌, inl, inr, to_z, of_z}
 use Rattle.std.specs.Int.{w128}
 use Rattle.std.proofs.lemmas.Int.{to_z-of_z}
 use Rattle.max_bounds.specs.Reaching.{bound_at}
-use Rattle.max_bounds.proofs.Surveys.{counting_begins, counting_found, counting_passed, counting_ends}
-use Rattle.max_bounds.proofs.extreme_rows.extreme_rows.Goals as goal
-use Rattle.max_bounds.proofs.extreme_rows.extreme_rows.Goals.{then-count-eq0, else-count-eq0}
+use Rattle.max_bounds.proofs.LoneRows.{counting_begins, counting_found, counting_passed, counting_ends}
+use Rattle.max_bounds.proofs.lone_rows.lone_row.Goals as goal
+use Rattle.max_bounds.proofs.lone_rows.lone_row.Goals.{then-count-eq0, else-count-eq0}
 use Rattle.audit_types.specs.BoundLaws.{is_bound-option_eq}
 
 pub loop-row-init : goal.loop-row-init
@@ -35,4 +35,4 @@ returns c =
     let same : to_z w128 (of_z w128 c.args.answer) ≡ c.args.answer = to_z-of_z w128 c.args.answer c.ranges.answer in
     let ends = counting_ends (bound_at c.args.bounds.now) c.args.rows.now.list c.args.answer c.loop-row.count c.loop-row.lone
     (rw (same, c.in-None.ensures.steps.0) at c.loop-row.invariant) in
-    record { count = ends.0; lone = ends.1 }
+    ends.1
