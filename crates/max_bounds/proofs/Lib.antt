@@ -2,7 +2,7 @@ pub mod Lowering
 pub mod MarkedGroups
 pub mod MarkedSets
 pub mod SeenSets
-pub mod Surveys
+pub mod LoneRows
 pub mod Walks
 pub mod HighestBounds
 pub mod HighRows

@@ -1,10 +1,9 @@
 -- The rows of answers that reach their bound, whatever gives the bounds.
-use Rattle.std.specs.Prelude.{◌≡◌, ◌↔◌, ℕ, ℤ, ◌<◌, false, cond, List, [], ◌∷◌, length, Option, Some, None, IsTrue, min}
-use Rattle.std.specs.List.{filter, slice_index_or, AllByRecursion}
-use Rattle.audit_types.specs.Rows.{has_row, IsLeast}
+use Rattle.std.specs.Prelude.{◌≡◌, ℕ, ℤ, cond, List, [], ◌∷◌, Option, Some, None, min}
+use Rattle.std.specs.List.{filter, slice_index_or}
+use Rattle.audit_types.specs.Rows.{has_row}
 use Rattle.audit_types.specs.Column.{Answer, IsOneOf}
 use Rattle.audit_types.specs.Extremes.{least_of, is_bound}
-use Rattle.max_bounds.specs.declared.survey.Findings.{Findings}
 
 -- the bound of a row, in a list with one for each row
 abbrev pub bound_at : List (Option ℤ) → ℕ → Option ℤ
@@ -24,11 +23,6 @@ lone_of [] = None
 lone_of (r ∷ []) = Some r
 lone_of (r ∷ q ∷ rows) = None
 
--- a row, if it isn't shared
-abbrev pub own_of : List ℕ → Option ℕ → Option ℕ
-own_of shared None = None
-own_of shared (Some r) = cond (has_row shared r) None (Some r)
-
 -- the lesser of two rows, if there are two
 abbrev pub lesser_of : Option ℕ → Option ℕ → Option ℕ
 lesser_of None b = b
@@ -38,8 +32,3 @@ lesser_of (Some a) (Some b) = Some (min a b)
 -- the row alone reaches the bound for some answer
 abbrev pub IsAlone : (ℕ → Option ℤ) → List Answer → ℕ → Type 0
 IsAlone bound answers r = (a : Answer) × IsOneOf a answers × (reaching bound a.rows a.value ≡ r ∷ [])
-
--- whether each answer is reached, and the least row that alone reaches one and isn't shared
-pub record TellsOf (bound : ℕ → Option ℤ) (shared : List ℕ) (answers : List Answer) (found : Findings) : Type 0 where
-  pub consistent : IsTrue found.consistent ↔ AllByRecursion (λ a. 0 < length (reaching bound a.rows a.value)) answers
-  pub lone : IsLeast (λ r. IsAlone bound answers r × (has_row shared r ≡ false)) found.lone

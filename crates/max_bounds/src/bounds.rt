@@ -16,10 +16,10 @@ use crate::answered_maxima::AnsweredMaxima;
 use crate::few::nearly_holds;
 use crate::high_rows::{HighRows, few_highest_of, reach_high, renew_high};
 use crate::kept::{fall, insert};
+use crate::lone_rows::least_lone;
 use crate::marks::Marks;
 use crate::people::enough;
 use crate::reach::settle;
-use crate::survey::survey;
 use crate::within::has_within;
 use audit_types::{CountedRows, NoMemory, RowSet};
 use std::alloc::Global;
@@ -201,8 +201,7 @@ impl Bounds {
             // Each answer has two extreme rows or more.
             return None;
         }
-        // No row is shared.
-        survey(&self.pairs, &RowSet::new(1)).lone
+        least_lone(&self.pairs)
     }
 
     /// Whether all extreme rows of some answer with this number are in the set. It takes no memory.

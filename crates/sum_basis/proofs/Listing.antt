@@ -1,9 +1,10 @@
 -- The entries of a row that are not 0, listed one after the other.
-use Rattle.std.proofs.Common.{◌≡◌, ◌≢◌, ℕ, ◌+◌, ◌<◌, ℤ, pos, List, [], ◌∷◌, ◌++◌, length, sym, ap, ◌∙◌, arith, inl, inr}
+use Rattle.std.proofs.Common.{◌≡◌, ◌≢◌, ℕ, ◌+◌, ◌<◌, cond, ℤ, pos, List, [], ◌∷◌, ◌++◌, length, sym, ap, ◌∙◌, arith, inl, inr}
 use Rattle.std.proofs.lemmas.Int.{ints}
 use Rattle.std.proofs.lemmas.Bool.{cases_eq, cases_lt}
 use Rattle.std.proofs.lemmas.List.{get_or_past}
-use Rattle.audit_types.specs.Truth.{number_at}
+use Rattle.audit_types.specs.Truth.{number_at, is_zero}
+use Rattle.audit_types.specs.Numbers.{zero_or_not, test_of_not_zero}
 use Rattle.sum_basis.specs.declared.sparse.FreeEntry.{FreeEntry}
 use Rattle.sum_basis.specs.Sparse.{entry_at, IsListed}
 use Rattle.sum_basis.proofs.SparseRows.{here, elsewhere, entry_at-append, zero_past, listed_push, listed_to, listed_length}
@@ -46,6 +47,15 @@ one_more_listed row list k v part e some = record {
             omega (arith, ints)
       ];
 }
+
+-- the next entry, if it is not 0
+pub next_listed : (row : List ℤ) (list new : List FreeEntry) (k : ℕ) (v : ℤ) → IsPartlyListed row list k → v ≡ number_at row k →
+    new ≡ cond (is_zero v) list (list ++ record { place = k; value = v } ∷ []) → IsPartlyListed row new (k + 1)
+next_listed row list new k v part e is = elim (zero_or_not v) [
+  | inl z ↦ rw (is ∙ ap (λ b. cond b list (list ++ record { place = k; value = v } ∷ [])) (ap is_zero z)) (left_out row list k part (sym e ∙ z))
+  | inr some ↦ rw (is ∙ ap (λ b. cond b list (list ++ record { place = k; value = v } ∷ [])) (test_of_not_zero v some))
+      (one_more_listed row list k v part e some)
+]
 
 -- in the end all are
 pub all_listed : (row : List ℤ) (list : List FreeEntry) (k : ℕ) → k ≡ length row → IsPartlyListed row list k → (j : ℕ) → entry_at list j ≡ number_at row j

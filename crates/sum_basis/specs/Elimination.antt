@@ -3,6 +3,7 @@ use Rattle.std.specs.Prelude.{◌≡◌, ◌≢◌, ℕ, ◌≤◌, ◌*◌, ◌
 use Rattle.std.specs.Int.{◌∣◌}
 use Rattle.std.specs.List.{AllByRecursion}
 use Rattle.audit_types.specs.Truth.{number_at}
+use Rattle.sum_basis.specs.Limits.{most_short}
 use Rattle.audit_types.specs.Form.{combined, InSpan, IsPrimitive, IsEchelon, pivot, pivot_entry}
 
 -- no entry is above the width
@@ -22,6 +23,10 @@ pub record IsFormWithin (width n : ℕ) (form : List (List ℤ)) : Type 0 where
 -- the same with small entries
 abbrev pub IsSmallForm : ℕ → List (List ℤ) → Type 0
 IsSmallForm n form = IsFormWithin (2 ^ 56) n form
+
+-- each pivot entry is 1, and no other entry is above 2 ^ 48, so that what is left of a set fits 64 bits
+abbrev pub IsShortForm : List (List ℤ) → Type 0
+IsShortForm form = AllByRecursion (λ row. (pivot_entry row ≡ pos 1) × IsWithin most_short row) form
 
 -- the row is 0 at all pivots of the form
 abbrev pub IsZeroAtPivots : List (List ℤ) → List ℤ → Type 0

@@ -13,3 +13,7 @@ most_remainder = 2 ^ 112 * (most_columns + 1)
 -- so many rows are few
 abbrev pub few_rows : ℕ
 few_rows = 1024
+
+-- the greatest entry of a form that leaves numbers of 64 bits
+abbrev pub most_short : ℕ
+most_short = 2 ^ 48

@@ -4,6 +4,7 @@ use Rattle.std.specs.List.{range_with_len, AllByRecursion}
 use Rattle.std.specs.Vec.{vec_capacity}
 use Rattle.audit_types.specs.Form.{IsPrimitive, IsContent}
 use Rattle.sum_basis.specs.Elimination.{IsSmall}
+use Rattle.sum_basis.specs.Limits.{most_short}
 use Rattle.sum_basis.specs.declared.sparse.FreeEntry.{FreeEntry}
 use Rattle.sum_basis.specs.declared.sparse.SparseRow.{SparseRow}
 
@@ -62,3 +63,7 @@ pub record IsMadeList (old new : List FreeEntry) : Type 0 where
   pub is_multiple : old ≡ map (scaled by) new
   pub content : IsContent (map (λ e. e.value) new) 1
   pub leading : pos 0 <ℤ (slice_index_or new 0 (record { place = 0; value = pos 0 })).value
+
+-- a kept row whose pivot entry is 1, and that has no entry above 2 ^ 48
+abbrev pub IsShortRow : SparseRow → Type 0
+IsShortRow r = (r.head ≡ pos 1) × AllByRecursion (λ (e : FreeEntry). unsigned_abs e.value ≤ most_short) r.free.items

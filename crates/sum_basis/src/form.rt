@@ -1,16 +1,16 @@
 //! The reduced form of rows of whole numbers, kept as long as it is narrow.
 ghost use Rattle.std.specs.Prelude.{◌≡◌, ◌↔◌, ℕ, ◌<◌, ◌≤◌, ◌++◌, ◌^◌, ℤ, List, pos, [], ◌∷◌, false, length, map, Ok, IfOk, OnOk, OnErr, IfSome, IfNone, IsTrue, MatchOption, slice_index_or, unsigned_abs};
 ghost use Rattle.std.specs.List.{AllByRecursion};
-ghost use Rattle.audit_types.specs.Limits.{most_width};
-ghost use Rattle.audit_types.specs.Form.{InSpan, IsNarrow, IsReducedForm, pivot, pivot_entries, IsLeastCommonMultiple};
+ghost use Rattle.audit_types.specs.Limits.{most_rows, most_width};
+ghost use Rattle.audit_types.specs.Form.{set_row, InSpan, IsNarrow, IsReducedForm, pivot, pivot_entries, IsLeastCommonMultiple};
 ghost use Rattle.audit_types.specs.Truth.{number_at};
 ghost use Rattle.sum_basis.specs.Basis.{IsLeastUnit, IsFreeList, IsWidth};
 ghost use Rattle.audit_types.specs.PrimitiveLines.{times};
-ghost use Rattle.sum_basis.specs.Elimination.{IsSmallForm, IsRemainder, IsZeroAtPivots};
+ghost use Rattle.sum_basis.specs.Elimination.{IsSmallForm, IsShortForm, IsRemainder, IsZeroAtPivots};
 ghost use Rattle.std.specs.Vec.{vec_capacity};
-ghost use Rattle.sum_basis.specs.Limits.{most_columns, most_remainder};
-ghost use Rattle.sum_basis.specs.Sparse.{row_of, IsNew};
-ghost use Rattle.sum_basis.specs.Growth.{Grows, GrowsForRows, GrowsWide, Foresees, IsLeft, IsLeftWithin, LeavesLarge, IsAsItIs, IsLeftOver, LeavesNoList};
+ghost use Rattle.sum_basis.specs.Limits.{few_rows, most_columns, most_remainder};
+ghost use Rattle.sum_basis.specs.Sparse.{row_of, IsListed, IsNew};
+ghost use Rattle.sum_basis.specs.Growth.{Grows, GrowsForRows, GrowsWide, Foresees, IsLeft, IsLeftWithin, LeavesEntries, LeavesLarge, IsAsItIs, IsLeftOver, IsWeighed, LeavesNoList};
 ghost use Rattle.audit_types.specs.Rows.{IsLeast};
 ghost use Rattle.sum_basis.specs.RowsWith.{IsRowWith, IsPinned};
 ghost use Rattle.sum_basis.specs.Ties.{ShowsTieBut};
@@ -24,12 +24,22 @@ use crate::looking::look_ahead;
 use crate::pinned::least_pinned;
 use crate::primitive_list::{are_within, make_primitive};
 use crate::row_with::{RowWith, row_with_list};
+use crate::short_rows::{MOST_SHORT, list_of_short, reduce_short, write_ones};
 use crate::sparse::{FreeEntry, SparseRow, copy_list, copy_rows, list_of, reduce, short_list};
 use crate::ties::ties_some_but;
+use crate::wide_entry::WideEntry;
 use crate::{Grown, Prospect};
 use audit_types::{MOST_ROWS, NoMemory, RowSet};
 use std::alloc::Global;
 use std::marker::Model;
+
+/// How many rows are few: a room for their numbers is cleared in next to no time.
+pub(crate) const FEW_ROWS: u16 = 1_024;
+
+// As many columns, and as many as a table may have rows.
+const FEW_COLUMNS: usize = FEW_ROWS as usize;
+
+const ROW_COLUMNS: usize = MOST_ROWS as usize;
 
 /// The most columns of a form: one for each row of a table, and as many marks.
 pub const MOST_COLUMNS: usize = 2 * MOST_ROWS as usize;
@@ -119,6 +129,30 @@ impl Form {
         reduce(row, &self.rows);
     }
 
+    // The primitive row of what the form leaves of a row, which these entries are, if it has no entry above the limit.
+    fn settle_list(&self, entries: Vec<WideEntry>, limit: u64) -> Result<Left, NoMemory>
+        requires left { (v : List ℤ) × LeavesEntries self.now v entries.items }
+        requires listed { IsListed 0 self.now.n entries.items }
+        requires size { AllByRecursion (λ e. unsigned_abs e.value ≤ 2 ^ 126) entries.items }
+        requires limit { (self.now.width ≤ limit) × (limit ≤ most_width) }
+        ensures left { IfOk result (λ left. (v : List ℤ) → LeavesEntries self.now v entries.items → IsLeft self.now v left) }
+        ensures within { IfOk result (λ left. IsLeftWithin self.now.n limit left) }
+        ensures large { IfOk result (λ left. (v : List ℤ) → LeavesEntries self.now v entries.items → left ≡ Large → LeavesLarge self.now v limit) }
+    {
+        // What every form is: its rows are a form, and narrow.
+        let _ = self.columns();
+        let mut list = entries;
+        if list.is_empty() {
+            return Ok(Left::Nothing);
+        }
+        make_primitive(&mut list);
+        if !are_within(&list, limit) {
+            return Ok(Left::Large);
+        }
+        let kept = short_list(self.alloc, &list, self.columns)?;
+        Ok(Left::Entries(kept))
+    }
+
     // The primitive row that the form leaves of a row of zeros and ones, if it has no entry above the limit.
     pub(crate) fn settle(&self, row: &mut [i128], limit: u64) -> Result<Left, NoMemory>
         requires length { length row.old ≡ self.now.n }
@@ -133,31 +167,19 @@ impl Form {
         ensures narrow { IsNarrow self.now.width self.now.rows }
     {
         self.remainder(row);
-        let mut list = list_of(self.alloc, row)?;
-        if list.is_empty() {
-            return Ok(Left::Nothing);
-        }
-        make_primitive(&mut list);
-        if !are_within(&list, limit) {
-            return Ok(Left::Large);
-        }
-        let kept = short_list(self.alloc, &list, self.columns)?;
-        Ok(Left::Entries(kept))
+        let entries = list_of(self.alloc, row)?;
+        self.settle_list(entries, limit)
     }
 
-    /// Tells what the form would become with a row of zeros and ones, which is used up, and the list that the form leaves of it.
-    pub(crate) fn weigh(&self, row: &mut [i128]) -> Result<Weighed, NoMemory>
-        requires length { length row.old ≡ self.now.n }
-        requires bits { (j : ℕ) → unsigned_abs (number_at row.old j) ≤ 1 }
-        ensures foresees { IfOk result (λ weighed. Foresees self.now row.old weighed.prospect) }
-        ensures left { IfOk result (λ weighed. IfSome weighed.list (λ list. IsLeft self.now row.old (Entries list))) }
-        ensures nothing { IfOk result (λ weighed. IfNone weighed.list (LeavesNoList self.now row.old weighed.prospect)) }
-
-        // What is true of every form.
-        ensures form { IsSmallForm self.now.n self.now.rows }
-        ensures narrow { IsNarrow self.now.width self.now.rows }
+    // What the form would become with a row of which this is left, and the list of that.
+    fn look(&self, left: Left) -> Result<Weighed, NoMemory>
+        requires left { (v : List ℤ) × IsLeft self.now v left }
+        requires within { IsLeftWithin self.now.n self.now.width left }
+        ensures { IfOk result (λ weighed. (v : List ℤ) → IsLeft self.now v left → IsWeighed self.now v weighed) }
     {
-        match self.settle(row, self.width)? {
+        // What every form is: its rows are a form, and narrow.
+        let _ = self.columns();
+        match left {
             Left::Nothing => Ok(Weighed {
                 prospect: self.as_it_is(),
                 list: None,
@@ -183,6 +205,88 @@ impl Form {
                 })
             }
         }
+    }
+
+    /// Tells what the form would become with a row of zeros and ones, which is used up, and the list that the form leaves of it.
+    pub(crate) fn weigh(&self, row: &mut [i128]) -> Result<Weighed, NoMemory>
+        requires length { length row.old ≡ self.now.n }
+        requires bits { (j : ℕ) → unsigned_abs (number_at row.old j) ≤ 1 }
+        ensures foresees { IfOk result (λ weighed. Foresees self.now row.old weighed.prospect) }
+        ensures left { IfOk result (λ weighed. IfSome weighed.list (λ list. IsLeft self.now row.old (Entries list))) }
+        ensures nothing { IfOk result (λ weighed. IfNone weighed.list (LeavesNoList self.now row.old weighed.prospect)) }
+
+        // What is true of every form.
+        ensures form { IsSmallForm self.now.n self.now.rows }
+        ensures narrow { IsNarrow self.now.width self.now.rows }
+    {
+        let left = self.settle(row, self.width)?;
+        self.look(left)
+    }
+
+    /// Whether what the form leaves of a set fits 64 bits for sure.
+    pub(crate) fn is_short(&self) -> bool
+        ensures { IsTrue result → IsShortForm self.now.rows }
+    {
+        self.common == 1 && self.greatest_bound <= MOST_SHORT
+    }
+
+    // The entries that the form leaves of the row of a set, worked out in a row of zeros.
+    fn short_entries(&self, row: &mut [i64], set: &RowSet) -> Result<Vec<WideEntry>, NoMemory>
+        requires length { length row.old ≡ self.now.n }
+        requires zeros { (j : ℕ) → number_at row.old j ≡ pos 0 }
+        requires n { set.now.n ≡ self.now.n }
+        requires short { IsShortForm self.now.rows }
+        ensures left { IfOk result (λ entries. LeavesEntries self.now (set_row self.now.n set.now.list) entries.items) }
+        ensures listed { IfOk result (λ entries. IsListed 0 self.now.n entries.items) }
+        ensures size { IfOk result (λ entries. AllByRecursion (λ e. unsigned_abs e.value ≤ 2 ^ 126) entries.items) }
+    {
+        write_ones(row, set);
+        reduce_short(row, &self.rows);
+        list_of_short(self.alloc, row)
+    }
+
+    // The same, in a row of its own, with room for so many columns.
+    #[inline(never)]
+    fn short_entries_in<const ROOM: usize>(&self, set: &RowSet) -> Result<Vec<WideEntry>, NoMemory>
+        requires room { self.now.n ≤ ROOM }
+        requires at_most { ROOM ≤ most_rows }
+        requires n { set.now.n ≡ self.now.n }
+        requires short { IsShortForm self.now.rows }
+        ensures left { IfOk result (λ entries. LeavesEntries self.now (set_row self.now.n set.now.list) entries.items) }
+        ensures listed { IfOk result (λ entries. IsListed 0 self.now.n entries.items) }
+        ensures size { IfOk result (λ entries. AllByRecursion (λ e. unsigned_abs e.value ≤ 2 ^ 126) entries.items) }
+    {
+        let mut room = [0; ROOM];
+        let row = &mut room[..self.columns as usize];
+        self.short_entries(row, set)
+    }
+
+    // The same, in as much room as there has to be.
+    fn short_entries_of(&self, set: &RowSet) -> Result<Vec<WideEntry>, NoMemory>
+        requires n { set.now.n ≡ self.now.n }
+        requires at_most { self.now.n ≤ most_rows }
+        requires short { IsShortForm self.now.rows }
+        ensures left { IfOk result (λ entries. LeavesEntries self.now (set_row self.now.n set.now.list) entries.items) }
+        ensures listed { IfOk result (λ entries. IsListed 0 self.now.n entries.items) }
+        ensures size { IfOk result (λ entries. AllByRecursion (λ e. unsigned_abs e.value ≤ 2 ^ 126) entries.items) }
+    {
+        if self.columns <= FEW_ROWS {
+            self.short_entries_in::<FEW_COLUMNS>(set)
+        } else {
+            self.short_entries_in::<ROW_COLUMNS>(set)
+        }
+    }
+
+    /// The same as `weigh`, of the row of a set of the table's rows, by a form that leaves numbers of 64 bits.
+    pub(crate) fn weigh_short(&self, set: &RowSet) -> Result<Weighed, NoMemory>
+        requires n { set.now.n ≡ self.now.n }
+        requires at_most { self.now.n ≤ most_rows }
+        requires short { IsShortForm self.now.rows }
+        ensures { IfOk result (IsWeighed self.now (set_row self.now.n set.now.list)) }
+    {
+        let entries = self.short_entries_of(set)?;
+        let left = self.settle_list(entries, self.width)?;
+        self.look(left)
     }
 
     // What the form is with a row of its span.

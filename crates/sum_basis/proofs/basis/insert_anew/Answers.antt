@@ -1,4 +1,4 @@
-use Rattle.std.proofs.Common.{ℕ, ℤ, List, [], ◌∷◌, ◌++◌, sym, ap, ◌∙◌, length, subst, arith}
+use Rattle.std.proofs.Common.{ℕ, ℤ, List, [], ◌∷◌, ◌++◌, sym, ap, ◌∙◌, length, subst}
 use Rattle.std.specs.Prelude.{OnOk}
 use Rattle.audit_types.specs.RowNumbers.{length-set_row}
 use Rattle.audit_types.specs.Form.{set_row, IsReducedForm}

@@ -1,12 +1,9 @@
-use Rattle.std.proofs.Common.{◌≡◌, ◌+◌, ℕ, cond, ℤ, pos, List, [], ◌∷◌, ◌++◌, length, get_or, sym, ap, ◌∙◌, subst, arith, rules, inl, inr}
+use Rattle.std.proofs.Common.{◌≡◌, pos, length, get_or, ◌∙◌, subst, arith, rules}
 use Rattle.std.specs.Prelude.{FitsSigned}
 use Rattle.std.specs.Int.{w128}
 use Rattle.std.proofs.lemmas.Int.{to_z-of_z}
-use Rattle.audit_types.specs.Truth.{number_at, is_zero}
-use Rattle.audit_types.specs.Numbers.{zero_or_not, test_of_not_zero}
 use Rattle.sum_basis.specs.Sparse.{IsListed}
-use Rattle.sum_basis.specs.declared.sparse.FreeEntry.{FreeEntry}
-use Rattle.sum_basis.proofs.Listing.{IsPartlyListed, none_listed, left_out, one_more_listed, all_listed, room_for}
+use Rattle.sum_basis.proofs.Listing.{none_listed, next_listed, all_listed, room_for}
 use Rattle.sum_basis.proofs.sparse.list_of.Goals as goal
 
 pub put-requires : goal.put-requires
@@ -16,21 +13,12 @@ put-requires c =
     let room = c.loop-place.invariant.room in
     omega arith
 
--- the next entry, if it is not 0
-next : (row : List ℤ) (list new : List FreeEntry) (k : ℕ) (v : ℤ) → IsPartlyListed row list k → v ≡ number_at row k →
-    new ≡ cond (is_zero v) list (list ++ record { place = k; value = v } ∷ []) → IsPartlyListed row new (k + 1)
-next row list new k v part e is = elim (zero_or_not v) [
-  | inl z ↦ rw (is ∙ ap (λ b. cond b list (list ++ record { place = k; value = v } ∷ [])) (ap is_zero z)) (left_out row list k part (sym e ∙ z))
-  | inr some ↦ rw (is ∙ ap (λ b. cond b list (list ++ record { place = k; value = v } ∷ [])) (test_of_not_zero v some))
-      (one_more_listed row list k v part e some)
-]
-
 pub loop-place-preserved : goal.loop-place-preserved
 loop-place-preserved c =
     let fits : FitsSigned w128 (get_or c.args.row.now c.loop-place.place (pos 0)) = search rules in
     record {
       listed =
-          next c.args.row.now c.loop-place.list.items c.put.new.out.items c.loop-place.place _ c.loop-place.invariant.listed
+          next_listed c.args.row.now c.loop-place.list.items c.put.new.out.items c.loop-place.place _ c.loop-place.invariant.listed
           (to_z-of_z w128 (get_or c.args.row.now c.loop-place.place (pos 0)) fits) c.put.ensures.items;
       room = c.put.ensures.capacity ∙ c.loop-place.invariant.room;
     }

@@ -1,9 +1,8 @@
-use Rattle.std.proofs.Common.{◌≡◌, ℕ, List, false, arith, ap, subst, None}
-use Rattle.audit_types.specs.Rows.{has_row}
-use Rattle.audit_types.specs.Extremes.{IsLeastLone, IsLone}
+use Rattle.std.proofs.Common.{◌≡◌, List, arith, ap, subst, None}
+use Rattle.audit_types.specs.Column.{Answer}
+use Rattle.audit_types.specs.Extremes.{IsLeastLone}
 use Rattle.max_bounds.specs.Maxima.{Maxima, answers_of}
 use Rattle.max_bounds.proofs.DangerCases.{none_lone}
-use Rattle.max_bounds.proofs.Surveys.{same_least}
 use Rattle.max_bounds.proofs.bounds.Bounds.lone_extreme.Goals as goal
 
 pub returns-then-self-gt1 : goal.returns-then-self-gt1
@@ -18,6 +17,4 @@ returns-then-self-gt1 c =
 pub returns : goal.returns
 returns c =
     let answers : answers_of c.self.inside.pairs.items ≡ c.args.self.now.answers = ap (λ m. m.answers) c.self.view_is in
-    same_least (λ r. IsLone c.args.self.now.answers r × (has_row c.new.result.list r ≡ false)) (IsLone c.args.self.now.answers) c.survey.result.lone
-    (λ r found. found.0)
-    (λ r lone. (lone, ap (λ (l : List ℕ). has_row l r) c.new.ensures.empty)) (rw answers at c.survey.ensures.tells.lone)
+    subst (λ (list : List Answer). IsLeastLone list c.least_lone.result) answers c.least_lone.ensures

@@ -1,4 +1,4 @@
-use Rattle.std.proofs.Common.{◌≡◌, ◌++◌, ◌∷◌, [], ℕ, ℤ, List, None, length, sym, ap, ◌∙◌, subst, arith}
+use Rattle.std.proofs.Common.{◌≡◌, ◌++◌, ◌∷◌, [], ℕ, ℤ, List, None, length, sym, ap, ◌∙◌, subst}
 use Rattle.audit_types.specs.Form.{set_row, IsReducedForm}
 use Rattle.audit_types.specs.Rows.{IsLeast}
 use Rattle.audit_types.specs.RowNumbers.{length-set_row}

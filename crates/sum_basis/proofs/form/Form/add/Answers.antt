@@ -1,4 +1,4 @@
-use Rattle.std.proofs.Common.{ℤ, List, pos, map, subst, length, sym, ap, ◌∙◌, arith}
+use Rattle.std.proofs.Common.{ℤ, List, pos, map, subst, length, sym, ap, ◌∙◌}
 use Rattle.std.proofs.lemmas.List.{length-map}
 use Rattle.sum_basis.specs.Growth.{Grows, GrowsForRows}
 use Rattle.sum_basis.proofs.SetRows.{bits_small}

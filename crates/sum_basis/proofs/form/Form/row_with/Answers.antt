@@ -1,4 +1,4 @@
-use Rattle.std.proofs.Common.{◌≤◌, ◌^◌, ℤ, List, pos, subst, length, sym, ap, ◌∙◌, arith}
+use Rattle.std.proofs.Common.{◌≤◌, ◌^◌, ℤ, List, pos, subst, length, sym, ap, ◌∙◌}
 use Rattle.std.specs.List.{AllByRecursion}
 use Rattle.std.specs.Prelude.{IfOk}
 use Rattle.std.proofs.lemmas.List.{length-map}

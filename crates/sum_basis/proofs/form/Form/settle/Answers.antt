@@ -1,141 +1,55 @@
-use Rattle.std.proofs.Common.{◌≡◌, ℕ, ◌<◌, ◌≤◌, ◌^◌, Bool, true, false, nat_eq, ℤ, pos, List, [], ◌∷◌, length, sym, ◌∙◌, subst, arith, ap}
+use Rattle.std.proofs.Common.{◌≡◌, ◌≤◌, ◌^◌, ℤ, List, length, subst, arith}
 use Rattle.std.specs.Prelude.{unsigned_abs}
-use Rattle.std.specs.List.{AllByRecursion}
-use Rattle.std.proofs.lemmas.Bool.{true≢false, eqb-true, eq-eqb}
-use Rattle.audit_types.specs.Truth.{number_at}
-use Rattle.audit_types.specs.ListLaws.{all-unmap, all-weaker}
+use Rattle.std.proofs.lemmas.Result.{IfOk-weaker}
+use Rattle.audit_types.specs.ListLaws.{all-unmap}
+use Rattle.sum_basis.specs.declared.form.Left.{Left}
+use Rattle.sum_basis.specs.declared.form.Left.TheVariants.{Large}
 use Rattle.sum_basis.specs.declared.sparse.FreeEntry.{FreeEntry}
-use Rattle.sum_basis.specs.Basis.{Echelon}
-use Rattle.sum_basis.specs.Sparse.{entry_at}
-use Rattle.sum_basis.proofs.ListContents.{first_some}
+use Rattle.sum_basis.specs.Growth.{IsLeft, LeavesEntries, LeavesLarge}
+use Rattle.sum_basis.specs.Sparse.{IsListed}
 use Rattle.sum_basis.proofs.ClearedLists.{values_from}
-use Rattle.sum_basis.proofs.SparseRows.{row_within, values_within, listed_length}
-use Rattle.sum_basis.proofs.Sizes.{within_more}
-use Rattle.sum_basis.proofs.WideForms.{new_too_large}
-use Rattle.sum_basis.proofs.Extending.{nothing_new, new_row, grows_wide}
-use Rattle.sum_basis.proofs.PrimitiveLists.{made_listed, made_some, made_line}
 use Rattle.sum_basis.proofs.form.Form.settle.Goals as goal
 
--- an empty list, and one that isn't
-empty : (len : ℕ) (es : List FreeEntry) (b : Bool) → len ≡ length es → b ≡ nat_eq len 0 → b ≡ true → length es ≡ 0
-empty len es b l is holds = sym l ∙ eqb-true len 0 (sym is ∙ holds)
+pub settle_list-requires-clause-left : goal.settle_list-requires-clause-left
+settle_list-requires-clause-left c = (
+  c.args.row.now,
+  record {
+    row = c.remainder.new.row;
+    long = c.remainder.ensures.length;
+    remainder = c.remainder.ensures.remainder;
+    is = c.in_ok-entries.ensures.is;
+  },
+)
 
-not_empty : (len : ℕ) (es : List FreeEntry) (b : Bool) → len ≡ length es → b ≡ nat_eq len 0 → b ≡ false → 0 < length es
-not_empty len [] b l is fails = absurd (true≢false (sym (is ∙ eq-eqb len 0 l) ∙ fails))
-not_empty len (e ∷ es) b l is fails = omega arith
+pub settle_list-requires-clause-listed : goal.settle_list-requires-clause-listed
+settle_list-requires-clause-listed c = subst (λ k. IsListed 0 k c.in_ok-entries.entries.items) c.remainder.ensures.length c.in_ok-entries.ensures.listed
 
--- an empty list has nothing
-none_listed : (list : List FreeEntry) (row : List ℤ) → length list ≡ 0 → ((j : ℕ) → entry_at list j ≡ number_at row j) → (j : ℕ) → number_at row j ≡ pos 0
-none_listed [] row e is j = sym (is j)
-none_listed (x ∷ list) row e is j = absurd (omega arith)
-
-pub returns-then-is_empty-clause-left : goal.returns-then-is_empty-clause-left
-returns-then-is_empty-clause-left c =
-    nothing_new c.args.self.now c.args.row.now c.remainder.new.row c.remainder.ensures.form c.remainder.ensures.remainder
-    (none_listed c.in_ok-list.list.items c.remainder.new.row
-    (empty c.in_ok-list.list.len c.in_ok-list.list.items c.is_empty.result c.in_ok-list.list.ok.0 c.is_empty.ensures c.if-is_empty.true)
-    c.in_ok-list.ensures.is)
-
-pub make_primitive-requires-clause-some : goal.make_primitive-requires-clause-some
-make_primitive-requires-clause-some c =
-    let some = (not_empty c.in_ok-list.list.len c.in_ok-list.list.items c.is_empty.result c.in_ok-list.list.ok.0 c.is_empty.ensures c.if-is_empty.false) in
-    let len = c.in_ok-list.list.ok.0 in
-    omega arith
-
-pub make_primitive-requires-clause-first : goal.make_primitive-requires-clause-first
-make_primitive-requires-clause-first c =
-    first_some (length c.remainder.new.row) c.in_ok-list.list.items c.in_ok-list.ensures.listed
-    (not_empty c.in_ok-list.list.len c.in_ok-list.list.items c.is_empty.result c.in_ok-list.list.ok.0 c.is_empty.ensures c.if-is_empty.false)
-
-pub make_primitive-requires-clause-size : goal.make_primitive-requires-clause-size
-make_primitive-requires-clause-size c =
-    all-unmap (λ (e : FreeEntry). e.value) (λ x. unsigned_abs x ≤ 2 ^ 126) c.in_ok-list.list.items
-    (values_from (λ x. unsigned_abs x ≤ 2 ^ 126) 0 (length c.remainder.new.row) c.in_ok-list.list.items c.in_ok-list.ensures.listed
-    (λ j. rw (c.in_ok-list.ensures.is j) (let small = c.remainder.ensures.small j in omega arith)) (omega arith))
-
-pub returns-then-not-are_within-clause-left : goal.returns-then-not-are_within-clause-left
-returns-then-not-are_within-clause-left c =
-    let n = c.args.self.now.n in
-    let line = made_line n c.remainder.new.row c.in_ok-list.list.items c.make_primitive.new.entries.items c.remainder.ensures.length c.in_ok-list.ensures.listed
-    c.in_ok-list.ensures.is (not_empty c.in_ok-list.list.len c.in_ok-list.list.items c.is_empty.result c.in_ok-list.list.ok.0 c.is_empty.ensures
-    c.if-is_empty.false) c.make_primitive.ensures.made in
-    let listed = made_listed n c.remainder.new.row c.in_ok-list.list.items c.make_primitive.new.entries.items c.remainder.ensures.length
-    c.in_ok-list.ensures.listed c.in_ok-list.ensures.is (not_empty c.in_ok-list.list.len c.in_ok-list.list.items c.is_empty.result c.in_ok-list.list.ok.0
-    c.is_empty.ensures c.if-is_empty.false) c.make_primitive.ensures.made in
-    let row = new_row c.args.self.now c.args.row.now c.remainder.new.row c.remainder.ensures.form c.remainder.ensures.remainder _ line in
-    let f = c.remainder.ensures.form in (
-      row.outside,
-      grows_wide c.args.self.now c.args.row.now _ row (new_too_large c.args.self.now _
-          (record { primitive = f.primitive; echelon = f.echelon; entries = c.remainder.ensures.narrow.entries }) row.primitive row.zeros
-          c.args.limit c.requires.limit.0
-          (λ within. true≢false (sym (c.are_within.ensures.1 (subst (AllByRecursion (λ (e : FreeEntry). unsigned_abs e.value ≤ c.args.limit))
-          (sym c.deref.ensures.value) (values_within c.args.limit n c.make_primitive.new.entries.items listed within))) ∙ c.if-not-are_within.true))),
-    )
-
-pub returns-then-not-are_within-clause-large : goal.returns-then-not-are_within-clause-large
-returns-then-not-are_within-clause-large c = λ large.
-    let n = c.args.self.now.n in
-    let line = made_line n c.remainder.new.row c.in_ok-list.list.items c.make_primitive.new.entries.items c.remainder.ensures.length c.in_ok-list.ensures.listed
-    c.in_ok-list.ensures.is (not_empty c.in_ok-list.list.len c.in_ok-list.list.items c.is_empty.result c.in_ok-list.list.ok.0 c.is_empty.ensures
-    c.if-is_empty.false) c.make_primitive.ensures.made in
-    let listed = made_listed n c.remainder.new.row c.in_ok-list.list.items c.make_primitive.new.entries.items c.remainder.ensures.length
-    c.in_ok-list.ensures.listed c.in_ok-list.ensures.is (not_empty c.in_ok-list.list.len c.in_ok-list.list.items c.is_empty.result c.in_ok-list.list.ok.0
-    c.is_empty.ensures c.if-is_empty.false) c.make_primitive.ensures.made in
-    let row = new_row c.args.self.now c.args.row.now c.remainder.new.row c.remainder.ensures.form c.remainder.ensures.remainder _ line in (
-      _,
-      row,
-      (λ within. true≢false (sym (c.are_within.ensures.1 (subst (AllByRecursion (λ (e : FreeEntry). unsigned_abs e.value ≤ c.args.limit))
-          (sym c.deref.ensures.value) (values_within c.args.limit n c.make_primitive.new.entries.items listed within))) ∙ c.if-not-are_within.true)),
-    )
+pub settle_list-requires-clause-size : goal.settle_list-requires-clause-size
+settle_list-requires-clause-size c =
+    all-unmap (λ (e : FreeEntry). e.value) (λ x. unsigned_abs x ≤ 2 ^ 126) c.in_ok-entries.entries.items
+    (values_from (λ x. unsigned_abs x ≤ 2 ^ 126) 0 (length c.remainder.new.row) c.in_ok-entries.entries.items c.in_ok-entries.ensures.listed
+    (λ j. rw (c.in_ok-entries.ensures.is j) (let small = c.remainder.ensures.small j in omega arith)) (omega arith))
 
 pub returns-clause-left : goal.returns-clause-left
 returns-clause-left c =
-    let n = c.args.self.now.n in
-    let listed = made_listed n c.remainder.new.row c.in_ok-list.list.items c.make_primitive.new.entries.items c.remainder.ensures.length
-    c.in_ok-list.ensures.listed c.in_ok-list.ensures.is (not_empty c.in_ok-list.list.len c.in_ok-list.list.items c.is_empty.result c.in_ok-list.list.ok.0
-    c.is_empty.ensures c.if-is_empty.false) c.make_primitive.ensures.made in
-    let line = made_line n c.remainder.new.row c.in_ok-list.list.items c.make_primitive.new.entries.items c.remainder.ensures.length c.in_ok-list.ensures.listed
-    c.in_ok-list.ensures.is (not_empty c.in_ok-list.list.len c.in_ok-list.list.items c.is_empty.result c.in_ok-list.list.ok.0 c.is_empty.ensures
-    c.if-is_empty.false) c.make_primitive.ensures.made in
-    let row = new_row c.args.self.now c.args.row.now c.remainder.new.row c.remainder.ensures.form c.remainder.ensures.remainder _ line in
-    let within = subst (AllByRecursion (λ (e : FreeEntry). unsigned_abs e.value ≤ c.args.limit)) c.deref.ensures.value
-    (c.are_within.ensures.0 c.if-not-are_within.false) in
-    rw (c.in_ok-kept.ensures.same ∙ c.deref-2.ensures.value) (
-      record {
-        some = made_some n c.remainder.new.row c.in_ok-list.list.items c.make_primitive.new.entries.items c.remainder.ensures.length c.in_ok-list.ensures.listed
-            c.in_ok-list.ensures.is (not_empty c.in_ok-list.list.len c.in_ok-list.list.items c.is_empty.result c.in_ok-list.list.ok.0 c.is_empty.ensures
-            c.if-is_empty.false) c.make_primitive.ensures.made;
-        listed = listed;
-        primitive = row.primitive;
-        small = within_more c.args.limit (2 ^ 56) _ c.requires.limit.1 (row_within c.args.limit n c.make_primitive.new.entries.items listed within);
-      },
-      row,
-      (let room = c.in_ok-kept.ensures.room in let same = ap (λ (e : Echelon). e.n) c.self.view_is in omega arith),
-    )
+    IfOk-weaker c.settle_list.result
+    (λ (left : Left). (v : List ℤ) → LeavesEntries c.args.self.now v c.in_ok-entries.entries.items → IsLeft c.args.self.now v left)
+    (IsLeft c.args.self.now c.args.row.now)
+    (λ left is. is c.args.row.now (record {
+      row = c.remainder.new.row;
+      long = c.remainder.ensures.length;
+      remainder = c.remainder.ensures.remainder;
+      is = c.in_ok-entries.ensures.is;
+    })) c.settle_list.ensures.left
 
-pub returns-clause-within : goal.returns-clause-within
-returns-clause-within c =
-    let n = c.args.self.now.n in
-    let listed = made_listed n c.remainder.new.row c.in_ok-list.list.items c.make_primitive.new.entries.items c.remainder.ensures.length
-    c.in_ok-list.ensures.listed c.in_ok-list.ensures.is (not_empty c.in_ok-list.list.len c.in_ok-list.list.items c.is_empty.result c.in_ok-list.list.ok.0
-    c.is_empty.ensures c.if-is_empty.false) c.make_primitive.ensures.made in
-    rw (c.in_ok-kept.ensures.same ∙ c.deref-2.ensures.value) (row_within c.args.limit n c.make_primitive.new.entries.items listed
-    (subst (AllByRecursion (λ (e : FreeEntry). unsigned_abs e.value ≤ c.args.limit)) c.deref.ensures.value (c.are_within.ensures.0 c.if-not-are_within.false)))
-
-pub short_list-requires-clause-length : goal.short_list-requires-clause-length
-short_list-requires-clause-length c =
-    let n = c.args.self.now.n in
-    let listed = made_listed n c.remainder.new.row c.in_ok-list.list.items c.make_primitive.new.entries.items c.remainder.ensures.length
-    c.in_ok-list.ensures.listed c.in_ok-list.ensures.is (not_empty c.in_ok-list.list.len c.in_ok-list.list.items c.is_empty.result c.in_ok-list.list.ok.0
-    c.is_empty.ensures c.if-is_empty.false) c.make_primitive.ensures.made in
-    let all = listed_length 0 n c.make_primitive.new.entries.items (omega arith) listed in
-    let same = ap (λ (e : Echelon). e.n) c.self.view_is in
-    let list = ap length c.deref-2.ensures.value in
-    omega arith
-
-pub short_list-requires-clause-small : goal.short_list-requires-clause-small
-short_list-requires-clause-small c =
-    all-weaker (λ (e : FreeEntry). unsigned_abs e.value ≤ c.args.limit) (λ (e : FreeEntry). unsigned_abs e.value ≤ 2 ^ 56)
-    (λ e h. let limit = c.requires.limit.1 in omega arith) _
-    (subst (AllByRecursion (λ (e : FreeEntry). unsigned_abs e.value ≤ c.args.limit)) (c.deref.ensures.value ∙ sym c.deref-2.ensures.value)
-    (c.are_within.ensures.0 c.if-not-are_within.false))
+pub returns-clause-large : goal.returns-clause-large
+returns-clause-large c =
+    IfOk-weaker c.settle_list.result (λ (left : Left). (v : List ℤ) → LeavesEntries c.args.self.now v c.in_ok-entries.entries.items → left ≡ Large →
+    LeavesLarge c.args.self.now v c.args.limit)
+    (λ (left : Left). left ≡ Large → LeavesLarge c.args.self.now c.args.row.now c.args.limit)
+    (λ left is. is c.args.row.now (record {
+      row = c.remainder.new.row;
+      long = c.remainder.ensures.length;
+      remainder = c.remainder.ensures.remainder;
+      is = c.in_ok-entries.ensures.is;
+    })) c.settle_list.ensures.large

@@ -1,80 +1,32 @@
-use Rattle.std.proofs.Common.{List, sym, ap, subst, rules, arith}
-use Rattle.std.specs.Prelude.{FitsSigned}
-use Rattle.std.specs.Int.{w128}
-use Rattle.std.specs.List.{AllByRecursion}
-use Rattle.std.proofs.lemmas.Int.{to_z-of_z}
-use Rattle.sum_basis.specs.declared.sparse.FreeEntry.{FreeEntry}
+use Rattle.std.proofs.Common.{ℤ, List, ap, arith}
+use Rattle.std.specs.Prelude.{IfSome, IfNone}
+use Rattle.std.proofs.lemmas.Result.{IfOk-weaker}
 use Rattle.sum_basis.specs.Basis.{Echelon}
-use Rattle.sum_basis.specs.Elimination.{IsWithin, IsFormWithin}
-use Rattle.sum_basis.specs.Sparse.{row_of, rows_of, IsKept, IsNew}
-use Rattle.sum_basis.proofs.Joining.{zeros_of_list, told, foresees_same, no_list}
+use Rattle.sum_basis.specs.Growth.{Foresees, IsLeft, IsWeighed, LeavesNoList}
+use Rattle.sum_basis.specs.declared.form.Left.TheVariants.{Entries}
+use Rattle.sum_basis.specs.declared.form.Weighed.{Weighed}
 use Rattle.sum_basis.proofs.form.Form.weigh.Goals as goal
 
-pub look_ahead-prospect-requires-clause-kept : goal.look_ahead-prospect-requires-clause-kept
-look_ahead-prospect-requires-clause-kept c = subst (AllByRecursion (IsKept c.self.inside.columns)) (sym c.deref.ensures.value) c.self.invariant.kept
+pub look-requires-clause-left : goal.look-requires-clause-left
+look-requires-clause-left c = (c.args.row.now, c.in_ok-left.ensures.left)
 
-pub look_ahead-prospect-requires-clause-form : goal.look_ahead-prospect-requires-clause-form
-look_ahead-prospect-requires-clause-form c =
-    subst (λ rows. IsFormWithin c.self.inside.width c.self.inside.columns (rows_of c.self.inside.columns rows))
-    (sym c.deref.ensures.value) c.self.invariant.form
+pub returns-clause-foresees : goal.returns-clause-foresees
+returns-clause-foresees c =
+    IfOk-weaker c.look.result (λ (weighed : Weighed). (v : List ℤ) → IsLeft c.args.self.now v c.in_ok-left.left → IsWeighed c.args.self.now v weighed)
+    (λ (weighed : Weighed). Foresees c.args.self.now c.args.row.now weighed.prospect)
+    (λ weighed is. (is c.args.row.now c.in_ok-left.ensures.left).foresees) c.look.ensures
 
-pub look_ahead-prospect-requires-clause-positive : goal.look_ahead-prospect-requires-clause-positive
-look_ahead-prospect-requires-clause-positive c =
-    let fits : FitsSigned w128 c.self.inside.common = search rules in
-    rw (to_z-of_z w128 c.self.inside.common fits) c.self.invariant.positive
+pub returns-clause-left : goal.returns-clause-left
+returns-clause-left c =
+    IfOk-weaker c.look.result (λ (weighed : Weighed). (v : List ℤ) → IsLeft c.args.self.now v c.in_ok-left.left → IsWeighed c.args.self.now v weighed)
+    (λ (weighed : Weighed). IfSome weighed.list (λ list. IsLeft c.args.self.now c.args.row.now (Entries list)))
+    (λ weighed is. (is c.args.row.now c.in_ok-left.ensures.left).left) c.look.ensures
 
-pub look_ahead-prospect-requires-clause-within : goal.look_ahead-prospect-requires-clause-within
-look_ahead-prospect-requires-clause-within c =
-    let fits : FitsSigned w128 c.self.inside.common = search rules in
-    rw (to_z-of_z w128 c.self.inside.common fits) c.self.invariant.within
-
-pub look_ahead-prospect-requires-clause-multiple : goal.look_ahead-prospect-requires-clause-multiple
-look_ahead-prospect-requires-clause-multiple c =
-    let fits : FitsSigned w128 c.self.inside.common = search rules in
-    rw (to_z-of_z w128 c.self.inside.common fits, c.deref.ensures.value) c.self.invariant.multiple
-
-pub look_ahead-prospect-requires-clause-new : goal.look_ahead-prospect-requires-clause-new
-look_ahead-prospect-requires-clause-new c =
-    let left = rw c.in-Entries.is at c.in_ok-settle.ensures.left in
-    subst (λ n. IsNew n c.deref-in-Entries.result.now) (sym (ap (λ (e : Echelon). e.n) c.self.view_is))
-    (subst (IsNew c.args.self.now.n) (sym c.deref-in-Entries.ensures.value) left.0)
-
-pub returns-in-Large-clause-foresees : goal.returns-in-Large-clause-foresees
-returns-in-Large-clause-foresees c = let left = rw c.in-Large.is at c.in_ok-settle.ensures.left in left.1
-
-pub returns-in_ok-room-in-Entries-clause-left : goal.returns-in_ok-room-in-Entries-clause-left
-returns-in_ok-room-in-Entries-clause-left c = rw c.in-Entries.is at c.in_ok-settle.ensures.left
-
-pub returns-in-Nothing-clause-foresees : goal.returns-in-Nothing-clause-foresees
-returns-in-Nothing-clause-foresees c =
-    let left = rw c.in-Nothing.is at c.in_ok-settle.ensures.left in
-    foresees_same c.args.self.now c.args.row.now c.as_it_is.result c.settle.ensures.form c.settle.ensures.narrow left c.as_it_is.ensures
-
-pub returns-in_ok-room-in-Entries-clause-foresees : goal.returns-in_ok-room-in-Entries-clause-foresees
-returns-in_ok-room-in-Entries-clause-foresees c =
-    let left = rw c.in-Entries.is at c.in_ok-settle.ensures.left in
-    told c.args.self.now c.self.inside.columns c.deref.result.now c.self.inside.rows.items c.deref-in-Entries.result.now c.in-Entries.new.items c.args.row.now
-    c.look_ahead-prospect.result _ c.self.view_is c.deref.ensures.value c.deref-in-Entries.ensures.value c.look_ahead-prospect.ensures.foresees left
-
-pub look_ahead-prospect-requires-clause-zero : goal.look_ahead-prospect-requires-clause-zero
-look_ahead-prospect-requires-clause-zero c =
-    let left = rw c.in-Entries.is at c.in_ok-settle.ensures.left in
-    zeros_of_list c.args.self.now c.self.inside.columns c.deref.result.now c.self.inside.rows.items c.deref-in-Entries.result.now c.in-Entries.new.items
-    c.self.view_is c.deref.ensures.value c.deref-in-Entries.ensures.value left.1.zeros
-
-pub returns-in-Nothing-clause-nothing : goal.returns-in-Nothing-clause-nothing
-returns-in-Nothing-clause-nothing c =
-    let left = rw c.in-Nothing.is at c.in_ok-settle.ensures.left in
-    no_list c.args.self.now c.args.row.now c.as_it_is.result left c.as_it_is.ensures
-
-pub returns-in-Large-clause-nothing : goal.returns-in-Large-clause-nothing
-returns-in-Large-clause-nothing c = let left = rw c.in-Large.is at c.in_ok-settle.ensures.left in left.1
-
-pub look_ahead-prospect-requires-clause-new_within : goal.look_ahead-prospect-requires-clause-new_within
-look_ahead-prospect-requires-clause-new_within c =
-    let within = rw c.in-Entries.is at c.in_ok-settle.ensures.within in
-    subst (λ n. IsWithin c.self.inside.width (row_of n c.deref-in-Entries.result.now)) (sym (ap (λ (e : Echelon). e.n) c.self.view_is))
-    (subst (λ (l : List FreeEntry). IsWithin c.self.inside.width (row_of c.args.self.now.n l)) (sym c.deref-in-Entries.ensures.value) within)
+pub returns-clause-nothing : goal.returns-clause-nothing
+returns-clause-nothing c =
+    IfOk-weaker c.look.result (λ (weighed : Weighed). (v : List ℤ) → IsLeft c.args.self.now v c.in_ok-left.left → IsWeighed c.args.self.now v weighed)
+    (λ (weighed : Weighed). IfNone weighed.list (LeavesNoList c.args.self.now c.args.row.now weighed.prospect))
+    (λ weighed is. (is c.args.row.now c.in_ok-left.ensures.left).nothing) c.look.ensures
 
 -- the width is the one that is seen
 pub settle-requires-clause-limit : goal.settle-requires-clause-limit

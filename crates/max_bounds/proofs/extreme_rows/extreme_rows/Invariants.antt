@@ -1,6 +1,0 @@
-use Rattle.max_bounds.specs.Reaching.{bound_at}
-use Rattle.max_bounds.proofs.Surveys.{IsCounting}
-use Rattle.max_bounds.proofs.extreme_rows.extreme_rows.Given as goal
-
-abbrev pub invariant-loop-row : goal.invariant-loop-row
-invariant-loop-row l = IsCounting (bound_at l.bounds) l.rows.list l.answer l.row-iterator l.count l.lone
