@@ -1,5 +1,5 @@
 -- What making a journal writes, and which files it is refused over.
-use Rattle.std.proofs.Common.{◌≡◌, ℕ, ◌+◌, ◌≤◌, inl, inr, Some, List, [], ◌∷◌, ◌++◌, length, take, drop, refl, sym, ap, ◌∙◌, arith, append_assoc, append-nil, length-append}
+use Rattle.std.proofs.Common.{◌≡◌, ℕ, ◌+◌, ◌≤◌, inl, inr, List, [], ◌∷◌, ◌++◌, length, take, drop, refl, sym, ap, ◌∙◌, arith, append_assoc, append-nil, length-append}
 use Rattle.std.proofs.lemmas.Bool.{cases_lt}
 use Rattle.std.proofs.lemmas.List.{take_all, drop_all}
 use Rattle.audit_types.specs.declared.shapes.Shape.{Shape}
@@ -11,7 +11,7 @@ use Rattle.answer_journal.specs.MadeFiles.{unmade_not_made}
 use Rattle.answer_journal.specs.Moments.{IsAlready, IsFound, IsMade}
 use Rattle.answer_journal.specs.Whole.{AreBehindGate}
 use Rattle.answer_journal.specs.declared.looking.Unmade.{Unmade}
-use Rattle.answer_journal.specs.declared.looking.Unmade.TheVariants.{Longer, Closed, Short}
+use Rattle.answer_journal.specs.declared.looking.Found.TheVariants.{Nothing}
 use Rattle.answer_journal.proofs.Histories.{stands_by}
 
 -- a header and a closed gate stand for the empty history
@@ -45,19 +45,14 @@ module _ (shape : Shape) (out : List ℕ) (shaped : IsWholeShape shape) (is : ou
         let none = drop_all (0 + 1 + length behind) file (omega (arith, fits, ap length behind_is, length-append (named shape) (0 ∷ []), shaped.eight)) in
         appends ∙ ap (λ l. 1 ∷ (behind ++ l)) none ∙ ap (λ b. 1 ∷ (b ++ [])) behind_is ∙ ap (λ l. 1 ∷ l) (append-nil (named shape ++ 0 ∷ []))
 
--- a made journal is there already, and so is a longer file
+-- a made journal is there already
 pub made_already : (file : List ℕ) → IsMade file → IsAlready file
 made_already file made = elim (cases_lt (length file) 22) [
   | inl below ↦ inr (omega (arith, below, made.0), made.1)
   | inr long ↦ inl long
 ]
 
--- what stands there else is no longer than a fresh journal, and no journal is there already
-pub unmade_fits : (unmade : Unmade) (file : List ℕ) → (unmade ≡ Longer → ⊥) → IsFound (Some unmade) file → length file ≤ 21
-unmade_fits Longer file other found = absurd (other refl)
-unmade_fits Closed file other found = omega (arith, found.0)
-unmade_fits Short file other found = omega (arith, found)
-
-pub unmade_not_already : (unmade : Unmade) (file : List ℕ) → (unmade ≡ Longer → ⊥) → IsFound (Some unmade) file → IsAlready file → ⊥
-unmade_not_already unmade file other found (inl long) = absurd (omega (arith, long, unmade_fits unmade file other found))
-unmade_not_already unmade file other found (inr made) = unmade_not_made unmade file found (omega (arith, made.0), made.1)
+-- if a glance finds nothing none is
+pub nothing_already : (unmade : Unmade) (file : List ℕ) → IsFound (Nothing unmade) file → IsAlready file → ⊥
+nothing_already unmade file found (inl long) = absurd (omega (arith, long, found.1))
+nothing_already unmade file found (inr made) = unmade_not_made unmade file found.0 (omega (arith, made.0), made.1)

@@ -1,9 +1,11 @@
 -- What a crash within the journal's calls leaves.
-use Rattle.std.specs.Prelude.{◌≡◌, ◌≢◌, ◌⊎◌, ℕ, ◌≤◌, List, ◌∷◌, ◌++◌, length, drop, slice_index, Option, Some, None}
+use Rattle.std.specs.Prelude.{◌≡◌, ◌≢◌, ◌⊎◌, ℕ, ◌≤◌, List, ◌∷◌, ◌++◌, length, drop, slice_index}
 use Rattle.audit_types.specs.declared.shapes.Shape.{Shape}
 use Rattle.audit_types.specs.declared.records.Answered.{Answered}
 use Rattle.answer_journal.specs.declared.looking.Unmade.{Unmade}
-use Rattle.answer_journal.specs.declared.looking.Unmade.TheVariants.{Longer, Closed, Short}
+use Rattle.answer_journal.specs.declared.looking.Unmade.TheVariants.{Closed, Short}
+use Rattle.answer_journal.specs.declared.looking.Found.{Found}
+use Rattle.answer_journal.specs.declared.looking.Found.TheVariants.{Made, Longer, Nothing}
 use Rattle.audit_types.specs.Widening.{over, widened}
 use Rattle.journal_form.specs.Journal.{StandsFor}
 
@@ -44,9 +46,13 @@ IsShort file = length file ≤ 20
 abbrev pub IsShut : List ℕ → List ℕ → Type 0
 IsShut old new = new ≡ 0 ∷ drop 1 old
 
--- what is found of a file: a made journal, or what stands there else
-abbrev pub IsFound : Option Unmade → List ℕ → Type 0
-IsFound None file = IsMade file
-IsFound (Some Longer) file = (22 ≤ length file) × (slice_index file 0 ≢ 1)
-IsFound (Some Closed) file = (length file ≡ 21) × (slice_index file 0 ≢ 1)
-IsFound (Some Short) file = IsShort file
+-- what stands where no journal is made
+abbrev pub IsUnmade : Unmade → List ℕ → Type 0
+IsUnmade Closed file = (21 ≤ length file) × (slice_index file 0 ≢ 1)
+IsUnmade Short file = IsShort file
+
+-- what a glance finds: of a longer file it doesn't say whether a journal is made there
+abbrev pub IsFound : Found → List ℕ → Type 0
+IsFound Made file = (length file ≡ 21) × (slice_index file 0 ≡ 1)
+IsFound Longer file = 22 ≤ length file
+IsFound (Nothing unmade) file = IsUnmade unmade file × (length file ≤ 21)

@@ -4,7 +4,7 @@ ghost use Rattle.bench_core.specs.Causes.{HasCause};
 ghost use Rattle.bench_core.specs.Calls.{IsQuiet, LeavesOnly};
 ghost use Rattle.answer_journal.specs.Append.{appended};
 ghost use Rattle.answer_journal.specs.Make.{calls_to_open_gate};
-ghost use Rattle.answer_journal.specs.Moments.{IsFound, IsShort, IsShut, IsUnmadeOrOpened};
+ghost use Rattle.answer_journal.specs.Moments.{IsShort, IsShut, IsUnmade, IsUnmadeOrOpened};
 
 use crate::append::{append_bytes, write_stable};
 use crate::looking::Unmade;
@@ -68,7 +68,7 @@ pub(crate) fn open_over<B: Bench>(
     behind: &[u8],
 ) -> Result<(), Failed>
     requires some { 0 < length behind.now }
-    requires found { B.told → IsFound (Some unmade) (B.file bench.old) }
+    requires found { B.told → IsUnmade unmade (B.file bench.old) }
 
     // A crash at any moment leaves a file that isn't made, or one with all these bytes.
     ensures any_moment { B.told → IsQuiet B.Bench bench.old → LeavesOnly B.Bench bench.old bench.new (IsUnmadeOrOpened behind.now (B.sent bench.old)) }
@@ -80,7 +80,7 @@ pub(crate) fn open_over<B: Bench>(
     ensures last_call { OnErr result (B.last_failed bench.new ≡ true) }
 {
     match unmade {
-        Unmade::Longer | Unmade::Closed => open_over_closed(bench, behind),
+        Unmade::Closed => open_over_closed(bench, behind),
         Unmade::Short => open_over_short(bench, behind),
     }
 }
