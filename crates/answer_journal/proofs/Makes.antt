@@ -1,57 +1,40 @@
--- What a crash leaves while a journal is made.
-use Rattle.std.proofs.Common.{◌≡◌, ℕ, ◌+◌, ◌<◌, ◌≤◌, inl, inr, Result, Ok, Err, List, [], ◌∷◌, ◌++◌, length, get_or, take, drop, refl, sym, ap, subst, ◌∙◌, arith, append_assoc, append-nil, length-append}
-use Rattle.std.specs.Prelude.{if◌then◌else◌, IsErrOf}
-use Rattle.std.specs.Result.{IsErr, IsErrAnd}
-use Rattle.std.proofs.lemmas.Bool.{cases_lt, false≢true}
+-- What making a journal writes, and which files it is refused over.
+use Rattle.std.proofs.Common.{◌≡◌, ℕ, ◌+◌, ◌≤◌, inl, inr, Some, List, [], ◌∷◌, ◌++◌, length, take, drop, refl, sym, ap, ◌∙◌, arith, append_assoc, append-nil, length-append}
+use Rattle.std.proofs.lemmas.Bool.{cases_lt}
 use Rattle.std.proofs.lemmas.List.{take_all, drop_all}
 use Rattle.audit_types.specs.declared.shapes.Shape.{Shape}
 use Rattle.journal_form.specs.Header.{header, named, IsWholeShape}
 use Rattle.journal_form.specs.Journal.{StandsAt}
-use Rattle.bench_core.specs.declared.bench.Bench.{Ghosts}
-use Rattle.bench_core.specs.Calls.{LeavesOnly, IsUntouched}
-use Rattle.bench_core.specs.Moments.{weakens}
 use Rattle.answer_journal.specs.Append.{appended}
 use Rattle.answer_journal.specs.Make.{empty_journal}
-use Rattle.answer_journal.specs.Moments.{IsAlready, IsFound, IsUnmadeOrEmpty, IsUnmadeOrOpened}
-use Rattle.answer_journal.specs.declared.make.Found.TheVariants.{Closed, Short}
-use Rattle.answer_journal.specs.declared.make.MakeFault.{MakeFault}
-use Rattle.answer_journal.specs.declared.make.MakeFault.TheVariants as fault
+use Rattle.answer_journal.specs.MadeFiles.{unmade_not_made}
+use Rattle.answer_journal.specs.Moments.{IsAlready, IsFound, IsMade}
+use Rattle.answer_journal.specs.Whole.{AreBehindGate}
+use Rattle.answer_journal.specs.declared.looking.Unmade.{Unmade}
+use Rattle.answer_journal.specs.declared.looking.Unmade.TheVariants.{Longer, Closed, Short}
 use Rattle.answer_journal.proofs.Histories.{stands_by}
 
 -- a header and a closed gate stand for the empty history
-pub fresh : (image : List ℕ) (shape : Shape) (rest : List ℕ) → IsWholeShape shape → image ≡ 1 ∷ ((named shape ++ 0 ∷ []) ++ rest) → StandsAt image shape [] 20
+fresh : (image : List ℕ) (shape : Shape) (rest : List ℕ) → IsWholeShape shape → image ≡ 1 ∷ ((named shape ++ 0 ∷ []) ++ rest) → StandsAt image shape [] 20
 fresh image shape rest shaped is =
     stands_by image shape 20 [] (0 ∷ rest) shaped tt (omega arith) refl (record { gate = 0; rest = rest; bytes_are = refl; closed = λ e. cc })
     (is ∙ ap (λ t. 1 ∷ t) (append_assoc (named shape) (0 ∷ []) rest) ∙ ap (λ t. t ++ (0 ∷ rest)) (sym (append-nil (header shape))))
 
--- bytes of a fresh journal that stand behind an open gate stand for the empty history
-pub empty_or_unmade : (shape : Shape) (before image sent : List ℕ) → IsWholeShape shape → IsUnmadeOrOpened (named shape ++ 0 ∷ []) before image sent →
-    IsUnmadeOrEmpty shape before image sent
-empty_or_unmade shape before image sent shaped (same, inl unmade) = (same, inl unmade)
-empty_or_unmade shape before image sent shaped (same, inr opened) = (same, inr (20, fresh image shape opened.rest shaped opened.file_is))
-
 -- what write_header writes after its first byte
-pub header_behind : (shape : Shape) (out : List ℕ) → length shape.kinds ≡ 8 → out ≡ 0 ∷ (named shape ++ 0 ∷ []) → take 20 (drop 1 out) ≡ named shape ++ 0 ∷ []
+header_behind : (shape : Shape) (out : List ℕ) → length shape.kinds ≡ 8 → out ≡ 0 ∷ (named shape ++ 0 ∷ []) → take 20 (drop 1 out) ≡ named shape ++ 0 ∷ []
 header_behind shape out eight is =
     ap (λ o. take 20 (drop 1 o)) is ∙ take_all 20 (named shape ++ 0 ∷ []) (omega (arith, length-append (named shape) (0 ∷ []), eight))
 
 module _ (shape : Shape) (out : List ℕ) (shaped : IsWholeShape shape) (is : out ≡ 0 ∷ (named shape ++ 0 ∷ [])) where
-  -- the bytes that are written behind the gate
+  -- the bytes that are written behind the gate are those of a journal of no records
   abbrev behind : List ℕ
   behind = take 20 (drop 1 out)
 
   behind_is : behind ≡ named shape ++ 0 ∷ []
   behind_is = header_behind shape out shaped.eight is
 
-  pub some_behind : 0 < length behind
-  some_behind = omega (arith, ap length behind_is, length-append (named shape) (0 ∷ []))
-
-  -- what a crash leaves while they are
-  pub making : {D : Type 0} (bench : Ghosts D) (old new : D) (before : List ℕ) → LeavesOnly bench old new (IsUnmadeOrOpened behind before) →
-      LeavesOnly bench old new (IsUnmadeOrEmpty shape before)
-  making bench old new before only =
-      weakens bench old new (IsUnmadeOrOpened behind before) (IsUnmadeOrEmpty shape before)
-      (λ image sent found. empty_or_unmade shape before image sent shaped (subst (λ b. IsUnmadeOrOpened b before image sent) behind_is found)) only
+  pub are_behind : AreBehindGate shape [] behind
+  are_behind = record { shaped = shaped; groups = []; of_records = tt; list_is = refl; fewest = omega arith; bytes_are = behind_is }
 
   module _ (file new : List ℕ) (appends : new ≡ appended 0 behind file) where
     pub made : StandsAt new shape [] 20
@@ -62,35 +45,19 @@ module _ (shape : Shape) (out : List ℕ) (shaped : IsWholeShape shape) (is : ou
         let none = drop_all (0 + 1 + length behind) file (omega (arith, fits, ap length behind_is, length-append (named shape) (0 ∷ []), shaped.eight)) in
         appends ∙ ap (λ l. 1 ∷ (behind ++ l)) none ∙ ap (λ b. 1 ∷ (b ++ [])) behind_is ∙ ap (λ l. 1 ∷ l) (append-nil (named shape ++ 0 ∷ []))
 
--- a file that leaves a journal to be made isn't made
-pub untouched_unmade : (shape : Shape) (file before : List ℕ) → (IsAlready file → ⊥) → (image sent : List ℕ) → IsUntouched file before image sent
-    → IsUnmadeOrEmpty shape before image sent
-untouched_unmade shape file before unmade image sent (same, is) = (
-  same,
-  inl (λ made. elim (cases_lt (length file) 22) [
-    | inl lt ↦ unmade (inr (omega (arith, lt, made.0, ap length is), ap (λ l. get_or l 0 0) (sym is) ∙ made.1))
-    | inr le ↦ unmade (inl le)
-  ]),
-)
+-- a made journal is there already, and so is a longer file
+pub made_already : (file : List ℕ) → IsMade file → IsAlready file
+made_already file made = elim (cases_lt (length file) 22) [
+  | inl below ↦ inr (omega (arith, below, made.0), made.1)
+  | inr long ↦ inl long
+]
 
--- if the header gate is closed no journal is there, nor if the file is short
-pub closed_not_already : (file : List ℕ) → IsFound Closed file → IsAlready file → ⊥
-closed_not_already file found (inl long) = absurd (omega (arith, found.0, long))
-closed_not_already file found (inr made) = found.1 made.1
+-- what stands there else is no longer than a fresh journal, and no journal is there already
+pub unmade_fits : (unmade : Unmade) (file : List ℕ) → (unmade ≡ Longer → ⊥) → IsFound (Some unmade) file → length file ≤ 21
+unmade_fits Longer file other found = absurd (other refl)
+unmade_fits Closed file other found = omega (arith, found.0)
+unmade_fits Short file other found = omega (arith, found)
 
-pub short_not_already : (file : List ℕ) → IsFound Short file → IsAlready file → ⊥
-short_not_already file found (inl long) = absurd (omega (arith, found, long))
-short_not_already file found (inr made) = absurd (omega (arith, found, made.0))
-
--- a refusal has one fault
-pub failed_no_already : {X P : Type 0} (answer : Result X MakeFault) → IsErr answer × IsErrAnd answer (λ e. e ≡ fault.Failed) →
-    IsErrOf answer fault.AlreadyThere → P
-failed_no_already (Ok x) fails is = absurd (false≢true fails.0)
-failed_no_already (Err e) fails is = let none : ⊥ = cc in absurd none
-
-pub has_failed : {X : Type 0} (answer : Result X MakeFault) → IsErr answer × IsErrAnd answer (λ e. e ≡ fault.Failed) → IsErrOf answer fault.Failed
-has_failed (Ok x) fails = absurd (false≢true fails.0)
-has_failed (Err e) fails = cc
-
-pub already_no_failed : {X P : Type 0} → IsErrOf {T = X} (Err fault.AlreadyThere) fault.Failed → P
-already_no_failed is = let none : ⊥ = cc in absurd none
+pub unmade_not_already : (unmade : Unmade) (file : List ℕ) → (unmade ≡ Longer → ⊥) → IsFound (Some unmade) file → IsAlready file → ⊥
+unmade_not_already unmade file other found (inl long) = absurd (omega (arith, long, unmade_fits unmade file other found))
+unmade_not_already unmade file other found (inr made) = unmade_not_made unmade file found (omega (arith, made.0), made.1)

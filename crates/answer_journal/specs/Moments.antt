@@ -1,9 +1,9 @@
 -- What a crash within the journal's calls leaves.
-use Rattle.std.specs.Prelude.{◌≡◌, ◌≢◌, ◌⊎◌, ℕ, ◌≤◌, List, [], ◌∷◌, ◌++◌, length, drop, slice_index}
+use Rattle.std.specs.Prelude.{◌≡◌, ◌≢◌, ◌⊎◌, ℕ, ◌≤◌, List, ◌∷◌, ◌++◌, length, drop, slice_index, Option, Some, None}
 use Rattle.audit_types.specs.declared.shapes.Shape.{Shape}
 use Rattle.audit_types.specs.declared.records.Answered.{Answered}
-use Rattle.answer_journal.specs.declared.make.Found.{Found}
-use Rattle.answer_journal.specs.declared.make.Found.TheVariants.{Already, Closed, Short}
+use Rattle.answer_journal.specs.declared.looking.Unmade.{Unmade}
+use Rattle.answer_journal.specs.declared.looking.Unmade.TheVariants.{Longer, Closed, Short}
 use Rattle.audit_types.specs.Widening.{over, widened}
 use Rattle.journal_form.specs.Journal.{StandsFor}
 
@@ -28,13 +28,13 @@ pub record IsOpened (behind file : List ℕ) : Type 0 where
   pub rest : List ℕ
   pub file_is : file ≡ 1 ∷ (behind ++ rest)
 
+-- nothing was sent, and the image isn't a made journal, or stands for the list
+abbrev pub IsUnmadeOrWhole : Shape → List Answered → List ℕ → List ℕ → List ℕ → Type 0
+IsUnmadeOrWhole shape list before image sent = (sent ≡ before) × ((IsMade image → ⊥) ⊎ StandsFor image shape list)
+
 -- nothing was sent, and the image isn't a made journal, or these bytes stand in it behind an open gate
 abbrev pub IsUnmadeOrOpened : List ℕ → List ℕ → List ℕ → List ℕ → Type 0
 IsUnmadeOrOpened behind before image sent = (sent ≡ before) × ((IsMade image → ⊥) ⊎ IsOpened behind image)
-
--- nothing was sent, and the image isn't a made journal, or stands for the empty history
-abbrev pub IsUnmadeOrEmpty : Shape → List ℕ → List ℕ → List ℕ → Type 0
-IsUnmadeOrEmpty shape before image sent = (sent ≡ before) × ((IsMade image → ⊥) ⊎ StandsFor image shape [])
 
 -- the file has fewer bytes than a journal
 abbrev pub IsShort : List ℕ → Type 0
@@ -44,8 +44,9 @@ IsShort file = length file ≤ 20
 abbrev pub IsShut : List ℕ → List ℕ → Type 0
 IsShut old new = new ≡ 0 ∷ drop 1 old
 
--- what is found of a file
-abbrev pub IsFound : Found → List ℕ → Type 0
-IsFound Already file = IsAlready file
-IsFound Closed file = (length file ≡ 21) × (slice_index file 0 ≢ 1)
-IsFound Short file = IsShort file
+-- what is found of a file: a made journal, or what stands there else
+abbrev pub IsFound : Option Unmade → List ℕ → Type 0
+IsFound None file = IsMade file
+IsFound (Some Longer) file = (22 ≤ length file) × (slice_index file 0 ≢ 1)
+IsFound (Some Closed) file = (length file ≡ 21) × (slice_index file 0 ≢ 1)
+IsFound (Some Short) file = IsShort file

@@ -1,10 +1,11 @@
 //! The journal of a table's answers.
-ghost use Rattle.std.specs.Prelude.{◌≡◌, ◌<◌, ◌≤◌, ◌+◌, ◌++◌, ℕ, List, true, false, length, All, IfOk, OnOk, OnErr, IsErrOf};
+ghost use Rattle.std.specs.Prelude.{◌≡◌, ◌<◌, ◌≤◌, ◌+◌, ◌++◌, ℕ, List, true, false, length, All, IfOk, IfErr, OnOk, OnErr, IsErrOf};
 ghost use Rattle.audit_types.specs.Limits.{most_records};
 ghost use Rattle.audit_types.specs.declared.records.Answered.{Answered};
 ghost use Rattle.audit_types.specs.History.{FitsShape};
 ghost use Rattle.bench_core.specs.Causes.{HasCause};
 ghost use Rattle.bench_core.specs.Calls.{IsQuiet, LeavesOnly, TellsFault};
+ghost use Rattle.bench_core.specs.Stops.{IsOfBench};
 ghost use Rattle.journal_form.specs.Journal.{StandsAt};
 ghost use Rattle.answer_journal.specs.Contents.{IsJournal, ReadyContents};
 ghost use Rattle.answer_journal.specs.Append.{AppendsGroup, AppendsGrowth};
@@ -15,40 +16,11 @@ ghost use Rattle.journal_form.specs.Group.{IsMoreRows};
 use crate::append::append_bytes;
 use crate::ready::Ready;
 use audit_types::{Answered, NoMemory, Shape};
-use bench_core::{Bench, Failed};
+use bench_core::{Bench, Failed, Stop};
 use journal_form::laws::bytes_of_records;
 use journal_form::{GROWTH_SIZE, write_growth};
 use std::alloc::{AllocError, Global};
 use std::marker::Model;
-
-/// Why a group was not appended.
-#[derive(Clone, Copy)]
-pub enum AppendFault {
-    /// A call of the bench failed. The journal has to be read back.
-    Failed,
-    /// Nothing was called and nothing changed.
-    NoMemory,
-}
-
-impl From<NoMemory> for AppendFault {
-    ghost use Rattle.answer_journal.specs.declared.journal.AppendFault.TheVariants.{NoMemory};
-
-    ghost from_gives = { λ _ e. e ≡ NoMemory };
-
-    fn from(_e: NoMemory) -> AppendFault {
-        AppendFault::NoMemory
-    }
-}
-
-impl From<Failed> for AppendFault {
-    ghost use Rattle.answer_journal.specs.declared.journal.AppendFault.TheVariants.{Failed};
-
-    ghost from_gives = { λ _ e. e ≡ Failed };
-
-    fn from(_e: Failed) -> AppendFault {
-        AppendFault::Failed
-    }
-}
 
 /// Why a journal was not read back.
 #[derive(Clone, Copy)]
@@ -221,7 +193,7 @@ impl Journal {
 
     /// Appends a group: makes it ready, and then appends it in four calls of the bench. All memory is taken before the
     /// first of them.
-    pub fn append<B: Bench>(&mut self, bench: &mut B, list: &[Answered]) -> Result<(), AppendFault>
+    pub fn append<B: Bench>(&mut self, bench: &mut B, list: &[Answered]) -> Result<(), Stop>
         requires usable { self.old.usable ≡ true }
         requires some { 0 < length list.now }
         requires group { length list.now ≤ 64 }
@@ -241,13 +213,14 @@ impl Journal {
         ensures ticks { B.told → OnOk result (B.moment bench.new ≡ B.moment bench.old + 4) }
 
         // If memory runs out, nothing was called and nothing changed. It doesn't fail by itself.
-        ensures no_memory { IsErrOf result AppendFault.NoMemory → (bench.new ≡ bench.old) × (self.new ≡ self.old) }
-        ensures fault { TellsFault B.Bench bench.old bench.new (IsErrOf result AppendFault.Failed) }
+        ensures no_memory { IsErrOf result Stop.NoMemory → (bench.new ≡ bench.old) × (self.new ≡ self.old) }
+        ensures fault { TellsFault B.Bench bench.old bench.new (IsErrOf result Stop.Bench) }
+        ensures ends { IfErr result IsOfBench }
 
         ensures shape { self.new.shape ≡ self.old.shape }
         ensures counted { OnOk result (self.new.count ≡ self.old.count + length list.now) }
         ensures usable { OnOk result (self.new.usable ≡ true) }
-        ensures unusable { IsErrOf result AppendFault.Failed → self.new.usable ≡ false }
+        ensures unusable { IsErrOf result Stop.Bench → self.new.usable ≡ false }
     {
         let ready = self.ready(list)?;
         self.append_ready(bench, &ready)?;

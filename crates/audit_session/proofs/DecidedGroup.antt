@@ -11,11 +11,12 @@ use Rattle.bench_core.specs.declared.bench.Bench.{Ghosts}
 use Rattle.bench_core.specs.Bench.{AppendsFront}
 use Rattle.bench_core.specs.Calls.{IsQuiet, LeavesOnly}
 use Rattle.bench_core.specs.Moments.{started, weakens, joins}
+use Rattle.bench_core.specs.Stops.{IsOfBenches}
+use Rattle.bench_core.specs.declared.stops.Stop.{Stop}
+use Rattle.bench_core.specs.declared.stops.Stop.TheVariants.{Bench, Spare, NoMemory}
 use Rattle.table_load.specs.Cells.{SecretView, IsSecret}
 use Rattle.table_load.specs.Database.{secret_table}
 use Rattle.journal_form.specs.Journal.{StandsFor}
-use Rattle.audit_store.specs.declared.keeper.KeepFault.{KeepFault}
-use Rattle.audit_store.specs.declared.keeper.KeepFault.TheVariants.{Bench, Spare, NoMemory}
 use Rattle.audit_store.specs.Stores.{StoreContents, IsAsLeft, Keeps, calls_for}
 use Rattle.line_wire.specs.Reply.{reply_bytes}
 use Rattle.line_wire.specs.declared.reply.Reply.{Reply}
@@ -31,28 +32,17 @@ use Rattle.audit_session.proofs.ToldPlans.{can_all, some_replies}
 use Rattle.audit_session.proofs.Sending.{SendsPart}
 
 -- a refusal is for lack of memory, or another
-pub by_fault : {X Claim : Type 0} (fault : KeepFault) → (IsErrOf {T = X} (Err fault) NoMemory → Claim) → ((IsErrOf {T = X} (Err fault) NoMemory → ⊥) → Claim) →
-    Claim
-by_fault NoMemory same other = same refl
-by_fault {X} Bench same other = other (λ (e : IsErrOf {T = X} (Err Bench) NoMemory). cc)
-by_fault {X} Spare same other = other (λ (e : IsErrOf {T = X} (Err Spare) NoMemory). cc)
+pub by_memory : {X Claim : Type 0} (why : Stop) → (IsErrOf {T = X} (Err why) NoMemory → Claim) → ((IsErrOf {T = X} (Err why) NoMemory → ⊥) → Claim) → Claim
+by_memory NoMemory same other = same refl
+by_memory {X} why same other = other (λ (is : IsErrOf {T = X} (Err why) NoMemory). cc)
 
--- it is one of three
-pub by_kind : {X Claim : Type 0} (fault : KeepFault) → (IsErrOf {T = X} (Err fault) NoMemory → Claim) → (IsErrOf {T = X} (Err fault) Bench → Claim)
-    → (IsErrOf {T = X} (Err fault) Spare → Claim) → Claim
-by_kind NoMemory memory bench spare = memory refl
-by_kind Bench memory bench spare = bench refl
-by_kind Spare memory bench spare = spare refl
-
-pub bench_no_spare_fault : {X : Type 0} (fault : KeepFault) → IsErrOf {T = X} (Err fault) Bench → IsErrOf {T = X} (Err fault) Spare → ⊥
-bench_no_spare_fault NoMemory is other = cc
-bench_no_spare_fault Bench is other = cc
-bench_no_spare_fault Spare is other = cc
-
-pub spare_no_memory_fault : {X : Type 0} (fault : KeepFault) → IsErrOf {T = X} (Err fault) Spare → IsErrOf {T = X} (Err fault) NoMemory → ⊥
-spare_no_memory_fault NoMemory is other = cc
-spare_no_memory_fault Bench is other = cc
-spare_no_memory_fault Spare is other = cc
+-- one of two benches is one of three
+pub by_kind : {X Claim : Type 0} (why : Stop) → IsOfBenches why → (IsErrOf {T = X} (Err why) NoMemory → Claim)
+    → (IsErrOf {T = X} (Err why) Bench → Claim) → (IsErrOf {T = X} (Err why) Spare → Claim) → Claim
+by_kind NoMemory is memory bench spare = memory refl
+by_kind Bench is memory bench spare = bench refl
+by_kind Spare is memory bench spare = spare refl
+by_kind why is memory bench spare = absurd is
 
 -- one reply was told for each plan
 length-told : (plans : List Plan) (outcomes : List Outcome) (told : List Reply) → AreTold plans outcomes told → length told ≡ length plans

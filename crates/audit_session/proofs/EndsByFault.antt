@@ -1,4 +1,4 @@
--- How a session ends, by the fault.
+-- How a session ends, by what ended it.
 use Rattle.std.proofs.Common.{◌≡◌, ℕ, ◌+◌, ◌<◌, ◌≤◌, List, [], ◌++◌, length, take, Result, Ok, Err, refl, sym, ◌∙◌, ap, subst}
 use Rattle.std.specs.Prelude.{IsErrOf, OnOk}
 use Rattle.std.proofs.Math.Seq.{take-append_seam}
@@ -6,8 +6,9 @@ use Rattle.audit_types.specs.declared.records.Answered.{Answered}
 use Rattle.table_load.specs.Cells.{SecretView}
 use Rattle.table_load.specs.Database.{Database}
 use Rattle.line_wire.specs.Lines.{counted_lines, most_input}
-use Rattle.audit_session.specs.declared.session.TwinEnd.{TwinEnd}
-use Rattle.audit_session.specs.declared.session.TwinEnd.TheVariants as end
+use Rattle.bench_core.specs.declared.stops.Stop.{Stop}
+use Rattle.bench_core.specs.declared.stops.Stop.TheVariants as end
+use Rattle.bench_core.specs.Stops.{IsOfBenches}
 use Rattle.bench_core.specs.declared.bench.Bench.{Ghosts}
 use Rattle.bench_core.specs.Calls.{IsQuiet}
 use Rattle.journal_form.specs.Journal.{StandsFor}
@@ -15,58 +16,55 @@ use Rattle.audit_store.specs.Stores.{StoreContents}
 use Rattle.audit_session.specs.Ends.{Ends, Reads, Rests, Serves, ServesWhole, ServesSome, limited}
 
 pub ends_by : {X : Type 0} (batch : ℕ) (base : Database) (history : List Answered) (input left : List ℕ) (now : List Answered) (before after : List ℕ)
-    (fault : TwinEnd)
-    → (IsErrOf {T = X} (Err fault) end.Input → ServesWhole base history batch input left now before after)
-    → (IsErrOf {T = X} (Err fault) end.Limit → ServesWhole base history batch (limited input) [] now before after) →
-    (IsErrOf {T = X} (Err fault) end.NoMemory → ServesSome base history batch (counted_lines input) now before after)
-    → (IsErrOf {T = X} (Err fault) end.Spare → ServesSome base history batch (counted_lines input) now before after)
-    → Ends batch (Err fault) base history input left now before after
+    (why : Stop)
+    → (IsErrOf {T = X} (Err why) end.Input → ServesWhole base history batch input left now before after)
+    → (IsErrOf {T = X} (Err why) end.Limit → ServesWhole base history batch (limited input) [] now before after) →
+    (IsErrOf {T = X} (Err why) end.NoMemory → ServesSome base history batch (counted_lines input) now before after)
+    → (IsErrOf {T = X} (Err why) end.Spare → ServesSome base history batch (counted_lines input) now before after)
+    → Ends batch (Err why) base history input left now before after
 ends_by batch base history input left now before after end.Input whole limit some spare = whole refl
 ends_by batch base history input left now before after end.Limit whole limit some spare = limit refl
 ends_by batch base history input left now before after end.NoMemory whole limit some spare = some refl
 ends_by batch base history input left now before after end.Bench whole limit some spare = tt
 ends_by batch base history input left now before after end.Spare whole limit some spare = spare refl
 
-pub reads_by : {X : Type 0} (input left : List ℕ) (fault : TwinEnd) → (IsErrOf {T = X} (Err fault) end.Input → length input ≤ most_input + length left) →
-    (IsErrOf {T = X} (Err fault) end.Limit → most_input + length left < length input) → Reads (Err fault) input left
+pub reads_by : {X : Type 0} (input left : List ℕ) (why : Stop) → (IsErrOf {T = X} (Err why) end.Input → length input ≤ most_input + length left) →
+    (IsErrOf {T = X} (Err why) end.Limit → most_input + length left < length input) → Reads (Err why) input left
 reads_by input left end.Input within over = within refl
 reads_by input left end.Limit within over = over refl
-reads_by input left end.NoMemory within over = tt
-reads_by input left end.Bench within over = tt
-reads_by input left end.Spare within over = tt
+reads_by input left other within over = tt
 
--- the clauses on an end without a fault
-pub all_by : (answer : Result (Unit {0}) TwinEnd) (batch : ℕ) (base : Database) (history : List Answered) (input left : List ℕ) (now : List Answered)
+-- the clauses on an end without a stop
+pub all_by : (answer : Result (Unit {0}) Stop) (batch : ℕ) (base : Database) (history : List Answered) (input left : List ℕ) (now : List Answered)
     (before after : List ℕ)
     → Ends batch answer base history input left now before after → OnOk answer (Serves base history (counted_lines input) now before after)
 all_by (Ok done) batch base history input left now before after ends = ends
-all_by (Err fault) batch base history input left now before after ends = tt
+all_by (Err why) batch base history input left now before after ends = tt
 
-pub read_by : (answer : Result (Unit {0}) TwinEnd) (input left : List ℕ) → Reads answer input left → OnOk answer (left ≡ [])
+pub read_by : (answer : Result (Unit {0}) Stop) (input left : List ℕ) → Reads answer input left → OnOk answer (left ≡ [])
 read_by (Ok done) input left reads = reads.0
-read_by (Err fault) input left reads = tt
+read_by (Err why) input left reads = tt
 
-pub within_by : (answer : Result (Unit {0}) TwinEnd) (input left : List ℕ) → Reads answer input left → OnOk answer (length input ≤ most_input)
+pub within_by : (answer : Result (Unit {0}) Stop) (input left : List ℕ) → Reads answer input left → OnOk answer (length input ≤ most_input)
 within_by (Ok done) input left reads = reads.1
-within_by (Err fault) input left reads = tt
+within_by (Err why) input left reads = tt
 
--- a fault is one of five
-uncalled : {X Claim : Type 0} (fault : TwinEnd) → (IsErrOf {T = X} (Err fault) end.Input → ⊥) → (IsErrOf {T = X} (Err fault) end.Limit → ⊥) →
-    (IsErrOf {T = X} (Err fault) end.Bench → ⊥) → (IsErrOf {T = X} (Err fault) end.NoMemory → Claim) → (IsErrOf {T = X} (Err fault) end.Spare → Claim) → Claim
-uncalled end.Input no_input no_limit no_bench memory spare = absurd (no_input refl)
-uncalled end.Limit no_input no_limit no_bench memory spare = absurd (no_limit refl)
-uncalled end.Bench no_input no_limit no_bench memory spare = absurd (no_bench refl)
-uncalled end.Spare no_input no_limit no_bench memory spare = spare refl
-uncalled end.NoMemory no_input no_limit no_bench memory spare = memory refl
+-- a stop of two benches is one of three
+uncalled : {X Claim : Type 0} (why : Stop) → IsOfBenches why → (IsErrOf {T = X} (Err why) end.Bench → ⊥) →
+    (IsErrOf {T = X} (Err why) end.NoMemory → Claim) → (IsErrOf {T = X} (Err why) end.Spare → Claim) → Claim
+uncalled end.Bench is no_bench memory spare = absurd (no_bench refl)
+uncalled end.Spare is no_bench memory spare = spare refl
+uncalled end.NoMemory is no_bench memory spare = memory refl
+uncalled other is no_bench memory spare = absurd is
 
 -- an answer that was refused without a call of the bench leaves all as it stood
-pub rests_by : {B X : Type 0} (fault : TwinEnd) → (IsErrOf {T = X} (Err fault) end.Input → ⊥) → (IsErrOf {T = X} (Err fault) end.Limit → ⊥) →
-    (IsErrOf {T = X} (Err fault) end.Bench → ⊥) → (bench : Ghosts B) (old mid new : B) (was now : StoreContents)
-    → (IsErrOf {T = X} (Err fault) end.NoMemory → (new ≡ mid) × (now.history ≡ was.history))
-    → (IsErrOf {T = X} (Err fault) end.Spare → (new ≡ mid) × (now.history ≡ was.history)) → now.secret ≡ was.secret → Rests bench old mid was →
+pub rests_by : {B X : Type 0} (why : Stop) → IsOfBenches why → (IsErrOf {T = X} (Err why) end.Bench → ⊥)
+    → (bench : Ghosts B) (old mid new : B) (was now : StoreContents)
+    → (IsErrOf {T = X} (Err why) end.NoMemory → (new ≡ mid) × (now.history ≡ was.history))
+    → (IsErrOf {T = X} (Err why) end.Spare → (new ≡ mid) × (now.history ≡ was.history)) → now.secret ≡ was.secret → Rests bench old mid was →
     Rests bench old new now
-rests_by fault no_input no_limit no_bench bench old mid new was now memory spare secret rests =
-    let still = uncalled fault no_input no_limit no_bench memory spare in
+rests_by why is no_bench bench old mid new was now memory spare secret rests =
+    let still = uncalled why is no_bench memory spare in
     record {
       stands = λ t.
           subst (λ (h : List Answered). StandsFor (bench.file new) now.secret.shape h) (sym still.1)

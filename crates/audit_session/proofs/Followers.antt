@@ -11,9 +11,7 @@ use Rattle.audit_types.specs.declared.records.Verdict.TheVariants.{Released}
 use Rattle.audit_types.specs.Column.{Known, IsGuarded, number, greatest, total, IsDangerous, with_groups}
 use Rattle.audit_types.specs.Judgement.{IsDecision, IsWithinWidthFor, sets_with}
 use Rattle.audit_types.specs.Reach.{IsWithinBounds}
-use Rattle.audit_types.specs.ListLaws.{all_by_place}
 use Rattle.audit_types.specs.Widening.{over, widened, protection_among, first_rows}
-use Rattle.audit_types.specs.WideningLaws.{widened-same}
 use Rattle.audit_types.specs.History.{Protection, Table, Secrets, AreSecrets, IsLegal, groups_of, known_of, setting_of}
 use Rattle.audit_core.specs.WideningLaws.{LegalStays}
 use Rattle.table_load.specs.Database.{Database, IsDatabase, table_in}

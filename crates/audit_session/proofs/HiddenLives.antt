@@ -3,25 +3,21 @@
 -- Each record of a life is, over the rows of the last table, one of the last history. So secrets that agree with the last history make
 -- each record true, and each reply is due over them too: a decision reads no secret, and an answer is the record's. What is public at each
 -- run plays no part in it.
-use Rattle.std.proofs.Common.{◌≡◌, ◌≢◌, ◌⊎◌, ◌==◌, ℕ, zero, suc, ◌+◌, ◌<◌, ◌≤◌, ℤ, pos, inl, inr}
+use Rattle.std.proofs.Common.{◌≡◌, ◌≢◌, ◌⊎◌, ◌==◌, ℕ, zero, suc, ◌<◌, ◌≤◌, ℤ, pos, inl, inr}
 use Rattle.std.proofs.Common.{List, [], ◌∷◌, ◌++◌, map, length, take, get_or, refl, sym, ◌∙◌, ap, subst, arith}
-use Rattle.std.specs.Prelude.{◌+ℤ◌}
-use Rattle.std.specs.List.{AllByRecursion, fold, filter}
+use Rattle.std.specs.List.{AllByRecursion, filter}
 use Rattle.std.proofs.lemmas.Bool.{eqb-true}
 use Rattle.std.proofs.lemmas.Int.{ints, by_lt_z}
-use Rattle.std.specs.Int.{int_max}
 use Rattle.std.specs.Option.{option_to_list}
 use Rattle.std.proofs.lemmas.Option.{slice_get_within, get_or_from_slice_get}
 use Rattle.std.proofs.lemmas.List.{get_or-take}
 use Rattle.std.proofs.lemmas.List.Elements.{All-map, filter_passes, recursion_from_All}
-use Rattle.audit_types.specs.declared.shapes.Kind.{Kind}
-use Rattle.audit_types.specs.declared.shapes.Kind.TheVariants.{Sum, Max}
 use Rattle.audit_types.specs.declared.shapes.Shape.{Shape}
 use Rattle.audit_types.specs.declared.records.Asked.{Asked}
 use Rattle.audit_types.specs.declared.records.Answered.{Answered}
-use Rattle.audit_types.specs.Rows.{AreRows, AscendsFrom}
+use Rattle.audit_types.specs.Rows.{AreRows}
 use Rattle.audit_types.specs.Shapes.{kind_at}
-use Rattle.audit_types.specs.Truth.{number_at, sum_over, truth}
+use Rattle.audit_types.specs.Truth.{number_at, truth}
 use Rattle.audit_types.specs.GreatestLaws.{same_truth}
 use Rattle.audit_types.specs.HistoryLaws.{own_answer}
 use Rattle.audit_types.specs.ListLaws.{all_by_place, all-filter, all-get_or, all-map, all-unmap}

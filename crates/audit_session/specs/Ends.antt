@@ -4,19 +4,13 @@ use Rattle.audit_types.specs.declared.records.Answered.{Answered}
 use Rattle.table_load.specs.Database.{Database}
 use Rattle.bench_core.specs.declared.bench.Bench.{Ghosts}
 use Rattle.bench_core.specs.Calls.{IsQuiet}
+use Rattle.bench_core.specs.declared.stops.Stop.{Stop}
+use Rattle.bench_core.specs.declared.stops.Stop.TheVariants as end
 use Rattle.journal_form.specs.Journal.{StandsFor}
 use Rattle.audit_store.specs.Stores.{StoreContents}
-use Rattle.audit_store.specs.declared.keeper.KeepFault.{KeepFault}
-use Rattle.audit_store.specs.declared.keeper.KeepFault.TheVariants as keep
 use Rattle.line_wire.specs.Lines.{CountedLine, counted_lines, whole_lines, most_input}
-use Rattle.question_plan.specs.declared.planner.PlanStop.{PlanStop}
-use Rattle.question_plan.specs.declared.planner.PlanStop.TheVariants as stop
 use Rattle.question_plan.specs.Session.{Replied, records_of, bytes_of, AreReplies, groups, commits}
 use Rattle.question_plan.specs.Replies.{IsDue}
-use Rattle.audit_session.specs.declared.serving.EndFault.{EndFault}
-use Rattle.audit_session.specs.declared.serving.EndFault.TheVariants as alone
-use Rattle.audit_session.specs.declared.session.TwinEnd.{TwinEnd}
-use Rattle.audit_session.specs.declared.session.TwinEnd.TheVariants as end
 
 -- lines were answered: their replies are what was sent meanwhile, and the history has their records
 pub record Serves (base : Database) (history : List Answered) (lines : List CountedLine) (now : List Answered) (before after : List ℕ) : Type 0 where
@@ -40,13 +34,12 @@ unfoldable pub limited : List ℕ → List ℕ
 limited input = take most_input input
 
 -- which lines were answered, by the end
-abbrev pub Ends : ℕ → Result (Unit {0}) TwinEnd → Database → List Answered → List ℕ → List ℕ → List Answered → List ℕ → List ℕ → Type 0
+abbrev pub Ends : ℕ → Result (Unit {0}) Stop → Database → List Answered → List ℕ → List ℕ → List Answered → List ℕ → List ℕ → Type 0
 Ends batch (Ok done) base history input left now before after = Serves base history (counted_lines input) now before after
 Ends batch (Err end.Input) base history input left now before after = ServesWhole base history batch input left now before after
 Ends batch (Err end.Limit) base history input left now before after = ServesWhole base history batch (limited input) [] now before after
-Ends batch (Err end.NoMemory) base history input left now before after = ServesSome base history batch (counted_lines input) now before after
 Ends batch (Err end.Bench) base history input left now before after = Unit {0}
-Ends batch (Err end.Spare) base history input left now before after = ServesSome base history batch (counted_lines input) now before after
+Ends batch ended base history input left now before after = ServesSome base history batch (counted_lines input) now before after
 
 -- the calls of the bench: one for each line's reply, and four for each group in which some reply makes a record
 pub record TakesCalls (base : Database) (history : List Answered) (batch : ℕ) (lines : List CountedLine) (before after : ℕ) : Type 0 where
@@ -61,31 +54,11 @@ pub record KeepsCalls (base : Database) (history : List Answered) (batch : ℕ) 
   pub calls : after ≡ before + 4 * commits batch replies
 
 -- how much of the input there was, by the end
-abbrev pub Reads : Result (Unit {0}) TwinEnd → List ℕ → List ℕ → Type 0
+abbrev pub Reads : Result (Unit {0}) Stop → List ℕ → List ℕ → Type 0
 Reads (Ok done) input left = (left ≡ []) × (length input ≤ most_input)
 Reads (Err end.Input) input left = length input ≤ most_input + length left
 Reads (Err end.Limit) input left = most_input + length left < length input
-Reads (Err end.NoMemory) input left = Unit {0}
-Reads (Err end.Bench) input left = Unit {0}
-Reads (Err end.Spare) input left = Unit {0}
-
--- the end that a refusal of the keeper, or of the planner of lines, makes
-abbrev pub keep_end : KeepFault → TwinEnd
-keep_end keep.Bench = end.Bench
-keep_end keep.Spare = end.Spare
-keep_end keep.NoMemory = end.NoMemory
-
-abbrev pub plan_end : PlanStop → TwinEnd
-plan_end stop.Input = end.Input
-plan_end stop.Limit = end.Limit
-plan_end stop.NoMemory = end.NoMemory
-
--- an end of a session with one journal, as an end of any session
-abbrev pub twin_end : EndFault → TwinEnd
-twin_end alone.Input = end.Input
-twin_end alone.Bench = end.Bench
-twin_end alone.Limit = end.Limit
-twin_end alone.NoMemory = end.NoMemory
+Reads ended input left = Unit {0}
 
 -- the file stands for the history, and a quiet bench is still quiet
 pub record Rests {B : Type 0} (bench : Ghosts B) (old new : B) (store : StoreContents) : Type 0 where

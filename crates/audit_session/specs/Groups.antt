@@ -16,6 +16,8 @@ use Rattle.bench_core.specs.declared.source.Source.{Ghosts as SourceGhosts}
 use Rattle.bench_core.specs.Causes.{Rose}
 use Rattle.bench_core.specs.Bench.{AppendsFront}
 use Rattle.bench_core.specs.Calls.{IsQuiet}
+use Rattle.bench_core.specs.declared.stops.Stop.{Stop}
+use Rattle.bench_core.specs.declared.stops.Stop.TheVariants as end
 use Rattle.audit_store.specs.Stores.{StoreContents, IsAsLeft, calls_for}
 use Rattle.line_wire.specs.Lines.{CountedLine, whole_lines, most_input}
 use Rattle.line_wire.specs.Cutter.{Cutter}
@@ -28,8 +30,6 @@ use Rattle.question_plan.specs.Session.{Replied, records_of, bytes_of, AreReplie
 use Rattle.question_plan.specs.Replies.{IsPlan, IsReplyOf, TellsOutcome}
 use Rattle.question_plan.specs.Plans.{CanBeTold}
 use Rattle.audit_session.specs.Stops.{StopsOver}
-use Rattle.audit_session.specs.declared.session.TwinEnd.{TwinEnd}
-use Rattle.audit_session.specs.declared.session.TwinEnd.TheVariants as end
 
 -- ---- reading
 
@@ -68,12 +68,11 @@ pub record PassesGathering {P : Type 0} (source : SourceGhosts P) (batch : ℕ) 
   pub steady : source.faults after ≡ source.faults before
 
 -- why no group was gathered. Neither the bench nor the spare is called
-abbrev pub IsUngathered : {P : Type 0} → SourceGhosts P → ℕ → Cutter → Cutter → P → P → TwinEnd → Type 0
+abbrev pub IsUngathered : {P : Type 0} → SourceGhosts P → ℕ → Cutter → Cutter → P → P → Stop → Type 0
 IsUngathered source batch old new before after end.Input = FailsGathering source batch old new before after
 IsUngathered source batch old new before after end.Limit = PassesGathering source batch old new before after
 IsUngathered source batch old new before after end.NoMemory = source.faults after ≡ source.faults before
-IsUngathered source batch old new before after end.Bench = ⊥
-IsUngathered source batch old new before after end.Spare = ⊥
+IsUngathered source batch old new before after other = ⊥
 
 -- ---- deciding
 

@@ -1,5 +1,5 @@
 -- Facts on the histories that runs leave: their sets are over the rows of the table, and histories that begin each other are one.
-use Rattle.std.proofs.Common.{◌≡◌, ℕ, List, [], ◌∷◌, ◌++◌, append_assoc, refl, sym, ◌∙◌, ap, subst}
+use Rattle.std.proofs.Common.{◌≡◌, ℕ, List, [], ◌∷◌, ◌++◌, append_assoc, refl, sym, ◌∙◌, ap, subst, arith}
 use Rattle.std.specs.List.{AllByRecursion}
 use Rattle.std.proofs.lemmas.List.{append_cancel_left, append-nil}
 use Rattle.audit_types.specs.declared.records.Answered.{Answered}
@@ -11,6 +11,10 @@ use Rattle.audit_types.specs.Widening.{widened}
 use Rattle.audit_types.specs.WideningLaws.{widened-same, widened-widened}
 use Rattle.journal_form.specs.Journal.{StandsFor}
 use Rattle.audit_session.specs.Stops.{IsFront}
+
+-- the empty history is legal
+pub nothing_is_legal : (table : Table) → IsLegal table []
+nothing_is_legal table = record { few = omega arith; each = λ i r is. cc }
 
 -- each set of a legal history is of rows of the table
 pub rows_of_legal : (table : Table) (history : List Answered) → IsLegal table history →

@@ -8,9 +8,8 @@ ghost use Rattle.line_wire.specs.Calls.{Cuts};
 ghost use Rattle.question_plan.specs.Plans.{CanBeServed};
 ghost use Rattle.audit_session.specs.Groups.{Gathers, IsUngathered, question_in, questions_of};
 
-use crate::session::TwinEnd;
 use audit_types::{Asked, NoMemory};
-use bench_core::Source;
+use bench_core::{Source, Stop};
 use line_wire::Reply;
 use question_plan::{Plan, Planner};
 use schema_json::Schema;
@@ -89,7 +88,7 @@ pub(crate) fn gather<P: Source>(
     source: &mut P,
     batch: u8,
     group: &mut Group,
-) -> Result<bool, TwinEnd>
+) -> Result<bool, Stop>
     requires same { P.told → planner.old.ended ≡ true → P.left source.old ≡ [] }
     requires within { planner.old.taken ≤ most_input + length planner.old.pending }
     requires fits { FitsSchema schema.now.columns index.now.public }

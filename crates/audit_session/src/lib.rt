@@ -12,5 +12,5 @@ pub mod laws;
 mod serving;
 mod session;
 
-pub use serving::{EndFault, serve};
-pub use session::{TwinEnd, serve_with};
+pub use serving::serve;
+pub use session::serve_with;

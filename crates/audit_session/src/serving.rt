@@ -5,31 +5,19 @@ ghost use Rattle.table_load.specs.Cells.{FitsSchema};
 ghost use Rattle.table_load.specs.Database.{base_of};
 ghost use Rattle.bench_core.specs.Causes.{Rose};
 ghost use Rattle.bench_core.specs.Calls.{IsQuiet, LeavesOnly, TellsFault};
+ghost use Rattle.bench_core.specs.declared.stops.Stop.{Stop};
 ghost use Rattle.journal_form.specs.Journal.{StandsFor};
 ghost use Rattle.audit_store.specs.Stores.{IsAsLeft, IsStore, table_of};
 ghost use Rattle.line_wire.specs.Lines.{counted_lines, most_input};
 ghost use Rattle.audit_session.specs.Stops.{IsBatch, IsHarmless, StopsOver};
-ghost use Rattle.audit_session.specs.Ends.{Serves, ServesWhole, ServesSome, TakesCalls, limited, twin_end};
-ghost use Rattle.audit_session.specs.declared.session.TwinEnd.{TwinEnd};
+ghost use Rattle.audit_session.specs.Ends.{Serves, ServesWhole, ServesSome, TakesCalls, limited};
 
-use crate::session::{TwinEnd, serve_with};
+use crate::session::serve_with;
 use audit_store::Store;
-use bench_core::{Bench, Failed, Source};
+use bench_core::{Bench, Failed, Source, Stop};
 use schema_json::Schema;
 use set_index::Index;
 use std::alloc::Global;
-
-/// Why serving ended before the input did.
-#[derive(Clone, Copy)]
-pub enum EndFault {
-    /// The input failed.
-    Input,
-    /// A call of the bench failed.
-    Bench,
-    /// The input has more than 2^30 bytes.
-    Limit,
-    NoMemory,
-}
 
 // The spare of a session that has none: it is never called. Its count of faults stands at the type's end.
 #[derive(Drop)]
@@ -79,20 +67,6 @@ impl Bench for NoSpare {
     ghost only_now = { λ bench image bytes since. absurd since };
 }
 
-// The end of a session that has no spare.
-fn without_spare(end: TwinEnd) -> EndFault
-    requires { end ≢ TwinEnd.Spare }
-    ensures { twin_end result ≡ end }
-{
-    match end {
-        TwinEnd::Input => EndFault::Input,
-        TwinEnd::Bench => EndFault::Bench,
-        TwinEnd::Limit => EndFault::Limit,
-        TwinEnd::NoMemory => EndFault::NoMemory,
-        TwinEnd::Spare => unreachable!(),
-    }
-}
-
 /// Answers the counted lines of the input in groups of `batch`; at the end of the input the last group may be shorter. The
 /// records of a group are in the journal before the first of its replies is sent, and each reply is one send. The lines of a
 /// group that a failed read or the limit cuts short are read and not answered.
@@ -104,7 +78,7 @@ pub fn serve<P: Source, B: Bench>(
     source: &mut P,
     bench: &mut B,
     batch: u8,
-) -> Result<(), EndFault>
+) -> Result<(), Stop>
     requires usable { store.old.usable ≡ true }
     requires fits { FitsSchema schema.now.columns index.now.public }
     requires entries { index.now.protected ≡ store.old.protected }
@@ -114,16 +88,16 @@ pub fn serve<P: Source, B: Bench>(
 
     // The ends: which lines were answered. The file stands for the history, unless the bench failed.
     ensures done { P.told → B.told → OnOk result (Serves (base_of schema.now.columns index.now.public index.now.protected store.old.secret) store.old.history (counted_lines (P.left source.old)) store.new.history (B.sent bench.old) (B.sent bench.new)) }
-    ensures input_end { P.told → B.told → result ≡ Err EndFault.Input → ServesWhole (base_of schema.now.columns index.now.public index.now.protected store.old.secret) store.old.history batch (P.left source.old) (P.left source.new) store.new.history (B.sent bench.old) (B.sent bench.new) }
-    ensures limit_end { P.told → B.told → result ≡ Err EndFault.Limit → ServesWhole (base_of schema.now.columns index.now.public index.now.protected store.old.secret) store.old.history batch (limited (P.left source.old)) [] store.new.history (B.sent bench.old) (B.sent bench.new) }
-    ensures memory_end { P.told → B.told → result ≡ Err EndFault.NoMemory → ServesSome (base_of schema.now.columns index.now.public index.now.protected store.old.secret) store.old.history batch (counted_lines (P.left source.old)) store.new.history (B.sent bench.old) (B.sent bench.new) }
-    ensures stands { B.told → result ≢ Err EndFault.Bench → StandsFor (B.file bench.new) store.new.secret.shape store.new.history }
-    ensures quiet { B.told → IsQuiet B.Bench bench.old → result ≢ Err EndFault.Bench → IsQuiet B.Bench bench.new }
+    ensures input_end { P.told → B.told → result ≡ Err Stop.Input → ServesWhole (base_of schema.now.columns index.now.public index.now.protected store.old.secret) store.old.history batch (P.left source.old) (P.left source.new) store.new.history (B.sent bench.old) (B.sent bench.new) }
+    ensures limit_end { P.told → B.told → result ≡ Err Stop.Limit → ServesWhole (base_of schema.now.columns index.now.public index.now.protected store.old.secret) store.old.history batch (limited (P.left source.old)) [] store.new.history (B.sent bench.old) (B.sent bench.new) }
+    ensures memory_end { P.told → B.told → result ≡ Err Stop.NoMemory → ServesSome (base_of schema.now.columns index.now.public index.now.protected store.old.secret) store.old.history batch (counted_lines (P.left source.old)) store.new.history (B.sent bench.old) (B.sent bench.new) }
+    ensures stands { B.told → result ≢ Err Stop.Bench → StandsFor (B.file bench.new) store.new.secret.shape store.new.history }
+    ensures quiet { B.told → IsQuiet B.Bench bench.old → result ≢ Err Stop.Bench → IsQuiet B.Bench bench.new }
 
     // After Ok it may be called again. Only if the bench failed or memory ran out may the store be left unusable, and
     // while it is usable the file is as the store left it.
     ensures again { OnOk result ((store.new.usable ≡ true) × (B.told → IsAsLeft (B.file bench.new) store.new)) }
-    ensures usable { result ≢ Err EndFault.Bench → result ≢ Err EndFault.NoMemory → store.new.usable ≡ true }
+    ensures usable { result ≢ Err Stop.Bench → result ≢ Err Stop.NoMemory → store.new.usable ≡ true }
     ensures left { B.told → store.new.usable ≡ true → IsAsLeft (B.file bench.new) store.new }
 
     // One send for each line, four calls for each group that makes a record, and no other call.
@@ -142,21 +116,19 @@ pub fn serve<P: Source, B: Bench>(
     // How much of the input there was.
     ensures read { P.told → OnOk result (P.left source.new ≡ []) }
     ensures within { P.told → OnOk result (length (P.left source.old) ≤ most_input) }
-    ensures input_within { P.told → result ≡ Err EndFault.Input → length (P.left source.old) ≤ most_input + length (P.left source.new) }
-    ensures limit { P.told → result ≡ Err EndFault.Limit → most_input + length (P.left source.new) < length (P.left source.old) }
+    ensures input_within { P.told → result ≡ Err Stop.Input → length (P.left source.old) ≤ most_input + length (P.left source.new) }
+    ensures limit { P.told → result ≡ Err Stop.Limit → most_input + length (P.left source.new) < length (P.left source.old) }
 
-    // It doesn't give up by itself, and passes over no failed call.
+    // It doesn't give up by itself, passes over no failed call, and calls no spare.
     ensures later { P.faults source.old ≤ P.faults source.new }
-    ensures input { result ≡ Err EndFault.Input → Rose (P.faults source.old) (P.faults source.new) }
-    ensures last_read { result ≡ Err EndFault.Input → P.last_failed source.new ≡ true }
-    ensures steady { result ≢ Err EndFault.Input → P.faults source.new ≡ P.faults source.old }
-    ensures fault { TellsFault B.Bench bench.old bench.new (result ≡ Err EndFault.Bench) }
+    ensures input { result ≡ Err Stop.Input → Rose (P.faults source.old) (P.faults source.new) }
+    ensures last_read { result ≡ Err Stop.Input → P.last_failed source.new ≡ true }
+    ensures steady { result ≢ Err Stop.Input → P.faults source.new ≡ P.faults source.old }
+    ensures fault { TellsFault B.Bench bench.old bench.new (result ≡ Err Stop.Bench) }
+    ensures alone { result ≢ Err Stop.Spare }
 {
     // What the store says of itself: a legal history.
     let _history = store.history();
     let mut none = NoSpare;
-    match serve_with(alloc, schema, index, store, source, bench, &mut none, batch) {
-        Ok(()) => Ok(()),
-        Err(end) => Err(without_spare(end)),
-    }
+    serve_with(alloc, schema, index, store, source, bench, &mut none, batch)
 }

@@ -1,8 +1,7 @@
 -- Laws of stores: what they show of their cores and journals, and that a recovered one, one that kept a group and one that refused one are
 -- stores.
 use Rattle.std.proofs.Common.{◌≡◌, ℕ, ◌+◌, ◌<◌, ◌≤◌, Bool, true, false, List, [], ◌∷◌, refl, ◌-◌, ◌++◌, length, length-append, length-take, length-drop, take, drop, sym, ap, subst, ◌∙◌, arith, inl, Result, Ok, Err}
-use Rattle.std.specs.Prelude.{◌==◌, OnErr}
-use Rattle.std.proofs.lemmas.Grind.{common_steps}
+use Rattle.std.specs.Prelude.{OnErr}
 use Rattle.std.proofs.Math.Seq.{take-length, drop-append_seam}
 use Rattle.std.proofs.lemmas.List.{take-append-drop, take_all}
 use Rattle.audit_types.specs.declared.records.Answered.{Answered}
@@ -14,10 +13,9 @@ use Rattle.bench_core.specs.declared.bench.Bench.{Ghosts}
 use Rattle.bench_core.specs.Calls.{IsQuiet, LeavesOnly}
 use Rattle.bench_core.specs.Moments.{started}
 use Rattle.journal_form.specs.Journal.{StandsAt, StandsFor}
-use Rattle.answer_journal.specs.Append.{AppendsGroup}
 use Rattle.answer_journal.specs.Moments.{IsBeforeOrAfter}
 use Rattle.answer_journal.specs.Contents.{JournalContents}
-use Rattle.audit_store.specs.Stores.{StoreContents, IsStore, IsAsLeft, IsAuditedBy, HasGroup, calls_for}
+use Rattle.audit_store.specs.Stores.{StoreContents, IsStore, IsAuditedBy, calls_for}
 use Rattle.audit_store.specs.Starting.{Recovers}
 use Rattle.table_load.specs.Database.{secret_table}
 

@@ -1,5 +1,5 @@
 //! Deciding questions, and keeping the records of their answers.
-ghost use Rattle.std.specs.Prelude.{◌≡◌, ◌≤◌, ◌+◌, ◌++◌, [], List, true, length, take, All, IfOk, OnOk, OnErr, IsErrOf};
+ghost use Rattle.std.specs.Prelude.{◌≡◌, ◌≤◌, ◌+◌, ◌++◌, [], List, true, length, take, All, IfOk, IfErr, OnOk, OnErr, IsErrOf};
 ghost use Rattle.std.specs.Option.{option_to_list};
 ghost use Rattle.audit_types.specs.Limits.{most_records};
 ghost use Rattle.audit_types.specs.declared.records.Answered.{Answered};
@@ -7,20 +7,20 @@ ghost use Rattle.audit_types.specs.History.{FitsShape, IsLegal};
 ghost use Rattle.audit_core.specs.Outcomes.{IsOutcome, AreOutcomes, record_of, records_made};
 ghost use Rattle.bench_core.specs.Calls.{IsQuiet, LeavesOnly, TellsFault};
 ghost use Rattle.bench_core.specs.Causes.{HasCause};
+ghost use Rattle.bench_core.specs.Stops.{IsOfBench};
 ghost use Rattle.journal_form.specs.Journal.{StandsAt};
 ghost use Rattle.answer_journal.specs.Moments.{IsBeforeOrAfter};
 ghost use Rattle.table_load.specs.Database.{secret_table};
 ghost use Rattle.audit_store.specs.Stores.{HasGroup, calls_for};
 ghost use Rattle.audit_store.specs.Twice.{IsReadyOver, group_of};
 
-use crate::outcome::StoreFault;
 use crate::sealed::Sealed;
 use answer_journal::{Journal, Ready};
 use audit_core::Outcome;
 use audit_core::laws::released_records;
 use audit_types::laws::true_answers;
 use audit_types::{Answered, Asked, MOST_RECORDS, NoMemory, Verdict};
-use bench_core::{Bench, Failed};
+use bench_core::{Bench, Failed, Stop};
 use std::alloc::Global;
 use table_load::Secret;
 
@@ -150,11 +150,7 @@ pub fn keep_ready<B: Bench>(
 
 /// Appends records to the journal as one group, if there are any. All memory is taken before the first call of the
 /// bench.
-pub fn keep<B: Bench>(
-    journal: &mut Journal,
-    bench: &mut B,
-    group: &[Answered],
-) -> Result<(), StoreFault>
+pub fn keep<B: Bench>(journal: &mut Journal, bench: &mut B, group: &[Answered]) -> Result<(), Stop>
     requires usable { journal.old.usable ≡ true }
     requires group { length group.now ≤ 64 }
     requires fit { All (λ r. FitsShape journal.old.shape r.column r.rows) group.now }
@@ -170,8 +166,9 @@ pub fn keep<B: Bench>(
     ensures sent { B.sent bench.new ≡ B.sent bench.old }
     ensures ticks { B.told → OnOk result (B.moment bench.new ≡ B.moment bench.old + calls_for group.now) }
     ensures unasked { group.now ≡ [] → OnOk result (bench.new ≡ bench.old) }
-    ensures no_memory { IsErrOf result StoreFault.NoMemory → bench.new ≡ bench.old }
-    ensures fault { TellsFault B.Bench bench.old bench.new (IsErrOf result StoreFault.Failed) }
+    ensures no_memory { IsErrOf result Stop.NoMemory → bench.new ≡ bench.old }
+    ensures fault { TellsFault B.Bench bench.old bench.new (IsErrOf result Stop.Bench) }
+    ensures ends { IfErr result IsOfBench }
 
     ensures shape { journal.new.shape ≡ journal.old.shape }
     ensures usable { OnOk result (journal.new.usable ≡ true) }

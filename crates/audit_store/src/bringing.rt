@@ -1,18 +1,18 @@
 //! Bringing a journal, and a core, up to a longer history.
-ghost use Rattle.std.specs.Prelude.{◌≡◌, ◌≤◌, ◌+◌, ◌++◌, List, true, length, take, All, OnOk, IsErrOf};
+ghost use Rattle.std.specs.Prelude.{◌≡◌, ◌≤◌, ◌+◌, ◌++◌, List, true, length, take, All, IfErr, OnOk, IsErrOf};
 ghost use Rattle.audit_types.specs.Limits.{most_records};
 ghost use Rattle.audit_types.specs.declared.records.Answered.{Answered};
 ghost use Rattle.audit_types.specs.History.{FitsShape, IsLegal, Table};
 ghost use Rattle.bench_core.specs.Calls.{IsQuiet, LeavesOnly, TellsFault};
+ghost use Rattle.bench_core.specs.Stops.{IsOfBench};
 ghost use Rattle.journal_form.specs.Journal.{StandsAt};
 ghost use Rattle.audit_store.specs.Twice.{IsBroughtUp, StandsWithSome, calls_to_bring_up};
 
 use crate::asking::keep;
-use crate::outcome::StoreFault;
 use crate::sealed::Sealed;
 use answer_journal::Journal;
 use audit_types::{Answered, NoMemory};
-use bench_core::Bench;
+use bench_core::{Bench, Stop};
 
 // The most records of a group.
 const MOST_IN_GROUP: usize = 64;
@@ -22,7 +22,7 @@ pub fn bring_up<B: Bench>(
     journal: &mut Journal,
     bench: &mut B,
     missing: &[Answered],
-) -> Result<(), StoreFault>
+) -> Result<(), Stop>
     requires usable { journal.old.usable ≡ true }
     requires fit { All (λ r. FitsShape journal.old.shape r.column r.rows) missing.now }
     requires few { journal.old.count + length missing.now ≤ most_records }
@@ -34,11 +34,12 @@ pub fn bring_up<B: Bench>(
     ensures done { (history : List Answered) → B.told → StandsAt (B.file bench.old) journal.old.shape history journal.old.gate → length history ≡ journal.old.count
         → OnOk result (StandsAt (B.file bench.new) journal.new.shape (history ++ missing.now) journal.new.gate) }
     ensures no_memory { (history : List Answered) → B.told → StandsAt (B.file bench.old) journal.old.shape history journal.old.gate → length history ≡ journal.old.count
-        → IsErrOf result StoreFault.NoMemory → StandsWithSome journal.old.shape history missing.now (B.file bench.new) }
-    ensures quiet { B.told → IsQuiet B.Bench bench.old → (IsErrOf result StoreFault.Failed → ⊥) → IsQuiet B.Bench bench.new }
+        → IsErrOf result Stop.NoMemory → StandsWithSome journal.old.shape history missing.now (B.file bench.new) }
+    ensures quiet { B.told → IsQuiet B.Bench bench.old → (IsErrOf result Stop.Bench → ⊥) → IsQuiet B.Bench bench.new }
     ensures sent { B.sent bench.new ≡ B.sent bench.old }
     ensures ticks { B.told → OnOk result (B.moment bench.new ≡ B.moment bench.old + calls_to_bring_up missing.now) }
-    ensures fault { TellsFault B.Bench bench.old bench.new (IsErrOf result StoreFault.Failed) }
+    ensures fault { TellsFault B.Bench bench.old bench.new (IsErrOf result Stop.Bench) }
+    ensures ends { IfErr result IsOfBench }
 
     ensures shape { journal.new.shape ≡ journal.old.shape }
     ensures usable { OnOk result (journal.new.usable ≡ true) }

@@ -1,27 +1,16 @@
 //! What keeps the answers of a session: a journal, or a journal and a spare one.
-ghost use Rattle.std.specs.Prelude.{◌≡◌, ◌≤◌, ◌+◌, ◌++◌, List, ℕ, true, false, length, All, IfOk, OnOk, OnErr, IsErrOf};
+ghost use Rattle.std.specs.Prelude.{◌≡◌, ◌≤◌, ◌+◌, ◌++◌, List, ℕ, true, false, length, All, IfOk, IfErr, OnOk, OnErr, IsErrOf};
 ghost use Rattle.audit_types.specs.History.{FitsShape};
 ghost use Rattle.audit_core.specs.Outcomes.{AreOutcomes, records_made};
 ghost use Rattle.bench_core.specs.Calls.{IsQuiet, TellsFault};
+ghost use Rattle.bench_core.specs.Stops.{IsOfBenches};
 ghost use Rattle.journal_form.specs.Journal.{StandsAt};
 ghost use Rattle.audit_store.specs.Stores.{StoreContents, IsAsLeft, IsStore, Keeps, KeptAhead, calls_for, table_of};
 
-use crate::outcome::StoreFault;
 use crate::store::Store;
 use audit_core::Outcome;
-use audit_types::{Asked, NoMemory};
-use bench_core::Bench;
-
-/// Why a group was not kept. The keeper is then no longer usable.
-#[derive(Clone, Copy)]
-pub enum KeepFault {
-    /// A call of the bench failed.
-    Bench,
-    /// A call of the spare failed.
-    Spare,
-    /// Nothing was called.
-    NoMemory,
-}
+use audit_types::Asked;
+use bench_core::{Bench, Stop};
 
 /// What decides groups of questions, and keeps what it answers before it gives it: on a bench, and if it is spared, on a spare
 /// before that.
@@ -41,7 +30,7 @@ pub trait Keeper {
         bench: &mut B,
         spare: &mut S,
         asked: &[Asked],
-    ) -> Result<Vec<Outcome>, KeepFault>
+    ) -> Result<Vec<Outcome>, Stop>
         requires usable { (store self.old).usable ≡ true }
         requires few { length asked.now ≤ 64 }
         requires fit { All (λ a. FitsShape (store self.old).secret.shape a.column a.rows) asked.now }
@@ -56,14 +45,15 @@ pub trait Keeper {
 
         // A refusal leaves the history as it was.
         ensures kept { OnErr result (((store self.new).history ≡ (store self.old).history) × ((store self.new).usable ≡ false)) }
-        ensures no_memory { IsErrOf result KeepFault.NoMemory → (bench.new ≡ bench.old) × (spare.new ≡ spare.old) }
-        ensures fault { TellsFault B.Bench bench.old bench.new (IsErrOf result KeepFault.Bench) }
+        ensures no_memory { IsErrOf result Stop.NoMemory → (bench.new ≡ bench.old) × (spare.new ≡ spare.old) }
+        ensures fault { TellsFault B.Bench bench.old bench.new (IsErrOf result Stop.Bench) }
+        ensures ends { IfErr result IsOfBenches }
         ensures table { ((store self.new).secret ≡ (store self.old).secret) × ((store self.new).protected ≡ (store self.old).protected) }
         ensures is { IsStore (store self.new) }
 
         // A crash at any moment leaves on the bench the history before, or that with the records of the group. A group that makes no
         // record makes no call, any other makes four.
-        ensures any_moment { B.told → IsQuiet B.Bench bench.old → (IsErrOf result KeepFault.NoMemory → ⊥)
+        ensures any_moment { B.told → IsQuiet B.Bench bench.old → (IsErrOf result Stop.NoMemory → ⊥)
             → Keeps B.Bench bench.old bench.new (table_of (store self.old)) (store self.old).history asked.now (B.sent bench.old) }
         ensures quiet { B.told → IsQuiet B.Bench bench.old → OnOk result (IsQuiet B.Bench bench.new) }
         ensures sent { B.sent bench.new ≡ B.sent bench.old }
@@ -72,16 +62,16 @@ pub trait Keeper {
         // The same of the spare, which comes first: if a call of it failed the bench wasn't called. A keeper that isn't spared never
         // calls it.
         ensures spare_stands { spared → S.told → OnOk result (StandsAt (S.file spare.new) (store self.new).secret.shape (store self.new).history (spare_gate self.new)) }
-        ensures spare_moments { spared → S.told → IsQuiet S.Bench spare.old → (IsErrOf result KeepFault.NoMemory → ⊥)
+        ensures spare_moments { spared → S.told → IsQuiet S.Bench spare.old → (IsErrOf result Stop.NoMemory → ⊥)
             → Keeps S.Bench spare.old spare.new (table_of (store self.old)) (store self.old).history asked.now (S.sent spare.old) }
-        ensures spare_quiet { spared → S.told → IsQuiet S.Bench spare.old → (IsErrOf result KeepFault.Spare → ⊥) → IsQuiet S.Bench spare.new }
+        ensures spare_quiet { spared → S.told → IsQuiet S.Bench spare.old → (IsErrOf result Stop.Spare → ⊥) → IsQuiet S.Bench spare.new }
         ensures spare_sent { S.sent spare.new ≡ S.sent spare.old }
         ensures spare_ticks { spared → S.told → IfOk result (λ v. S.moment spare.new ≡ S.moment spare.old + calls_for (records_made asked.now v.items)) }
-        ensures spare_fault { TellsFault S.Bench spare.old spare.new (IsErrOf result KeepFault.Spare) }
-        ensures spare_first { IsErrOf result KeepFault.Spare → bench.new ≡ bench.old }
-        ensures ahead { spared → B.told → S.told → IsQuiet B.Bench bench.old → IsQuiet S.Bench spare.old → IsErrOf result KeepFault.Bench → (image : List ℕ) → B.leaves bench.new image
+        ensures spare_fault { TellsFault S.Bench spare.old spare.new (IsErrOf result Stop.Spare) }
+        ensures spare_first { IsErrOf result Stop.Spare → bench.new ≡ bench.old }
+        ensures ahead { spared → B.told → S.told → IsQuiet B.Bench bench.old → IsQuiet S.Bench spare.old → IsErrOf result Stop.Bench → (image : List ℕ) → B.leaves bench.new image
             → KeptAhead (S.file spare.new) image (table_of (store self.old)) (store self.old).history asked.now }
-        ensures own { IsErrOf result KeepFault.Spare → spared }
+        ensures own { IsErrOf result Stop.Spare → spared }
         ensures untouched { (spared → ⊥) → spare.new ≡ spare.old };
 }
 
@@ -98,21 +88,7 @@ impl Keeper for Store {
         bench: &mut B,
         _spare: &mut S,
         asked: &[Asked],
-    ) -> Result<Vec<Outcome>, KeepFault> {
-        match self.ask_all(bench, asked) {
-            Ok(outcomes) => Ok(outcomes),
-            Err(StoreFault::Failed) => Err(KeepFault::Bench),
-            Err(StoreFault::NoMemory) => Err(KeepFault::NoMemory),
-        }
-    }
-}
-
-impl From<NoMemory> for KeepFault {
-    ghost use Rattle.audit_store.specs.declared.keeper.KeepFault.TheVariants.{NoMemory};
-
-    ghost from_gives = { λ _ e. e ≡ NoMemory };
-
-    fn from(_e: NoMemory) -> KeepFault {
-        KeepFault::NoMemory
+    ) -> Result<Vec<Outcome>, Stop> {
+        self.ask_all(bench, asked)
     }
 }

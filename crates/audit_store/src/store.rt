@@ -3,6 +3,7 @@ ghost use Rattle.std.specs.Prelude.{◌≡◌, ◌≢◌, ◌≤◌, ◌+◌, �
 ghost use Rattle.audit_types.specs.declared.records.Answered.{Answered};
 ghost use Rattle.audit_types.specs.History.{FitsShape, AreProtected, IsLegal, setting_of};
 ghost use Rattle.bench_core.specs.Calls.{IsQuiet, LeavesOnly, IsUntouched, OnlyReads, TellsFault};
+ghost use Rattle.bench_core.specs.Stops.{IsOfBench, IsOfBenches};
 ghost use Rattle.journal_form.specs.Journal.{StandsAt, StandsFor};
 ghost use Rattle.answer_journal.specs.Moments.{IsBeforeOrAfter, IsBeforeOrGrown};
 ghost use Rattle.audit_types.specs.Widening.{over, widened};
@@ -19,14 +20,12 @@ ghost use Rattle.audit_store.specs.declared.starting.StartFault.{StartFault};
 use crate::asking::{decide_all, keep, keep_ready, made_ready};
 use crate::bringing::{bring_up, take_all};
 use crate::growing::{GrowFault, may_grow};
-use crate::keeper::KeepFault;
-use crate::outcome::StoreFault;
 use crate::sealed::Sealed;
 use crate::starting::{StartFault, recover};
 use answer_journal::Journal;
 use audit_core::{Core, Outcome};
 use audit_types::{Answered, Asked, Guard, Shape};
-use bench_core::{Bench, Failed};
+use bench_core::{Bench, Failed, Stop};
 use std::alloc::Global;
 use std::marker::Model;
 use table_load::Secret;
@@ -139,7 +138,7 @@ impl Store {
         &mut self,
         bench: &mut B,
         asked: &[Asked],
-    ) -> Result<Vec<Outcome>, StoreFault>
+    ) -> Result<Vec<Outcome>, Stop>
         requires usable { self.old.usable ≡ true }
         requires few { length asked.now ≤ 64 }
         requires fit { All (λ a. FitsShape self.old.secret.shape a.column a.rows) asked.now }
@@ -153,15 +152,16 @@ impl Store {
 
         // A refusal leaves the history as it was.
         ensures kept { OnErr result ((self.new.history ≡ self.old.history) × (self.new.usable ≡ false)) }
-        ensures no_memory { IsErrOf result StoreFault.NoMemory → bench.new ≡ bench.old }
-        ensures fault { TellsFault B.Bench bench.old bench.new (IsErrOf result StoreFault.Failed) }
+        ensures no_memory { IsErrOf result Stop.NoMemory → bench.new ≡ bench.old }
+        ensures fault { TellsFault B.Bench bench.old bench.new (IsErrOf result Stop.Bench) }
+        ensures ends { IfErr result IsOfBench }
         ensures secret { self.new.secret ≡ self.old.secret }
         ensures protected { self.new.protected ≡ self.old.protected }
         ensures is { IsStore self.new }
 
         // A crash at any moment leaves the history before, or that with the records of the group; if outcomes are given,
         // with theirs. A group that makes no record leaves the bench as it was, any other takes four calls.
-        ensures any_moment { B.told → IsQuiet B.Bench bench.old → (IsErrOf result StoreFault.NoMemory → ⊥)
+        ensures any_moment { B.told → IsQuiet B.Bench bench.old → (IsErrOf result Stop.NoMemory → ⊥)
             → Keeps B.Bench bench.old bench.new (table_of self.old) self.old.history asked.now (B.sent bench.old) }
         ensures moments { B.told → IsQuiet B.Bench bench.old
             → IfOk result (λ v. LeavesOnly B.Bench bench.old bench.new (IsBeforeOrAfter self.old.secret.shape self.old.history (records_made asked.now v.items) (B.sent bench.old))) }
@@ -189,7 +189,7 @@ impl Store {
         bench: &mut B,
         spare: &mut S,
         asked: &[Asked],
-    ) -> Result<Vec<Outcome>, KeepFault>
+    ) -> Result<Vec<Outcome>, Stop>
         requires usable { self.old.usable ≡ true }
         requires other { IsJournalOf self.old.secret.shape self.old.history other.old }
         requires few { length asked.now ≤ 64 }
@@ -206,28 +206,29 @@ impl Store {
 
         // A refusal leaves the history as it was. The spare comes first: if a call of it failed the bench wasn't called.
         ensures kept { OnErr result ((self.new.history ≡ self.old.history) × (self.new.usable ≡ false)) }
-        ensures no_memory { IsErrOf result KeepFault.NoMemory → (bench.new ≡ bench.old) × (spare.new ≡ spare.old) }
-        ensures spare_first { IsErrOf result KeepFault.Spare → bench.new ≡ bench.old }
-        ensures fault { TellsFault B.Bench bench.old bench.new (IsErrOf result KeepFault.Bench) }
-        ensures spare_fault { TellsFault S.Bench spare.old spare.new (IsErrOf result KeepFault.Spare) }
+        ensures no_memory { IsErrOf result Stop.NoMemory → (bench.new ≡ bench.old) × (spare.new ≡ spare.old) }
+        ensures spare_first { IsErrOf result Stop.Spare → bench.new ≡ bench.old }
+        ensures fault { TellsFault B.Bench bench.old bench.new (IsErrOf result Stop.Bench) }
+        ensures spare_fault { TellsFault S.Bench spare.old spare.new (IsErrOf result Stop.Spare) }
+        ensures ends { IfErr result IsOfBenches }
         ensures secret { self.new.secret ≡ self.old.secret }
         ensures protected { self.new.protected ≡ self.old.protected }
         ensures is { IsStore self.new }
 
         // A crash at any moment leaves on each the history before, or that with the records of the group. If a call of the bench failed
         // the spare stands for the latter.
-        ensures any_moment { B.told → IsQuiet B.Bench bench.old → (IsErrOf result KeepFault.NoMemory → ⊥)
+        ensures any_moment { B.told → IsQuiet B.Bench bench.old → (IsErrOf result Stop.NoMemory → ⊥)
             → Keeps B.Bench bench.old bench.new (table_of self.old) self.old.history asked.now (B.sent bench.old) }
-        ensures spare_moments { S.told → IsQuiet S.Bench spare.old → (IsErrOf result KeepFault.NoMemory → ⊥)
+        ensures spare_moments { S.told → IsQuiet S.Bench spare.old → (IsErrOf result Stop.NoMemory → ⊥)
             → Keeps S.Bench spare.old spare.new (table_of self.old) self.old.history asked.now (S.sent spare.old) }
-        ensures ahead { B.told → S.told → IsQuiet B.Bench bench.old → IsErrOf result KeepFault.Bench → (image : List ℕ) → B.leaves bench.new image
+        ensures ahead { B.told → S.told → IsQuiet B.Bench bench.old → IsErrOf result Stop.Bench → (image : List ℕ) → B.leaves bench.new image
             → KeptAhead (S.file spare.new) image (table_of self.old) self.old.history asked.now }
 
         // A group that makes no record leaves both as they were, any other takes four calls of each.
         ensures written { B.told → IfOk result (λ v. HasGroup self.old.secret.shape (records_made asked.now v.items) self.old.journal.gate (B.file bench.old) (B.file bench.new)) }
         ensures spare_written { S.told → IfOk result (λ v. HasGroup self.old.secret.shape (records_made asked.now v.items) other.old.gate (S.file spare.old) (S.file spare.new)) }
-        ensures quiet { B.told → IsQuiet B.Bench bench.old → (IsErrOf result KeepFault.Bench → ⊥) → IsQuiet B.Bench bench.new }
-        ensures spare_quiet { S.told → IsQuiet S.Bench spare.old → (IsErrOf result KeepFault.Spare → ⊥) → IsQuiet S.Bench spare.new }
+        ensures quiet { B.told → IsQuiet B.Bench bench.old → (IsErrOf result Stop.Bench → ⊥) → IsQuiet B.Bench bench.new }
+        ensures spare_quiet { S.told → IsQuiet S.Bench spare.old → (IsErrOf result Stop.Spare → ⊥) → IsQuiet S.Bench spare.new }
         ensures sent { B.sent bench.new ≡ B.sent bench.old }
         ensures spare_sent { S.sent spare.new ≡ S.sent spare.old }
         ensures ticks { B.told → IfOk result (λ v. B.moment bench.new ≡ B.moment bench.old + calls_for (records_made asked.now v.items)) }
@@ -240,11 +241,11 @@ impl Store {
         let ready = made_ready(&self.journal, group)?;
         match keep_ready(other, spare, &ready) {
             Ok(()) => {}
-            Err(Failed) => return Err(KeepFault::Spare),
+            Err(Failed) => return Err(Stop::Spare),
         }
         match keep_ready(&mut self.journal, bench, &ready) {
             Ok(()) => {}
-            Err(Failed) => return Err(KeepFault::Bench),
+            Err(Failed) => return Err(Stop::Bench),
         }
         self.released = self.sealed.core().history().len() as u32;
         self.usable = true;
@@ -279,11 +280,7 @@ impl Store {
 
     /// Goes on with records that its journal lacks, and brings that up to them, in groups of up to 64. They aren't decided again.
     /// After a refusal the store isn't usable, and some of them may have been appended.
-    pub fn bring_up<B: Bench>(
-        &mut self,
-        bench: &mut B,
-        missing: &[Answered],
-    ) -> Result<(), StoreFault>
+    pub fn bring_up<B: Bench>(&mut self, bench: &mut B, missing: &[Answered]) -> Result<(), Stop>
         requires usable { self.old.usable ≡ true }
         requires legal { IsLegal (table_of self.old) (self.old.history ++ missing.now) }
         requires stands { B.told → IsAsLeft (B.file bench.old) self.old }
@@ -299,11 +296,12 @@ impl Store {
         // A crash at any moment leaves the history with some of them, from the first on.
         ensures any_moment { B.told → IsQuiet B.Bench bench.old
             → LeavesOnly B.Bench bench.old bench.new (IsBroughtUp self.old.secret.shape self.old.history missing.now (B.sent bench.old)) }
-        ensures no_memory { B.told → IsErrOf result StoreFault.NoMemory → StandsWithSome self.old.secret.shape self.old.history missing.now (B.file bench.new) }
-        ensures quiet { B.told → IsQuiet B.Bench bench.old → (IsErrOf result StoreFault.Failed → ⊥) → IsQuiet B.Bench bench.new }
+        ensures no_memory { B.told → IsErrOf result Stop.NoMemory → StandsWithSome self.old.secret.shape self.old.history missing.now (B.file bench.new) }
+        ensures quiet { B.told → IsQuiet B.Bench bench.old → (IsErrOf result Stop.Bench → ⊥) → IsQuiet B.Bench bench.new }
         ensures sent { B.sent bench.new ≡ B.sent bench.old }
         ensures ticks { B.told → OnOk result (B.moment bench.new ≡ B.moment bench.old + calls_to_bring_up missing.now) }
-        ensures fault { TellsFault B.Bench bench.old bench.new (IsErrOf result StoreFault.Failed) }
+        ensures fault { TellsFault B.Bench bench.old bench.new (IsErrOf result Stop.Bench) }
+        ensures ends { IfErr result IsOfBench }
     {
         self.usable = false;
         take_all(&mut self.sealed, missing)?;

@@ -6,13 +6,14 @@ use Rattle.audit_types.specs.History.{Table as Guarded}
 use Rattle.bench_core.specs.Causes.{Rose}
 use Rattle.audit_types.specs.declared.shapes.Shape.{Shape}
 use Rattle.answer_journal.specs.Moments.{IsMade}
-use Rattle.auditor_top.specs.declared.compacting.CompactFault.{CompactFault}
-use Rattle.auditor_top.specs.declared.compacting.CompactFault.TheVariants as compact
+use Rattle.journal_compact.specs.Compactions.{Compacts, CompactsFront}
+use Rattle.journal_compact.specs.declared.compacting.CompactFault.{CompactFault}
+use Rattle.journal_compact.specs.declared.compacting.CompactFault.TheVariants as compact
 use Rattle.auditor_top.specs.declared.words.Command.TheVariants.{Compact}
 use Rattle.auditor_top.specs.declared.status.Which.TheVariants.{Input}
 use Rattle.auditor_top.specs.declared.status.Status.TheVariants.{Done, SourceFault, BenchFault, SpareFault, NoMemory}
 use Rattle.auditor_top.specs.Causes.{FaultCounts, FaultCause, WordCause, FileCause, SpareCause, HoldsLegal, NothingFailed, IsDoneOrWants}
-use Rattle.auditor_top.specs.Compactions.{CompactEnds, Compacts, CompactsFront}
+use Rattle.auditor_top.specs.Compactions.{CompactEnds}
 use Rattle.auditor_top.specs.Stages.{Before, opening_spare, reading_lines}
 use Rattle.auditor_top.specs.Faults.{compacting_status}
 use Rattle.auditor_top.proofs.StepStatuses.{EndsLastStep}

@@ -28,10 +28,6 @@ use Rattle.auditor_top.specs.Runs.{Objects, Does}
 use Rattle.auditor_top.proofs.OneCommand.{one_command}
 use Rattle.auditor_top.proofs.OneTable.{OneReading, untouched_stops}
 
--- the empty history is legal
-pub nothing_is_legal : (table : Table) → IsLegal table []
-nothing_is_legal table = record { few = omega arith; each = λ i r is. cc }
-
 pub lead_push : (at : Standing) (runs : List Run) (mid : Standing) (run : Run) → Lead at runs mid → GoesFrom mid run →
     Lead at (runs ++ run ∷ []) run.left
 lead_push at [] mid run lead goes = (subst (λ (s : Standing). GoesFrom s run) lead goes, refl)

@@ -13,7 +13,8 @@ use Rattle.auditor_top.specs.declared.status.Which.TheVariants.{Input}
 use Rattle.auditor_top.specs.declared.status.Status.{Status}
 use Rattle.auditor_top.specs.declared.status.Status.TheVariants.{Done, SourceFault, BenchFault, NoMemory}
 use Rattle.auditor_top.specs.Commands.{SimulatesOver}
-use Rattle.auditor_top.specs.Compactions.{CompactEnds, SendsCounts}
+use Rattle.journal_compact.specs.Compactions.{SendsCounts}
+use Rattle.auditor_top.specs.Compactions.{CompactEnds}
 use Rattle.auditor_top.specs.Ends.{AuditEnds, audit_over, people_over, public_part}
 use Rattle.auditor_top.specs.Shown.{AreShownAlike}
 

@@ -1,5 +1,5 @@
 -- What follows from the status of each step of a run by itself.
-use Rattle.std.proofs.Common.{◌≡◌, ◌≢◌, ◌≤◌, List, ℕ, true, false, Bool, Result, IsOk, arith, refl, subst, sym, rules}
+use Rattle.std.proofs.Common.{◌≡◌, ◌≢◌, List, ℕ, true, false, Bool, Result, IsOk, arith, refl, subst, sym, rules}
 use Rattle.std.specs.Bool.{OnTrue}
 use Rattle.schema_json.specs.Columns.{Column, Guards, SchemaView}
 use Rattle.schema_json.specs.declared.faults.SchemaFault.{SchemaFault}
@@ -7,11 +7,10 @@ use Rattle.schema_json.specs.declared.faults.SchemaFault.TheVariants as schema_f
 use Rattle.table_load.specs.declared.faults.TableFault.{TableFault}
 use Rattle.table_load.specs.declared.faults.TableFault.TheVariants as table_fault
 use Rattle.set_index.specs.Groups.{AreSound}
-use Rattle.auditor_top.specs.declared.status.Which.{Which}
 use Rattle.auditor_top.specs.declared.status.Which.TheVariants.{Schema, Table, Input}
 use Rattle.auditor_top.specs.declared.status.Status.{Status}
 use Rattle.auditor_top.specs.declared.status.Status.TheVariants.{Done, BadWords, BadSchema, BadTable, SourceFault, BenchFault, InputLimit, Disagrees, BadOnly, BadGroup, SpareFault, NoMemory}
-use Rattle.auditor_top.specs.Causes.{FaultCounts, counts, NeverFall, SchemaCause, TableCause, GroupCause, InputCause}
+use Rattle.auditor_top.specs.Causes.{FaultCounts, NeverFall, SchemaCause, TableCause, GroupCause, InputCause}
 use Rattle.auditor_top.specs.Ready.{EndsEarly, GivesUp}
 use Rattle.auditor_top.specs.Stages.{Stage, reading_schema, reading_table, reading_groups, opening_journal, reading_lines, is_short_of, has_passed, reached, Before, Passed}
 
@@ -38,12 +37,6 @@ before_so stage status follows holds = so_then (is_short_of stage (reached statu
 pub never_fall : (before : FaultCounts) → NeverFall before before
 never_fall before = record { schema = omega arith; table = omega arith; input = omega arith; bench = omega arith; spare = omega arith }
 
--- nor if the bench's alone rose
-pub bench_rose : (schema table input bench later spare : ℕ) → bench ≤ later →
-    NeverFall (counts schema table input bench spare) (counts schema table input later spare)
-bench_rose schema table input bench later spare rose =
-    record { schema = omega arith; table = omega arith; input = omega arith; bench = rose; spare = omega arith }
-
 -- ---- no command was taken
 
 -- a status that isn't a fault of a step
@@ -62,16 +55,6 @@ bad_words_say = search rules
 
 pub no_memory_says : IsNoStep NoMemory
 no_memory_says = search rules
-
--- no source failed if the run is done, if the bench failed and if memory ran out
-pub done_no_source : (which : Which) → Done ≢ SourceFault which
-done_no_source which is = cc
-
-pub bench_no_source : (which : Which) → BenchFault ≢ SourceFault which
-bench_no_source which is = cc
-
-pub memory_no_source : (which : Which) → NoMemory ≢ SourceFault which
-memory_no_source which is = cc
 
 -- ---- the command didn't go on
 

@@ -1,56 +1,14 @@
--- What `compact` writes on the spare, and what it sends: a journal of the records that are kept of the history, and a line on them.
-use Rattle.std.specs.Prelude.{◌≡◌, ◌⊎◌, ◌↔◌, ◌<◌, ◌++◌, ℕ, List, length, codes, decimal}
+-- How a run of `compact` ends, and what a journal that it left has in common with the one there was.
+use Rattle.std.specs.Prelude.{◌≡◌, ◌⊎◌, ◌↔◌, ◌<◌, ℕ, List}
 use Rattle.audit_types.specs.declared.shapes.Shape.{Shape}
 use Rattle.audit_types.specs.declared.records.Answered.{Answered}
 use Rattle.audit_types.specs.declared.records.Verdict.{Verdict}
 use Rattle.audit_types.specs.Shapes.{columns}
 use Rattle.audit_types.specs.History.{Table, IsLegal, IsDecisionAfter}
-use Rattle.bench_core.specs.Bench.{AppendsFront}
-use Rattle.journal_form.specs.Journal.{StandsFor}
-use Rattle.journal_compact.specs.Kept.{IsKeptOf}
-use Rattle.journal_compact.specs.Whole.{HoldsWhole}
-use Rattle.journal_compact.specs.declared.whole.WholeFault.{WholeFault}
-use Rattle.journal_compact.specs.declared.whole.WholeFault.TheVariants as whole
-use Rattle.answer_journal.specs.Moments.{IsMade}
-use Rattle.auditor_top.specs.declared.compacting.CompactFault.{CompactFault}
-use Rattle.auditor_top.specs.declared.compacting.CompactFault.TheVariants as compact
+use Rattle.journal_compact.specs.Compactions.{Compacts, CompactsFront}
 use Rattle.auditor_top.specs.declared.status.Which.TheVariants.{Schema, Table as TableFile}
 use Rattle.auditor_top.specs.declared.status.Status.{Status}
 use Rattle.auditor_top.specs.declared.status.Status.TheVariants.{Done, SourceFault, BenchFault, SpareThere, SpareFault, NoMemory}
-
--- the line that tells how many records a history has, and how many of them are kept
-abbrev pub compact_line : ℕ → ℕ → List ℕ
-compact_line records kept = codes "{\"records\":" ++ (decimal records ++ (codes ",\"kept\":" ++ (decimal kept ++ codes "}\n")))
-
--- the file stands for what is kept of the history, over the rows in force
-pub record HoldsKept (shape : Shape) (history : List Answered) (file : List ℕ) : Type 0 where
-  pub kept : List Answered
-  pub are : IsKeptOf shape history kept
-  pub stands : StandsFor file shape kept
-
--- the new file stands so, and holds what is kept whole, with nothing behind its last gate but what stood there in the old one
-pub record WritesKept (shape : Shape) (history : List Answered) (old new : List ℕ) : Type 0 where
-  pub holds : HoldsKept shape history new
-  pub whole : HoldsWhole shape holds.kept old new
-
--- and the line on it was sent
-abbrev pub Compacts : Shape → List Answered → List ℕ → List ℕ → List ℕ → List ℕ → Type 0
-Compacts shape history spare new_spare before after =
-    (writes : WritesKept shape history spare new_spare) × (after ≡ before ++ compact_line (length history) (length writes.holds.kept))
-
--- or a front of the line
-abbrev pub CompactsFront : Shape → List Answered → List ℕ → List ℕ → List ℕ → List ℕ → Type 0
-CompactsFront shape history spare new_spare before after =
-    (writes : WritesKept shape history spare new_spare) × AppendsFront before (compact_line (length history) (length writes.holds.kept)) after
-
--- what a crash finds on the spare: nothing was sent there, and the image isn't a made journal, or stands for what is kept
-abbrev pub IsUnmadeOrKept : Shape → List Answered → List ℕ → List ℕ → List ℕ → Type 0
-IsUnmadeOrKept shape history before image sent = (sent ≡ before) × ((IsMade image → ⊥) ⊎ HoldsKept shape history image)
-
--- what a crash finds on the bench: the file is as it was, and nothing was sent, or a front of the line
-abbrev pub SendsCounts : Shape → List Answered → List ℕ → List ℕ → List ℕ → List ℕ → Type 0
-SendsCounts shape history file before image sent = (image ≡ file) × ((sent ≡ before) ⊎ ((kept : List Answered) × IsKeptOf shape history kept ×
-    AppendsFront before (compact_line (length history) (length kept)) sent))
 
 -- what the spare holds then, and what was sent. Files without fault and a legal journal are never refused
 abbrev pub CompactEnds : Status → Shape → List Answered → List ℕ → List ℕ → List ℕ → List ℕ → Type 0
@@ -68,9 +26,3 @@ pub record DecideAlike (table : Table) (history others : List Answered) : Type 0
   pub legal : IsLegal table others
   pub alike : (column : ℕ) (rows : List ℕ) (verdict : Verdict) → column < columns table.setting.shape →
       IsDecisionAfter table.setting history column rows verdict ↔ IsDecisionAfter table.setting others column rows verdict
-
--- the fault that a refusal to write the journal comes to
-abbrev pub whole_fault : WholeFault → CompactFault
-whole_fault whole.AlreadyThere = compact.AlreadyThere
-whole_fault whole.Failed = compact.Spare
-whole_fault whole.NoMemory = compact.NoMemory

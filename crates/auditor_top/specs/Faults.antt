@@ -2,6 +2,8 @@
 use Rattle.std.specs.Prelude.{Result, Ok, Err}
 use Rattle.answer_journal.specs.declared.make.MakeFault.{MakeFault}
 use Rattle.answer_journal.specs.declared.make.MakeFault.TheVariants as make
+use Rattle.bench_core.specs.declared.stops.Stop.{Stop}
+use Rattle.bench_core.specs.declared.stops.Stop.TheVariants as stop
 use Rattle.audit_session.specs.declared.serving.EndFault.{EndFault}
 use Rattle.audit_session.specs.declared.serving.EndFault.TheVariants as end
 use Rattle.audit_session.specs.declared.session.TwinEnd.{TwinEnd}
@@ -23,8 +25,8 @@ use Rattle.journal_audit.specs.declared.faults.AuditFault.{AuditFault}
 use Rattle.journal_audit.specs.declared.faults.AuditFault.TheVariants as report
 use Rattle.transcript_sim.specs.declared.simulating.SimulationFault.{SimulationFault}
 use Rattle.transcript_sim.specs.declared.simulating.SimulationFault.TheVariants as verdict
-use Rattle.auditor_top.specs.declared.compacting.CompactFault.{CompactFault}
-use Rattle.auditor_top.specs.declared.compacting.CompactFault.TheVariants as compact
+use Rattle.journal_compact.specs.declared.compacting.CompactFault.{CompactFault}
+use Rattle.journal_compact.specs.declared.compacting.CompactFault.TheVariants as compact
 use Rattle.auditor_top.specs.declared.files.FileFault.TheVariants as file
 use Rattle.auditor_top.specs.declared.opening.OpenFault.{OpenFault}
 use Rattle.auditor_top.specs.declared.opening.OpenFault.TheVariants as opening
@@ -33,6 +35,14 @@ use Rattle.auditor_top.specs.declared.starting.NotStarted.TheVariants as startin
 use Rattle.auditor_top.specs.declared.status.Which.TheVariants.{Schema, Table, Input}
 use Rattle.auditor_top.specs.declared.status.Status.{Status}
 use Rattle.auditor_top.specs.declared.status.Status.TheVariants.{Done, BadSchema, BadTable, SourceFault, BenchFault, NotMade, AlreadyThere, Damaged, OtherShape, NothingNew, Untrue, Illegal, InputLimit, Disagrees, BadOnly, BadGroup, SpareThere, SpareFault, BadSpare, TwinsDiffer, NothingLost, NoMemory}
+
+-- of a call of the outside that ended it
+abbrev pub stop_status : Stop → Status
+stop_status stop.Input = SourceFault Input
+stop_status stop.Limit = InputLimit
+stop_status stop.Bench = BenchFault
+stop_status stop.Spare = SpareFault
+stop_status stop.NoMemory = NoMemory
 
 -- of opening the files
 abbrev pub open_status : OpenFault → Status
@@ -147,6 +157,11 @@ verdict_status (verdict.Damaged at) = Damaged at
 verdict_status (verdict.OtherShape kept now) = OtherShape kept now
 verdict_status (verdict.Illegal place group) = Illegal place group
 verdict_status verdict.NoMemory = NoMemory
+
+-- of a step that only a call of the outside ends early, by how it ended: a drill
+abbrev pub ended_status : {X : Type 0} → Result X Stop → Status
+ended_status (Ok done) = Done
+ended_status (Err why) = stop_status why
 
 -- of making a journal, by how it ended
 abbrev pub making_status : {X : Type 0} → Result X MakeFault → Status

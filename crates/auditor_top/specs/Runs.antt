@@ -12,7 +12,7 @@ use Rattle.set_index.specs.Indexed.{IndexView}
 use Rattle.table_load.specs.Database.{Database, table_in}
 use Rattle.journal_form.specs.Journal.{StandsFor}
 use Rattle.answer_journal.specs.Make.{calls_to_make}
-use Rattle.answer_journal.specs.Moments.{IsAlready, IsMade, IsBeforeOrGrown, IsUnmadeOrEmpty}
+use Rattle.answer_journal.specs.Moments.{IsAlready, IsMade, IsBeforeOrGrown, IsUnmadeOrWhole}
 use Rattle.line_wire.specs.Lines.{CountedLine, counted_lines, most_input}
 use Rattle.question_plan.specs.Session.{Replied, bytes_of}
 use Rattle.audit_session.specs.Ends.{KeepsCalls, TakesCalls}
@@ -29,8 +29,8 @@ use Rattle.auditor_top.specs.declared.words.Command.TheVariants.{Init, Serve, Au
 use Rattle.auditor_top.specs.declared.status.Status.{Status}
 use Rattle.auditor_top.specs.declared.status.Status.TheVariants.{Done, BenchFault, SpareFault, NoMemory}
 use Rattle.bench_core.specs.Causes.{Rose}
-use Rattle.auditor_top.specs.Compactions.{CompactEnds, DecideAlike, IsUnmadeOrKept, SendsCounts}
-use Rattle.journal_compact.specs.Whole.{IsUnmadeOrWhole}
+use Rattle.journal_compact.specs.Compactions.{IsUnmadeOrKept, SendsCounts}
+use Rattle.auditor_top.specs.Compactions.{CompactEnds, DecideAlike}
 use Rattle.twin_journal.specs.Restoring.{CanRestore, IsLost, IsLostOf, Restored, StandForTheSame, TakeCalls}
 use Rattle.twin_journal.specs.Twins.{CatchesUpOrStops, SpareCatchesUpOrStops, calls_to_open}
 use Rattle.auditor_top.specs.Stages.{Before, opening_journal, reading_lines}
@@ -148,7 +148,7 @@ pub record Making {P I B : Type 0} (files : source.Ghosts P) (lines : source.Gho
       LeavesOnly bench old.bench new.bench (IsUntouched (bench.file old.bench) (bench.sent old.bench))
   pub making : files.told → bench.told → ¬ (IsAlready (bench.file old.bench)) → IsQuiet bench old.bench → (base : Database) →
       AreFilesOf (files.left old.schema) (files.left old.table) base →
-      LeavesOnly bench old.bench new.bench (IsUnmadeOrEmpty base.secret.shape (bench.sent old.bench))
+      LeavesOnly bench old.bench new.bench (IsUnmadeOrWhole base.secret.shape [] (bench.sent old.bench))
   pub unmade : status ≡ NoMemory → new.bench ≡ old.bench
   -- it took seven calls of the bench, or six over a file of 21 bytes
   pub init_calls : bench.told → status ≡ Done → bench.moment new.bench ≡ bench.moment old.bench + calls_to_make (bench.file old.bench)

@@ -20,7 +20,8 @@ use Rattle.transcript_sim.specs.Verdicts.{AreVerdicts}
 use Rattle.auditor_top.specs.declared.status.Status.{Status}
 use Rattle.auditor_top.specs.declared.status.Status.TheVariants.{Done}
 use Rattle.auditor_top.specs.Commands.{AreSoundFilesOf, SimulatesOver}
-use Rattle.auditor_top.specs.Compactions.{CompactEnds, SendsCounts}
+use Rattle.journal_compact.specs.Compactions.{SendsCounts}
+use Rattle.auditor_top.specs.Compactions.{CompactEnds}
 use Rattle.auditor_top.specs.Ends.{AuditEnds, audit_over, subjects_over, public_part}
 
 -- after one history the same is shown of both tables: `audit` and `compact` may send of the one what they may send of the other, and nothing

@@ -1,14 +1,15 @@
 //! The status of the last step of a command, by how it ended.
 ghost use Rattle.std.specs.Prelude.{◌≡◌};
-ghost use Rattle.auditor_top.specs.Faults.{making_status, session_status, audit_status, simulation_status, growing_status, compacting_status, as_session, twin_session_status, restoring_status};
+ghost use Rattle.auditor_top.specs.Faults.{ended_status, making_status, session_status, audit_status, simulation_status, growing_status, compacting_status, as_session, twin_session_status, restoring_status};
 
-use crate::compacting::CompactFault;
 use crate::status::Status;
 use answer_journal::MakeFault;
 use audit_session::{EndFault, TwinEnd};
 use audit_store::GrowFault;
+use bench_core::Stop;
 use certificate_lines::ExplainFault;
 use journal_audit::AuditFault;
+use journal_compact::CompactFault;
 use transcript_sim::SimulationFault;
 use twin_journal::RestoreFault;
 
@@ -49,6 +50,16 @@ pub fn judged(simulation: Result<(), SimulationFault>) -> Status
     match simulation {
         Ok(()) => Status::Done,
         Err(fault) => Status::from(fault),
+    }
+}
+
+/// The status of a drill that ended so.
+pub fn drilled(drill: Result<(), Stop>) -> Status
+    ensures { result ≡ ended_status drill }
+{
+    match drill {
+        Ok(()) => Status::Done,
+        Err(stop) => Status::from(stop),
     }
 }
 

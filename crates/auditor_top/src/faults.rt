@@ -1,5 +1,4 @@
 //! The status that the fault of each step comes to.
-use crate::compacting::CompactFault;
 use crate::files::FileFault;
 use crate::opening::OpenFault;
 use crate::starting::NotStarted;
@@ -7,8 +6,10 @@ use crate::status::{Status, Which};
 use answer_journal::MakeFault;
 use audit_session::{EndFault, TwinEnd};
 use audit_store::{GrowFault, StartFault};
+use bench_core::Stop;
 use certificate_lines::ExplainFault;
 use journal_audit::AuditFault;
+use journal_compact::CompactFault;
 use set_index::{GuardPart, IndexFault};
 use transcript_sim::SimulationFault;
 use twin_journal::{RestoreFault, TwinFault};
@@ -112,6 +113,23 @@ impl From<GrowFault> for Status {
             GrowFault::Illegal { place, group } => Status::Illegal { place, group },
             GrowFault::Failed => Status::BenchFault,
             GrowFault::NoMemory => Status::NoMemory,
+        }
+    }
+}
+
+impl From<Stop> for Status {
+    ghost use Rattle.std.specs.Prelude.{◌≡◌};
+    ghost use Rattle.auditor_top.specs.Faults.{stop_status};
+
+    ghost from_gives = { λ stop status. status ≡ stop_status stop };
+
+    fn from(stop: Stop) -> Status {
+        match stop {
+            Stop::Input => Status::SourceFault(Which::Input),
+            Stop::Limit => Status::InputLimit,
+            Stop::Bench => Status::BenchFault,
+            Stop::Spare => Status::SpareFault,
+            Stop::NoMemory => Status::NoMemory,
         }
     }
 }

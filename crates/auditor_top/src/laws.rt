@@ -9,7 +9,8 @@ ghost use Rattle.table_load.specs.Cells.{IsSecret};
 ghost use Rattle.table_load.specs.Database.{Database, IsDatabase, AreLines, table_in};
 ghost use Rattle.audit_session.specs.Stops.{StopsOver, IsBatch};
 ghost use Rattle.auditor_top.specs.Commands.{AreSoundFilesOf};
-ghost use Rattle.auditor_top.specs.Compactions.{DecideAlike, IsUnmadeOrKept};
+ghost use Rattle.journal_compact.specs.Compactions.{IsUnmadeOrKept};
+ghost use Rattle.auditor_top.specs.Compactions.{DecideAlike};
 ghost use Rattle.auditor_top.specs.declared.words.Command.TheVariants.{Init, Serve, Audit, Simulate, Drill, Grow, Explain, Compact, Restore};
 ghost use Rattle.auditor_top.specs.Words.{command_of, number_of};
 ghost use Rattle.auditor_top.specs.Promise.{LivesKeepPromise, LivesGoOn, LivesGrow, GrowthsAreTaken, MadeIsTaken, StopsAreTaken, TwinStopsAreTaken, RunsMakeLives, ServedIsSimulated};
@@ -49,7 +50,7 @@ pub fn compactions()
     sound_files();
     table_load::lists_of_secrets();
     journal_form::laws::one_reading();
-    journal_compact::laws::kept_of_legal();
+    implied_records::laws::kept_of_legal();
 }
 
 /// In every life over a table that lives the last history is legal for the last table, discloses nothing of it that is guarded, and

@@ -3,8 +3,6 @@
 //! `run` is the one call, and the theorem of the product stands on its contract.
 #![tactic(auto)]
 
-mod compacting;
-mod drilling;
 mod ends;
 mod faults;
 mod files;

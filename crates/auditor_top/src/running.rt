@@ -21,10 +21,9 @@ ghost use Rattle.auditor_top.specs.Promise.{GoesOn};
 ghost use Rattle.auditor_top.specs.Runs.{objects, Does};
 ghost use Rattle.auditor_top.specs.Stages.{Before, reading_table, opening_journal, opening_spare, reading_lines};
 
-use crate::compacting::compact;
-use crate::drilling::drill;
 use crate::ends::{
-    answered, compacted, explained, grown, judged, made, reported, restored, twins_answered,
+    answered, compacted, drilled, explained, grown, judged, made, reported, restored,
+    twins_answered,
 };
 use crate::laws::{compactions, lives, stops_are_legal};
 use crate::ready::{Ready, open};
@@ -33,7 +32,9 @@ use crate::words::{Command, WordFault, read_words};
 use answer_journal::Journal;
 use audit_store::Store;
 use bench_core::{Bench, Source};
+use drill_case::drill;
 use journal_audit::audit;
+use journal_compact::compact;
 use schema_json::SchemaFault;
 use std::alloc::Global;
 use table_load::TableFault;
@@ -153,7 +154,7 @@ pub fn run<P: Source, I: Source, B: Bench>(
         Ok(Ready::Simulate(schema, index)) => judged(transcript_sim::simulate(
             alloc, &schema, &index, input, bench,
         )),
-        Ok(Ready::Drill(number)) => drill(alloc, number, bench),
+        Ok(Ready::Drill(number)) => drilled(drill(alloc, number, bench)),
         Ok(Ready::Grow(secret, protected)) => grown(Store::grow(alloc, secret, protected, bench)),
         Ok(Ready::Explain(schema, index, store)) => explained(certificate_lines::explain(
             alloc, &schema, &index, &store, input, bench,

@@ -13,3 +13,4 @@ pub mod DiskContents
 pub mod LogContents
 pub mod BenchLaws
 pub mod BenchTies
+pub mod Stops

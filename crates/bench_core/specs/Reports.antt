@@ -1,5 +1,6 @@
 -- What is reported of a bench: of one that wasn't called, of one whose call failed, and of one whose call didn't.
-use Rattle.std.proofs.Common.{◌≡◌, true, List, ℕ, Result, Ok, Err, refl, ap, arith}
+use Rattle.std.proofs.Common.{◌≡◌, true, List, ℕ, Result, Ok, Err, refl, sym, subst, ap, arith}
+use Rattle.std.specs.Prelude.{IsErrOf}
 use Rattle.std.specs.Result.{IsErr, IsErrAnd}
 use Rattle.std.proofs.lemmas.Bool.{false≢true}
 use Rattle.bench_core.specs.declared.bench.Bench.{Ghosts}
@@ -59,6 +60,11 @@ module _ {D : Type 0} (bench : Ghosts D) where
     steady = λ other. tells.steady (λ told. other (to told));
   }
 
+  -- a failure that is reported of a call is reported of the answer that passes its refusal on
+  pub passed_on : {X Y E : Type 0} (old new : D) (given stop : E) (answer : Result Y E) → answer ≡ Err given →
+      TellsFault bench old new (IsErrOf {T = X} (Err given) stop) → TellsFault bench old new (IsErrOf answer stop)
+  passed_on old new given stop answer same tells = told_as old new _ _ (λ is. cc) (λ is. cc) tells
+
 -- an answer that refuses with a fault is that refusal
 pub is_refusal : {X E : Type 0} (answer : Result X E) (given : E) → IsErr answer × IsErrAnd answer (λ e. e ≡ given) → answer ≡ Err given
 is_refusal (Ok x) given refuses = absurd (false≢true refuses.0)
@@ -66,3 +72,8 @@ is_refusal {X} {E} (Err e) given refuses = ap (λ (f : E). refusal f) refuses.1
   where
     refusal : E → Result X E
     refusal f = Err f
+
+-- what holds of that refusal holds of the answer
+pub of_refusal : {X E : Type 0} (answer : Result X E) (given : E) → IsErr answer × IsErrAnd answer (λ e. e ≡ given) → (P : Result X E → Type 0) →
+    P (Err given) → P answer
+of_refusal answer given refuses P holds = subst P (sym (is_refusal answer given refuses)) holds

@@ -13,6 +13,7 @@ mod memory_source;
 mod room;
 mod source;
 mod steady_source;
+mod stops;
 
 pub use bench::Bench;
 pub use memory_bench::MemoryBench;
@@ -20,3 +21,4 @@ pub use memory_source::MemorySource;
 pub use room::Room;
 pub use source::{Failed, Source};
 pub use steady_source::SteadySource;
+pub use stops::Stop;

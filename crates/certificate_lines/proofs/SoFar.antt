@@ -9,6 +9,8 @@ use Rattle.bench_core.specs.declared.bench.Bench.{Ghosts}
 use Rattle.bench_core.specs.declared.source.Source.{Ghosts as SourceGhosts}
 use Rattle.bench_core.specs.Bench.{AppendsFront, Elapses, Sending}
 use Rattle.bench_core.specs.Causes.{Rose}
+use Rattle.bench_core.specs.declared.stops.Stop.{Stop}
+use Rattle.bench_core.specs.declared.stops.Stop.TheVariants as stop
 use Rattle.schema_json.specs.Columns.{Column}
 use Rattle.set_index.specs.Indexed.{IndexView}
 use Rattle.line_wire.specs.Lines.{CountedLine, counted_lines}
@@ -17,21 +19,17 @@ use Rattle.line_wire.specs.Calls.{Cuts, GivesLine, GivesNone}
 use Rattle.line_wire.specs.WhichLines.{AreFirst}
 use Rattle.line_wire.specs.LinesSoFar.{LinesSoFar, none_yet, first_lines, one_line_more, all_lines, all_input, lines_read, input_read, lines_within, input_over}
 use Rattle.line_wire.specs.SentSoFar.{SentSoFar, none_sent, one_sent, front_sent, moments_then}
-use Rattle.question_plan.specs.declared.planner.PlanStop.{PlanStop}
-use Rattle.question_plan.specs.declared.planner.PlanStop.TheVariants as stop
 use Rattle.question_plan.specs.Planned.{IsUnplanned}
-use Rattle.certificate_lines.specs.declared.explaining.ExplainFault.{ExplainFault}
-use Rattle.certificate_lines.specs.declared.explaining.ExplainFault.TheVariants as fault
 use Rattle.certificate_lines.specs.Explained.{IsExplained, AreExplained}
-use Rattle.certificate_lines.specs.Ends.{EndLines, EndReads, EndSends, ExplainsMeanwhile, Explains, stop_end}
+use Rattle.certificate_lines.specs.Ends.{EndLines, EndReads, EndSends, ExplainsMeanwhile, Explains}
 
 -- the bytes of one more line
 pub bytes-push : (lines : List (List ℕ)) (line : List ℕ) → concat (lines ++ line ∷ []) ≡ concat lines ++ line
 bytes-push lines line = concat-append lines (line ∷ []) ∙ ap (λ (l : List ℕ). concat lines ++ l) (append-nil line)
 
--- a good answer isn't a fault
-pub no_fault : (fault : ExplainFault) → (let done : Result (Unit {0}) ExplainFault = Ok tt in done) ≡ Err fault → ⊥
-no_fault fault is = search rules
+-- a good answer isn't a stop
+pub no_stop : (why : Stop) → (let done : Result (Unit {0}) Stop = Ok tt in done) ≡ Err why → ⊥
+no_stop why is = search rules
 
 module _ {P B : Type 0} (source : SourceGhosts P) (bench : Ghosts B) (columns : List Column) (index : IndexView) (history : List Answered)
     (first_source : P) (first : B) where
@@ -113,7 +111,7 @@ module _ {P B : Type 0} (source : SourceGhosts P) (bench : Ghosts B) (columns : 
         -- it couldn't be
         pub line_unsent : (bench.told → AppendsFront (bench.sent at) line (bench.sent sending)) → Rose (bench.faults at) (bench.faults sending)
             → bench.last_failed sending ≡ true → bench.faults at ≤ bench.faults sending
-            → Explains source bench columns index history first_source after first sending (Err fault.Bench)
+            → Explains source bench columns index history first_source after first sending (Err stop.Bench)
         line_unsent part rose last later = record {
           explains = λ t. (
             asked ++ next ∷ [],
@@ -138,20 +136,21 @@ module _ {P B : Type 0} (source : SourceGhosts P) (bench : Ghosts B) (columns : 
           bench_last = λ is. last;
           source_steady = λ other. gives.steady ∙ so_far.read.steady;
           bench_steady = λ other. absurd (other refl);
+          alone = search rules;
         }
 
     -- ---- ends without a call of the bench
 
     -- by what is said of the lines and of the input
-    ends : (after : P) (result : Result (Unit {0}) ExplainFault) → result ≢ Err fault.Bench
+    ends : (after : P) (result : Result (Unit {0}) Stop) → result ≢ Err stop.Bench → result ≢ Err stop.Spare
         → (source.told → EndLines result (source.left first_source) (source.left after) asked)
         → (bench.told → EndSends result lines (bench.sent first) (bench.sent at)) →
         (source.told → bench.told → OnOk result (bench.moment at ≡ bench.moment first + length (counted_lines (source.left first_source)))) →
         (source.told → EndReads result (source.left first_source) (source.left after)) → source.faults from ≤ source.faults after
-        → (result ≡ Err fault.Input → Rose (source.faults from) (source.faults after)) → (result ≡ Err fault.Input → source.last_failed after ≡ true) →
-        (result ≢ Err fault.Input → source.faults after ≡ source.faults from)
+        → (result ≡ Err stop.Input → Rose (source.faults from) (source.faults after)) → (result ≡ Err stop.Input → source.last_failed after ≡ true) →
+        (result ≢ Err stop.Input → source.faults after ≡ source.faults from)
         → Explains source bench columns index history first_source after first at result
-    ends after result fine end sends calls reads later rose last steady = record {
+    ends after result fine alone end sends calls reads later rose last steady = record {
       explains = λ t. (asked, lines, end t, so_far.are, sends);
       calls = calls;
       reads = reads;
@@ -166,14 +165,15 @@ module _ {P B : Type 0} (source : SourceGhosts P) (bench : Ghosts B) (columns : 
       bench_last = λ is. absurd (fine is);
       source_steady = λ other. steady other ∙ so_far.read.steady;
       bench_steady = λ other. so_far.sends.steady;
+      alone = alone;
     }
 
     -- there was no memory
     pub wants_memory : (after : P) → source.faults after ≡ source.faults from →
-        Explains source bench columns index history first_source after first at (Err fault.NoMemory)
+        Explains source bench columns index history first_source after first at (Err stop.NoMemory)
     wants_memory after steady =
-        ends after (Err fault.NoMemory) (search rules) (first_lines source first_source from cutter asked so_far.read) so_far.sends.sent (λ t told. tt)
-        (λ t. tt)
+        ends after (Err stop.NoMemory) (search rules) (search rules) (first_lines source first_source from cutter asked so_far.read) so_far.sends.sent
+        (λ t told. tt) (λ t. tt)
         (omega (arith, steady)) (λ is. absurd (search rules)) (λ is. absurd (search rules)) (λ other. steady)
 
     module _ (new : Cutter) (after : P) (cuts : Cuts source cutter new from after) where
@@ -181,25 +181,28 @@ module _ {P B : Type 0} (source : SourceGhosts P) (bench : Ghosts B) (columns : 
       pub all_read : GivesNone source cutter new from after → Explains source bench columns index history first_source after first at (Ok tt)
       all_read gives =
           let all = all_lines source first_source from cutter asked so_far.read after new cuts gives in
-          ends after (Ok tt) (no_fault fault.Bench) (λ t. sym (all t)) so_far.sends.sent
+          ends after (Ok tt) (no_stop stop.Bench) (no_stop stop.Spare) (λ t. sym (all t)) so_far.sends.sent
           (λ t told.
           omega (
             arith,
             so_far.sends.ticks told,
             AllZip-long (IsExplained columns index history) asked lines so_far.are,
             ap (λ (ls : List CountedLine). length ls) (all t),
-          )) (all_input source first_source from cutter asked so_far.read after new cuts gives) cuts.later (λ is. absurd (no_fault fault.Input is))
-          (λ is. absurd (no_fault fault.Input is)) (λ other. gives.steady)
+          )) (all_input source first_source from cutter asked so_far.read after new cuts gives) cuts.later (λ is. absurd (no_stop stop.Input is))
+          (λ is. absurd (no_stop stop.Input is)) (λ other. gives.steady)
 
       -- no line was planned
-      pub cut_short : (why : PlanStop) → IsUnplanned source cutter new from after why →
-          Explains source bench columns index history first_source after first at (Err (stop_end why))
+      pub cut_short : (why : Stop) → IsUnplanned source cutter new from after why →
+          Explains source bench columns index history first_source after first at (Err why)
       cut_short stop.Input short =
-          ends after (Err fault.Input) (search rules) (lines_read source first_source from cutter asked so_far.read after new cuts short) so_far.sends.sent
-          (λ t told. tt) (input_read source first_source from cutter asked so_far.read after new cuts short) cuts.later (λ is. short.rose) (λ is. short.last)
+          ends after (Err stop.Input) (search rules) (search rules) (lines_read source first_source from cutter asked so_far.read after new cuts short)
+          so_far.sends.sent (λ t told. tt)
+          (input_read source first_source from cutter asked so_far.read after new cuts short) cuts.later (λ is. short.rose) (λ is. short.last)
           (λ other. absurd (other refl))
       cut_short stop.Limit short =
-          ends after (Err fault.Limit) (search rules) (lines_within source first_source from cutter asked so_far.read after new cuts short) so_far.sends.sent
-          (λ t told. tt) (input_over source first_source from cutter asked so_far.read after new cuts short) cuts.later (λ is. absurd (search rules))
+          ends after (Err stop.Limit) (search rules) (search rules) (lines_within source first_source from cutter asked so_far.read after new cuts short)
+          so_far.sends.sent (λ t told. tt)
+          (input_over source first_source from cutter asked so_far.read after new cuts short) cuts.later (λ is. absurd (search rules))
           (λ is. absurd (search rules)) (λ other. short.steady)
       cut_short stop.NoMemory short = wants_memory after short
+      cut_short other short = absurd short

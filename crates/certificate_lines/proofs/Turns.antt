@@ -6,6 +6,8 @@ use Rattle.bench_core.specs.declared.bench.Bench.{Ghosts}
 use Rattle.bench_core.specs.declared.source.Source.{Ghosts as SourceGhosts}
 use Rattle.bench_core.specs.Bench.{AppendsFront, Elapses, Sending}
 use Rattle.bench_core.specs.Causes.{Rose}
+use Rattle.bench_core.specs.declared.stops.Stop.{Stop}
+use Rattle.bench_core.specs.declared.stops.Stop.TheVariants as stop
 use Rattle.schema_json.specs.Columns.{Column}
 use Rattle.schema_json.specs.SecretShape.{shape_of}
 use Rattle.set_index.specs.Indexed.{IndexView}
@@ -13,11 +15,9 @@ use Rattle.line_wire.specs.Lines.{CountedLine}
 use Rattle.line_wire.specs.Calls.{Cuts, GivesNone}
 use Rattle.line_wire.specs.Cutter.{Cutter}
 use Rattle.question_plan.specs.declared.planning.Plan.{Plan}
-use Rattle.question_plan.specs.declared.planner.PlanStop.{PlanStop}
 use Rattle.question_plan.specs.Planned.{GivesPlan, IsUnplanned}
-use Rattle.certificate_lines.specs.declared.explaining.ExplainFault.TheVariants as fault
 use Rattle.certificate_lines.specs.Explained.{IsExplained, IsLineOf}
-use Rattle.certificate_lines.specs.Ends.{Explains, stop_end}
+use Rattle.certificate_lines.specs.Ends.{Explains}
 use Rattle.certificate_lines.proofs.SoFar.{SoFar, line_sent, line_unsent, wants_memory, all_read, cut_short}
 
 -- between two lines: some were read, and each is explained
@@ -35,7 +35,7 @@ module _ {P B : Type 0} (source : SourceGhosts P) (bench : Ghosts B) (columns : 
 
   module _ (plan : Plan) (gives : GivesPlan source cutter new from after columns index.public plan) where
     -- there was no memory for what is due to it
-    pub unwritten : Explains source bench columns index history first_source after first at (Err fault.NoMemory)
+    pub unwritten : Explains source bench columns index history first_source after first at (Err stop.NoMemory)
     unwritten =
         wants_memory source bench columns index history first_source first cutter from at turn.asked turn.lines turn.so_far after gives.gives.steady
 
@@ -61,7 +61,7 @@ module _ {P B : Type 0} (source : SourceGhosts P) (bench : Ghosts B) (columns : 
       -- it couldn't be
       pub unsent : (bench.told → AppendsFront (bench.sent at) line (bench.sent sending)) → Rose (bench.faults at) (bench.faults sending)
           → bench.last_failed sending ≡ true → bench.faults at ≤ bench.faults sending
-          → Explains source bench columns index history first_source after first sending (Err fault.Bench)
+          → Explains source bench columns index history first_source after first sending (Err stop.Bench)
       unsent part rose last later =
           line_unsent source bench columns index history first_source first cutter from at turn.asked turn.lines turn.so_far new after gives.line line
           gives.gives cuts explained sending file crash time part rose last later
@@ -69,8 +69,8 @@ module _ {P B : Type 0} (source : SourceGhosts P) (bench : Ghosts B) (columns : 
   -- ---- no line
 
   -- none was planned
-  pub unplanned : (why : PlanStop) → IsUnplanned source cutter new from after why →
-      Explains source bench columns index history first_source after first at (Err (stop_end why))
+  pub unplanned : (why : Stop) → IsUnplanned source cutter new from after why →
+      Explains source bench columns index history first_source after first at (Err why)
   unplanned why short =
       cut_short source bench columns index history first_source first cutter from at turn.asked turn.lines turn.so_far new after cuts why short
 

@@ -4,64 +4,23 @@ ghost use Rattle.audit_types.specs.History.{setting_of};
 ghost use Rattle.denial_proof.specs.Denied.{IsLegalIn};
 ghost use Rattle.bench_core.specs.Causes.{Rose};
 ghost use Rattle.bench_core.specs.Calls.{IsQuiet, LeavesOnly};
+ghost use Rattle.bench_core.specs.declared.stops.Stop.{Stop};
 ghost use Rattle.schema_json.specs.SecretShape.{shape_of};
 ghost use Rattle.table_load.specs.Cells.{FitsSchema};
 ghost use Rattle.line_wire.specs.Lines.{CountedLine, counted_lines};
 ghost use Rattle.certificate_lines.specs.Explained.{AreExplained};
-ghost use Rattle.certificate_lines.specs.Ends.{EndLines, EndReads, EndSends, Explains, ExplainsMeanwhile, stop_end};
-ghost use Rattle.certificate_lines.specs.declared.explaining.ExplainFault.TheVariants as fault;
+ghost use Rattle.certificate_lines.specs.Ends.{EndLines, EndReads, EndSends, Explains, ExplainsMeanwhile};
 
 use crate::deciding::write_line;
 use crate::provers::Provers;
 use audit_core::Core;
 use audit_store::Store;
-use audit_types::NoMemory;
-use bench_core::{Bench, Failed, Source};
-use question_plan::{PlanStop, Planner};
+use bench_core::{Bench, Source, Stop};
+use question_plan::Planner;
 use schema_json::Schema;
 use set_index::Index;
 use std::alloc::Global;
 use table_load::lists_of_secrets;
-
-/// Why explaining ended before the input did.
-#[derive(Clone, Copy)]
-pub enum ExplainFault {
-    /// The input failed.
-    Input,
-    /// A line couldn't be sent.
-    Bench,
-    /// The input has more than 2^30 bytes.
-    Limit,
-    NoMemory,
-}
-
-impl From<PlanStop> for ExplainFault {
-    ghost from_gives = { λ stop e. e ≡ stop_end stop };
-
-    fn from(stop: PlanStop) -> ExplainFault {
-        match stop {
-            PlanStop::Input => ExplainFault::Input,
-            PlanStop::Limit => ExplainFault::Limit,
-            PlanStop::NoMemory => ExplainFault::NoMemory,
-        }
-    }
-}
-
-impl From<Failed> for ExplainFault {
-    ghost from_gives = { λ _ e. e ≡ fault.Bench };
-
-    fn from(_e: Failed) -> ExplainFault {
-        ExplainFault::Bench
-    }
-}
-
-impl From<NoMemory> for ExplainFault {
-    ghost from_gives = { λ _ e. e ≡ fault.NoMemory };
-
-    fn from(_e: NoMemory) -> ExplainFault {
-        ExplainFault::NoMemory
-    }
-}
 
 // Explains the lines that are still to come.
 fn explain_lines<P: Source, B: Bench>(
@@ -72,7 +31,7 @@ fn explain_lines<P: Source, B: Bench>(
     core: &Core,
     source: &mut P,
     bench: &mut B,
-) -> Result<(), ExplainFault>
+) -> Result<(), Stop>
     requires fresh { (planner.old.taken ≡ 0) × (planner.old.pending ≡ []) × (planner.old.ended ≡ false) }
     requires fits { FitsSchema schema.now.columns index.now.public }
     requires setting { core.now.setting ≡ setting_of (shape_of schema.now.columns index.now.public.rows) index.now.protected }
@@ -98,7 +57,7 @@ pub fn explain<P: Source, B: Bench>(
     store: &Store,
     source: &mut P,
     bench: &mut B,
-) -> Result<(), ExplainFault>
+) -> Result<(), Stop>
     requires usable { store.now.usable ≡ true }
     requires fits { FitsSchema schema.now.columns index.now.public }
     requires entries { index.now.protected ≡ store.now.protected }
@@ -117,12 +76,13 @@ pub fn explain<P: Source, B: Bench>(
     ensures file { B.file bench.new ≡ B.file bench.old }
     ensures crash { (image : List ℕ) → B.leaves bench.new image → B.leaves bench.old image }
 
-    // It doesn't give up by itself, and passes over no failed call.
+    // It doesn't give up by itself, passes over no failed call, and calls no spare.
     ensures later { (P.faults source.old ≤ P.faults source.new) × (B.faults bench.old ≤ B.faults bench.new) }
-    ensures input { result ≡ Err ExplainFault.Input → Rose (P.faults source.old) (P.faults source.new) }
-    ensures bench { result ≡ Err ExplainFault.Bench → Rose (B.faults bench.old) (B.faults bench.new) }
-    ensures last_call { (result ≡ Err ExplainFault.Input → P.last_failed source.new ≡ true) × (result ≡ Err ExplainFault.Bench → B.last_failed bench.new ≡ true) }
-    ensures steady { (result ≢ Err ExplainFault.Input → P.faults source.new ≡ P.faults source.old) × (result ≢ Err ExplainFault.Bench → B.faults bench.new ≡ B.faults bench.old) }
+    ensures input { result ≡ Err Stop.Input → Rose (P.faults source.old) (P.faults source.new) }
+    ensures bench { result ≡ Err Stop.Bench → Rose (B.faults bench.old) (B.faults bench.new) }
+    ensures last_call { (result ≡ Err Stop.Input → P.last_failed source.new ≡ true) × (result ≡ Err Stop.Bench → B.last_failed bench.new ≡ true) }
+    ensures steady { (result ≢ Err Stop.Input → P.faults source.new ≡ P.faults source.old) × (result ≢ Err Stop.Bench → B.faults bench.new ≡ B.faults bench.old) }
+    ensures alone { result ≢ Err Stop.Spare }
 {
     // A store says of itself that its history is legal.
     let _history = store.history();

@@ -11,4 +11,4 @@ pub mod laws;
 mod provers;
 mod texts;
 
-pub use explaining::{ExplainFault, explain};
+pub use explaining::explain;

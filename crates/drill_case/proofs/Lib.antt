@@ -1,5 +1,6 @@
 pub mod DrawnColumns
 pub mod DrawsInOrder
+pub mod DrillLines
 pub mod KindsInOrder
 pub mod LinesInOrder
 pub mod ReplyLines

@@ -6,7 +6,7 @@ use crate::kinds::kind_of;
 use crate::tallies::{NOTHING, Tally};
 
 /// Counts the lines of the bytes that were sent. A line without a line feed at the end is one; an empty line is none.
-pub fn tally(sent: &[u8]) -> Tally
+pub(crate) fn tally(sent: &[u8]) -> Tally
     requires { length (lines_in sent.now) ≤ 65536 }
     ensures { IsTallyOf (lines_in sent.now) result }
 {

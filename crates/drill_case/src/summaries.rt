@@ -28,7 +28,7 @@ fn append_number(out: &mut [u8; 160], at: usize, name: &[u8], number: u32) -> us
 
 /// Writes the summary of a drill over so many rows into the front of `out`, its line feed included, and answers how many
 /// bytes it has.
-pub fn summary(rows: u16, tally: &Tally, out: &mut [u8; 160]) -> usize
+pub(crate) fn summary(rows: u16, tally: &Tally, out: &mut [u8; 160]) -> usize
     ensures count { result ≤ 160 }
     ensures bytes { take result out.new ≡ summary_line rows tally.now }
 {

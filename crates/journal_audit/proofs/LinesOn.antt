@@ -8,10 +8,10 @@ use Rattle.bench_core.specs.Bench.{Sending}
 use Rattle.bench_core.specs.Causes.{Rose}
 use Rattle.bench_core.specs.Calls.{IsQuiet, LeavesOnly}
 use Rattle.bench_core.specs.Moments.{started, goes_on, joins, weakens}
+use Rattle.bench_core.specs.declared.stops.Stop.{Stop}
+use Rattle.bench_core.specs.declared.stops.Stop.TheVariants as stop
 use Rattle.journal_audit.specs.Reports.{Audit, Subject, HasLine, IsLineOn, SendsFront, SendsMeanwhile, SendsLine, SendsLinesOn}
 use Rattle.journal_audit.specs.Reports.AreLinesOn.{none, one, left_out}
-use Rattle.journal_audit.specs.declared.faults.AuditFault.{AuditFault}
-use Rattle.journal_audit.specs.declared.faults.AuditFault.TheVariants as fault
 use Rattle.journal_audit.proofs.Sending.{none_sent, one_sent, one_front, sent_then, front_of_more, then_front, takes_both}
 use Rattle.journal_audit.specs.SendLaws.{none_front}
 
@@ -48,10 +48,11 @@ module _ {D : Type 0} (bench : Ghosts D) (only_now : NowOnly bench) (audit : Aud
     failed = λ is. cc;
     last_call = λ is. cc;
     steady = λ other. refl;
+    ends = tt;
   }
 
   -- memory runs out before the next line
-  pub no_memory : (about : List Subject) (old : D) → SendsLinesOn bench audit about old old (Err fault.NoMemory)
+  pub no_memory : (about : List Subject) (old : D) → SendsLinesOn bench audit about old old (Err stop.NoMemory)
   no_memory about old = record {
     sends = λ told. tt;
     part = λ told. none_front audit about (bench.sent old);
@@ -63,11 +64,12 @@ module _ {D : Type 0} (bench : Ghosts D) (only_now : NowOnly bench) (audit : Aud
     failed = λ is. cc;
     last_call = λ is. cc;
     steady = λ other. refl;
+    ends = tt;
   }
 
   -- a line's send
   module _ (subject : Subject) (line : List ℕ) (has : HasLine audit subject) (is : IsLineOn audit subject line) (old new : D) where
-    while_sending : {r : Result (Unit {0}) AuditFault} → SendsLine bench line old new r → IsQuiet bench old →
+    while_sending : {r : Result (Unit {0}) Stop} → SendsLine bench line old new r → IsQuiet bench old →
         LeavesOnly bench old new (SendsMeanwhile audit (subject ∷ []) (bench.file old) (bench.sent old))
     while_sending sends quiet =
         goes_on bench old old new (SendsMeanwhile audit (subject ∷ []) (bench.file old) (bench.sent old)) (Sending (bench.leaves new) (bench.sent old) line)
@@ -79,7 +81,7 @@ module _ {D : Type 0} (bench : Ghosts D) (only_now : NowOnly bench) (audit : Aud
         })
 
     -- it was sent, or a front of it was
-    pub line_on : (r : Result (Unit {0}) AuditFault) → SendsLine bench line old new r → SendsLinesOn bench audit (subject ∷ []) old new r
+    pub line_on : (r : Result (Unit {0}) Stop) → SendsLine bench line old new r → SendsLinesOn bench audit (subject ∷ []) old new r
     line_on (Ok u) sends = record {
       sends = λ told. one_sent audit subject line (bench.sent old) (bench.sent new) has is (sends.sends told);
       part = λ told. tt;
@@ -91,6 +93,7 @@ module _ {D : Type 0} (bench : Ghosts D) (only_now : NowOnly bench) (audit : Aud
       failed = sends.failed;
       last_call = sends.last_call;
       steady = sends.steady;
+      ends = sends.ends;
     }
     line_on (Err e) sends = record {
       sends = λ told. tt;
@@ -103,6 +106,7 @@ module _ {D : Type 0} (bench : Ghosts D) (only_now : NowOnly bench) (audit : Aud
       failed = sends.failed;
       last_call = sends.last_call;
       steady = sends.steady;
+      ends = sends.ends;
     }
 
   -- no line on what has none
@@ -118,13 +122,14 @@ module _ {D : Type 0} (bench : Ghosts D) (only_now : NowOnly bench) (audit : Aud
     failed = λ is. cc;
     last_call = λ is. cc;
     steady = λ other. refl;
+    ends = tt;
   }
 
   module _ (xs ys : List Subject) (a b c : D) (first : SendsLinesOn bench audit xs a b (Ok tt)) where
     still_quiet : IsQuiet bench a → IsQuiet bench b
     still_quiet quiet image left = quiet image (first.crash image left) ∙ sym first.file
 
-    while_both : (r : Result (Unit {0}) AuditFault) → SendsLinesOn bench audit ys b c r → bench.told → IsQuiet bench a →
+    while_both : (r : Result (Unit {0}) Stop) → SendsLinesOn bench audit ys b c r → bench.told → IsQuiet bench a →
         LeavesOnly bench a c (SendsMeanwhile audit (xs ++ ys) (bench.file a) (bench.sent a))
     while_both r second told quiet = joins bench a b c (SendsMeanwhile audit (xs ++ ys) (bench.file a) (bench.sent a))
         (weakens bench a b (SendsMeanwhile audit xs (bench.file a) (bench.sent a)) (SendsMeanwhile audit (xs ++ ys) (bench.file a) (bench.sent a))
@@ -138,7 +143,7 @@ module _ {D : Type 0} (bench : Ghosts D) (only_now : NowOnly bench) (audit : Aud
         (second.moments told (still_quiet quiet)))
 
     -- the first lines and then more
-    pub and_then : (r : Result (Unit {0}) AuditFault) → SendsLinesOn bench audit ys b c r → SendsLinesOn bench audit (xs ++ ys) a c r
+    pub and_then : (r : Result (Unit {0}) Stop) → SendsLinesOn bench audit ys b c r → SendsLinesOn bench audit (xs ++ ys) a c r
     and_then (Ok u) second = record {
       sends = λ told. sent_then audit xs ys (bench.sent a) (bench.sent b) (bench.sent c) (first.sends told) (second.sends told);
       part = λ told. tt;
@@ -150,6 +155,7 @@ module _ {D : Type 0} (bench : Ghosts D) (only_now : NowOnly bench) (audit : Aud
       failed = λ is. cc;
       last_call = λ is. cc;
       steady = λ other. second.steady (λ is. cc) ∙ first.steady (λ is. cc);
+      ends = tt;
     }
     and_then (Err e) second = record {
       sends = λ told. tt;
@@ -162,10 +168,11 @@ module _ {D : Type 0} (bench : Ghosts D) (only_now : NowOnly bench) (audit : Aud
       failed = λ is. subst (λ (n : ℕ). Rose n (bench.faults c)) (first.steady (λ is. cc)) (second.failed is);
       last_call = second.last_call;
       steady = λ other. second.steady other ∙ first.steady (λ is. cc);
+      ends = second.ends;
     }
 
   -- a refusal among the first lines is one among all
-  pub refused : (xs ys : List Subject) (a b : D) (e : AuditFault) → SendsLinesOn bench audit xs a b (Err e) → SendsLinesOn bench audit (xs ++ ys) a b (Err e)
+  pub refused : (xs ys : List Subject) (a b : D) (e : Stop) → SendsLinesOn bench audit xs a b (Err e) → SendsLinesOn bench audit (xs ++ ys) a b (Err e)
   refused xs ys a b e first = record {
     sends = λ told. tt;
     part = λ told. front_of_more audit xs ys (bench.sent a) (bench.sent b) (first.part told);
@@ -179,10 +186,11 @@ module _ {D : Type 0} (bench : Ghosts D) (only_now : NowOnly bench) (audit : Aud
     failed = first.failed;
     last_call = first.last_call;
     steady = first.steady;
+    ends = first.ends;
   }
 
   -- a refusal on this, after the first lines and before others
-  pub refused_among : (first this others all : List Subject) (a b c : D) (r : Result (Unit {0}) AuditFault) (e : AuditFault) → all ≡ first ++ this ++ others
+  pub refused_among : (first this others all : List Subject) (a b c : D) (r : Result (Unit {0}) Stop) (e : Stop) → all ≡ first ++ this ++ others
       → r ≡ Err e
       → SendsLinesOn bench audit first a b (Ok tt) → SendsLinesOn bench audit this b c (Err e) → SendsLinesOn bench audit all a c r
   refused_among first this others all a b c r e split is before now =

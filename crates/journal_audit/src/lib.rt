@@ -4,9 +4,7 @@
 #![tactic(auto)]
 
 mod checking;
-mod faults;
 mod reporting;
 mod texts;
 
-pub use faults::AuditFault;
 pub use reporting::audit;

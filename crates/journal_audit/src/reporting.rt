@@ -1,22 +1,22 @@
 //! Sending a report, a line a send.
-ghost use Rattle.std.specs.Prelude.{◌≡◌, ◌<◌, ◌≤◌, [], ◌∷◌, ◌++◌, List, ℕ, true, Some, OnOk, OnErr, Err};
+ghost use Rattle.std.specs.Prelude.{◌≡◌, ◌<◌, ◌≤◌, [], ◌∷◌, ◌++◌, List, ℕ, true, Some, IfErr, OnOk, OnErr, Err};
 ghost use Rattle.audit_types.specs.Shapes.{columns, kind_at};
 ghost use Rattle.audit_types.specs.declared.shapes.Kind.TheVariants as kind;
 ghost use Rattle.schema_json.specs.Columns.{secret_place};
 ghost use Rattle.schema_json.specs.SecretShape.{shape_of};
 ghost use Rattle.bench_core.specs.Causes.{Rose};
 ghost use Rattle.bench_core.specs.Calls.{IsQuiet, LeavesOnly};
+ghost use Rattle.bench_core.specs.Stops.{IsOfBench};
 ghost use Rattle.audit_core.specs.Columns.{HasItsPart};
 ghost use Rattle.audit_store.specs.Stores.{IsStore};
 ghost use Rattle.journal_audit.specs.Reports.{audit_of, contents_of, subjects_before, subjects_of, column_of, totals, Reports, ReportsFront, SendsMeanwhile, SendsLine, SendsLinesOn, TakesOneEach, subjects};
 
 use crate::checking::{column_sets, has_line, write_column, write_row};
-use crate::faults::AuditFault;
 use crate::texts::write_totals;
 use audit_core::ColumnRef;
 use audit_core::laws::free_numbers;
 use audit_store::Store;
-use bench_core::{Bench, Failed};
+use bench_core::{Bench, Stop};
 use max_audit::MaxColumn;
 use schema_json::Schema;
 use std::alloc::Global;
@@ -24,13 +24,11 @@ use sum_audit::SumColumn;
 use table_load::lists_of_secrets;
 
 // Sends a line.
-fn send_line<B: Bench>(bench: &mut B, line: &[u8]) -> Result<(), AuditFault>
+fn send_line<B: Bench>(bench: &mut B, line: &[u8]) -> Result<(), Stop>
     ensures { SendsLine B.Bench line.now bench.old bench.new result }
 {
-    match bench.send(line) {
-        Ok(()) => Ok(()),
-        Err(Failed) => Err(AuditFault::Failed),
-    }
+    bench.send(line)?;
+    Ok(())
 }
 
 // Sends the lines on the rows of a column of sums that have one.
@@ -43,7 +41,7 @@ fn send_rows<B: Bench>(
     sums: &SumColumn,
     line: &mut Vec<u8>,
     bench: &mut B,
-) -> Result<(), AuditFault>
+) -> Result<(), Stop>
     requires named { secret_place schema.now.columns place ≡ Some column }
     requires is { IsStore store.now }
     requires below { column < columns store.now.secret.shape }
@@ -74,7 +72,7 @@ fn send_highest<B: Bench>(
     maxima: &MaxColumn,
     line: &mut Vec<u8>,
     bench: &mut B,
-) -> Result<(), AuditFault>
+) -> Result<(), Stop>
     requires named { secret_place schema.now.columns place ≡ Some column }
     requires is { IsStore store.now }
     requires below { column < columns store.now.secret.shape }
@@ -100,7 +98,7 @@ fn send_column<B: Bench>(
     column: u8,
     line: &mut Vec<u8>,
     bench: &mut B,
-) -> Result<(), AuditFault>
+) -> Result<(), Stop>
     requires named { secret_place schema.now.columns place ≡ Some column }
     requires usable { store.now.usable ≡ true }
     requires is { IsStore store.now }
@@ -122,7 +120,7 @@ fn send_columns<B: Bench>(
     store: &Store,
     line: &mut Vec<u8>,
     bench: &mut B,
-) -> Result<(), AuditFault>
+) -> Result<(), Stop>
     requires usable { store.now.usable ≡ true }
     requires is { IsStore store.now }
     requires shape { store.now.secret.shape ≡ shape_of schema.now.columns store.now.secret.shape.rows }
@@ -144,7 +142,7 @@ fn send_totals<B: Bench>(
     people: Option<u64>,
     line: &mut Vec<u8>,
     bench: &mut B,
-) -> Result<(), AuditFault>
+) -> Result<(), Stop>
     ensures { SendsLinesOn B.Bench (audit_of schema.now.columns store.now) (totals people ∷ []) bench.old bench.new result }
 {
     let shape = store.shape();
@@ -161,7 +159,7 @@ pub fn audit<B: Bench>(
     store: &Store,
     people: Option<u64>,
     bench: &mut B,
-) -> Result<(), AuditFault>
+) -> Result<(), Stop>
     requires usable { store.now.usable ≡ true }
     requires shape { store.now.secret.shape ≡ shape_of schema.now.columns store.now.secret.shape.rows }
 
@@ -177,10 +175,11 @@ pub fn audit<B: Bench>(
     // The file isn't touched.
     ensures file { B.file bench.new ≡ B.file bench.old }
     ensures crash { (image : List ℕ) → B.leaves bench.new image → B.leaves bench.old image }
-    ensures failed { result ≡ Err AuditFault.Failed → Rose (B.faults bench.old) (B.faults bench.new) }
-    ensures last_call { result ≡ Err AuditFault.Failed → B.last_failed bench.new ≡ true }
+    ensures failed { result ≡ Err Stop.Bench → Rose (B.faults bench.old) (B.faults bench.new) }
+    ensures last_call { result ≡ Err Stop.Bench → B.last_failed bench.new ≡ true }
     ensures later { B.faults bench.old ≤ B.faults bench.new }
-    ensures steady { ¬ (result ≡ Err AuditFault.Failed) → B.faults bench.new ≡ B.faults bench.old }
+    ensures steady { ¬ (result ≡ Err Stop.Bench) → B.faults bench.new ≡ B.faults bench.old }
+    ensures ends { IfErr result IsOfBench }
 {
     // A store says of itself that its history is legal.
     let _history = store.history();

@@ -1,14 +1,1 @@
-pub mod ImpliedSums
-pub mod ImpliedMaxima
-pub mod ToldAnswers
-pub mod HighestBounds
-pub mod Pushes
-pub mod KeptRecords
-pub mod KeptOfLegal
-pub mod GreatestBounds
-pub mod RowByRow
-pub mod OwnColumn
-pub mod NextRecord
-pub mod Gathering
-pub mod WholeJournals
-pub mod WholeMoments
+pub mod CompactSteps

@@ -1,16 +1,9 @@
-//! A fresh journal of the records that say something that those before them didn't.
+//! A fresh journal beside the one there is, without the records that those before them imply.
 //!
-//! `kept` gives these records (`IsKeptOf`), and `write_whole` writes a journal of them where none is made. That every question is
-//! decided after them as after all is a law: see `laws::kept_of_legal`. `follows` says of a question what `kept` goes by: whether its
-//! answer follows from those before it.
+//! `compact` is the one call. What the spare then holds, and what was sent, is `Compacts` of the specs. Which records are implied, and that
+//! every question is decided after the others as after all, is said by `implied_records`.
 #![tactic(auto)]
 
-mod following;
-mod forcing;
-mod keeping;
-pub mod laws;
-mod whole;
+mod compacting;
 
-pub use following::follows;
-pub use keeping::kept;
-pub use whole::{Found, WholeFault, look, write_whole};
+pub use compacting::{CompactFault, compact};

@@ -7,8 +7,8 @@ use Rattle.line_wire.specs.Cutter.{Cutter, IsWithin, PassesFeed, PassesNone, Rea
 use Rattle.line_wire.specs.Steps.{Gives, GivesLast, ShowsText, Advances}
 use Rattle.line_wire.specs.declared.lines.Next.{Next}
 use Rattle.line_wire.specs.declared.lines.Next.TheVariants as next
-use Rattle.line_wire.specs.declared.lines.LineStop.{LineStop}
-use Rattle.line_wire.specs.declared.lines.LineStop.TheVariants as stop
+use Rattle.bench_core.specs.declared.stops.Stop.{Stop}
+use Rattle.bench_core.specs.declared.stops.Stop.TheVariants as stop
 use Rattle.line_wire.specs.LineLaws.{kept-le}
 use Rattle.line_wire.proofs.NextCountedLine.{to_feed, to_more, to_next, no_whole}
 
@@ -82,7 +82,7 @@ pub answer_is_no_refusal : {answer : Next} → Ok answer ≡ Err stop.Input → 
 answer_is_no_refusal is = cc
 
 -- a refusal at the limit isn't one of a failed read
-pub limit_is_no_input : (result : Result Next LineStop) → result ≡ Err stop.Limit → result ≡ Err stop.Input → ⊥
+pub limit_is_no_input : (result : Result Next Stop) → result ≡ Err stop.Limit → result ≡ Err stop.Input → ⊥
 limit_is_no_input result limit input = cc
 
 -- if a whole line is at hand, nothing was read

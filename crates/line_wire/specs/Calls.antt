@@ -7,8 +7,8 @@ use Rattle.line_wire.specs.Cutter.{Cutter, StopsAt}
 use Rattle.line_wire.specs.ReadLines.{ReadsLines}
 use Rattle.line_wire.specs.declared.lines.Next.{Next}
 use Rattle.line_wire.specs.declared.lines.Next.TheVariants as next
-use Rattle.line_wire.specs.declared.lines.LineStop.{LineStop}
-use Rattle.line_wire.specs.declared.lines.LineStop.TheVariants as stop
+use Rattle.bench_core.specs.declared.stops.Stop.{Stop}
+use Rattle.bench_core.specs.declared.stops.Stop.TheVariants as stop
 
 -- whatever it gave
 pub record Cuts {P : Type 0} (source : Ghosts P) (old new : Cutter) (before after : P) : Type 0 where
@@ -51,7 +51,8 @@ GivesNext source old new before after next.Line = GivesLine source old new befor
 GivesNext source old new before after next.Long = GivesLine source old new before after long
 GivesNext source old new before after next.End = GivesNone source old new before after
 
--- why it gave nothing
-abbrev pub IsStopped : {P : Type 0} → Ghosts P → Cutter → Cutter → P → P → LineStop → Type 0
+-- why it gave nothing: for no other cause than these two
+abbrev pub IsStopped : {P : Type 0} → Ghosts P → Cutter → Cutter → P → P → Stop → Type 0
 IsStopped source old new before after stop.Input = FailsRead source old new before after
 IsStopped source old new before after stop.Limit = PassesLimit source old new before after
+IsStopped source old new before after other = ⊥

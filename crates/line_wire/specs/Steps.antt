@@ -6,8 +6,8 @@ use Rattle.line_wire.specs.declared.lines.Step.{Step}
 use Rattle.line_wire.specs.declared.lines.Step.TheVariants.{Fed, Dry, Over}
 use Rattle.line_wire.specs.declared.lines.Next.{Next}
 use Rattle.line_wire.specs.declared.lines.Next.TheVariants as next
-use Rattle.line_wire.specs.declared.lines.LineStop.{LineStop}
-use Rattle.line_wire.specs.declared.lines.LineStop.TheVariants as stop
+use Rattle.bench_core.specs.declared.stops.Stop.{Stop}
+use Rattle.bench_core.specs.declared.stops.Stop.TheVariants as stop
 
 -- what was passed of the bytes at hand: up to a line feed, all of them, or all below the limit
 abbrev pub Passes : Step → Cutter → Cutter → Type 0
@@ -34,17 +34,19 @@ Answers next.Long rest new left = TakesLine rest new.ended long (new.pending ++ 
 Answers next.End rest new left = (new.pending ++ left ≡ []) × (counted_lines rest ≡ [])
 
 -- what a refusal says: no whole line stands among the bytes that were taken, or among those below the limit
-abbrev pub Stops : LineStop → List ℕ → Cutter → List ℕ → Type 0
+abbrev pub Stops : Stop → List ℕ → Cutter → List ℕ → Type 0
 Stops stop.Input rest new left = StopsAt rest left
 Stops stop.Limit rest new left = StopsAt rest (new.pending ++ left)
+Stops other rest new left = ⊥
 
--- how many bytes were taken at a refusal: at most 2^30, or more and all of these were passed
-abbrev pub StopsWithin : LineStop → Cutter → Type 0
+-- how many bytes were taken at a refusal: at most 2^30, or more and all of these were passed. Nothing else stops the cutter
+abbrev pub StopsWithin : Stop → Cutter → Type 0
 StopsWithin stop.Input new = new.taken ≤ most_input
 StopsWithin stop.Limit new = (new.taken ≡ most_input + length new.pending) × (0 < length new.pending)
+StopsWithin other new = ⊥
 
 -- only an answer Line shows a text, of at most 8,192 bytes
-abbrev pub ShowsText : Result Next LineStop → List ℕ → Type 0
+abbrev pub ShowsText : Result Next Stop → List ℕ → Type 0
 ShowsText (Ok next.Line) shown = length shown ≤ 8192
 ShowsText (Ok next.Long) shown = shown ≡ []
 ShowsText (Ok next.End) shown = shown ≡ []

@@ -20,7 +20,7 @@ mod reply;
 mod reply_reading;
 mod request;
 
-pub use lines::{LineStop, Lines, Next};
+pub use lines::{Lines, Next};
 pub use numbers::{put_at_place, put_bounds, put_number, put_stated};
 pub use question::Take;
 pub use reading::read_line_request;

@@ -2,12 +2,13 @@
 ghost use Rattle.std.specs.Prelude.{◌≡◌, ◌≢◌, ◌<◌, ◌≤◌, ◌+◌, ◌-◌, ◌++◌, [], List, ℕ, length, take, drop, Err, IfOk, IfErr, OnOk, OnErr, MatchOption, false, true};
 ghost use Rattle.bench_core.specs.Causes.{HasCause, Rose};
 ghost use Rattle.bench_core.specs.Source.{Reads};
+ghost use Rattle.bench_core.specs.declared.stops.Stop.{Stop};
 ghost use Rattle.line_wire.specs.Lines.{line_of, counted_lines, whole_lines, most_input};
 ghost use Rattle.line_wire.specs.Cutter.{IsFeedless, IsFirstFeed};
 
 use crate::buffer::{Buffer, LONGEST};
 use audit_types::NoMemory;
-use bench_core::{Failed, Source};
+use bench_core::{Failed, Source, Stop};
 use memchr::memchr;
 use std::alloc::Global;
 use std::marker::Model;
@@ -24,15 +25,6 @@ pub enum Next {
     Long,
     /// The input has ended.
     End,
-}
-
-/// Why a call of the cutter gives nothing.
-#[derive(Clone, Copy)]
-pub enum LineStop {
-    /// The source failed.
-    Input,
-    /// The input has more than 2^30 bytes.
-    Limit,
 }
 
 /// Cuts the bytes of one source into counted lines (docs/FORMATS.md). Hand in the same source at every call.
@@ -87,7 +79,7 @@ impl Lines {
     }
 
     /// Gives the first counted line of the rest: of the bytes taken and not yet given, and those left in the source.
-    pub fn next<P: Source>(&mut self, source: &mut P) -> Result<Next, LineStop>
+    pub fn next<P: Source>(&mut self, source: &mut P) -> Result<Next, Stop>
         // It is the same source at every call.
         requires same { P.told → self.old.ended ≡ true → P.left source.old ≡ [] }
 
@@ -105,15 +97,15 @@ impl Lines {
 
         // It doesn't give up by itself, and passes over no failed read.
         ensures later { P.faults source.old ≤ P.faults source.new }
-        ensures steady { result ≢ Err LineStop.Input → P.faults source.new ≡ P.faults source.old }
-        ensures input { result ≡ Err LineStop.Input → Rose (P.faults source.old) (P.faults source.new) }
-        ensures last_call { result ≡ Err LineStop.Input → P.last_failed source.new ≡ true }
+        ensures steady { result ≢ Err Stop.Input → P.faults source.new ≡ P.faults source.old }
+        ensures input { result ≡ Err Stop.Input → Rose (P.faults source.old) (P.faults source.new) }
+        ensures last_call { result ≡ Err Stop.Input → P.last_failed source.new ≡ true }
 
         // Nothing is read while a whole line is at hand.
         ensures at_hand { whole_lines self.old.pending ≢ [] → source.new ≡ source.old }
 
         // Once a read gave 0, no call reads again.
-        ensures once { self.old.ended ≡ true → (source.new ≡ source.old) × (self.new.ended ≡ true) × (result ≡ Err LineStop.Input → ⊥) }
+        ensures once { self.old.ended ≡ true → (source.new ≡ source.old) × (self.new.ended ≡ true) × (result ≡ Err Stop.Input → ⊥) }
     {
         self.clear();
         loop {
@@ -126,7 +118,7 @@ impl Lines {
                 Step::Dry if self.ended => return Ok(self.last()),
                 Step::Dry => match self.refill(source) {
                     Ok(()) => {}
-                    Err(Failed) => return Err(LineStop::Input),
+                    Err(Failed) => return Err(Stop::Input),
                 },
             }
         }
@@ -142,13 +134,13 @@ impl Lines {
     }
 
     // Refuses what is past the limit. No line is begun.
-    fn stop_at_limit(&mut self) -> Result<Next, LineStop>
-        ensures refuses { result ≡ Err LineStop.Limit }
+    fn stop_at_limit(&mut self) -> Result<Next, Stop>
+        ensures refuses { result ≡ Err Stop.Limit }
         ensures text { self.new.text ≡ [] }
         ensures same { (self.new.taken ≡ self.old.taken) × (self.new.ended ≡ self.old.ended) × (self.new.pending ≡ self.old.pending) }
     {
         self.clear();
-        Err(LineStop::Limit)
+        Err(Stop::Limit)
     }
 
     // Gives the bytes at hand up to the first line feed, or all of them if there is none.

@@ -9,11 +9,11 @@ use Rattle.line_wire.specs.ReadLines.{OneLineIsRead}
 use Rattle.line_wire.specs.Steps.{Advances, Answers, Counts, ShowsText, Stops, StopsWithin}
 use Rattle.line_wire.specs.declared.lines.Next.{Next}
 use Rattle.line_wire.specs.declared.lines.Next.TheVariants as next
-use Rattle.line_wire.specs.declared.lines.LineStop.{LineStop}
-use Rattle.line_wire.specs.declared.lines.LineStop.TheVariants as stop
+use Rattle.bench_core.specs.declared.stops.Stop.{Stop}
+use Rattle.bench_core.specs.declared.stops.Stop.TheVariants as stop
 
 -- the answer of a call that was refused
-abbrev pub refused_by : LineStop → Result Next LineStop
+abbrev pub refused_by : Stop → Result Next Stop
 refused_by why = Err why
 
 module _ {P : Type 0} (source : Ghosts P) (old new : Cutter) (before after : P) where
@@ -43,7 +43,7 @@ module _ {P : Type 0} (source : Ghosts P) (old new : Cutter) (before after : P) 
     steady = steady;
   }
 
-  pub gives_next : OneLineIsRead → (answered : Result Next LineStop)
+  pub gives_next : OneLineIsRead → (answered : Result Next Stop)
       → (source.told → IfOk answered (λ given. Answers given (old.pending ++ source.left before) new (source.left after)))
       → (source.told → IfOk answered (λ given. Counts given (counted_lines (old.pending ++ source.left before)) new.text
       (counted_lines (new.pending ++ source.left after))))
@@ -53,7 +53,7 @@ module _ {P : Type 0} (source : Ghosts P) (old new : Cutter) (before after : P) 
   gives_next one (Err why) answer counted advances shows steady = tt
 
   -- no answer
-  stopped : (why : LineStop) → (source.told → Stops why (old.pending ++ source.left before) new (source.left after)) → StopsWithin why new
+  stopped : (why : Stop) → (source.told → Stops why (old.pending ++ source.left before) new (source.left after)) → StopsWithin why new
       → (refused_by why ≢ refused_by stop.Input → source.faults after ≡ source.faults before)
       → (refused_by why ≡ refused_by stop.Input → Rose (source.faults before) (source.faults after))
       → (refused_by why ≡ refused_by stop.Input → source.last_failed after ≡ true)
@@ -67,8 +67,9 @@ module _ {P : Type 0} (source : Ghosts P) (old new : Cutter) (before after : P) 
     last = last refl;
   }
   stopped stop.Limit stops within steady input last once = record { stops = stops; over = within.0; some = within.1; steady = steady (search rules) }
+  stopped other stops within steady input last once = within
 
-  pub is_stopped : (answered : Result Next LineStop)
+  pub is_stopped : (answered : Result Next Stop)
       → (source.told → IfErr answered (λ why. Stops why (old.pending ++ source.left before) new (source.left after)))
       → IfErr answered (λ why. StopsWithin why new)
       → (answered ≢ refused_by stop.Input → source.faults after ≡ source.faults before)

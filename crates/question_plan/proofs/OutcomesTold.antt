@@ -1,5 +1,5 @@
 -- What becomes of a question is told by a reply.
-use Rattle.std.proofs.Common.{◌≡◌, ◌≢◌, ℕ, ℤ, ◌*◌, ◌^◌, ◌<◌, ◌≤◌, List, [], refl, sym, ◌∙◌, ap, subst}
+use Rattle.std.proofs.Common.{◌≡◌, ◌≢◌, ℕ, ℤ, ◌^◌, ◌<◌, ◌≤◌, List, [], refl, sym, ◌∙◌, ap, subst}
 use Rattle.std.specs.Prelude.{neg_ℤ, unsigned_abs}
 use Rattle.audit_types.specs.Limits.{most_answer}
 use Rattle.audit_types.specs.declared.records.Asked.{Asked}

@@ -17,6 +17,6 @@ mod telling;
 
 pub use due::{Due, due_of_reply, verdict_line};
 pub use full::is_full;
-pub use planner::{PlanStop, Planner};
+pub use planner::Planner;
 pub use planning::{Plan, plan_line};
 pub use telling::tell;

@@ -2,51 +2,21 @@
 ghost use Rattle.std.specs.Prelude.{◌≡◌, [], true, false, IfOk, IfErr};
 ghost use Rattle.table_load.specs.Cells.{FitsSchema};
 ghost use Rattle.line_wire.specs.Calls.{Cuts, GivesNext, IsStopped};
-ghost use Rattle.question_plan.specs.Planned.{IsUnplanned, PlansNext, plan_stop};
-ghost use Rattle.question_plan.specs.declared.planner.PlanStop.TheVariants as stop;
+ghost use Rattle.question_plan.specs.Planned.{IsUnplanned, PlansNext};
 
 use crate::planning::{Plan, plan_line};
 use audit_types::NoMemory;
-use bench_core::Source;
+use bench_core::{Source, Stop};
 use json::Scratch;
 use line_wire::laws::lines_in_turn;
-use line_wire::{LineStop, Lines, Next, Reply};
+use line_wire::{Lines, Next, Reply};
 use schema_json::Schema;
 use set_index::Index;
 use std::alloc::Global;
 use std::marker::Model;
 
-/// Why no line was planned.
-#[derive(Clone, Copy)]
-pub enum PlanStop {
-    /// The source failed.
-    Input,
-    /// The input has more than 2^30 bytes.
-    Limit,
-    NoMemory,
-}
-
-impl From<LineStop> for PlanStop {
-    ghost from_gives = { λ stop e. e ≡ plan_stop stop };
-
-    fn from(stop: LineStop) -> PlanStop {
-        match stop {
-            LineStop::Input => PlanStop::Input,
-            LineStop::Limit => PlanStop::Limit,
-        }
-    }
-}
-
-impl From<NoMemory> for PlanStop {
-    ghost from_gives = { λ _ e. e ≡ stop.NoMemory };
-
-    fn from(_e: NoMemory) -> PlanStop {
-        PlanStop::NoMemory
-    }
-}
-
 // Gives the next line, whose text the cutter shows.
-fn next_line<P: Source>(lines: &mut Lines, source: &mut P) -> Result<Next, LineStop>
+fn next_line<P: Source>(lines: &mut Lines, source: &mut P) -> Result<Next, Stop>
     requires same { P.told → lines.old.ended ≡ true → P.left source.old ≡ [] }
     ensures gives { IfOk result (GivesNext P.Source lines.old lines.new source.old source.new) }
     ensures stopped { IfErr result (IsStopped P.Source lines.old lines.new source.old source.new) }
@@ -91,7 +61,7 @@ impl Planner {
         schema: &Schema,
         index: &Index,
         source: &mut P,
-    ) -> Result<Option<Plan>, PlanStop>
+    ) -> Result<Option<Plan>, Stop>
         requires same { P.told → self.old.ended ≡ true → P.left source.old ≡ [] }
         requires fits { FitsSchema schema.now.columns index.now.public }
         ensures plans { IfOk result (PlansNext P.Source self.old self.new source.old source.new schema.now.columns index.now.public) }
@@ -110,7 +80,7 @@ impl Planner {
     }
 
     /// The next counted line, unplanned. `text` shows it.
-    pub fn next_line<P: Source>(&mut self, source: &mut P) -> Result<Next, LineStop>
+    pub fn next_line<P: Source>(&mut self, source: &mut P) -> Result<Next, Stop>
         requires same { P.told → self.old.ended ≡ true → P.left source.old ≡ [] }
         ensures gives { IfOk result (GivesNext P.Source self.old self.new source.old source.new) }
         ensures stopped { IfErr result (IsStopped P.Source self.old self.new source.old source.new) }

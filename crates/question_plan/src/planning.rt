@@ -39,7 +39,8 @@ fn plan_count(schema: &Schema, index: &Index, pred: &Pred) -> Plan
     ensures exact { result ≡ Plan.Ready (Reply.Count (people_behind (counts_of schema.now.columns index.now.public) (meaning index.now.public (tree_of pred.now)))) }
     ensures served { CanBeServed (shape_of schema.now.columns index.now.public.rows) result }
 {
-    let rows = index.rows_of(pred);
+    let mut rows = RowSet::new(index.public().rows());
+    index.fill_rows_of(pred, &mut rows);
     Plan::Ready(Reply::Count(index.people(schema, &rows)))
 }
 
@@ -51,7 +52,8 @@ fn plan_question(schema: &Schema, index: &Index, take: Take, column: u8, pred: &
     ensures exact { result ≡ question_over take column index.now.public.rows (counts_of schema.now.columns index.now.public) (meaning index.now.public (tree_of pred.now)) }
     ensures served { CanBeServed (shape_of schema.now.columns index.now.public.rows) result }
 {
-    let rows = index.rows_of(pred);
+    let mut rows = RowSet::new(index.public().rows());
+    index.fill_rows_of(pred, &mut rows);
     if rows.is_empty() {
         return Plan::Ready(Reply::Empty);
     }

@@ -173,6 +173,13 @@ part_below n order from to once =
 pub first_are_rows : (n : ℕ) (order : List ℕ) (count : ℕ) → AreRows n (first_rows n order count)
 first_are_rows n order count = AreRows-rows_that (has_row (take count order)) n
 
+-- an empty set that takes over one of the first rows has them
+pub first_taken : (n m : ℕ) (order old new : List ℕ) (mark : Rows) (count : ℕ) → mark ≡ record { n = n; list = first_rows n order count } → m ≡ n →
+    old ≡ [] → new ≡ union m old mark.list → new ≡ first_rows n order count
+first_taken n m order old new mark count is same empty taken =
+    taken ∙ ap (λ k. union k old mark.list) same ∙ ap (λ xs. union n xs mark.list) empty ∙ ap (λ (r : Rows). union n [] r.list) is
+    ∙ rows-again n (first_rows n order count) (first_are_rows n order count)
+
 -- ---- the sets that are kept
 
 -- each of the sets is that of the first 16 k rows

@@ -3,6 +3,7 @@ use Rattle.std.proofs.Common.{◌≡◌, ℕ, ◌+◌, ◌<◌, Bool, true, fals
 use Rattle.std.specs.Prelude.{Option, Some, None, IfSome, option_map}
 use Rattle.std.specs.List.{list_any}
 use Rattle.std.proofs.lemmas.List.{take_more}
+use Rattle.std.proofs.Math.Bool.{and_comm}
 use Rattle.table_load.specs.Cells.{PublicView}
 use Rattle.predicate_lang.specs.Meaning.{compares_cell, satisfies}
 use Rattle.predicate_lang.specs.Trees.{Tree, negation, both, either}
@@ -75,17 +76,18 @@ either_meant p t u m left right new first second same joined =
     ∙ either_of p.rows (λ r. satisfies (row_at p r) t) (λ r. satisfies (row_at p r) u)
 
 -- of the rows that may be asked of, those that satisfy a condition
-pub only_meant : (p : PublicView) (t : Tree) (m : ℕ) (only rows new : List ℕ) → rows ≡ satisfying p t → m ≡ p.rows → new ≡ intersection m only rows →
+pub only_meant : (p : PublicView) (t : Tree) (m : ℕ) (only rows new : List ℕ) → rows ≡ satisfying p t → m ≡ p.rows → new ≡ intersection m rows only →
     new ≡ rows_that (λ r. has_row only r && satisfies (row_at p r) t) p.rows
 only_meant p t m only rows new meant same cut =
-    cut ∙ ap (λ n. intersection n only rows) same ∙ ap (intersection p.rows only) meant
-    ∙ rows_that_agree (λ r. has_row only r && has_row (satisfying p t) r) (λ r. has_row only r && satisfies (row_at p r) t) p.rows
-    (λ r low. ap (λ b. has_row only r && b) (has-rows_that (λ q. satisfies (row_at p q) t) p.rows r low))
+    cut ∙ ap (λ n. intersection n rows only) same ∙ ap (λ xs. intersection p.rows xs only) meant
+    ∙ rows_that_agree (λ r. has_row (satisfying p t) r && has_row only r) (λ r. has_row only r && satisfies (row_at p r) t) p.rows
+    (λ r low. and_comm (has_row (satisfying p t) r) (has_row only r)
+    ∙ ap (λ b. has_row only r && b) (has-rows_that (λ q. satisfies (row_at p q) t) p.rows r low))
 
 -- so the rows of a condition are those of a search, of those that may be asked of
 pub asked_meant : (p : PublicView) (t : Tree) (only : Option Rows) (n : ℕ) (rows result : List ℕ) → p.only ≡ option_map (λ set. set.list) only → rows
     ≡ satisfying p t →
-    n ≡ p.rows → (only ≡ None → result ≡ rows) → IfSome only (λ set. result ≡ intersection n set.list rows) → result ≡ meaning p t
+    n ≡ p.rows → (only ≡ None → result ≡ rows) → IfSome only (λ set. result ≡ intersection n rows set.list) → result ≡ meaning p t
 asked_meant p t None n rows result is meant same all cut =
     all refl ∙ meant ∙ ap (λ o. rows_that (λ r. is_asked o r && satisfies (row_at p r) t) p.rows) (sym is)
 asked_meant p t (Some set) n rows result is meant same all cut =

@@ -1,5 +1,5 @@
 //! The public part of a table, asked for the rows that satisfy a condition.
-ghost use Rattle.std.specs.Prelude.{◌≡◌, ◌<◌, ◌≤◌, ℕ, true, None, Some, Err, Option, IfOk, IfSome, OnErr, option_map, length, slice_get, slice_index_or};
+ghost use Rattle.std.specs.Prelude.{◌≡◌, ◌<◌, ◌≤◌, ℕ, true, [], None, Some, Err, Option, IfOk, IfSome, OnErr, option_map, length, slice_get, slice_index_or};
 ghost use Rattle.std.specs.List.Sorted.{IsSorted};
 ghost use Rattle.std.specs.Option.{option_to_list};
 ghost use Rattle.std.specs.Ordering.{nat_cmp};
@@ -18,7 +18,7 @@ ghost use Rattle.set_index.specs.Groups.{AreEntries, AsksOnly, Protects, HasNoFa
 ghost use Rattle.set_index.specs.Marks.{SortsColumn};
 ghost use Rattle.set_index.specs.Ordered.{IsOrder, IsShown, compare_rows};
 
-use crate::asking::rows_of;
+use crate::asking::fill_rows_of;
 use crate::laws::{groups_of_a_schema, reads_what_fits};
 use crate::people::{counted_rows, people_by};
 use crate::sorted::Sorted;
@@ -243,20 +243,16 @@ fn guard_of(
     }
 }
 
-// The rows of a set that may be asked of.
-fn among(only: &Option<RowSet>, rows: RowSet) -> RowSet
-    requires { IfSome only.now (λ set. set.n ≡ rows.n) }
-    ensures n { result.n ≡ rows.n }
-    ensures all { only.now ≡ None → result.list ≡ rows.list }
-    ensures cut { IfSome only.now (λ set. result.list ≡ intersection rows.n set.list rows.list) }
+// Leaves of a set the rows that may be asked of.
+fn cut_to(only: &Option<RowSet>, rows: &mut RowSet)
+    requires { IfSome only.now (λ set. set.n ≡ rows.old.n) }
+    ensures n { rows.new.n ≡ rows.old.n }
+    ensures all { only.now ≡ None → rows.new.list ≡ rows.old.list }
+    ensures cut { IfSome only.now (λ set. rows.new.list ≡ intersection rows.old.n rows.old.list set.list) }
 {
     match only {
-        Some(set) => {
-            let mut asked = *set;
-            asked.and_with(&rows);
-            asked
-        }
-        None => rows,
+        Some(set) => rows.and_with(set),
+        None => {}
     }
 }
 
@@ -328,14 +324,28 @@ impl Index {
         self.sorted(place).order()
     }
 
-    /// The rows that satisfy a condition, of those that may be asked of. A comparison is a range of a column's order, found by
-    /// binary search; sets are combined word by word.
+    /// Fills an empty set with the rows that satisfy a condition, of those that may be asked of. A comparison is a range of a column's
+    /// order, found by binary search; sets are combined word by word.
+    pub fn fill_rows_of(&self, pred: &Pred, rows: &mut RowSet)
+        requires fits { fits_public self.now.public (tree_of pred.now) ≡ true }
+        requires n { rows.old.n ≡ self.now.public.rows }
+        requires empty { rows.old.list ≡ [] }
+        ensures n { rows.new.n ≡ self.now.public.rows }
+        ensures rows { rows.new.list ≡ meaning self.now.public (tree_of pred.now) }
+    {
+        fill_rows_of(self, pred, rows);
+        cut_to(&self.only, rows);
+    }
+
+    /// The same rows as a set of their own. Whoever asks often fills a set that is there.
     pub fn rows_of(&self, pred: &Pred) -> RowSet
         requires { fits_public self.now.public (tree_of pred.now) ≡ true }
         ensures n { result.n ≡ self.now.public.rows }
         ensures rows { result.list ≡ meaning self.now.public (tree_of pred.now) }
     {
-        among(&self.only, rows_of(self, pred))
+        let mut rows = RowSet::new(self.public().rows());
+        self.fill_rows_of(pred, &mut rows);
+        rows
     }
 
     /// How many people stand behind rows: as many as the rows if no column says so.

@@ -1,9 +1,9 @@
 //! The rows of a column in ascending order of value, with the sets of the first of them.
-ghost use Rattle.std.specs.Prelude.{◌≡◌, ℕ, ◌<◌, ◌≤◌, Bool, true, length, IfOk};
+ghost use Rattle.std.specs.Prelude.{◌≡◌, ℕ, ◌<◌, ◌≤◌, Bool, true, [], length, IfOk};
 ghost use Rattle.std.specs.List.{All};
 ghost use Rattle.std.specs.List.Sorted.{IsPermutation};
 ghost use Rattle.audit_types.specs.Limits.{most_rows};
-ghost use Rattle.audit_types.specs.Rows.{AreRows, rows_that, union};
+ghost use Rattle.audit_types.specs.Rows.{AreRows, intersection, rows_that, union};
 ghost use Rattle.set_index.specs.Marks.{first_rows};
 ghost use Rattle.set_index.specs.Ranges.{IsRange};
 
@@ -73,40 +73,54 @@ impl Sorted {
         self.order.as_slice()
     }
 
-    // The set of the first rows.
-    fn first(&self, count: usize) -> RowSet
-        requires { count ≤ length self.now.order }
-        ensures n { result.n ≡ self.now.rows }
-        ensures rows { result.list ≡ first_rows self.now.rows self.now.order count }
+    // Fills an empty set with the first rows.
+    fn fill_first(&self, count: usize, rows: &mut RowSet)
+        requires within { count ≤ length self.now.order }
+        requires n { rows.old.n ≡ self.now.rows }
+        requires empty { rows.old.list ≡ [] }
+        ensures n { rows.new.n ≡ self.now.rows }
+        ensures rows { rows.new.list ≡ first_rows self.now.rows self.now.order count }
     {
         let mark = count / STEP;
-        let mut rows = self.marks[mark];
-        add_rows(&mut rows, &self.order[STEP * mark..count]);
-        rows
+        rows.or_with(&self.marks[mark]);
+        add_rows(rows, &self.order[STEP * mark..count]);
     }
 
-    /// The rows from one place of the order up to another, if these are the rows that pass a test.
-    pub(crate) fn range(&self, from: usize, to: usize) -> RowSet
+    // Takes the rows from a place of the order on out.
+    fn cut_after(&self, count: usize, rows: &mut RowSet)
+        requires within { count ≤ length self.now.order }
+        requires n { rows.old.n ≡ self.now.rows }
+        ensures n { rows.new.n ≡ self.now.rows }
+        ensures both { rows.new.list ≡ intersection self.now.rows rows.old.list (first_rows self.now.rows self.now.order count) }
+    {
+        let mut first = RowSet::new(self.rows);
+        self.fill_first(count, &mut first);
+        rows.and_with(&first);
+    }
+
+    /// Fills an empty set with the rows from one place of the order up to another, if these are the rows that pass a test.
+    pub(crate) fn fill_range(&self, from: usize, to: usize, rows: &mut RowSet)
         requires ascends { from ≤ to }
         requires within { to ≤ length self.now.order }
-        ensures n { result.n ≡ self.now.rows }
-        ensures rows { (test : ℕ → Bool) → IsRange test self.now.order from to → result.list ≡ rows_that test self.now.rows }
+        requires n { rows.old.n ≡ self.now.rows }
+        requires empty { rows.old.list ≡ [] }
+        ensures n { rows.new.n ≡ self.now.rows }
+        ensures rows { (test : ℕ → Bool) → IsRange test self.now.order from to → rows.new.list ≡ rows_that test self.now.rows }
     {
         let end = self.order.len();
         if from == 0 {
-            return self.first(to);
+            self.fill_first(to, rows);
+            return;
         }
         if to - from < STEP {
-            let mut rows = RowSet::new(self.rows);
-            add_rows(&mut rows, &self.order[from..to]);
-            return rows;
+            add_rows(rows, &self.order[from..to]);
+            return;
         }
-        let mut rows = self.first(from);
+        self.fill_first(from, rows);
         rows.flip();
         if to == end {
-            return rows;
+            return;
         }
-        rows.and_with(&self.first(to));
-        rows
+        self.cut_after(to, rows);
     }
 }

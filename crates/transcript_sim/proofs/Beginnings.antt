@@ -5,6 +5,7 @@ use Rattle.audit_types.specs.declared.shapes.Shape.{Shape}
 use Rattle.audit_types.specs.History.{Setting}
 use Rattle.audit_core.specs.Released.{WereReleased}
 use Rattle.answer_journal.specs.MadeFiles.{stands_is_made}
+use Rattle.bench_core.specs.declared.stops.Stop.TheVariants as stop
 use Rattle.journal_form.specs.Journal.{StandsAt, BreaksAt}
 use Rattle.transcript_sim.specs.declared.simulating.SimulationFault.{SimulationFault}
 use Rattle.transcript_sim.specs.declared.simulating.SimulationFault.TheVariants as fault
@@ -41,12 +42,7 @@ module _ (one : OneReading) (file : List ℕ) (setting : Setting) where
         let read = one file setting.shape setting.shape history cause.history stands.0.0 cause.stands.0 stands.0.1 cause.stands.1 in
         let released = subst (WereReleased setting) read.1 stands.1 in
         cause.first.denied (released.each place cause.first.at cause.first.stands).released
-    never_refused begins (Err fault.Input) cause = tt
-    never_refused begins (Err fault.Limit) cause = tt
-    never_refused begins (Err (fault.Disagrees line due)) cause = tt
-    never_refused begins (Err fault.Bench) cause = tt
-    never_refused begins (Err fault.NoMemory) cause = tt
-    never_refused begins (Ok done) cause = tt
+    never_refused begins ended cause = tt
 
 -- an end
 abbrev pub ended_by : (X : Type 0) → SimulationFault → Result X SimulationFault
@@ -63,12 +59,8 @@ module _ (file : List ℕ) (setting : Setting) (kept : Shape) (list : List Answe
   }
   told_by_history X (fault.Illegal place group) cause =
       record { history = list; stands = (gate, subst (λ s. StandsAt file s list gate) cause.0 stands); first = cause.1 }
-  told_by_history X fault.NoMemory cause = tt
-  told_by_history X fault.Input cause = absurd cause
-  told_by_history X fault.Limit cause = absurd cause
-  told_by_history X (fault.Disagrees line due) cause = absurd cause
-  told_by_history X fault.Bench cause = absurd cause
-  told_by_history X (fault.Damaged at) cause = absurd cause
+  told_by_history X (fault.Stopped stop.NoMemory) cause = tt
+  told_by_history X other cause = absurd cause
 
   pub told_by_audit : {X : Type 0} (ended : Result X SimulationFault) → OnOk ended ((kept ≡ setting.shape) × WereReleased setting list) →
       IfErr ended (λ why. HistoryCause why kept setting list) → EndBegins ended file setting

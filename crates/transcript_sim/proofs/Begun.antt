@@ -8,6 +8,9 @@ use Rattle.bench_core.specs.declared.source.Source.{Ghosts as SourceGhosts}
 use Rattle.bench_core.specs.Calls.{IsQuiet, IsUntouched, LeavesOnly, OnlyReads, TellsFault}
 use Rattle.bench_core.specs.Causes.{Rose}
 use Rattle.bench_core.specs.Moments.{joins, still_quiet, weakens}
+use Rattle.bench_core.specs.Stops.{IsOfBench}
+use Rattle.bench_core.specs.declared.stops.Stop.{Stop}
+use Rattle.bench_core.specs.declared.stops.Stop.TheVariants as stop
 use Rattle.schema_json.specs.Columns.{Column}
 use Rattle.set_index.specs.Indexed.{IndexView}
 use Rattle.line_wire.specs.Lines.{CountedLine, counted_lines}
@@ -24,52 +27,33 @@ refused_too : {P : Type 0} (why : SimulationFault) → P → OnRefused (ended_by
 refused_too (fault.Damaged at) holds = holds
 refused_too (fault.OtherShape kept now) holds = holds
 refused_too (fault.Illegal place group) holds = holds
-refused_too fault.Input holds = tt
-refused_too fault.Bench holds = tt
-refused_too fault.Limit holds = tt
-refused_too (fault.Disagrees line due) holds = tt
-refused_too fault.NoMemory holds = tt
+refused_too other holds = tt
 
 -- an end that isn't a refusal says nothing of one, and had a history to begin with
 not_refused : (P : Type 0) (ended : Result (Unit {0}) SimulationFault) → OnRefused ended ⊥ → OnRefused ended P
 not_refused P (Err (fault.Damaged at)) none = absurd none
 not_refused P (Err (fault.OtherShape kept now)) none = absurd none
 not_refused P (Err (fault.Illegal place group)) none = absurd none
-not_refused P (Err fault.Input) none = tt
-not_refused P (Err fault.Bench) none = tt
-not_refused P (Err fault.Limit) none = tt
-not_refused P (Err (fault.Disagrees line due)) none = tt
-not_refused P (Err fault.NoMemory) none = tt
-not_refused P (Ok done) none = tt
+not_refused P ended none = tt
 
 begun_with : (ended : Result (Unit {0}) SimulationFault) (file : List ℕ) (setting : Setting) (history : List Answered) → OnRefused ended ⊥ →
     BeginsWith file setting history → EndBegins ended file setting
 begun_with (Err (fault.Damaged at)) file setting history none begins = absurd none
 begun_with (Err (fault.OtherShape kept now)) file setting history none begins = absurd none
 begun_with (Err (fault.Illegal place group)) file setting history none begins = absurd none
-begun_with (Err fault.Input) file setting history none begins = (history, begins)
-begun_with (Err fault.Bench) file setting history none begins = tt
-begun_with (Err fault.Limit) file setting history none begins = (history, begins)
-begun_with (Err (fault.Disagrees line due)) file setting history none begins = (history, begins)
-begun_with (Err fault.NoMemory) file setting history none begins = tt
-begun_with (Ok done) file setting history none begins = (history, begins)
+begun_with (Err (fault.Stopped stop.Bench)) file setting history none begins = tt
+begun_with (Err (fault.Stopped stop.NoMemory)) file setting history none begins = tt
+begun_with ended file setting history none begins = (history, begins)
 
 -- what is said of the file by a result of one kind is said by one of another
 pub said_too : (X : Type 0) (why : SimulationFault) (file : List ℕ) (setting : Setting) → EndBegins (ended_by X why) file setting →
     EndBegins (ended_by (Unit {0}) why) file setting
-said_too X (fault.Damaged at) file setting says = says
-said_too X (fault.OtherShape kept now) file setting says = says
-said_too X (fault.Illegal place group) file setting says = says
-said_too X fault.Input file setting says = says
-said_too X fault.Bench file setting says = tt
-said_too X fault.Limit file setting says = says
-said_too X (fault.Disagrees line due) file setting says = says
-said_too X fault.NoMemory file setting says = tt
+said_too X (fault.Stopped stop.Bench) file setting says = tt
+said_too X other file setting says = says
 
 -- what a call tells of its faults goes by the fault alone
-pub told_by_fault : {D : Type 0} (bench : Ghosts D) (old at : D) (X : Type 0) (why : SimulationFault) → TellsFault bench old at (ended_by X why ≡ Err
-    fault.Bench) →
-    TellsFault bench old at (why ≡ fault.Bench)
+pub told_by_fault : {D : Type 0} (bench : Ghosts D) (old at : D) (X : Type 0) (why : SimulationFault)
+    → TellsFault bench old at (ended_by X why ≡ Err (fault.Stopped stop.Bench)) → TellsFault bench old at (why ≡ fault.Stopped stop.Bench)
 told_by_fault bench old at X why tells = record {
   later = tells.later;
   failed = λ is. tells.failed (ap (ended_by X) is);
@@ -100,12 +84,13 @@ module _ {P B : Type 0} (source : SourceGhosts P) (bench : Ghosts B) (columns : 
     pub crash : (image : List ℕ) → bench.leaves at image → bench.leaves old image
     pub source_later : source.faults first ≤ source.faults from
     pub bench_later : bench.faults old ≤ bench.faults at
-    pub source_rose : ended ≡ Err fault.Input → Rose (source.faults first) (source.faults from)
-    pub bench_rose : ended ≡ Err fault.Bench → Rose (bench.faults old) (bench.faults at)
-    pub source_last : ended ≡ Err fault.Input → source.last_failed from ≡ true
-    pub bench_last : ended ≡ Err fault.Bench → bench.last_failed at ≡ true
-    pub source_steady : ended ≢ Err fault.Input → source.faults from ≡ source.faults first
-    pub bench_steady : ended ≢ Err fault.Bench → bench.faults at ≡ bench.faults old
+    pub source_rose : ended ≡ Err (fault.Stopped stop.Input) → Rose (source.faults first) (source.faults from)
+    pub bench_rose : ended ≡ Err (fault.Stopped stop.Bench) → Rose (bench.faults old) (bench.faults at)
+    pub source_last : ended ≡ Err (fault.Stopped stop.Input) → source.last_failed from ≡ true
+    pub bench_last : ended ≡ Err (fault.Stopped stop.Bench) → bench.last_failed at ≡ true
+    pub source_steady : ended ≢ Err (fault.Stopped stop.Input) → source.faults from ≡ source.faults first
+    pub bench_steady : ended ≢ Err (fault.Stopped stop.Bench) → bench.faults at ≡ bench.faults old
+    pub alone : ended ≢ Err (fault.Stopped stop.Spare)
 
   module _ (first : P) (old : B) where
     abbrev Meanwhile : List Answered → List ℕ → List ℕ → Type 0
@@ -136,37 +121,30 @@ module _ {P B : Type 0} (source : SourceGhosts P) (bench : Ghosts B) (columns : 
     module _ (one : OneReading) where
       -- it didn't begin
       module _ (whole : NoBreak) (at : B) (reads : OnlyReads bench old at) (why : SimulationFault) (unbegun : IsUnbegun why)
-          (tells : TellsFault bench old at (why ≡ fault.Bench))
+          (tells : TellsFault bench old at (why ≡ fault.Stopped stop.Bench))
           (cause : bench.told → EndBegins (ended_by (Unit {0}) why) (bench.file old) (public_setting columns index)) where
         no_verdict : (history : List Answered) (input left : List ℕ) (given : SimulationFault) → IsUnbegun given → OnRefused (ended_by (Unit {0}) given) ⊥ →
             EndVerdicts (Err given) columns index history input left [] × EndSends (Err given) [] (bench.sent old) (bench.sent at)
-        no_verdict history input left fault.Bench is none = (none_begun history (counted_lines input), (0, reads.sent ∙ sym (append-nil (bench.sent old))))
-        no_verdict history input left fault.NoMemory is none = (none_begun history (counted_lines input), reads.sent ∙ sym (append-nil (bench.sent old)))
+        no_verdict history input left (fault.Stopped stop.Bench) is none =
+            (none_begun history (counted_lines input), (0, reads.sent ∙ sym (append-nil (bench.sent old))))
+        no_verdict history input left (fault.Stopped stop.NoMemory) is none =
+            (none_begun history (counted_lines input), reads.sent ∙ sym (append-nil (bench.sent old)))
         no_verdict history input left (fault.Damaged place) is none = absurd none
         no_verdict history input left (fault.OtherShape kept now) is none = absurd none
         no_verdict history input left (fault.Illegal place group) is none = absurd none
-        no_verdict history input left fault.Input is none = absurd is
-        no_verdict history input left fault.Limit is none = absurd is
-        no_verdict history input left (fault.Disagrees line due) is none = absurd is
+        no_verdict history input left other is none = absurd is
 
         nothing_read : (input left : List ℕ) (given : SimulationFault) → IsUnbegun given → EndReads (Err given) input left
-        nothing_read input left fault.Bench is = tt
-        nothing_read input left fault.NoMemory is = tt
-        nothing_read input left (fault.Damaged place) is = tt
-        nothing_read input left (fault.OtherShape kept now) is = tt
-        nothing_read input left (fault.Illegal place group) is = tt
-        nothing_read input left fault.Input is = absurd is
-        nothing_read input left fault.Limit is = absurd is
+        nothing_read input left (fault.Stopped stop.Input) is = absurd is
+        nothing_read input left (fault.Stopped stop.Limit) is = absurd is
         nothing_read input left (fault.Disagrees line due) is = absurd is
+        nothing_read input left other is = tt
 
-        no_input : (given : SimulationFault) → IsUnbegun given → ended_by (Unit {0}) given ≡ Err fault.Input → ⊥
-        no_input given is same = subst IsUnbegun (same_fault same) is
-          where
-            same_fault : ended_by (Unit {0}) given ≡ Err fault.Input → given ≡ fault.Input
-            same_fault same = cc
+        stopped_by : (stopped : Stop) → ended_by (Unit {0}) why ≡ Err (fault.Stopped stopped) → why ≡ fault.Stopped stopped
+        stopped_by stopped same = cc
 
-        of_bench : ended_by (Unit {0}) why ≡ Err fault.Bench → why ≡ fault.Bench
-        of_bench same = cc
+        of_bench : (stopped : Stop) → ended_by (Unit {0}) why ≡ Err (fault.Stopped stopped) → IsOfBench stopped
+        of_bench stopped same = subst IsUnbegun (stopped_by stopped same) unbegun
 
         pub not_begun : EndsSo first first old at (Err why)
         not_begun = record {
@@ -187,12 +165,13 @@ module _ {P B : Type 0} (source : SourceGhosts P) (bench : Ghosts B) (columns : 
           crash = reads.crash;
           source_later = omega arith;
           bench_later = tells.later;
-          source_rose = λ is. absurd (no_input why unbegun is);
-          bench_rose = λ is. tells.failed (of_bench is);
-          source_last = λ is. absurd (no_input why unbegun is);
-          bench_last = λ is. tells.last_call (of_bench is);
+          source_rose = λ is. absurd (of_bench stop.Input is);
+          bench_rose = λ is. tells.failed (stopped_by stop.Bench is);
+          source_last = λ is. absurd (of_bench stop.Input is);
+          bench_last = λ is. tells.last_call (stopped_by stop.Bench is);
           source_steady = λ other. refl;
           bench_steady = λ other. tells.steady (λ is. other (subst (λ (f : SimulationFault). ended_by (Unit {0}) why ≡ Err f) is refl));
+          alone = of_bench stop.Spare;
         }
 
       -- it did, and its lines were judged
@@ -229,4 +208,5 @@ module _ {P B : Type 0} (source : SourceGhosts P) (bench : Ghosts B) (columns : 
         bench_last = all.bench_last;
         source_steady = all.source_steady;
         bench_steady = λ other. all.bench_steady other ∙ steady;
+        alone = all.alone;
       }

@@ -1,4 +1,3 @@
-pub mod Stops
 pub mod Averages
 pub mod OneVerdict
 pub mod Exchanges

@@ -8,6 +8,8 @@ use Rattle.bench_core.specs.declared.bench.Bench.{Ghosts}
 use Rattle.bench_core.specs.declared.source.Source.{Ghosts as SourceGhosts}
 use Rattle.bench_core.specs.Bench.{AppendsFront, Elapses, Sending}
 use Rattle.bench_core.specs.Causes.{Rose}
+use Rattle.bench_core.specs.declared.stops.Stop.{Stop}
+use Rattle.bench_core.specs.declared.stops.Stop.TheVariants as stop
 use Rattle.schema_json.specs.Columns.{Column}
 use Rattle.set_index.specs.Indexed.{IndexView}
 use Rattle.line_wire.specs.Lines.{CountedLine, counted_lines}
@@ -21,7 +23,7 @@ use Rattle.transcript_sim.specs.declared.simulating.SimulationFault.{SimulationF
 use Rattle.transcript_sim.specs.declared.simulating.SimulationFault.TheVariants as fault
 use Rattle.transcript_sim.specs.Verdicts.{Expects, line_of, Exchange, exchanges, IsVerdict, AreVerdicts}
 use Rattle.line_wire.specs.Calls.{Cuts, GivesLine, GivesNone}
-use Rattle.transcript_sim.specs.Steps.{IsCutShort}
+use Rattle.question_plan.specs.Planned.{IsUnplanned}
 use Rattle.transcript_sim.specs.Beginning.{OnRefused}
 use Rattle.transcript_sim.specs.Ends.{BeginVerdicts, EndVerdicts, EndSends, EndReads, SimulatesMeanwhile, Simulates}
 use Rattle.transcript_sim.proofs.Exchanges.{exchanges-append}
@@ -128,7 +130,7 @@ module _ {P B : Type 0} (source : SourceGhosts P) (bench : Ghosts B) (columns : 
           -- it couldn't be
           pub question_unsent : (bench.told → AppendsFront (bench.sent at) (line_of expected) (bench.sent sending))
               → Rose (bench.faults at) (bench.faults sending) → bench.last_failed sending ≡ true → bench.faults at ≤ bench.faults sending
-              → Simulates source bench columns index begun first_source after first sending (Err fault.Bench)
+              → Simulates source bench columns index begun first_source after first sending (Err (fault.Stopped stop.Bench))
           question_unsent part rose last later = record {
             verdicts =
                 λ t. (
@@ -153,21 +155,23 @@ module _ {P B : Type 0} (source : SourceGhosts P) (bench : Ghosts B) (columns : 
             bench_last = λ is. last;
             source_steady = λ other. gives.steady ∙ so_far.read.steady;
             bench_steady = λ other. absurd (other refl);
+            alone = search rules;
             begun = tt;
           }
 
     -- ---- ends without a call of the bench
 
     -- by what is said of the verdicts and of the input
-    pub ends : (after : P) (result : Result (Unit {0}) SimulationFault) → result ≢ Err fault.Bench
+    pub ends : (after : P) (result : Result (Unit {0}) SimulationFault) → result ≢ Err (fault.Stopped stop.Bench)
         → (source.told → EndVerdicts result columns index begun (source.left first_source) (source.left after) verdicts)
         → (bench.told → EndSends result verdicts (bench.sent first) (bench.sent at)) →
         (source.told → bench.told → OnOk result (bench.moment at ≡ bench.moment first + length (exchanges (counted_lines (source.left first_source))))) →
         (source.told → EndReads result (source.left first_source) (source.left after)) → source.faults from ≤ source.faults after
-        → (result ≡ Err fault.Input → Rose (source.faults from) (source.faults after)) → (result ≡ Err fault.Input → source.last_failed after ≡ true) →
-        (result ≢ Err fault.Input → source.faults after ≡ source.faults from)
-        → OnRefused result ⊥ → Simulates source bench columns index begun first_source after first at result
-    ends after result fine are sends calls reads later rose last steady taken = record {
+        → (result ≡ Err (fault.Stopped stop.Input) → Rose (source.faults from) (source.faults after))
+        → (result ≡ Err (fault.Stopped stop.Input) → source.last_failed after ≡ true)
+        → (result ≢ Err (fault.Stopped stop.Input) → source.faults after ≡ source.faults from)
+        → result ≢ Err (fault.Stopped stop.Spare) → OnRefused result ⊥ → Simulates source bench columns index begun first_source after first at result
+    ends after result fine are sends calls reads later rose last steady alone taken = record {
       verdicts = λ t. (verdicts, are t, sends);
       calls = calls;
       reads = reads;
@@ -182,23 +186,24 @@ module _ {P B : Type 0} (source : SourceGhosts P) (bench : Ghosts B) (columns : 
       bench_last = λ is. absurd (fine is);
       source_steady = λ other. steady other ∙ so_far.read.steady;
       bench_steady = λ other. so_far.sends.steady;
+      alone = alone;
       begun = taken;
     }
 
     -- there was no memory
     pub wants_memory : (after : P) → source.faults after ≡ source.faults from →
-        Simulates source bench columns index begun first_source after first at (Err fault.NoMemory)
+        Simulates source bench columns index begun first_source after first at (Err (fault.Stopped stop.NoMemory))
     wants_memory after steady =
-        ends after (Err fault.NoMemory) (search rules) (λ t. (lines, first_lines source first_source from cutter lines so_far.read t, so_far.are))
-        so_far.sends.sent
-        (λ t told. tt) (λ t. tt) (omega (arith, steady)) (λ is. absurd (search rules)) (λ is. absurd (search rules)) (λ other. steady) tt
+        ends after (Err (fault.Stopped stop.NoMemory)) (search rules)
+        (λ t. (lines, first_lines source first_source from cutter lines so_far.read t, so_far.are)) so_far.sends.sent
+        (λ t told. tt) (λ t. tt) (omega (arith, steady)) (λ is. absurd (search rules)) (λ is. absurd (search rules)) (λ other. steady) (search rules) tt
 
     module _ (new : Cutter) (after : P) (cuts : Cuts source cutter new from after) where
       -- no line is left
       pub all_read : GivesNone source cutter new from after → Simulates source bench columns index begun first_source after first at (Ok tt)
       all_read gives =
           let all = all_lines source first_source from cutter lines so_far.read after new cuts gives in
-          ends after (Ok tt) (no_fault fault.Bench)
+          ends after (Ok tt) (no_fault (fault.Stopped stop.Bench))
           (λ t. subst (λ (ls : List CountedLine). AreVerdicts columns index begun ls verdicts) (sym (all t)) so_far.are) so_far.sends.sent
           (λ t told.
           omega (
@@ -206,25 +211,22 @@ module _ {P B : Type 0} (source : SourceGhosts P) (bench : Ghosts B) (columns : 
             so_far.sends.ticks told,
             length-replies (IsVerdict columns index) begun (exchanges lines) verdicts so_far.are,
             ap (λ (ls : List CountedLine). length (exchanges ls)) (all t),
-          )) (all_input source first_source from cutter lines so_far.read after new cuts gives) cuts.later (λ is. absurd (no_fault fault.Input is))
-          (λ is. absurd (no_fault fault.Input is)) (λ other. gives.steady) tt
+          )) (all_input source first_source from cutter lines so_far.read after new cuts gives) cuts.later
+          (λ is. absurd (no_fault (fault.Stopped stop.Input) is)) (λ is. absurd (no_fault (fault.Stopped stop.Input) is)) (λ other. gives.steady)
+          (no_fault (fault.Stopped stop.Spare)) tt
 
       -- no line was given
-      pub cut_short : (why : SimulationFault) → IsCutShort source cutter new from after why →
-          Simulates source bench columns index begun first_source after first at (Err why)
-      cut_short fault.Input short =
-          ends after (Err fault.Input) (search rules)
+      pub cut_short : (why : Stop) → IsUnplanned source cutter new from after why →
+          Simulates source bench columns index begun first_source after first at (Err (fault.Stopped why))
+      cut_short stop.Input short =
+          ends after (Err (fault.Stopped stop.Input)) (search rules)
           (λ t. (lines, lines_read source first_source from cutter lines so_far.read after new cuts short t, so_far.are)) so_far.sends.sent (λ t told. tt)
           (input_read source first_source from cutter lines so_far.read after new cuts short) cuts.later (λ is. short.rose) (λ is. short.last)
-          (λ other. absurd (other refl)) tt
-      cut_short fault.Limit short =
-          ends after (Err fault.Limit) (search rules)
+          (λ other. absurd (other refl)) (search rules) tt
+      cut_short stop.Limit short =
+          ends after (Err (fault.Stopped stop.Limit)) (search rules)
           (λ t. (lines, lines_within source first_source from cutter lines so_far.read after new cuts short t, so_far.are)) so_far.sends.sent (λ t told. tt)
           (input_over source first_source from cutter lines so_far.read after new cuts short) cuts.later (λ is. absurd (search rules))
-          (λ is. absurd (search rules)) (λ other. short.steady) tt
-      cut_short fault.NoMemory short = wants_memory after short
-      cut_short fault.Bench short = absurd short
-      cut_short (fault.Disagrees line due) short = absurd short
-      cut_short (fault.Damaged place) short = absurd short
-      cut_short (fault.OtherShape kept now) short = absurd short
-      cut_short (fault.Illegal place group) short = absurd short
+          (λ is. absurd (search rules)) (λ other. short.steady) (search rules) tt
+      cut_short stop.NoMemory short = wants_memory after short
+      cut_short other short = absurd short

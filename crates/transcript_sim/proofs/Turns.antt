@@ -8,6 +8,8 @@ use Rattle.audit_types.specs.History.{setting_of}
 use Rattle.audit_core.specs.Audited.{Audited}
 use Rattle.bench_core.specs.declared.bench.Bench.{Ghosts}
 use Rattle.bench_core.specs.declared.source.Source.{Ghosts as SourceGhosts}
+use Rattle.bench_core.specs.declared.stops.Stop.{Stop}
+use Rattle.bench_core.specs.declared.stops.Stop.TheVariants as stop
 use Rattle.schema_json.specs.Columns.{Column}
 use Rattle.schema_json.specs.SecretShape.{shape_of}
 use Rattle.set_index.specs.Indexed.{IndexView}
@@ -18,6 +20,7 @@ use Rattle.line_wire.specs.LinesSoFar.{LinesSoFar, one_line_more}
 use Rattle.line_wire.specs.SentSoFar.{SentSoFar}
 use Rattle.question_plan.specs.Session.{Replied, records_of, bytes_of, AreReplies}
 use Rattle.question_plan.specs.InTurn.{replies-append, none_behind}
+use Rattle.question_plan.specs.Planned.{IsUnplanned}
 use Rattle.transcript_sim.specs.declared.expecting.Expected.{Expected}
 use Rattle.transcript_sim.specs.declared.shown.Shown.{Shown}
 use Rattle.transcript_sim.specs.declared.shown.Shown.TheVariants.{Agrees, Disagrees}
@@ -26,7 +29,7 @@ use Rattle.transcript_sim.specs.declared.simulating.SimulationFault.TheVariants 
 use Rattle.transcript_sim.specs.Verdicts.{Expects, AgreesWith, due_of, Exchange, exchanges, IsVerdict, AreVerdicts}
 use Rattle.transcript_sim.specs.Laws.{OneReplyIsCalledFor, OneVerdictIsDue}
 use Rattle.line_wire.specs.Calls.{Cuts, GivesLine, GivesNone}
-use Rattle.transcript_sim.specs.Steps.{IsCutShort, GivesQuestion, ShowsNext, records_shown, goes_on, SendsVerdict, FailsSending, IsUnjudged}
+use Rattle.transcript_sim.specs.Steps.{GivesQuestion, ShowsNext, records_shown, goes_on, SendsVerdict, FailsSending, IsUnjudged}
 use Rattle.transcript_sim.specs.Ends.{DisagreesAt, IsWithinLimit, Simulates}
 use Rattle.transcript_sim.proofs.Exchanges.{exchanges-append}
 use Rattle.transcript_sim.proofs.SoFar.{Meanwhile, SoFar, sent_for, with_record, ends, bytes-push, records-push, question_sent, question_unsent, all_read, cut_short}
@@ -190,7 +193,7 @@ module _ {P B : Type 0} (source : SourceGhosts P) (bench : Ghosts B) (columns : 
         ends source bench columns index begun first_source first cutter from at asked (half.verdicts ++ sent_for expected ∷ []) half.so_far after
         (Err (fault.Disagrees line (due_of expected))) (search rules)
         disagrees_at half.so_far.sends.sent (λ t told. tt) within_limit cuts.later (λ is. absurd (search rules)) (λ is. absurd (search rules)) (λ
-        other. gives.steady) tt
+        other. gives.steady) (search rules) tt
 
 -- ---- a question, and the sending of its verdict
 
@@ -224,25 +227,26 @@ module _ {P B : Type 0} (source : SourceGhosts P) (bench : Ghosts B) (columns : 
     }
 
     -- it couldn't be
-    asked_unsent : FailsSending bench at sending expected → Simulates source bench columns index begun first_source after first sending (Err fault.Bench)
+    asked_unsent : FailsSending bench at sending expected →
+        Simulates source bench columns index begun first_source after first sending (Err (fault.Stopped stop.Bench))
     asked_unsent fails =
         question_unsent source bench columns index begun first_source first cutter from at turn.lines turn.verdicts turn.so_far new after question.line
         question.gives cuts
         (length turn.verdicts) turn.even expected expects sending fails.file fails.crash fails.time fails.part fails.rose fails.last
         fails.later
 
-  unasked : (why : SimulationFault) → IsCutShort source cutter new from after why → sending ≡ at →
-      Simulates source bench columns index begun first_source after first sending (Err why)
+  unasked : (why : Stop) → IsUnplanned source cutter new from after why → sending ≡ at →
+      Simulates source bench columns index begun first_source after first sending (Err (fault.Stopped why))
   unasked why short same =
-      subst (λ (b : B). Simulates source bench columns index begun first_source after first b (Err why)) (sym same)
+      subst (λ (b : B). Simulates source bench columns index begun first_source after first b (Err (fault.Stopped why))) (sym same)
       (cut_short source bench columns index begun first_source first cutter from at turn.lines turn.verdicts turn.so_far new after cuts why short)
 
   -- no verdict was sent
-  pub unjudged : (why : SimulationFault) → IsUnjudged source bench cutter new from after at sending columns index core.history why →
-      Simulates source bench columns index begun first_source after first sending (Err why)
+  pub unjudged : (why : Stop) → IsUnjudged source bench cutter new from after at sending columns index core.history why →
+      Simulates source bench columns index begun first_source after first sending (Err (fault.Stopped why))
   unjudged why (inl is) = unasked why is.0 is.1
   unjudged why (inr is) =
-      subst (λ (f : SimulationFault). Simulates source bench columns index begun first_source after first sending (Err f)) (sym is.0)
+      subst (λ (s : Stop). Simulates source bench columns index begun first_source after first sending (Err (fault.Stopped s))) (sym is.0)
       (asked_unsent is.1.expected is.1.question is.1.fails)
 
   -- no question is left
@@ -259,8 +263,8 @@ module _ {P B : Type 0} (source : SourceGhosts P) (bench : Ghosts B) (columns : 
     (half : Half source bench columns index begun first_source first cutter from at core line expected) (new : Cutter) (after : P)
     (cuts : Cuts source cutter new from after) where
   -- no line was given
-  pub unshown : (why : SimulationFault) → IsCutShort source cutter new from after why →
-      Simulates source bench columns index begun first_source after first at (Err why)
+  pub unshown : (why : Stop) → IsUnplanned source cutter new from after why →
+      Simulates source bench columns index begun first_source after first at (Err (fault.Stopped why))
   unshown why short =
       cut_short source bench columns index begun first_source first cutter from at (half.lines ++ half.question ∷ [])
       (half.verdicts ++ sent_for expected ∷ [])

@@ -5,6 +5,8 @@ use Rattle.audit_types.specs.declared.shapes.Shape.{Shape}
 use Rattle.audit_types.specs.History.{Setting, setting_of}
 use Rattle.audit_core.specs.Released.{WereReleased, IsFirstUnreleased}
 use Rattle.answer_journal.specs.Moments.{IsMade}
+use Rattle.bench_core.specs.declared.stops.Stop.TheVariants as stop
+use Rattle.bench_core.specs.Stops.{IsOfBench}
 use Rattle.journal_form.specs.Journal.{StandsFor, BreaksAt}
 use Rattle.schema_json.specs.Columns.{Column}
 use Rattle.schema_json.specs.SecretShape.{shape_of}
@@ -42,8 +44,8 @@ abbrev pub EndBegins : {X : Type 0} → Result X SimulationFault → List ℕ �
 EndBegins (Err (fault.Damaged at)) file setting = IsDamagedAt file at
 EndBegins (Err (fault.OtherShape kept now)) file setting = IsOfOther file setting kept now
 EndBegins (Err (fault.Illegal place group)) file setting = HoldsUnreleased file setting place group
-EndBegins (Err fault.Bench) file setting = Unit {0}
-EndBegins (Err fault.NoMemory) file setting = Unit {0}
+EndBegins (Err (fault.Stopped stop.Bench)) file setting = Unit {0}
+EndBegins (Err (fault.Stopped stop.NoMemory)) file setting = Unit {0}
 EndBegins ended file setting = (history : List Answered) × BeginsWith file setting history
 
 -- this holds if no history was begun with, for what the journal is
@@ -55,8 +57,7 @@ OnRefused ended P = Unit {0}
 
 -- no history was begun with, for what the journal is, or because a call of the bench failed or memory ran out
 abbrev pub IsUnbegun : SimulationFault → Type 0
-IsUnbegun fault.Input = ⊥
-IsUnbegun fault.Limit = ⊥
+IsUnbegun (fault.Stopped why) = IsOfBench why
 IsUnbegun (fault.Disagrees line due) = ⊥
 IsUnbegun why = Unit {0}
 
@@ -64,5 +65,5 @@ IsUnbegun why = Unit {0}
 abbrev pub HistoryCause : SimulationFault → Shape → Setting → List Answered → Type 0
 HistoryCause (fault.OtherShape kept now) shape setting history = (kept ≡ shape) × (now ≡ setting.shape) × (kept ≢ now)
 HistoryCause (fault.Illegal place group) shape setting history = (shape ≡ setting.shape) × IsFirstUnreleased setting history place group
-HistoryCause fault.NoMemory shape setting history = Unit {0}
+HistoryCause (fault.Stopped stop.NoMemory) shape setting history = Unit {0}
 HistoryCause why shape setting history = ⊥

@@ -8,6 +8,8 @@ use Rattle.audit_core.specs.declared.replaying.ReplayFault.{ReplayFault}
 use Rattle.audit_core.specs.declared.replaying.ReplayFault.TheVariants as replay
 use Rattle.bench_core.specs.declared.bench.Bench.{Ghosts as BenchGhosts}
 use Rattle.bench_core.specs.declared.source.Source.{Ghosts}
+use Rattle.bench_core.specs.declared.stops.Stop.{Stop}
+use Rattle.bench_core.specs.declared.stops.Stop.TheVariants as stop
 use Rattle.bench_core.specs.Bench.{AppendsFront, Elapses, Sending}
 use Rattle.bench_core.specs.Causes.{Rose}
 use Rattle.schema_json.specs.Columns.{Column}
@@ -15,12 +17,9 @@ use Rattle.schema_json.specs.SecretShape.{shape_of}
 use Rattle.set_index.specs.Indexed.{IndexView}
 use Rattle.line_wire.specs.Lines.{CountedLine}
 use Rattle.line_wire.specs.Cutter.{Cutter}
-use Rattle.line_wire.specs.Calls.{FailsRead, GivesLine, GivesNone, PassesLimit}
-use Rattle.line_wire.specs.declared.lines.LineStop.{LineStop}
-use Rattle.line_wire.specs.declared.lines.LineStop.TheVariants as stop
-use Rattle.question_plan.specs.declared.planner.PlanStop.{PlanStop}
-use Rattle.question_plan.specs.declared.planner.PlanStop.TheVariants as plan
+use Rattle.line_wire.specs.Calls.{GivesLine, GivesNone}
 use Rattle.question_plan.specs.declared.due.Due.{Due}
+use Rattle.question_plan.specs.Planned.{IsUnplanned}
 use Rattle.transcript_sim.specs.declared.expecting.Expected.{Expected}
 use Rattle.transcript_sim.specs.declared.expecting.Expected.TheVariants.{Only, Answer}
 use Rattle.transcript_sim.specs.declared.shown.Shown.{Shown}
@@ -41,15 +40,6 @@ CanBeTaken setting history (Answer take people asked follows) = FitsShape settin
 abbrev pub ComesTo : CountedLine → Expected → Shown → Type 0
 ComesTo line expected (Agrees added) = AgreesWith line expected added
 ComesTo line expected Disagrees = (added : Option Answered) → ¬ (AgreesWith line expected added)
-
--- ---- a line that was read
-
--- why no line was given: the cutter stopped, or there was no memory for what the line comes to
-abbrev pub IsCutShort : {P : Type 0} → Ghosts P → Cutter → Cutter → P → P → SimulationFault → Type 0
-IsCutShort source old new before after fault.Input = FailsRead source old new before after
-IsCutShort source old new before after fault.Limit = PassesLimit source old new before after
-IsCutShort source old new before after fault.NoMemory = source.faults after ≡ source.faults before
-IsCutShort source old new before after why = ⊥
 
 -- ---- the two lines of an exchange
 
@@ -132,25 +122,14 @@ pub record GivesUnsent {P B : Type 0} (source : Ghosts P) (bench : BenchGhosts B
 
 -- why no verdict was sent: no question was given and no call was made, or the call failed
 abbrev pub IsUnjudged : {P B : Type 0} → Ghosts P → BenchGhosts B → Cutter → Cutter → P → P → B → B → List Column → IndexView → List Answered →
-    SimulationFault → Type 0
+    Stop → Type 0
 IsUnjudged source bench old new before after at now columns index history why =
-    (IsCutShort source old new before after why × (now ≡ at)) ⊎
-    ((why ≡ fault.Bench) × GivesUnsent source bench old new before after at now columns index history)
+    (IsUnplanned source old new before after why × (now ≡ at)) ⊎
+    ((why ≡ stop.Bench) × GivesUnsent source bench old new before after at now columns index history)
 
 -- ---- the end of reading
 
--- the end that a stop of the cutter makes
-abbrev pub stop_fault : LineStop → SimulationFault
-stop_fault stop.Input = fault.Input
-stop_fault stop.Limit = fault.Limit
-
--- and the end that one of the planner makes
-abbrev pub plan_fault : PlanStop → SimulationFault
-plan_fault plan.Input = fault.Input
-plan_fault plan.Limit = fault.Limit
-plan_fault plan.NoMemory = fault.NoMemory
-
--- and the one that a history makes which wasn't to be released
+-- the end that a history makes which wasn't to be released
 abbrev pub replay_fault : ReplayFault → SimulationFault
 replay_fault (replay.Unreleased place group) = fault.Illegal place group
-replay_fault replay.NoMemory = fault.NoMemory
+replay_fault replay.NoMemory = fault.Stopped stop.NoMemory

@@ -5,13 +5,14 @@ ghost use Rattle.audit_types.specs.Shapes.{IsShape};
 ghost use Rattle.audit_types.specs.History.{FitsShape, AreProtected, setting_of};
 ghost use Rattle.audit_core.specs.Released.{WereReleased};
 ghost use Rattle.bench_core.specs.Calls.{OnlyReads, TellsFault};
+ghost use Rattle.bench_core.specs.declared.stops.Stop.{Stop};
 ghost use Rattle.transcript_sim.specs.Beginning.{BeginsWith, EndBegins, HistoryCause, IsUnbegun};
 
 use crate::simulating::SimulationFault;
 use answer_journal::{BackFault, Journal};
 use audit_core::{Core, replay};
 use audit_types::{Answered, Guard, Shape};
-use bench_core::Bench;
+use bench_core::{Bench, Stop};
 use std::alloc::Global;
 
 // The audit of the history of a journal of this shape.
@@ -54,14 +55,14 @@ pub(crate) fn begin<B: Bench>(
     // Nothing is written and nothing sent.
     ensures reads { OnlyReads B.Bench bench.old bench.new }
     ensures ticks { B.told → OnOk result (B.moment bench.new ≡ B.moment bench.old + 2) }
-    ensures fault { TellsFault B.Bench bench.old bench.new (IsErrOf result SimulationFault.Bench) }
+    ensures fault { TellsFault B.Bench bench.old bench.new (IsErrOf result (SimulationFault.Stopped Stop.Bench)) }
 {
     let protected = protected.copy(alloc)?;
     match Journal::read_back(alloc, bench) {
         Ok((journal, list)) => audited(alloc, shape, protected, journal.shape(), &list),
         Err(BackFault::NotMade) => Ok(Core::new(alloc, shape, protected)?),
         Err(BackFault::Damaged { at }) => Err(SimulationFault::Damaged { at }),
-        Err(BackFault::Failed) => Err(SimulationFault::Bench),
-        Err(BackFault::NoMemory) => Err(SimulationFault::NoMemory),
+        Err(BackFault::Failed) => Err(SimulationFault::Stopped(Stop::Bench)),
+        Err(BackFault::NoMemory) => Err(SimulationFault::Stopped(Stop::NoMemory)),
     }
 }

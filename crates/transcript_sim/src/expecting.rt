@@ -7,7 +7,7 @@ ghost use Rattle.transcript_sim.specs.Verdicts.{CalledBy, CallsFor, due_of, line
 
 use audit_core::Core;
 use audit_types::{Asked, NoMemory, Verdict};
-use journal_compact::follows;
+use implied_records::follows;
 use line_wire::{Reply, Take};
 use question_plan::{Due, Plan, due_of_reply, is_full, verdict_line};
 

@@ -4,7 +4,8 @@ ghost use Rattle.audit_types.specs.History.{setting_of};
 ghost use Rattle.schema_json.specs.SecretShape.{shape_of};
 ghost use Rattle.table_load.specs.Cells.{FitsSchema};
 ghost use Rattle.line_wire.specs.Calls.{Cuts};
-ghost use Rattle.transcript_sim.specs.Steps.{AsksNext, CanBeTaken, CanFollow, FailsSending, IsCutShort, IsUnjudged, SendsFor, SendsVerdict, ShowsNext, goes_on, records_shown};
+ghost use Rattle.question_plan.specs.Planned.{IsUnplanned};
+ghost use Rattle.transcript_sim.specs.Steps.{AsksNext, CanBeTaken, CanFollow, FailsSending, IsUnjudged, SendsFor, SendsVerdict, ShowsNext, goes_on, records_shown};
 
 use crate::expecting::Expected;
 use crate::questions::next_shown;
@@ -12,7 +13,7 @@ use crate::shown::Shown;
 use crate::simulating::SimulationFault;
 use audit_core::Core;
 use audit_types::NoMemory;
-use bench_core::{Bench, Failed, Source};
+use bench_core::{Bench, Failed, Source, Stop};
 use question_plan::{Due, Planner};
 use schema_json::Schema;
 use set_index::Index;
@@ -65,7 +66,7 @@ impl Simulation {
         index: &Index,
         source: &mut P,
         bench: &mut B,
-    ) -> Result<Option<Expected>, SimulationFault>
+    ) -> Result<Option<Expected>, Stop>
         requires same { P.told → self.old.lines.ended ≡ true → P.left source.old ≡ [] }
         requires fits { FitsSchema schema.now.columns index.now.public }
         requires setting { self.old.core.setting ≡ setting_of (shape_of schema.now.columns index.now.public.rows) index.now.protected }
@@ -87,13 +88,13 @@ impl Simulation {
         &mut self,
         source: &mut P,
         expected: &Expected,
-    ) -> Result<Option<Shown>, SimulationFault>
+    ) -> Result<Option<Shown>, Stop>
         requires same { P.told → self.old.lines.ended ≡ true → P.left source.old ≡ [] }
         requires can { CanBeTaken self.old.core.setting self.old.core.history expected.now }
         ensures shows { IfOk result (ShowsNext P.Source self.old.lines self.new.lines source.old source.new expected.now) }
         ensures takes { IfOk result (λ shown. self.new.core.history ≡ self.old.core.history ++ records_shown shown) }
         ensures setting { self.new.core.setting ≡ self.old.core.setting }
-        ensures short { IfErr result (IsCutShort P.Source self.old.lines self.new.lines source.old source.new) }
+        ensures short { IfErr result (IsUnplanned P.Source self.old.lines self.new.lines source.old source.new) }
         ensures cuts { Cuts P.Source self.old.lines self.new.lines source.old source.new }
     {
         let shown = next_shown(&mut self.lines, source, expected)?;

@@ -4,13 +4,13 @@ ghost use Rattle.audit_types.specs.History.{setting_of};
 ghost use Rattle.schema_json.specs.SecretShape.{shape_of};
 ghost use Rattle.table_load.specs.Cells.{FitsSchema};
 ghost use Rattle.line_wire.specs.Calls.{Cuts};
-ghost use Rattle.transcript_sim.specs.Steps.{AsksNext, IsCutShort, ShowsNext};
+ghost use Rattle.question_plan.specs.Planned.{IsUnplanned};
+ghost use Rattle.transcript_sim.specs.Steps.{AsksNext, ShowsNext};
 
 use crate::expecting::{Expected, expected_of};
 use crate::judging::Simulation;
 use crate::shown::Shown;
-use crate::simulating::SimulationFault;
-use bench_core::Source;
+use bench_core::{Source, Stop};
 use line_wire::Next;
 use question_plan::Planner;
 use schema_json::Schema;
@@ -25,13 +25,13 @@ impl Simulation {
         schema: &Schema,
         index: &Index,
         source: &mut P,
-    ) -> Result<Option<Expected>, SimulationFault>
+    ) -> Result<Option<Expected>, Stop>
         requires same { P.told → self.old.lines.ended ≡ true → P.left source.old ≡ [] }
         requires fits { FitsSchema schema.now.columns index.now.public }
         requires setting { self.old.core.setting ≡ setting_of (shape_of schema.now.columns index.now.public.rows) index.now.protected }
         ensures asks { IfOk result (AsksNext P.Source self.old.lines self.new.lines source.old source.new schema.now.columns index.now self.old.core.history) }
         ensures same { self.new.core ≡ self.old.core }
-        ensures short { IfErr result (IsCutShort P.Source self.old.lines self.new.lines source.old source.new) }
+        ensures short { IfErr result (IsUnplanned P.Source self.old.lines self.new.lines source.old source.new) }
         ensures cuts { Cuts P.Source self.old.lines self.new.lines source.old source.new }
     {
         let Some(plan) = self.lines.next(alloc, schema, index, source)? else {
@@ -46,10 +46,10 @@ pub(crate) fn next_shown<P: Source>(
     lines: &mut Planner,
     source: &mut P,
     expected: &Expected,
-) -> Result<Option<Shown>, SimulationFault>
+) -> Result<Option<Shown>, Stop>
     requires same { P.told → lines.old.ended ≡ true → P.left source.old ≡ [] }
     ensures shows { IfOk result (ShowsNext P.Source lines.old lines.new source.old source.new expected.now) }
-    ensures short { IfErr result (IsCutShort P.Source lines.old lines.new source.old source.new) }
+    ensures short { IfErr result (IsUnplanned P.Source lines.old lines.new source.old source.new) }
     ensures cuts { Cuts P.Source lines.old lines.new source.old source.new }
 {
     match lines.next_line(source)? {

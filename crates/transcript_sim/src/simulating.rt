@@ -4,12 +4,12 @@ ghost use Rattle.audit_types.specs.History.{AreProtected, setting_of};
 ghost use Rattle.audit_types.specs.declared.records.Answered.{Answered};
 ghost use Rattle.bench_core.specs.Causes.{Rose};
 ghost use Rattle.bench_core.specs.Calls.{IsQuiet, IsUntouched, LeavesOnly};
+ghost use Rattle.bench_core.specs.declared.stops.Stop.{Stop};
 ghost use Rattle.schema_json.specs.SecretShape.{shape_of};
 ghost use Rattle.table_load.specs.Cells.{FitsSchema};
 ghost use Rattle.line_wire.specs.Lines.{counted_lines};
 ghost use Rattle.question_plan.specs.Session.{Replied};
 ghost use Rattle.transcript_sim.specs.Verdicts.{exchanges};
-ghost use Rattle.transcript_sim.specs.Steps.{plan_fault, stop_fault};
 ghost use Rattle.transcript_sim.specs.Beginning.{BeginsWith, EndBegins, OnRefused, public_setting};
 ghost use Rattle.transcript_sim.specs.Ends.{EndReads, EndSends, EndVerdicts, Simulates, SimulatesMeanwhile};
 ghost use Rattle.transcript_sim.specs.declared.simulating.SimulationFault.TheVariants as fault;
@@ -19,10 +19,9 @@ use crate::judging::{Simulation, goes_on};
 use crate::laws::one_verdict;
 use audit_core::ReplayFault;
 use audit_types::{NoMemory, Shape};
-use bench_core::{Bench, Failed, Source};
+use bench_core::{Bench, Source, Stop};
 use journal_form::laws::{no_break_in_a_journal, one_reading};
-use line_wire::LineStop;
-use question_plan::{Due, PlanStop};
+use question_plan::Due;
 use schema_json::Schema;
 use set_index::Index;
 use std::alloc::Global;
@@ -30,12 +29,8 @@ use std::alloc::Global;
 /// Why reading a transcript ended before its input did, or didn't begin.
 #[derive(Clone, Copy)]
 pub enum SimulationFault {
-    /// The input failed.
-    Input,
-    /// A call on the journal failed, or a verdict couldn't be sent.
-    Bench,
-    /// The input has more than 2^30 bytes.
-    Limit,
+    /// A call of the outside ended it: one of the input, or of the bench, which has the journal and takes the verdicts.
+    Stopped(Stop),
     /// The place of the first byte that breaks the journal's grammar.
     Damaged { at: u64 },
     /// The journal is that of a table of another shape.
@@ -46,45 +41,21 @@ pub enum SimulationFault {
     /// The line of this number, from 1, is the first reply that doesn't agree, and its question has this verdict. Lines that
     /// are passed over have no number.
     Disagrees { line: u64, due: Due },
-    NoMemory,
 }
 
-impl From<LineStop> for SimulationFault {
-    ghost from_gives = { λ stop e. e ≡ stop_fault stop };
+impl From<Stop> for SimulationFault {
+    ghost from_gives = { λ stop e. e ≡ fault.Stopped stop };
 
-    fn from(stop: LineStop) -> SimulationFault {
-        match stop {
-            LineStop::Input => SimulationFault::Input,
-            LineStop::Limit => SimulationFault::Limit,
-        }
-    }
-}
-
-impl From<PlanStop> for SimulationFault {
-    ghost from_gives = { λ stop e. e ≡ plan_fault stop };
-
-    fn from(stop: PlanStop) -> SimulationFault {
-        match stop {
-            PlanStop::Input => SimulationFault::Input,
-            PlanStop::Limit => SimulationFault::Limit,
-            PlanStop::NoMemory => SimulationFault::NoMemory,
-        }
-    }
-}
-
-impl From<Failed> for SimulationFault {
-    ghost from_gives = { λ _ e. e ≡ fault.Bench };
-
-    fn from(_e: Failed) -> SimulationFault {
-        SimulationFault::Bench
+    fn from(stop: Stop) -> SimulationFault {
+        SimulationFault::Stopped(stop)
     }
 }
 
 impl From<NoMemory> for SimulationFault {
-    ghost from_gives = { λ _ e. e ≡ fault.NoMemory };
+    ghost from_gives = { λ _ e. e ≡ fault.Stopped Stop.NoMemory };
 
     fn from(_e: NoMemory) -> SimulationFault {
-        SimulationFault::NoMemory
+        SimulationFault::Stopped(Stop::NoMemory)
     }
 }
 
@@ -96,7 +67,7 @@ impl From<ReplayFault> for SimulationFault {
     fn from(given: ReplayFault) -> SimulationFault {
         match given {
             ReplayFault::Unreleased { place, group } => SimulationFault::Illegal { place, group },
-            ReplayFault::NoMemory => SimulationFault::NoMemory,
+            ReplayFault::NoMemory => SimulationFault::Stopped(Stop::NoMemory),
         }
     }
 }
@@ -161,12 +132,13 @@ pub fn simulate<P: Source, B: Bench>(
     ensures file { B.file bench.new ≡ B.file bench.old }
     ensures crash { (image : List ℕ) → B.leaves bench.new image → B.leaves bench.old image }
 
-    // It doesn't give up by itself, and passes over no failed call.
+    // It doesn't give up by itself, passes over no failed call, and calls no spare.
     ensures later { (P.faults source.old ≤ P.faults source.new) × (B.faults bench.old ≤ B.faults bench.new) }
-    ensures input { result ≡ Err SimulationFault.Input → Rose (P.faults source.old) (P.faults source.new) }
-    ensures bench { result ≡ Err SimulationFault.Bench → Rose (B.faults bench.old) (B.faults bench.new) }
-    ensures last_call { (result ≡ Err SimulationFault.Input → P.last_failed source.new ≡ true) × (result ≡ Err SimulationFault.Bench → B.last_failed bench.new ≡ true) }
-    ensures steady { (result ≢ Err SimulationFault.Input → P.faults source.new ≡ P.faults source.old) × (result ≢ Err SimulationFault.Bench → B.faults bench.new ≡ B.faults bench.old) }
+    ensures input { result ≡ Err (SimulationFault.Stopped Stop.Input) → Rose (P.faults source.old) (P.faults source.new) }
+    ensures bench { result ≡ Err (SimulationFault.Stopped Stop.Bench) → Rose (B.faults bench.old) (B.faults bench.new) }
+    ensures last_call { (result ≡ Err (SimulationFault.Stopped Stop.Input) → P.last_failed source.new ≡ true) × (result ≡ Err (SimulationFault.Stopped Stop.Bench) → B.last_failed bench.new ≡ true) }
+    ensures steady { (result ≢ Err (SimulationFault.Stopped Stop.Input) → P.faults source.new ≡ P.faults source.old) × (result ≢ Err (SimulationFault.Stopped Stop.Bench) → B.faults bench.new ≡ B.faults bench.old) }
+    ensures alone { result ≢ Err (SimulationFault.Stopped Stop.Spare) }
 {
     one_reading();
     no_break_in_a_journal();

@@ -9,9 +9,8 @@ use Rattle.bench_core.specs.declared.bench.Bench.{Ghosts}
 use Rattle.bench_core.specs.Calls.{IsQuiet, IsUntouched, LeavesOnly, OnlyReads}
 use Rattle.bench_core.specs.Moments.{joins, still_quiet, then_reads, weakens}
 use Rattle.journal_form.specs.Journal.{StandsFor}
-use Rattle.answer_journal.specs.Make.{calls_to_make}
-use Rattle.answer_journal.specs.Moments.{IsMade}
-use Rattle.journal_compact.specs.Whole.{IsUnmadeOrWhole}
+use Rattle.answer_journal.specs.Make.{calls_to_look, calls_to_make}
+use Rattle.answer_journal.specs.Moments.{IsMade, IsUnmadeOrWhole}
 use Rattle.audit_store.specs.Starting.{StartCause, GivesUp}
 use Rattle.audit_store.specs.declared.starting.StartFault.{StartFault}
 use Rattle.audit_store.specs.declared.starting.StartFault.TheVariants as start
@@ -21,7 +20,7 @@ use Rattle.twin_journal.specs.declared.restoring.RestoreFault.{RestoreFault}
 use Rattle.twin_journal.specs.declared.restoring.RestoreFault.TheVariants.{Main, Spare}
 use Rattle.twin_journal.specs.declared.restoring.RestoreFault.TheVariants as restore
 use Rattle.twin_journal.specs.Copying.{GivesUpCopying, IsKeptFor, fault_of_kept}
-use Rattle.twin_journal.specs.Restoring.{GivesUpRestoring, IsLost, IsLostOf, RestoreCause, StandForTheSame, TakeCalls, calls_to_look, fault_from_main, fault_from_spare}
+use Rattle.twin_journal.specs.Restoring.{GivesUpRestoring, IsLost, IsLostOf, RestoreCause, StandForTheSame, TakeCalls, fault_from_main, fault_from_spare}
 use Rattle.twin_journal.proofs.TwinCauses.{OneHistory}
 
 -- files that stand for one history stand for the same

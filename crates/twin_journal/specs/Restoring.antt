@@ -1,11 +1,11 @@
 -- A lost journal, written anew from the other one.
-use Rattle.std.specs.Prelude.{◌≡◌, ◌⊎◌, ◌↔◌, ℕ, ◌+◌, List, length, nat_lt, if◌then◌else◌, Result, Ok, Err}
+use Rattle.std.specs.Prelude.{◌≡◌, ◌⊎◌, ◌↔◌, ℕ, ◌+◌, List, Result, Ok, Err}
 use Rattle.audit_types.specs.declared.shapes.Shape.{Shape}
 use Rattle.audit_types.specs.declared.records.Answered.{Answered}
 use Rattle.audit_types.specs.History.{Table, IsLegal}
 use Rattle.journal_form.specs.Journal.{StandsFor}
 use Rattle.answer_journal.specs.Moments.{IsMade}
-use Rattle.journal_compact.specs.Whole.{HoldsWhole}
+use Rattle.answer_journal.specs.Whole.{HoldsWhole}
 use Rattle.audit_store.specs.Starting.{StartCause, GivesUp}
 use Rattle.twin_journal.specs.declared.copying.CopyFault.{CopyFault}
 use Rattle.twin_journal.specs.declared.copying.CopyFault.TheVariants as copy
@@ -69,10 +69,6 @@ StandForTheSame file spare = (shape : Shape) (history : List Answered) → Stand
 pub record TakeCalls (lost_before lost_after kept_before kept_after : ℕ) : Type 0 where
   pub lost : lost_after ≡ lost_before + 8
   pub kept : kept_after ≡ kept_before + 4
-
--- the calls with which it is found whether a journal is made: of a file shorter than one the length is enough
-abbrev pub calls_to_look : List ℕ → ℕ
-calls_to_look file = if nat_lt (length file) 21 then 1 else 2
 
 -- the fault of a copy, if the spare was to be written from the journal
 abbrev pub fault_from_main : CopyFault → RestoreFault

@@ -11,9 +11,9 @@ ghost use Rattle.twin_journal.specs.Twins.{CatchesUp, DifferFirst, Meet, StandsB
 
 use crate::starting::TwinFault;
 use answer_journal::Journal;
-use audit_store::{Store, StoreFault, agreement, bring_up};
+use audit_store::{Store, agreement, bring_up};
 use audit_types::Answered;
-use bench_core::Bench;
+use bench_core::{Bench, Stop};
 
 // Brings the store up to a longer history of the journal on the spare, or that journal up to the store's, unless they differ.
 pub(crate) fn catch_up<B: Bench, S: Bench>(
@@ -71,8 +71,10 @@ pub(crate) fn catch_up<B: Bench, S: Bench>(
     if place == list.len() {
         return match bring_up(journal, spare, &history[place..]) {
             Ok(()) => Ok(()),
-            Err(StoreFault::Failed) => Err(TwinFault::SpareFailed),
-            Err(StoreFault::NoMemory) => Err(TwinFault::NoMemory),
+            Err(stop) => match stop {
+                Stop::NoMemory => Err(TwinFault::NoMemory),
+                _ => Err(TwinFault::SpareFailed),
+            },
         };
     }
     if place < history.len() {
@@ -82,7 +84,9 @@ pub(crate) fn catch_up<B: Bench, S: Bench>(
     }
     match store.bring_up(bench, &list[place..]) {
         Ok(()) => Ok(()),
-        Err(StoreFault::Failed) => Err(TwinFault::MainFailed),
-        Err(StoreFault::NoMemory) => Err(TwinFault::NoMemory),
+        Err(stop) => match stop {
+            Stop::NoMemory => Err(TwinFault::NoMemory),
+            _ => Err(TwinFault::MainFailed),
+        },
     }
 }

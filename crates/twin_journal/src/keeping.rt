@@ -1,8 +1,8 @@
 //! A twin store as a keeper: it is spared.
-use crate::starting::{TwinStop, TwinStore};
-use audit_store::{KeepFault, Keeper, Outcome};
+use crate::starting::TwinStore;
+use audit_store::{Keeper, Outcome};
 use audit_types::Asked;
-use bench_core::Bench;
+use bench_core::{Bench, Stop};
 
 impl Keeper for TwinStore {
     ghost spared = { Unit {0} };
@@ -16,12 +16,7 @@ impl Keeper for TwinStore {
         bench: &mut B,
         spare: &mut S,
         asked: &[Asked],
-    ) -> Result<Vec<Outcome>, KeepFault> {
-        match self.ask_all(bench, spare, asked) {
-            Ok(outcomes) => Ok(outcomes),
-            Err(TwinStop::MainFailed) => Err(KeepFault::Bench),
-            Err(TwinStop::SpareFailed) => Err(KeepFault::Spare),
-            Err(TwinStop::NoMemory) => Err(KeepFault::NoMemory),
-        }
+    ) -> Result<Vec<Outcome>, Stop> {
+        self.ask_all(bench, spare, asked)
     }
 }

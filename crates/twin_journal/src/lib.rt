@@ -12,7 +12,6 @@ mod restoring;
 mod serving;
 mod starting;
 
-pub use audit_session::TwinEnd;
 pub use restoring::{RestoreFault, restore};
 pub use serving::serve_twin;
-pub use starting::{TwinFault, TwinStop, TwinStore};
+pub use starting::{TwinFault, TwinStore};

@@ -4,19 +4,19 @@ ghost use Rattle.audit_types.specs.declared.records.Answered.{Answered};
 ghost use Rattle.audit_types.specs.History.{AreProtected};
 ghost use Rattle.bench_core.specs.Causes.{HasCause};
 ghost use Rattle.bench_core.specs.Calls.{IsQuiet, IsUntouched, LeavesOnly, OnlyReads, TellsFault};
-ghost use Rattle.answer_journal.specs.Moments.{IsMade};
-ghost use Rattle.journal_compact.specs.Whole.{IsUnmadeOrWhole};
+ghost use Rattle.answer_journal.specs.Make.{calls_to_look};
+ghost use Rattle.answer_journal.specs.Moments.{IsMade, IsUnmadeOrWhole};
 ghost use Rattle.table_load.specs.Database.{secret_table};
 ghost use Rattle.audit_store.specs.Starting.{GivesUp};
 ghost use Rattle.audit_store.specs.declared.starting.StartFault.{StartFault};
 ghost use Rattle.twin_journal.specs.declared.restoring.RestoreFault.{RestoreFault};
-ghost use Rattle.twin_journal.specs.Restoring.{CanRestore, GivesUpRestoring, IsLost, IsLostOf, NotRestoredUnlessGivenUp, RestoreCause, Restored, RestoredUnlessGivenUp, StandForTheSame, TakeCalls, calls_to_look, fault_from_main, fault_from_spare};
+ghost use Rattle.twin_journal.specs.Restoring.{CanRestore, GivesUpRestoring, IsLost, IsLostOf, NotRestoredUnlessGivenUp, RestoreCause, Restored, RestoredUnlessGivenUp, StandForTheSame, TakeCalls, fault_from_main, fault_from_spare};
 
 use crate::copying::{CopyFault, copy_journal};
+use answer_journal::look;
 use audit_store::StartFault;
 use audit_types::Guard;
 use bench_core::{Bench, Failed};
-use journal_compact::{Found, look};
 use journal_form::laws::one_reading;
 use std::alloc::Global;
 use table_load::Secret;
@@ -74,9 +74,8 @@ fn is_made<B: Bench>(bench: &mut B) -> Result<bool, Failed>
     ensures last_call { OnErr result (B.last_failed bench.new ≡ true) }
 {
     match look(bench)? {
-        Found::Made => Ok(true),
-        Found::Closed => Ok(false),
-        Found::Short => Ok(false),
+        Some(_) => Ok(false),
+        None => Ok(true),
     }
 }
 

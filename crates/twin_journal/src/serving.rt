@@ -13,8 +13,8 @@ ghost use Rattle.audit_session.specs.Ends.{KeepsCalls, Serves, ServesWhole, Serv
 ghost use Rattle.twin_journal.specs.Twins.{IsSpareAsLeft};
 
 use crate::starting::TwinStore;
-use audit_session::{TwinEnd, serve_with};
-use bench_core::{Bench, Source};
+use audit_session::serve_with;
+use bench_core::{Bench, Source, Stop};
 use schema_json::Schema;
 use set_index::Index;
 use std::alloc::Global;
@@ -30,7 +30,7 @@ pub fn serve_twin<P: Source, B: Bench, S: Bench>(
     bench: &mut B,
     spare: &mut S,
     batch: u8,
-) -> Result<(), TwinEnd>
+) -> Result<(), Stop>
     requires usable { twin.old.store.usable ≡ true }
     requires fits { FitsSchema schema.now.columns index.now.public }
     requires entries { index.now.protected ≡ twin.old.store.protected }
@@ -41,17 +41,17 @@ pub fn serve_twin<P: Source, B: Bench, S: Bench>(
 
     // The ends: which lines were answered. The file stands for the history, unless a call of the bench failed.
     ensures done { P.told → B.told → OnOk result (Serves (base_of schema.now.columns index.now.public index.now.protected twin.old.store.secret) twin.old.store.history (counted_lines (P.left source.old)) twin.new.store.history (B.sent bench.old) (B.sent bench.new)) }
-    ensures input_end { P.told → B.told → result ≡ Err TwinEnd.Input → ServesWhole (base_of schema.now.columns index.now.public index.now.protected twin.old.store.secret) twin.old.store.history batch (P.left source.old) (P.left source.new) twin.new.store.history (B.sent bench.old) (B.sent bench.new) }
-    ensures limit_end { P.told → B.told → result ≡ Err TwinEnd.Limit → ServesWhole (base_of schema.now.columns index.now.public index.now.protected twin.old.store.secret) twin.old.store.history batch (limited (P.left source.old)) [] twin.new.store.history (B.sent bench.old) (B.sent bench.new) }
-    ensures memory_end { P.told → B.told → result ≡ Err TwinEnd.NoMemory → ServesSome (base_of schema.now.columns index.now.public index.now.protected twin.old.store.secret) twin.old.store.history batch (counted_lines (P.left source.old)) twin.new.store.history (B.sent bench.old) (B.sent bench.new) }
-    ensures spare_end { P.told → B.told → result ≡ Err TwinEnd.Spare → ServesSome (base_of schema.now.columns index.now.public index.now.protected twin.old.store.secret) twin.old.store.history batch (counted_lines (P.left source.old)) twin.new.store.history (B.sent bench.old) (B.sent bench.new) }
-    ensures stands { B.told → result ≢ Err TwinEnd.Bench → StandsFor (B.file bench.new) twin.new.store.secret.shape twin.new.store.history }
-    ensures quiet { B.told → IsQuiet B.Bench bench.old → result ≢ Err TwinEnd.Bench → IsQuiet B.Bench bench.new }
+    ensures input_end { P.told → B.told → result ≡ Err Stop.Input → ServesWhole (base_of schema.now.columns index.now.public index.now.protected twin.old.store.secret) twin.old.store.history batch (P.left source.old) (P.left source.new) twin.new.store.history (B.sent bench.old) (B.sent bench.new) }
+    ensures limit_end { P.told → B.told → result ≡ Err Stop.Limit → ServesWhole (base_of schema.now.columns index.now.public index.now.protected twin.old.store.secret) twin.old.store.history batch (limited (P.left source.old)) [] twin.new.store.history (B.sent bench.old) (B.sent bench.new) }
+    ensures memory_end { P.told → B.told → result ≡ Err Stop.NoMemory → ServesSome (base_of schema.now.columns index.now.public index.now.protected twin.old.store.secret) twin.old.store.history batch (counted_lines (P.left source.old)) twin.new.store.history (B.sent bench.old) (B.sent bench.new) }
+    ensures spare_end { P.told → B.told → result ≡ Err Stop.Spare → ServesSome (base_of schema.now.columns index.now.public index.now.protected twin.old.store.secret) twin.old.store.history batch (counted_lines (P.left source.old)) twin.new.store.history (B.sent bench.old) (B.sent bench.new) }
+    ensures stands { B.told → result ≢ Err Stop.Bench → StandsFor (B.file bench.new) twin.new.store.secret.shape twin.new.store.history }
+    ensures quiet { B.told → IsQuiet B.Bench bench.old → result ≢ Err Stop.Bench → IsQuiet B.Bench bench.new }
 
     // After Ok it may be called again. Only if a call failed or memory ran out may the store be left unusable, and while it is
     // usable the file is as the store left it.
     ensures again { OnOk result ((twin.new.store.usable ≡ true) × (B.told → IsAsLeft (B.file bench.new) twin.new.store)) }
-    ensures usable { result ≢ Err TwinEnd.Bench → result ≢ Err TwinEnd.Spare → result ≢ Err TwinEnd.NoMemory → twin.new.store.usable ≡ true }
+    ensures usable { result ≢ Err Stop.Bench → result ≢ Err Stop.Spare → result ≢ Err Stop.NoMemory → twin.new.store.usable ≡ true }
     ensures left { B.told → twin.new.store.usable ≡ true → IsAsLeft (B.file bench.new) twin.new.store }
 
     // One send for each line, four calls for each group that makes a record, and no other call.
@@ -70,29 +70,29 @@ pub fn serve_twin<P: Source, B: Bench, S: Bench>(
     // How much of the input there was.
     ensures read { P.told → OnOk result (P.left source.new ≡ []) }
     ensures within { P.told → OnOk result (length (P.left source.old) ≤ most_input) }
-    ensures input_within { P.told → result ≡ Err TwinEnd.Input → length (P.left source.old) ≤ most_input + length (P.left source.new) }
-    ensures limit { P.told → result ≡ Err TwinEnd.Limit → most_input + length (P.left source.new) < length (P.left source.old) }
+    ensures input_within { P.told → result ≡ Err Stop.Input → length (P.left source.old) ≤ most_input + length (P.left source.new) }
+    ensures limit { P.told → result ≡ Err Stop.Limit → most_input + length (P.left source.new) < length (P.left source.old) }
 
     // It doesn't give up by itself, and passes over no failed call.
     ensures later { P.faults source.old ≤ P.faults source.new }
-    ensures input { result ≡ Err TwinEnd.Input → Rose (P.faults source.old) (P.faults source.new) }
-    ensures last_read { result ≡ Err TwinEnd.Input → P.last_failed source.new ≡ true }
-    ensures steady { result ≢ Err TwinEnd.Input → P.faults source.new ≡ P.faults source.old }
-    ensures fault { TellsFault B.Bench bench.old bench.new (result ≡ Err TwinEnd.Bench) }
+    ensures input { result ≡ Err Stop.Input → Rose (P.faults source.old) (P.faults source.new) }
+    ensures last_read { result ≡ Err Stop.Input → P.last_failed source.new ≡ true }
+    ensures steady { result ≢ Err Stop.Input → P.faults source.new ≡ P.faults source.old }
+    ensures fault { TellsFault B.Bench bench.old bench.new (result ≡ Err Stop.Bench) }
 
     // The same of the spare. At every end a crash leaves each of both at a stop with what was sent, the spare at most one group ahead;
     // unless a call of one of them failed, both stand for one history.
-    ensures spare_stands { S.told → result ≢ Err TwinEnd.Bench → result ≢ Err TwinEnd.Spare → StandsFor (S.file spare.new) twin.new.store.secret.shape twin.new.store.history }
+    ensures spare_stands { S.told → result ≢ Err Stop.Bench → result ≢ Err Stop.Spare → StandsFor (S.file spare.new) twin.new.store.secret.shape twin.new.store.history }
     ensures spare_moments { P.told → S.told → IsQuiet S.Bench spare.old
         → LeavesOnly S.Bench spare.old spare.new (SpareStops (base_of schema.now.columns index.now.public index.now.protected twin.old.store.secret) batch twin.old.store.history (counted_lines (P.left source.old)) (S.sent spare.old)) }
     ensures spare_legal { S.told → IsQuiet S.Bench spare.old → LeavesOnly S.Bench spare.old spare.new (λ image sent. IsHarmless (table_of twin.old.store) image) }
-    ensures spare_quiet { S.told → IsQuiet S.Bench spare.old → result ≢ Err TwinEnd.Spare → IsQuiet S.Bench spare.new }
+    ensures spare_quiet { S.told → IsQuiet S.Bench spare.old → result ≢ Err Stop.Spare → IsQuiet S.Bench spare.new }
     ensures spare_sent { S.sent spare.new ≡ S.sent spare.old }
     ensures both { P.told → B.told → S.told → IsQuiet B.Bench bench.old → IsQuiet S.Bench spare.old
         → (image other : List ℕ) → B.leaves bench.new image → S.leaves spare.new other
         → LeavesBoth (base_of schema.now.columns index.now.public index.now.protected twin.old.store.secret) batch twin.old.store.history (counted_lines (P.left source.old)) (B.sent bench.old) (B.sent bench.new) image other }
     ensures spare_calls { P.told → S.told → OnOk result (KeepsCalls (base_of schema.now.columns index.now.public index.now.protected twin.old.store.secret) twin.old.store.history batch (counted_lines (P.left source.old)) (S.moment spare.old) (S.moment spare.new)) }
-    ensures spare_fault { TellsFault S.Bench spare.old spare.new (result ≡ Err TwinEnd.Spare) }
+    ensures spare_fault { TellsFault S.Bench spare.old spare.new (result ≡ Err Stop.Spare) }
 {
     // A twin store says of itself that its history is legal.
     let _history = twin.history();

@@ -1,9 +1,10 @@
 //! Opening two journals of one table, and asking over both.
-ghost use Rattle.std.specs.Prelude.{◌≡◌, ◌≢◌, ◌≤◌, ◌+◌, ◌++◌, [], List, ℕ, true, false, length, All, Err, IfOk, OnOk, OnErr, IsErrOf};
+ghost use Rattle.std.specs.Prelude.{◌≡◌, ◌≢◌, ◌≤◌, ◌+◌, ◌++◌, [], List, ℕ, true, false, length, All, Err, IfOk, IfErr, OnOk, OnErr, IsErrOf};
 ghost use Rattle.audit_types.specs.declared.records.Answered.{Answered};
 ghost use Rattle.audit_types.specs.History.{AreProtected, FitsShape};
 ghost use Rattle.audit_core.specs.Outcomes.{AreOutcomes, records_made};
 ghost use Rattle.bench_core.specs.Calls.{IsQuiet, IsUntouched, LeavesOnly, OnlyReads, TellsFault};
+ghost use Rattle.bench_core.specs.Stops.{IsOfBenches};
 ghost use Rattle.answer_journal.specs.Moments.{IsBeforeOrAfter};
 ghost use Rattle.table_load.specs.Database.{secret_table};
 ghost use Rattle.audit_store.specs.Stores.{HasGroup, IsAsLeft, IsStore, Keeps, KeptAhead, calls_for, table_of};
@@ -14,9 +15,9 @@ ghost use Rattle.twin_journal.specs.Twins.{CatchesUp, IsSpareAsLeft, IsTwin, Kee
 
 use crate::catching::catch_up;
 use answer_journal::Journal;
-use audit_store::{KeepFault, Outcome, StartFault, Store};
+use audit_store::{Outcome, StartFault, Store};
 use audit_types::{Answered, Asked, Guard};
-use bench_core::Bench;
+use bench_core::{Bench, Stop};
 use journal_form::laws::one_reading;
 use std::alloc::Global;
 use std::marker::Model;
@@ -35,17 +36,6 @@ pub enum TwinFault {
     MainFailed,
     /// A call of the spare failed.
     SpareFailed,
-    NoMemory,
-}
-
-/// Why questions were not decided. The store is then no longer usable.
-#[derive(Clone, Copy)]
-pub enum TwinStop {
-    /// A call of the bench failed. The spare may have the records of the group.
-    MainFailed,
-    /// A call of the spare failed. The bench wasn't called.
-    SpareFailed,
-    /// Nothing was called.
     NoMemory,
 }
 
@@ -171,7 +161,7 @@ impl TwinStore {
         bench: &mut B,
         spare: &mut S,
         asked: &[Asked],
-    ) -> Result<Vec<Outcome>, TwinStop>
+    ) -> Result<Vec<Outcome>, Stop>
         requires usable { self.old.store.usable ≡ true }
         requires few { length asked.now ≤ 64 }
         requires fit { All (λ a. FitsShape self.old.store.secret.shape a.column a.rows) asked.now }
@@ -187,42 +177,36 @@ impl TwinStore {
 
         // A refusal leaves the history as it was. The spare comes first: if a call of it failed the bench wasn't called.
         ensures kept { OnErr result ((self.new.store.history ≡ self.old.store.history) × (self.new.store.usable ≡ false)) }
-        ensures no_memory { IsErrOf result TwinStop.NoMemory → (bench.new ≡ bench.old) × (spare.new ≡ spare.old) }
-        ensures spare_first { IsErrOf result TwinStop.SpareFailed → bench.new ≡ bench.old }
-        ensures fault { TellsFault B.Bench bench.old bench.new (IsErrOf result TwinStop.MainFailed) }
-        ensures spare_fault { TellsFault S.Bench spare.old spare.new (IsErrOf result TwinStop.SpareFailed) }
+        ensures no_memory { IsErrOf result Stop.NoMemory → (bench.new ≡ bench.old) × (spare.new ≡ spare.old) }
+        ensures spare_first { IsErrOf result Stop.Spare → bench.new ≡ bench.old }
+        ensures fault { TellsFault B.Bench bench.old bench.new (IsErrOf result Stop.Bench) }
+        ensures spare_fault { TellsFault S.Bench spare.old spare.new (IsErrOf result Stop.Spare) }
+        ensures ends { IfErr result IsOfBenches }
         ensures table { (self.new.store.secret ≡ self.old.store.secret) × (self.new.store.protected ≡ self.old.store.protected) }
         ensures is { IsStore self.new.store × IsTwin self.new }
 
         // A crash at any moment leaves on each the history before, or that with the records of the group. If a call of the bench failed
         // the spare stands for the latter.
-        ensures any_moment { B.told → IsQuiet B.Bench bench.old → (IsErrOf result TwinStop.NoMemory → ⊥)
+        ensures any_moment { B.told → IsQuiet B.Bench bench.old → (IsErrOf result Stop.NoMemory → ⊥)
             → Keeps B.Bench bench.old bench.new (table_of self.old.store) self.old.store.history asked.now (B.sent bench.old) }
-        ensures spare_moments { S.told → IsQuiet S.Bench spare.old → (IsErrOf result TwinStop.NoMemory → ⊥)
+        ensures spare_moments { S.told → IsQuiet S.Bench spare.old → (IsErrOf result Stop.NoMemory → ⊥)
             → Keeps S.Bench spare.old spare.new (table_of self.old.store) self.old.store.history asked.now (S.sent spare.old) }
-        ensures ahead { B.told → S.told → IsQuiet B.Bench bench.old → IsErrOf result TwinStop.MainFailed → (image : List ℕ) → B.leaves bench.new image
+        ensures ahead { B.told → S.told → IsQuiet B.Bench bench.old → IsErrOf result Stop.Bench → (image : List ℕ) → B.leaves bench.new image
             → KeptAhead (S.file spare.new) image (table_of self.old.store) self.old.store.history asked.now }
 
         // A group that makes no record leaves both as they were, any other takes four calls of each.
         ensures written { B.told → IfOk result (λ v. HasGroup self.old.store.secret.shape (records_made asked.now v.items) self.old.store.journal.gate (B.file bench.old) (B.file bench.new)) }
         ensures spare_written { S.told → IfOk result (λ v. HasGroup self.old.store.secret.shape (records_made asked.now v.items) self.old.spare.gate (S.file spare.old) (S.file spare.new)) }
-        ensures quiet { B.told → IsQuiet B.Bench bench.old → (IsErrOf result TwinStop.MainFailed → ⊥) → IsQuiet B.Bench bench.new }
-        ensures spare_quiet { S.told → IsQuiet S.Bench spare.old → (IsErrOf result TwinStop.SpareFailed → ⊥) → IsQuiet S.Bench spare.new }
+        ensures quiet { B.told → IsQuiet B.Bench bench.old → (IsErrOf result Stop.Bench → ⊥) → IsQuiet B.Bench bench.new }
+        ensures spare_quiet { S.told → IsQuiet S.Bench spare.old → (IsErrOf result Stop.Spare → ⊥) → IsQuiet S.Bench spare.new }
         ensures sent { B.sent bench.new ≡ B.sent bench.old }
         ensures spare_sent { S.sent spare.new ≡ S.sent spare.old }
         ensures ticks { B.told → IfOk result (λ v. B.moment bench.new ≡ B.moment bench.old + calls_for (records_made asked.now v.items)) }
         ensures spare_ticks { S.told → IfOk result (λ v. S.moment spare.new ≡ S.moment spare.old + calls_for (records_made asked.now v.items)) }
         ensures unasked { IfOk result (λ v. records_made asked.now v.items ≡ [] → (bench.new ≡ bench.old) × (spare.new ≡ spare.old)) }
     {
-        let decided = self
-            .store
-            .ask_all_twice(&mut self.spare, bench, spare, asked);
-        match decided {
-            Ok(outcomes) => Ok(outcomes),
-            Err(KeepFault::Bench) => Err(TwinStop::MainFailed),
-            Err(KeepFault::Spare) => Err(TwinStop::SpareFailed),
-            Err(KeepFault::NoMemory) => Err(TwinStop::NoMemory),
-        }
+        self.store
+            .ask_all_twice(&mut self.spare, bench, spare, asked)
     }
 
     /// The released records, in order.

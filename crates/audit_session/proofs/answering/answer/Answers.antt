@@ -1,4 +1,5 @@
-use Rattle.std.proofs.Common.{◌≡◌, refl, ℕ, ◌∙◌, ◌+◌, ◌++◌, List, length, Result, Err, sym, subst, rules}
+use Rattle.std.proofs.Common.{◌≡◌, refl, ℕ, ◌∙◌, ◌+◌, ◌++◌, List, length, Result, Err, sym, subst}
+use Rattle.std.specs.Prelude.{IfErr}
 use Rattle.std.proofs.lemmas.Bool.{false≢true}
 use Rattle.std.proofs.lemmas.Result.{IfOk-from_err}
 use Rattle.std.specs.List.{flat_map}
@@ -11,16 +12,17 @@ use Rattle.table_load.specs.Cells.{SecretView}
 use Rattle.audit_session.specs.Groups.{stands_of}
 use Rattle.audit_session.proofs.BothFiles.{sends_failed}
 use Rattle.audit_session.proofs.DecidedGroup.{group_answered, left_stands, then_sent}
-use Rattle.audit_store.specs.Refusals.{no_refusal}
+use Rattle.audit_store.specs.Refusals.{no_refusal, same_fault}
+use Rattle.bench_core.specs.Reports.{is_refusal, of_refusal, passed_on}
+use Rattle.bench_core.specs.Stops.{IsOfBenches}
+use Rattle.bench_core.specs.declared.stops.Stop.{Stop}
+use Rattle.bench_core.specs.declared.stops.Stop.TheVariants as end
 use Rattle.bench_core.specs.Causes.{Rose}
-use Rattle.audit_session.specs.Ends.{keep_end}
-use Rattle.audit_session.specs.declared.session.TwinEnd.{TwinEnd}
-use Rattle.audit_session.specs.declared.session.TwinEnd.TheVariants as end
-use Rattle.audit_session.proofs.Refusals.{still_later, refusal, by_memory, by_bench, by_spare, no_call, no_spare_call, bench_no_memory, bench_no_spare}
+use Rattle.audit_session.proofs.Refusals.{still_later}
 use Rattle.audit_session.proofs.answering.answer.Goals as goal
 
-abbrev ended_by : TwinEnd → Result (Unit {0}) TwinEnd
-ended_by fault = Err fault
+abbrev ended_by : Stop → Result (Unit {0}) Stop
+ended_by why = Err why
 
 pub decide-requires-clause-stands : goal.decide-requires-clause-stands
 decide-requires-clause-stands g c = c.requires.stands
@@ -31,7 +33,7 @@ decide-requires-clause-spare_stands g c = c.requires.spare_stands
 pub returns-in_err-send_all : goal.returns-in_err-send_all
 returns-in_err-send_all g c =
     let same : c.from_residual-in_err-send_all.result ≡ ended_by end.Bench =
-    refusal c.from_residual-in_err-send_all.result _ c.from_residual-in_err-send_all.ensures in
+    is_refusal c.from_residual-in_err-send_all.result _ c.from_residual-in_err-send_all.ensures in
     record {
       answers = IfOk-from_err _ _ c.from_residual-in_err-send_all.ensures.0;
       stands = IfOk-from_err _ _ c.from_residual-in_err-send_all.ensures.0;
@@ -49,7 +51,7 @@ returns-in_err-send_all g c =
           (left_stands (g.B.Bench.file mid) store (g.K.Keeper.store c.decide.new.keeper) (e.stands.as_left t) e.table.0) (e.moments t quiet) sends;
       left = λ t usable. subst (λ (file : List ℕ). IsAsLeft file (g.K.Keeper.store c.decide.new.keeper)) (sym c.send_all.ensures.file)
           (c.in_ok-decide.ensures.stands.as_left t);
-      no_memory = λ is. bench_no_memory c.from_residual-in_err-send_all.result same is;
+      no_memory = λ is. absurd cc;
       room = c.decide.ensures.room;
       table = c.decide.ensures.table;
       is = c.decide.ensures.is;
@@ -83,54 +85,44 @@ returns-in_err-send_all g c =
           sends (λ image le left. g.met.B.Bench.counts_now c.send_all.new.bench (g.B.Bench.moment mid) image le left);
       spare_fault = record {
         later = c.decide.ensures.spare_fault.later;
-        failed = λ is. bench_no_spare c.from_residual-in_err-send_all.result same is;
-        last_call = λ is. bench_no_spare c.from_residual-in_err-send_all.result same is;
+        failed = λ is. absurd cc;
+        last_call = λ is. absurd cc;
         steady = λ other. c.in_ok-decide.ensures.spare_fault.steady (λ is. no_refusal _ _ is);
       };
       spare_ticks = λ spared told. IfOk-from_err _ _ c.from_residual-in_err-send_all.ensures.0;
-      spare_first = λ is. bench_no_spare c.from_residual-in_err-send_all.result same is;
-      own = λ is. bench_no_spare c.from_residual-in_err-send_all.result same is;
+      spare_first = λ is. absurd cc;
+      own = λ is. absurd cc;
       untouched = c.decide.ensures.untouched;
-      others = search rules;
+      ends = of_refusal _ end.Bench c.from_residual-in_err-send_all.ensures (λ r. IfErr r IsOfBenches) tt;
     }
 
 pub returns-in_err-decide : goal.returns-in_err-decide
 returns-in_err-decide g c =
     let given = c.in_err-decide.field-0.0 in
-    let same : c.from_residual.result ≡ ended_by (keep_end given) = refusal c.from_residual.result _ c.from_residual.ensures in
+    let same : c.from_residual.result ≡ ended_by given = is_refusal c.from_residual.result _ c.from_residual.ensures in
     record {
       answers = IfOk-from_err _ _ c.from_residual.ensures.0;
       stands = IfOk-from_err _ _ c.from_residual.ensures.0;
       moments = c.decide.ensures.moments;
       left = λ t usable. absurd (false≢true (sym c.in_err-decide.ensures.err.1 ∙ usable));
       no_memory = λ is.
-          let still = c.in_err-decide.ensures.no_memory (by_memory given c.from_residual.result same is) in
+          let still = c.in_err-decide.ensures.no_memory (same_fault given end.NoMemory (sym same ∙ is)) in
           (still.0, still.1, c.in_err-decide.ensures.err.0);
       room = c.decide.ensures.room;
       table = c.decide.ensures.table;
       is = c.decide.ensures.is;
-      fault = record {
-        later = c.decide.ensures.fault.later;
-        failed = λ is. c.in_err-decide.ensures.fault.failed (by_bench given c.from_residual.result same is);
-        last_call = λ is. c.in_err-decide.ensures.fault.last_call (by_bench given c.from_residual.result same is);
-        steady = λ other. c.in_err-decide.ensures.fault.steady (no_call given c.from_residual.result same other);
-      };
+      fault = passed_on g.B.Bench c.args.bench.now c.decide.new.bench given end.Bench _ same c.in_err-decide.ensures.fault;
       spare_stands = λ spared told. IfOk-from_err _ _ c.from_residual.ensures.0;
       spare_moments = c.decide.ensures.spare_moments;
-      spare_quiet = λ spared told quiet other. c.in_err-decide.ensures.spare_quiet spared told quiet (no_spare_call given c.from_residual.result same other);
+      spare_quiet = λ spared told quiet other. c.in_err-decide.ensures.spare_quiet spared told quiet (λ is. other (same ∙ same_fault given end.Spare is));
       spare_sent = c.decide.ensures.spare_sent;
       both = λ spared told spare_told quiet spare_quiet. c.in_err-decide.ensures.both spared told spare_told quiet spare_quiet refl;
-      spare_fault = record {
-        later = c.decide.ensures.spare_fault.later;
-        failed = λ is. c.in_err-decide.ensures.spare_fault.failed (by_spare given c.from_residual.result same is);
-        last_call = λ is. c.in_err-decide.ensures.spare_fault.last_call (by_spare given c.from_residual.result same is);
-        steady = λ other. c.in_err-decide.ensures.spare_fault.steady (no_spare_call given c.from_residual.result same other);
-      };
+      spare_fault = passed_on g.S.Bench c.args.spare.now c.decide.new.spare given end.Spare _ same c.in_err-decide.ensures.spare_fault;
       spare_ticks = λ spared told. IfOk-from_err _ _ c.from_residual.ensures.0;
-      spare_first = λ is. (c.in_err-decide.ensures.spare_first (by_spare given c.from_residual.result same is), c.in_err-decide.ensures.err.0);
-      own = λ is. c.in_err-decide.ensures.own (by_spare given c.from_residual.result same is);
+      spare_first = λ is. (c.in_err-decide.ensures.spare_first (same_fault given end.Spare (sym same ∙ is)), c.in_err-decide.ensures.err.0);
+      own = λ is. c.in_err-decide.ensures.own (same_fault given end.Spare (sym same ∙ is));
       untouched = c.decide.ensures.untouched;
-      others = search rules;
+      ends = of_refusal _ given c.from_residual.ensures (λ r. IfErr r IsOfBenches) c.in_err-decide.ensures.ends;
     }
 
 pub returns : goal.returns
@@ -201,5 +193,5 @@ returns g c =
       spare_first = λ is. no_refusal _ _ is;
       own = λ is. no_refusal _ _ is;
       untouched = c.decide.ensures.untouched;
-      others = (λ is. no_refusal _ _ is, λ is. no_refusal _ _ is);
+      ends = tt;
     }

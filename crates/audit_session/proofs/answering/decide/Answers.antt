@@ -1,5 +1,5 @@
 use Rattle.std.proofs.Common.{◌≡◌, ◌+◌, ◌++◌, List, length, drop, Result, Err, sym, ◌∙◌, ap, subst, arith, rules}
-use Rattle.std.specs.Prelude.{All}
+use Rattle.std.specs.Prelude.{All, IfErr}
 use Rattle.std.proofs.lemmas.Bool.{false≢true}
 use Rattle.std.proofs.lemmas.Result.{IfOk-from_err}
 use Rattle.std.proofs.Math.Seq.{drop-append_seam}
@@ -8,18 +8,20 @@ use Rattle.audit_types.specs.declared.records.Answered.{Answered}
 use Rattle.audit_types.specs.History.{FitsShape}
 use Rattle.audit_core.specs.declared.outcome.Outcome.{Outcome}
 use Rattle.audit_core.specs.Outcomes.{AreOutcomes, records_made}
+use Rattle.bench_core.specs.declared.stops.Stop.{Stop}
+use Rattle.bench_core.specs.declared.stops.Stop.TheVariants as end
+use Rattle.bench_core.specs.Reports.{of_refusal, passed_on}
+use Rattle.bench_core.specs.Stops.{IsOfBenches}
 use Rattle.audit_store.specs.Stores.{Keeps, KeptAhead, calls_for, table_of}
 use Rattle.question_plan.specs.declared.planning.Plan.{Plan}
 use Rattle.audit_session.specs.Groups.{AreTold, CanAllBeTold, questions_of, stands_of}
 use Rattle.audit_session.proofs.ToldPlans.{can_all, few_questions, questions_fit}
 use Rattle.audit_session.proofs.BothFiles.{neither_called, spare_call_failed, bench_call_failed}
-use Rattle.audit_session.proofs.DecidedGroup.{by_fault, by_kind, bench_no_spare_fault, spare_no_memory_fault, told_group, while_kept, while_kept_unsent, nothing_called, nothing_called_unsent}
+use Rattle.audit_session.proofs.DecidedGroup.{by_kind, by_memory, told_group, while_kept, while_kept_unsent, nothing_called, nothing_called_unsent}
 use Rattle.audit_store.specs.Refusals.{no_refusal, same_fault}
-use Rattle.audit_store.specs.declared.keeper.KeepFault.{KeepFault}
-use Rattle.audit_store.specs.declared.keeper.KeepFault.TheVariants as fault
 use Rattle.audit_session.proofs.answering.decide.Goals as goal
 
-abbrev refused : KeepFault → Result (Unit {0}) KeepFault
+abbrev refused : Stop → Result (Unit {0}) Stop
 refused given = Err given
 
 pub ask_group-requires-clause-stands : goal.ask_group-requires-clause-stands
@@ -62,13 +64,13 @@ returns-in_err-outcomes g c =
       in_range = IfOk-from_err _ _ c.from_residual.ensures.0;
       stands = IfOk-from_err _ _ c.from_residual.ensures.0;
       err = search rules;
-      no_memory = λ is. c.in_err-outcomes.ensures.no_memory (same_fault given fault.NoMemory (sym same ∙ is));
+      no_memory = λ is. c.in_err-outcomes.ensures.no_memory (same_fault given end.NoMemory (sym same ∙ is));
       moments = λ told quiet.
           let store = g.K.Keeper.store c.args.keeper.now in
           let plans = c.args.group.now.plans.items in
           let asked : c.deref.result.now ≡ questions_of plans = c.deref.ensures.value ∙ c.requires.questions in
           let e = c.in_err-outcomes.ensures in
-          by_fault c.in_err-outcomes.field-0.0
+          by_memory given
           (λ memory. nothing_called g.B.Bench c.args.bench.now c.ask_group.new.bench store.secret store.protected store.history plans (e.no_memory memory).0
           (λ image bytes was. g.met.B.Bench.only_now c.args.bench.now image bytes was) quiet (store.journal.gate, c.requires.stands told))
           (λ other. while_kept g.B.Bench c.args.bench.now c.ask_group.new.bench store.secret store.protected store.history plans c.told_outcomes.ensures.can
@@ -81,19 +83,15 @@ returns-in_err-outcomes g c =
       plans = search rules;
       table = c.ask_group.ensures.table;
       is = c.ask_group.ensures.is;
-      fault = record {
-        later = c.ask_group.ensures.fault.later;
-        failed = λ is. c.in_err-outcomes.ensures.fault.failed (same_fault given fault.Bench (sym same ∙ is));
-        last_call = λ is. c.in_err-outcomes.ensures.fault.last_call (same_fault given fault.Bench (sym same ∙ is));
-        steady = λ other. c.in_err-outcomes.ensures.fault.steady (λ is. other (same ∙ same_fault given fault.Bench is));
-      };
+      fault = passed_on g.B.Bench c.args.bench.now c.ask_group.new.bench given end.Bench _ same c.in_err-outcomes.ensures.fault;
+      ends = of_refusal _ given c.from_residual.ensures (λ r. IfErr r IsOfBenches) c.in_err-outcomes.ensures.ends;
       spare_stands = λ spared told. IfOk-from_err _ _ c.from_residual.ensures.0;
       spare_moments = λ spared told quiet.
           let store = g.K.Keeper.store c.args.keeper.now in
           let plans = c.args.group.now.plans.items in
           let asked : c.deref.result.now ≡ questions_of plans = c.deref.ensures.value ∙ c.requires.questions in
           let e = c.in_err-outcomes.ensures in
-          by_fault given
+          by_memory given
           (λ memory. nothing_called_unsent g.S.Bench c.args.spare.now c.ask_group.new.spare store.secret store.protected store.history plans
           (e.no_memory memory).1
           (λ image bytes was. g.met.S.Bench.only_now c.args.spare.now image bytes was) quiet
@@ -103,7 +101,7 @@ returns-in_err-outcomes g c =
           (subst (λ (l : List Asked). Keeps g.S.Bench c.args.spare.now c.ask_group.new.spare (table_of store) store.history l
           (g.S.Bench.sent c.args.spare.now)) asked
           (e.spare_moments spared told quiet other)));
-      spare_quiet = λ spared told quiet other. c.in_err-outcomes.ensures.spare_quiet spared told quiet (λ is. other (same ∙ same_fault given fault.Spare is));
+      spare_quiet = λ spared told quiet other. c.in_err-outcomes.ensures.spare_quiet spared told quiet (λ is. other (same ∙ same_fault given end.Spare is));
       spare_sent = c.ask_group.ensures.spare_sent;
       both = λ spared told spare_told quiet spare_quiet refused.
           let store = g.K.Keeper.store c.args.keeper.now in
@@ -113,13 +111,13 @@ returns-in_err-outcomes g c =
           let stands : stands_of store.secret.shape (g.B.Bench.file c.args.bench.now) store.history = (store.journal.gate, c.requires.stands told) in
           let spare_stands : stands_of store.secret.shape (g.S.Bench.file c.args.spare.now) store.history =
           (g.K.Keeper.spare_gate c.args.keeper.now, c.requires.spare_stands spared spare_told) in
-          by_kind given
+          by_kind given e.ends
           (λ memory. neither_called g.B.Bench g.S.Bench c.args.bench.now c.ask_group.new.bench c.args.spare.now c.ask_group.new.spare store.secret
           store.protected
           store.history plans quiet spare_quiet stands spare_stands (e.no_memory memory).0 (e.no_memory memory).1)
           (λ failed. bench_call_failed g.B.Bench g.S.Bench c.args.bench.now c.ask_group.new.bench c.args.spare.now c.ask_group.new.spare store.secret
           store.protected store.history plans c.told_outcomes.ensures.can c.told_outcomes.ensures.some c.requires.is.numbers c.requires.served
-          c.ask_group.ensures.sent (e.spare_quiet spared spare_told spare_quiet (bench_no_spare_fault given failed))
+          c.ask_group.ensures.sent (e.spare_quiet spared spare_told spare_quiet (λ is. cc))
           (λ image left. subst (λ (l : List Asked). KeptAhead (g.S.Bench.file c.ask_group.new.spare) image (table_of store) store.history l) asked
           (e.ahead spared told spare_told quiet spare_quiet failed image left)))
           (λ failed. spare_call_failed g.B.Bench g.S.Bench c.args.bench.now c.ask_group.new.bench c.args.spare.now c.ask_group.new.spare store.secret
@@ -128,17 +126,12 @@ returns-in_err-outcomes g c =
           c.told_outcomes.ensures.some c.requires.is.numbers c.requires.served (g.S.Bench.sent c.args.spare.now)
           (subst (λ (l : List Asked). Keeps g.S.Bench c.args.spare.now c.ask_group.new.spare (table_of store) store.history l
           (g.S.Bench.sent c.args.spare.now)) asked
-          (e.spare_moments spared spare_told spare_quiet (spare_no_memory_fault given failed))))
+          (e.spare_moments spared spare_told spare_quiet (λ is. cc))))
           (λ image le left. g.met.S.Bench.counts_now c.ask_group.new.spare (g.S.Bench.moment c.args.spare.now) image le left));
-      spare_fault = record {
-        later = c.ask_group.ensures.spare_fault.later;
-        failed = λ is. c.in_err-outcomes.ensures.spare_fault.failed (same_fault given fault.Spare (sym same ∙ is));
-        last_call = λ is. c.in_err-outcomes.ensures.spare_fault.last_call (same_fault given fault.Spare (sym same ∙ is));
-        steady = λ other. c.in_err-outcomes.ensures.spare_fault.steady (λ is. other (same ∙ same_fault given fault.Spare is));
-      };
+      spare_fault = passed_on g.S.Bench c.args.spare.now c.ask_group.new.spare given end.Spare _ same c.in_err-outcomes.ensures.spare_fault;
       spare_ticks = λ spared told. IfOk-from_err _ _ c.from_residual.ensures.0;
-      spare_first = λ is. c.in_err-outcomes.ensures.spare_first (same_fault given fault.Spare (sym same ∙ is));
-      own = λ is. c.in_err-outcomes.ensures.own (same_fault given fault.Spare (sym same ∙ is));
+      spare_first = λ is. c.in_err-outcomes.ensures.spare_first (same_fault given end.Spare (sym same ∙ is));
+      own = λ is. c.in_err-outcomes.ensures.own (same_fault given end.Spare (sym same ∙ is));
       untouched = c.ask_group.ensures.untouched;
     }
 
@@ -183,6 +176,7 @@ returns g c =
         last_call = λ is. no_refusal _ _ is;
         steady = λ other. c.in_ok-outcomes.ensures.fault.steady (λ is. no_refusal _ _ is);
       };
+      ends = tt;
       spare_stands = c.in_ok-outcomes.ensures.spare_stands;
       spare_moments = λ spared told quiet.
           while_kept_unsent g.S.Bench c.args.spare.now c.ask_group.new.spare store.secret store.protected store.history plans c.told_outcomes.ensures.can

@@ -1,20 +1,16 @@
-use Rattle.std.proofs.Common.{◌≡◌, ◌<◌, [], ◌∷◌, ◌++◌, Bool, true, false, List, Option, Result, Err, length, sym, ap, ◌∙◌, subst, arith, rules, length-append}
+use Rattle.std.proofs.Common.{◌≡◌, ◌<◌, [], ◌∷◌, ◌++◌, true, false, List, Option, length, sym, ap, ◌∙◌, subst, arith, rules, length-append}
 use Rattle.std.proofs.lemmas.Result.{IfOk-from_err}
 use Rattle.std.specs.Prelude.{IfErr}
 use Rattle.std.specs.Vec.{vec_len}
 use Rattle.audit_types.specs.declared.records.Asked.{Asked}
+use Rattle.bench_core.specs.declared.stops.Stop.TheVariants as end
+use Rattle.bench_core.specs.Reports.{of_refusal}
 use Rattle.question_plan.specs.declared.planning.Plan.{Plan}
 use Rattle.question_plan.specs.Planned.{PlansNext}
-use Rattle.audit_session.specs.declared.session.TwinEnd.{TwinEnd}
-use Rattle.audit_session.specs.declared.session.TwinEnd.TheVariants as end
-use Rattle.audit_session.specs.Ends.{plan_end}
 use Rattle.audit_session.specs.Groups.{IsUngathered, question_in}
 use Rattle.audit_session.proofs.GatheredLines.{Gathering, gathers_last, no_next, one_gathered, then_cuts}
-use Rattle.audit_session.proofs.Refusals.{no_answer, no_end, no_more, refusal}
+use Rattle.audit_session.proofs.Refusals.{no_answer, no_end, no_more}
 use Rattle.audit_session.proofs.gathering.gather.Goals as goal
-
-abbrev refused : TwinEnd → Result Bool TwinEnd
-refused fault = Err fault
 
 pub loop-alloc-preserved : goal.loop-alloc-preserved
 loop-alloc-preserved g c =
@@ -62,7 +58,6 @@ returns-in_err-plan g c =
     let group = c.loop-alloc.group in
     let gathering = c.loop-alloc.invariant.gathering in
     let given = c.in_err-plan.field-0.0 in
-    let same : c.from_residual.result ≡ refused (plan_end given) = refusal c.from_residual.result _ c.from_residual.ensures in
     let room : length group.plans.items < c.args.batch = omega (arith, c.has_room.ensures.room c.loop-alloc-test.true, c.loop-alloc.invariant.many) in
     record {
       gathers = IfOk-from_err _ _ c.from_residual.ensures.0;
@@ -75,9 +70,8 @@ returns-in_err-plan g c =
       room = c.loop-alloc.invariant.room;
       steady = IfOk-from_err _ _ c.from_residual.ensures.0;
       ungathered =
-          subst (λ (r : Result Bool TwinEnd). IfErr r (IsUngathered g.P.Source c.args.batch c.args.planner.now c.next.new.self c.args.source.now
-          c.next.new.source))
-          (sym same)
+          of_refusal _ given c.from_residual.ensures
+          (λ r. IfErr r (IsUngathered g.P.Source c.args.batch c.args.planner.now c.next.new.self c.args.source.now c.next.new.source))
           (no_next g.P.Source c.args.schema.now.columns c.args.index.now.public c.args.batch c.args.planner.now c.loop-alloc.planner c.args.source.now
           c.loop-alloc.source group.plans.items group.asked.items gathering c.next.new.self c.next.new.source given room c.in_err-plan.ensures.unplanned);
       cuts = then_cuts g.P.Source c.args.planner.now c.loop-alloc.planner c.next.new.self c.args.source.now c.loop-alloc.source c.next.new.source gathering.cuts
@@ -116,8 +110,6 @@ returns-in_err-add-in-Some g c =
     let gathering = c.loop-alloc.invariant.gathering in
     let now = c.next.new.self in
     let from = c.next.new.source in
-    let same : c.from_residual-in_err-add-in-Some.result ≡ refused end.NoMemory =
-    refusal c.from_residual-in_err-add-in-Some.result _ c.from_residual-in_err-add-in-Some.ensures in
     let next = subst (λ (o : Option Plan). PlansNext g.P.Source c.loop-alloc.planner now c.loop-alloc.source from c.args.schema.now.columns
     c.args.index.now.public o)
     c.in-Some.is c.in_ok-plan.ensures.plans in
@@ -132,7 +124,8 @@ returns-in_err-add-in-Some g c =
       room = c.add.ensures.room ∙ c.loop-alloc.invariant.room;
       steady = IfOk-from_err _ _ c.from_residual-in_err-add-in-Some.ensures.0;
       ungathered =
-          subst (λ (r : Result Bool TwinEnd). IfErr r (IsUngathered g.P.Source c.args.batch c.args.planner.now now c.args.source.now from)) (sym same)
+          of_refusal _ end.NoMemory c.from_residual-in_err-add-in-Some.ensures
+          (λ r. IfErr r (IsUngathered g.P.Source c.args.batch c.args.planner.now now c.args.source.now from))
           (next.gives.steady ∙ gathering.steady);
       cuts = then_cuts g.P.Source c.args.planner.now c.loop-alloc.planner now c.args.source.now c.loop-alloc.source from gathering.cuts c.next.ensures.cuts;
     }

@@ -11,8 +11,9 @@ use Rattle.audit_types.specs.declared.records.Answered.{Answered}
 use Rattle.table_load.specs.Database.{base_of}
 use Rattle.line_wire.specs.Lines.{counted_lines}
 use Rattle.line_wire.specs.LinesSoFar.{not_over}
-use Rattle.audit_session.specs.declared.session.TwinEnd.{TwinEnd}
-use Rattle.audit_session.specs.declared.session.TwinEnd.TheVariants as end
+use Rattle.bench_core.specs.declared.stops.Stop.{Stop}
+use Rattle.bench_core.specs.declared.stops.Stop.TheVariants as end
+use Rattle.bench_core.specs.Stops.{IsOfBenches}
 use Rattle.audit_session.specs.Ends.{Ends, Reads, ServesSome}
 use Rattle.audit_session.specs.Groups.{IsUngathered}
 use Rattle.audit_session.proofs.EndsByFault.{ends_by, reads_by, rests_by}
@@ -20,14 +21,14 @@ use Rattle.audit_session.proofs.GatheredLines.{still_ended, unfailed, whole_or_l
 use Rattle.audit_session.proofs.Served.{spare_unserved, spare_turn, spare_calls_now, both_turn, nothing_served, turn_moments, next_turn, all_served, all_calls, all_kept}
 use Rattle.audit_session.proofs.ServedEnds.{both_kept, some_served, served_whole, served_limited}
 use Rattle.audit_store.specs.Refusals.{no_refusal}
-use Rattle.audit_session.proofs.Refusals.{of_fault, only_memory, still_later}
+use Rattle.audit_session.proofs.Refusals.{of_stop, only_memory, still_later}
 use Rattle.audit_session.proofs.session.answer_groups.Answers.LastTurn.{last_turn}
 use Rattle.audit_session.proofs.session.answer_groups.Goals as goal
 
-abbrev ended_by : TwinEnd → Result (Unit {0}) TwinEnd
-ended_by fault = Err fault
+abbrev ended_by : Stop → Result (Unit {0}) Stop
+ended_by why = Err why
 
-abbrev given : Bool → Result Bool TwinEnd
+abbrev given : Bool → Result Bool Stop
 given more = Ok more
 
 pub loop-more-init : goal.loop-more-init
@@ -70,7 +71,7 @@ loop-more-preserved g c =
             (g.K.Keeper.store c.loop-more.keeper) c.args.source.now c.loop-more.source c.args.bench.now c.loop-more.bench c.loop-more.invariant.served
             now (not c.in_ok-more.more || now.ended) c.gather.new.source plans e.gathers e.most c.requires.batch.0
             (λ ended. still_ended c.in_ok-more.more now.ended (e.cuts.still ended)) g.S.Bench c.args.spare.now c.loop-more.spare c.answer.new.spare
-            (whole_or_last {E = TwinEnd} g.P.Source.told c.args.batch c.in_ok-more.more plans
+            (whole_or_last {E = Stop} g.P.Source.told c.args.batch c.in_ok-more.more plans
             (now.pending ++ g.P.Source.left c.gather.new.source) e.whole e.last)
             c.loop-more.invariant.spare.sent (c.loop-more.invariant.spare.moments spared told quiet)
             (c.answer.ensures.spare_moments spared told (c.loop-more.invariant.spare.quiet spared told quiet));
@@ -126,12 +127,12 @@ answer-requires-clause-spare_stands g c = c.loop-more.invariant.spare.stands
 pub returns-in_err-more : goal.returns-in_err-more
 returns-in_err-more g c =
     let e = c.in_err-more.ensures in
-    let fault = c.in_err-more.field-0.0 in
-    let same : c.from_residual.result ≡ ended_by fault = search rules in
+    let why = c.in_err-more.field-0.0 in
+    let same : c.from_residual.result ≡ ended_by why = search rules in
     let input = g.P.Source.left c.args.source.now in
     let left = g.P.Source.left c.gather.new.source in
-    let Ungathered : TwinEnd → Type 0 = IsUngathered g.P.Source c.args.batch c.loop-more.planner c.gather.new.planner c.loop-more.source c.gather.new.source in
-    let why : Ungathered fault = e.ungathered in
+    let Ungathered : Stop → Type 0 = IsUngathered g.P.Source c.args.batch c.loop-more.planner c.gather.new.planner c.loop-more.source c.gather.new.source in
+    let ungathered : Ungathered why = e.ungathered in
     record {
       ends = λ t u.
           let base = base_of c.args.schema.now.columns c.args.index.now.public (g.K.Keeper.store c.args.keeper.now).protected
@@ -141,18 +142,18 @@ returns-in_err-more g c =
           let s = c.loop-more.invariant.served in
           let rest = c.loop-more.planner.pending ++ g.P.Source.left c.loop-more.source in
           let now = c.gather.new.planner in
-          subst (λ (r : Result (Unit {0}) TwinEnd). Ends c.args.batch r base (g.K.Keeper.store c.args.keeper.now).history input left
+          subst (λ (r : Result (Unit {0}) Stop). Ends c.args.batch r base (g.K.Keeper.store c.args.keeper.now).history input left
           (g.K.Keeper.store c.loop-more.keeper).history before after)
           (sym same)
           (ends_by {X = Bool} c.args.batch base (g.K.Keeper.store c.args.keeper.now).history input left (g.K.Keeper.store c.loop-more.keeper).history before
-          after fault
+          after why
           (λ is.
-          let fails = of_fault {X = Bool} fault end.Input Ungathered why is in
+          let fails = of_stop {X = Bool} why end.Input Ungathered ungathered is in
           served_whole g.P.Source g.B.Bench c.args.schema.now.columns c.args.index.now.public c.args.batch c.loop-more.planner
           (g.K.Keeper.store c.args.keeper.now) (g.K.Keeper.store c.loop-more.keeper)
           c.args.source.now c.loop-more.source c.args.bench.now c.loop-more.bench s t u left (λ ended none. fails.going ended) (fails.short t))
           (λ is.
-          let passes = of_fault {X = Bool} fault end.Limit Ungathered why is in
+          let passes = of_stop {X = Bool} why end.Limit Ungathered ungathered is in
           served_limited g.P.Source g.B.Bench c.args.schema.now.columns c.args.index.now.public c.args.batch c.loop-more.planner
           (g.K.Keeper.store c.args.keeper.now)
           (g.K.Keeper.store c.loop-more.keeper) c.args.source.now c.loop-more.source c.args.bench.now c.loop-more.bench s t u (now.pending ++ left)
@@ -161,13 +162,13 @@ returns-in_err-more g c =
           (λ is. some_served g.P.Source g.B.Bench c.args.schema.now.columns c.args.index.now.public c.args.batch c.loop-more.planner
           (g.K.Keeper.store c.args.keeper.now) (g.K.Keeper.store c.loop-more.keeper)
           c.args.source.now c.loop-more.source c.args.bench.now c.loop-more.bench s t u)
-          (λ is. absurd (of_fault {X = Bool} fault end.Spare Ungathered why is)));
+          (λ is. absurd (of_stop {X = Bool} why end.Spare Ungathered ungathered is)));
       reads = λ t.
-          subst (λ (r : Result (Unit {0}) TwinEnd). Reads r input left) (sym same)
-          (reads_by {X = Bool} input left fault
-          (λ is. omega (arith, e.cuts.taken t, c.loop-more.invariant.served.taken t, (of_fault {X = Bool} fault end.Input Ungathered why is).within))
+          subst (λ (r : Result (Unit {0}) Stop). Reads r input left) (sym same)
+          (reads_by {X = Bool} input left why
+          (λ is. omega (arith, e.cuts.taken t, c.loop-more.invariant.served.taken t, (of_stop {X = Bool} why end.Input Ungathered ungathered is).within))
           (λ is.
-          let passes = of_fault {X = Bool} fault end.Limit Ungathered why is in
+          let passes = of_stop {X = Bool} why end.Limit Ungathered ungathered is in
           omega (arith, e.cuts.taken t, c.loop-more.invariant.served.taken t, passes.over, passes.some)));
       rests = λ no.
           record {
@@ -184,15 +185,15 @@ returns-in_err-more g c =
       later = still_later _ _ _ c.loop-more.invariant.served.source_steady c.gather.ensures.cuts.later;
       input = λ is.
           subst (λ (n : ℕ). Rose n (g.P.Source.faults c.gather.new.source)) c.loop-more.invariant.served.source_steady
-          (of_fault {X = Unit {0}} fault end.Input Ungathered why (sym same ∙ is)).rose;
-      last_read = λ is. (of_fault {X = Unit {0}} fault end.Input Ungathered why (sym same ∙ is)).last;
+          (of_stop {X = Unit {0}} why end.Input Ungathered ungathered (sym same ∙ is)).rose;
+      last_read = λ is. (of_stop {X = Unit {0}} why end.Input Ungathered ungathered (sym same ∙ is)).last;
       steady = λ other.
-          unfailed {X = Unit {0}} g.P.Source c.args.batch c.loop-more.planner c.gather.new.planner c.loop-more.source c.gather.new.source fault why
+          unfailed {X = Unit {0}} g.P.Source c.args.batch c.loop-more.planner c.gather.new.planner c.loop-more.source c.gather.new.source why ungathered
           (λ is. other (same ∙ is)) ∙ c.loop-more.invariant.served.source_steady;
       fault = record {
         later = omega (arith, c.loop-more.invariant.served.bench_steady);
-        failed = λ is. absurd (of_fault {X = Unit {0}} fault end.Bench Ungathered why (sym same ∙ is));
-        last_call = λ is. absurd (of_fault {X = Unit {0}} fault end.Bench Ungathered why (sym same ∙ is));
+        failed = λ is. absurd (of_stop {X = Unit {0}} why end.Bench Ungathered ungathered (sym same ∙ is));
+        last_call = λ is. absurd (of_stop {X = Unit {0}} why end.Bench Ungathered ungathered (sym same ∙ is));
         steady = λ other. c.loop-more.invariant.served.bench_steady;
       };
       spare_stands = λ spared told bench spare. (g.K.Keeper.spare_gate c.loop-more.keeper, c.loop-more.invariant.spare.stands spared told);
@@ -208,19 +209,20 @@ returns-in_err-more g c =
       spare_calls = λ spared t told. IfOk-from_err _ _ c.from_residual.ensures.0;
       spare_fault = record {
         later = omega (arith, c.loop-more.invariant.spare.steady);
-        failed = λ is. absurd (of_fault {X = Unit {0}} fault end.Spare Ungathered why (sym same ∙ is));
-        last_call = λ is. absurd (of_fault {X = Unit {0}} fault end.Spare Ungathered why (sym same ∙ is));
+        failed = λ is. absurd (of_stop {X = Unit {0}} why end.Spare Ungathered ungathered (sym same ∙ is));
+        last_call = λ is. absurd (of_stop {X = Unit {0}} why end.Spare Ungathered ungathered (sym same ∙ is));
         steady = λ other. c.loop-more.invariant.spare.steady;
       };
-      own = λ is. absurd (of_fault {X = Unit {0}} fault end.Spare Ungathered why (sym same ∙ is));
+      own = λ is. absurd (of_stop {X = Unit {0}} why end.Spare Ungathered ungathered (sym same ∙ is));
       untouched = c.loop-more.invariant.spare.untouched;
     }
 
 pub returns-in_err-answer : goal.returns-in_err-answer
 returns-in_err-answer g c =
     let e = c.in_err-answer.ensures in
-    let fault = c.in_err-answer.field-0.0 in
-    let same : c.from_residual-in_err-answer.result ≡ ended_by fault = search rules in
+    let why = c.in_err-answer.field-0.0 in
+    let same : c.from_residual-in_err-answer.result ≡ ended_by why = search rules in
+    let no_input : ended_by why ≡ Err end.Input → ⊥ = λ is. of_stop why end.Input IsOfBenches e.ends is in
     record {
       ends = λ t u.
           let base = base_of c.args.schema.now.columns c.args.index.now.public (g.K.Keeper.store c.args.keeper.now).protected
@@ -245,20 +247,20 @@ returns-in_err-answer g c =
           (g.K.Keeper.store c.loop-more.keeper).history before (g.B.Bench.sent b))
           (sym same_bench) some) in
           subst
-          (λ (r : Result (Unit {0}) TwinEnd). Ends c.args.batch r base (g.K.Keeper.store c.args.keeper.now).history input left
+          (λ (r : Result (Unit {0}) Stop). Ends c.args.batch r base (g.K.Keeper.store c.args.keeper.now).history input left
           (g.K.Keeper.store c.answer.new.keeper).history before
           (g.B.Bench.sent c.answer.new.bench))
           (sym same)
           (ends_by {X = Unit {0}} c.args.batch base (g.K.Keeper.store c.args.keeper.now).history input left (g.K.Keeper.store c.answer.new.keeper).history
           before
-          (g.B.Bench.sent c.answer.new.bench) fault
-          (λ is. absurd (e.others.0 is)) (λ is. absurd (e.others.1 is))
+          (g.B.Bench.sent c.answer.new.bench) why
+          (λ is. absurd (no_input is)) (λ is. absurd (of_stop {X = Unit {0}} why end.Limit IsOfBenches e.ends is))
           (λ is. let still = e.no_memory is in unanswered still.0 still.2)
           (λ is. let still = e.spare_first is in unanswered still.0 still.1));
       reads = search rules;
       rests = λ no.
           let served = c.loop-more.invariant.served in
-          rests_by {X = Unit {0}} fault e.others.0 e.others.1
+          rests_by {X = Unit {0}} why e.ends
           (λ is. no (same ∙ is)) g.B.Bench c.args.bench.now c.loop-more.bench c.answer.new.bench
           (g.K.Keeper.store c.loop-more.keeper) (g.K.Keeper.store c.answer.new.keeper)
           (λ is. let still = e.no_memory is in (still.0, still.2)) e.spare_first e.table.0 (record {
@@ -280,13 +282,13 @@ returns-in_err-answer g c =
           c.args.source.now c.loop-more.source c.args.bench.now c.loop-more.bench c.loop-more.invariant.served
           now (not c.in_ok-more.more || now.ended) c.gather.new.source plans e.gathers e.most c.requires.batch.0
           (λ ended. still_ended c.in_ok-more.more now.ended (e.cuts.still ended)) c.answer.new.bench
-          (whole_or_last {E = TwinEnd} g.P.Source.told c.args.batch c.in_ok-more.more plans rest e.whole e.last) u quiet
+          (whole_or_last {E = Stop} g.P.Source.told c.args.batch c.in_ok-more.more plans rest e.whole e.last) u quiet
           (c.in_err-answer.ensures.moments u (c.loop-more.invariant.served.quiet u quiet));
       table = (c.answer.ensures.table.0 ∙ c.loop-more.invariant.served.secret, c.answer.ensures.table.1 ∙ c.loop-more.invariant.served.protected);
       is = c.answer.ensures.is;
       later = still_later _ _ _ c.loop-more.invariant.served.source_steady c.gather.ensures.cuts.later;
-      input = λ is. absurd (e.others.0 (sym same ∙ is));
-      last_read = λ is. absurd (e.others.0 (sym same ∙ is));
+      input = λ is. absurd (no_input (sym same ∙ is));
+      last_read = λ is. absurd (no_input (sym same ∙ is));
       steady = λ other. c.in_ok-more.ensures.steady ∙ c.loop-more.invariant.served.source_steady;
       fault = record {
         later = still_later _ _ _ c.loop-more.invariant.served.bench_steady c.answer.ensures.fault.later;
@@ -296,8 +298,8 @@ returns-in_err-answer g c =
         steady = λ other. e.fault.steady (λ is. other (same ∙ is)) ∙ c.loop-more.invariant.served.bench_steady;
       };
       spare_stands = λ spared told bench spare.
-          let memory : fault ≡ end.NoMemory =
-          only_memory {X = Unit {0}} fault e.others.0 e.others.1 (λ is. bench (same ∙ is)) (λ is. spare (same ∙ is)) in
+          let memory : why ≡ end.NoMemory =
+          only_memory {X = Unit {0}} why e.ends (λ is. bench (same ∙ is)) (λ is. spare (same ∙ is)) in
           let still = e.no_memory (ap ended_by memory) in
           let before = g.K.Keeper.store c.loop-more.keeper in
           let after = g.K.Keeper.store c.answer.new.keeper in
@@ -316,7 +318,7 @@ returns-in_err-answer g c =
           (g.K.Keeper.store c.loop-more.keeper) c.args.source.now c.loop-more.source c.args.bench.now c.loop-more.bench c.loop-more.invariant.served
           now (not c.in_ok-more.more || now.ended) c.gather.new.source plans e.gathers e.most c.requires.batch.0
           (λ ended. still_ended c.in_ok-more.more now.ended (e.cuts.still ended)) g.S.Bench c.args.spare.now c.loop-more.spare c.answer.new.spare
-          (whole_or_last {E = TwinEnd} g.P.Source.told c.args.batch c.in_ok-more.more plans (now.pending ++ g.P.Source.left c.gather.new.source) e.whole e.last)
+          (whole_or_last {E = Stop} g.P.Source.told c.args.batch c.in_ok-more.more plans (now.pending ++ g.P.Source.left c.gather.new.source) e.whole e.last)
           c.loop-more.invariant.spare.sent (c.loop-more.invariant.spare.moments spared told quiet)
           (c.answer.ensures.spare_moments spared told (c.loop-more.invariant.spare.quiet spared told quiet));
       spare_quiet = λ spared told quiet other. e.spare_quiet spared told (c.loop-more.invariant.spare.quiet spared told quiet) (λ is. other (same ∙ is));
@@ -330,7 +332,7 @@ returns-in_err-answer g c =
           (g.K.Keeper.store c.loop-more.keeper) c.args.source.now c.loop-more.source c.args.bench.now c.loop-more.bench c.loop-more.invariant.served
           now (not c.in_ok-more.more || now.ended) c.gather.new.source plans e.gathers e.most c.requires.batch.0
           (λ ended. still_ended c.in_ok-more.more now.ended (e.cuts.still ended)) (g.B.Bench.sent c.answer.new.bench) image other t told
-          (whole_or_last {E = TwinEnd} g.P.Source.told c.args.batch c.in_ok-more.more plans (now.pending ++ g.P.Source.left c.gather.new.source) e.whole e.last)
+          (whole_or_last {E = Stop} g.P.Source.told c.args.batch c.in_ok-more.more plans (now.pending ++ g.P.Source.left c.gather.new.source) e.whole e.last)
           (c.in_err-answer.ensures.both spared told spare_told (c.loop-more.invariant.served.quiet told quiet)
           (c.loop-more.invariant.spare.quiet spared spare_told spare_quiet) image other left spare_left);
       spare_fault = record {

@@ -4,32 +4,32 @@ use Rattle.std.specs.Prelude.{OnOk}
 use Rattle.audit_types.specs.History.{Protection}
 use Rattle.bench_core.specs.Calls.{LeavesOnly}
 use Rattle.bench_core.specs.Moments.{weakens}
+use Rattle.bench_core.specs.Reports.{is_refusal}
 use Rattle.line_wire.specs.Lines.{counted_lines}
 use Rattle.table_load.specs.Database.{base_of}
-use Rattle.audit_session.specs.declared.session.TwinEnd.{TwinEnd}
-use Rattle.audit_session.specs.declared.session.TwinEnd.TheVariants as end
+use Rattle.bench_core.specs.declared.stops.Stop.{Stop}
+use Rattle.bench_core.specs.declared.stops.Stop.TheVariants as end
 use Rattle.audit_session.specs.Ends.{Ends, KeepsCalls, Reads, TakesCalls}
 use Rattle.audit_session.specs.Stops.{LeavesBoth, SpareStops, StopsOver}
 use Rattle.audit_session.proofs.EndsByFault.{all_by, read_by, within_by}
 use Rattle.audit_session.proofs.FirstStop.{both_first, serves_none, spare_first, stops_first}
-use Rattle.audit_session.proofs.Refusals.{memory_no_bench, memory_no_spare, memory_no_input, memory_no_limit, refusal}
 use Rattle.audit_session.proofs.session.serve_with.Goals as goal
 
-abbrev refused : TwinEnd → Result (Unit {0}) TwinEnd
-refused fault = Err fault
+abbrev refused : Stop → Result (Unit {0}) Stop
+refused why = Err why
 
 pub returns-in_err-planner : goal.returns-in_err-planner
 returns-in_err-planner g c =
-    let same : c.from_residual.result ≡ refused end.NoMemory = refusal c.from_residual.result _ c.from_residual.ensures in
+    let same : c.from_residual.result ≡ refused end.NoMemory = is_refusal c.from_residual.result _ c.from_residual.ensures in
     record {
       done = λ t u. IfOk-from_err _ _ c.from_residual.ensures.0;
-      input_end = λ t u is. absurd (memory_no_input _ same is);
-      limit_end = λ t u is. absurd (memory_no_limit _ same is);
+      input_end = λ t u is. absurd cc;
+      limit_end = λ t u is. absurd cc;
       memory_end = λ t u is.
           serves_none (base_of c.args.schema.now.columns c.args.index.now.public c.args.index.now.protected (g.K.Keeper.store c.args.keeper.now).secret)
           c.args.batch
           (g.K.Keeper.store c.args.keeper.now).history (counted_lines (g.P.Source.left c.args.source.now)) (g.B.Bench.sent c.args.bench.now);
-      spare_end = λ t u is. absurd (memory_no_spare _ same is);
+      spare_end = λ t u is. absurd cc;
       stands = λ u no. ((g.K.Keeper.store c.args.keeper.now).journal.gate, c.requires.stands u);
       quiet = λ u quiet no. quiet;
       again = IfOk-from_err _ _ c.from_residual.ensures.0;
@@ -58,16 +58,16 @@ returns-in_err-planner g c =
       is = c.requires.is;
       read = λ t. IfOk-from_err _ _ c.from_residual.ensures.0;
       within = λ t. IfOk-from_err _ _ c.from_residual.ensures.0;
-      input_within = λ t is. absurd (memory_no_input _ same is);
-      limit = λ t is. absurd (memory_no_limit _ same is);
+      input_within = λ t is. absurd cc;
+      limit = λ t is. absurd cc;
       later = omega arith;
-      input = λ is. absurd (memory_no_input _ same is);
-      last_read = λ is. absurd (memory_no_input _ same is);
+      input = λ is. absurd cc;
+      last_read = λ is. absurd cc;
       steady = λ other. refl;
       fault = record {
         later = omega arith;
-        failed = λ is. absurd (memory_no_bench _ same is);
-        last_call = λ is. absurd (memory_no_bench _ same is);
+        failed = λ is. absurd cc;
+        last_call = λ is. absurd cc;
         steady = λ other. refl;
       };
       spare_stands = λ spared told bench spare. (g.K.Keeper.spare_gate c.args.keeper.now, c.requires.spare_stands spared told);
@@ -102,11 +102,11 @@ returns-in_err-planner g c =
       spare_calls = λ spared t told. IfOk-from_err _ _ c.from_residual.ensures.0;
       spare_fault = record {
         later = omega arith;
-        failed = λ is. absurd (memory_no_spare _ same is);
-        last_call = λ is. absurd (memory_no_spare _ same is);
+        failed = λ is. absurd cc;
+        last_call = λ is. absurd cc;
         steady = λ other. refl;
       };
-      own = λ is. absurd (memory_no_spare _ same is);
+      own = λ is. absurd cc;
       untouched = λ none. refl;
     }
 
@@ -126,10 +126,10 @@ returns g c =
     Ends batch c.answer_groups.result (base_of columns public c.args.index.now.protected store.secret) store.history input left now before after =
     λ t u. subst (λ (p : Protection). Ends batch c.answer_groups.result (base_of columns public p store.secret) store.history input left now before after)
     same (c.answer_groups.ensures.ends t u) in
-    let ends_as : (r : Result (Unit {0}) TwinEnd) → c.answer_groups.result ≡ r → g.P.Source.told → g.B.Bench.told →
+    let ends_as : (r : Result (Unit {0}) Stop) → c.answer_groups.result ≡ r → g.P.Source.told → g.B.Bench.told →
     Ends batch r (base_of columns public c.args.index.now.protected store.secret) store.history input left now before after =
     λ r is t u. subst
-    (λ (r : Result (Unit {0}) TwinEnd). Ends batch r (base_of columns public c.args.index.now.protected store.secret) store.history input left now before after)
+    (λ (r : Result (Unit {0}) Stop). Ends batch r (base_of columns public c.args.index.now.protected store.secret) store.history input left now before after)
     is (ends t u) in
     record {
       done = λ t u. all_by _ batch _ _ _ left _ _ _ (ends t u);
@@ -163,8 +163,8 @@ returns g c =
       is = c.answer_groups.ensures.is;
       read = λ t. read_by _ input _ (c.answer_groups.ensures.reads t);
       within = λ t. within_by _ _ left (c.answer_groups.ensures.reads t);
-      input_within = λ t is. subst (λ (r : Result (Unit {0}) TwinEnd). Reads r input left) is (c.answer_groups.ensures.reads t);
-      limit = λ t is. subst (λ (r : Result (Unit {0}) TwinEnd). Reads r input left) is (c.answer_groups.ensures.reads t);
+      input_within = λ t is. subst (λ (r : Result (Unit {0}) Stop). Reads r input left) is (c.answer_groups.ensures.reads t);
+      limit = λ t is. subst (λ (r : Result (Unit {0}) Stop). Reads r input left) is (c.answer_groups.ensures.reads t);
       later = c.answer_groups.ensures.later;
       input = c.answer_groups.ensures.input;
       last_read = c.answer_groups.ensures.last_read;

@@ -4,7 +4,7 @@ use Rattle.std.proofs.lemmas.Result.{IfErr-at_err, IfOk-from_err}
 use Rattle.audit_types.specs.declared.records.Answered.{Answered}
 use Rattle.audit_types.specs.declared.shapes.Shape.{Shape}
 use Rattle.audit_types.specs.History.{IsLegal}
-use Rattle.bench_core.specs.Reports.{told_as}
+use Rattle.bench_core.specs.Reports.{of_refusal, told_as}
 use Rattle.journal_form.specs.Journal.{StandsAt}
 use Rattle.answer_journal.specs.declared.journal.BackFault.TheVariants as back
 use Rattle.audit_store.specs.declared.starting.StartFault.{StartFault}
@@ -13,7 +13,7 @@ use Rattle.audit_store.specs.Refusals.{no_refusal}
 use Rattle.audit_store.specs.Starting.{HistoryCause, RefusedUnlessFailed, StartCause, StartsUnlessFailed, start_fault}
 use Rattle.table_load.specs.Database.{secret_table}
 use Rattle.audit_store.proofs.Causes.{gave_up, cause_in_file, cause_of_reading, due_of_reading, due_of_history}
-use Rattle.audit_store.proofs.StoreFaults.{of_refusal, read_failed, start_failed}
+use Rattle.audit_store.proofs.StoreFaults.{read_failed, start_failed}
 use Rattle.audit_store.proofs.starting.recover_other.Goals as goal
 
 -- ---- the journal wasn't read

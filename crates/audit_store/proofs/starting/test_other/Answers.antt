@@ -3,11 +3,11 @@ use Rattle.std.proofs.Math.Seq.{take-length}
 use Rattle.audit_types.specs.declared.records.Answered.{Answered}
 use Rattle.audit_types.specs.declared.shapes.Shape.{Shape}
 use Rattle.audit_types.specs.History.{Protection, IsLegal}
+use Rattle.bench_core.specs.Reports.{of_refusal}
 use Rattle.audit_store.specs.Starting.{HistoryCause, RefusedUnlessFailed, StartsUnlessFailed}
 use Rattle.table_load.specs.Database.{secret_table}
 use Rattle.audit_store.proofs.Causes.{legal_has_no_cause, one_cause}
 use Rattle.audit_core.specs.LegalFronts.{legal_front}
-use Rattle.audit_store.proofs.StoreFaults.{of_refusal}
 use Rattle.audit_store.proofs.starting.test_other.Goals as goal
 
 -- ---- it begins what is known

@@ -5,7 +5,7 @@ use Rattle.audit_core.specs.Released.{WereReleased}
 use Rattle.journal_form.specs.Journal.{StandsFor}
 use Rattle.table_load.specs.Database.{table_in}
 use Rattle.auditor_top.proofs.NextRuns.{grows_next}
-use Rattle.auditor_top.proofs.OneRunMore.{nothing_is_legal}
+use Rattle.audit_session.specs.HistoryFacts.{nothing_is_legal}
 use Rattle.auditor_top.proofs.laws.never_refused.Goals as goal
 
 pub returns-clause-made : goal.returns-clause-made

@@ -1,6 +1,6 @@
 use Rattle.std.proofs.Common.{◌≡◌, List, Result, Err, refl, sym, ap, subst}
 use Rattle.audit_types.specs.History.{Protection}
-use Rattle.auditor_top.specs.Drills.{drill_protection}
+use Rattle.drill_case.specs.Drills.{drill_protection}
 use Rattle.table_load.specs.Database.{base_of}
 use Rattle.auditor_top.specs.declared.words.Command.{Command}
 use Rattle.auditor_top.specs.declared.status.Status.{Status}

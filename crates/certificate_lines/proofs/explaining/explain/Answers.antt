@@ -3,24 +3,24 @@ use Rattle.std.proofs.lemmas.List.{append-nil}
 use Rattle.audit_types.specs.declared.records.Answered.{Answered}
 use Rattle.audit_types.specs.History.{Setting, setting_of}
 use Rattle.denial_proof.specs.Denied.{IsLegalIn}
+use Rattle.bench_core.specs.declared.stops.Stop.{Stop}
+use Rattle.bench_core.specs.declared.stops.Stop.TheVariants as stop
 use Rattle.line_wire.specs.Lines.{CountedLine}
-use Rattle.certificate_lines.specs.declared.explaining.ExplainFault.{ExplainFault}
-use Rattle.certificate_lines.specs.declared.explaining.ExplainFault.TheVariants as fault
 use Rattle.certificate_lines.specs.Explained.{AreExplained}
 use Rattle.certificate_lines.specs.Ends.{EndLines, EndSends}
 use Rattle.certificate_lines.proofs.SoFar.{nothing_sent}
 use Rattle.certificate_lines.proofs.explaining.explain.Goals as goal
 
-abbrev ended_by : ExplainFault → Result (Unit {0}) ExplainFault
-ended_by fault = Err fault
+abbrev ended_by : Stop → Result (Unit {0}) Stop
+ended_by why = Err why
 
 pub returns-in_err-planner-clause-explains : goal.returns-in_err-planner-clause-explains
 returns-in_err-planner-clause-explains g c = λ t.
     let input = g.P.Source.left c.args.source.now in
     let sent = g.B.Bench.sent c.args.bench.now in
-    let same : c.from_residual.result ≡ ended_by fault.NoMemory = search rules in
+    let same : c.from_residual.result ≡ ended_by stop.NoMemory = search rules in
     subst
-    (λ (r : Result (Unit {0}) ExplainFault). (asked : List CountedLine) × (lines : List (List ℕ)) × EndLines r input input asked ×
+    (λ (r : Result (Unit {0}) Stop). (asked : List CountedLine) × (lines : List (List ℕ)) × EndLines r input input asked ×
     AreExplained c.args.schema.now.columns c.args.index.now c.args.store.now.history asked lines × (g.B.Bench.told → EndSends r lines sent sent))
     (sym same)
     ([], [], record { count = 0; are = refl }, tt, λ u. sym (append-nil sent))

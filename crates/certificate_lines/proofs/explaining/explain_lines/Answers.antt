@@ -1,18 +1,17 @@
 use Rattle.std.proofs.Common.{rules, ◌≡◌, List, ℕ, [], Option, Result, Err, sym, subst}
 use Rattle.audit_types.specs.History.{Setting}
+use Rattle.bench_core.specs.declared.stops.Stop.{Stop}
+use Rattle.bench_core.specs.declared.stops.Stop.TheVariants as stop
 use Rattle.question_plan.specs.declared.planning.Plan.{Plan}
-use Rattle.question_plan.specs.declared.planner.PlanStop.{PlanStop}
 use Rattle.question_plan.specs.Planned.{PlansNext}
-use Rattle.certificate_lines.specs.declared.explaining.ExplainFault.{ExplainFault}
-use Rattle.certificate_lines.specs.declared.explaining.ExplainFault.TheVariants as fault
 use Rattle.certificate_lines.specs.Explained.{IsLineOf}
-use Rattle.certificate_lines.specs.Ends.{Explains, stop_end}
+use Rattle.certificate_lines.specs.Ends.{Explains}
 use Rattle.certificate_lines.proofs.SoFar.{nothing_yet}
 use Rattle.certificate_lines.proofs.Turns.{went_on, unsent, unwritten, unplanned, none_left}
 use Rattle.certificate_lines.proofs.explaining.explain_lines.Goals as goal
 
-abbrev ended_by : ExplainFault → Result (Unit {0}) ExplainFault
-ended_by fault = Err fault
+abbrev ended_by : Stop → Result (Unit {0}) Stop
+ended_by why = Err why
 
 pub loop-line-init : goal.loop-line-init
 loop-line-init g c = record {
@@ -28,10 +27,10 @@ loop-line-init g c = record {
 
 pub returns-in_err-plan : goal.returns-in_err-plan
 returns-in_err-plan g c =
-    let why : PlanStop = c.in_err-plan.field-0.0 in
-    let same : c.from_residual.result ≡ ended_by (stop_end why) = search rules in
+    let why : Stop = c.in_err-plan.field-0.0 in
+    let same : c.from_residual.result ≡ ended_by why = search rules in
     subst
-    (λ (r : Result (Unit {0}) ExplainFault). Explains g.P.Source g.B.Bench c.args.schema.now.columns c.args.index.now c.args.core.now.history c.args.source.now
+    (λ (r : Result (Unit {0}) Stop). Explains g.P.Source g.B.Bench c.args.schema.now.columns c.args.index.now c.args.core.now.history c.args.source.now
     c.next.new.source c.args.bench.now c.loop-line.bench r)
     (sym same)
     (unplanned g.P.Source g.B.Bench c.args.schema.now.columns c.args.index.now c.args.core.now.history c.args.source.now c.args.bench.now
@@ -50,9 +49,9 @@ pub returns-in_err-write_line : goal.returns-in_err-write_line
 returns-in_err-write_line g c =
     let plan = subst (λ (o : Option Plan). PlansNext g.P.Source c.loop-line.planner c.next.new.self c.loop-line.source c.next.new.source
     c.args.schema.now.columns c.args.index.now.public o) c.in-Some.is c.in_ok-plan.ensures.plans in
-    let same : c.from_residual-in_err-write_line.result ≡ ended_by fault.NoMemory = search rules in
+    let same : c.from_residual-in_err-write_line.result ≡ ended_by stop.NoMemory = search rules in
     subst
-    (λ (r : Result (Unit {0}) ExplainFault). Explains g.P.Source g.B.Bench c.args.schema.now.columns c.args.index.now c.args.core.now.history c.args.source.now
+    (λ (r : Result (Unit {0}) Stop). Explains g.P.Source g.B.Bench c.args.schema.now.columns c.args.index.now c.args.core.now.history c.args.source.now
     c.next.new.source c.args.bench.now c.loop-line.bench r)
     (sym same)
     (unwritten g.P.Source g.B.Bench c.args.schema.now.columns c.args.index.now c.args.core.now.history c.args.source.now c.args.bench.now
@@ -85,9 +84,9 @@ returns-in_err-send g c =
     (subst (λ (l : List ℕ). IsLineOf c.args.core.now.setting c.args.core.now.history c.in-Some.plan l) (sym c.deref.ensures.value)
     c.in_ok-write_line.ensures.line) in
     let said = c.in_err-send.ensures in
-    let same : c.from_residual-in_err-send.result ≡ ended_by fault.Bench = search rules in
+    let same : c.from_residual-in_err-send.result ≡ ended_by stop.Bench = search rules in
     subst
-    (λ (r : Result (Unit {0}) ExplainFault). Explains g.P.Source g.B.Bench c.args.schema.now.columns c.args.index.now c.args.core.now.history c.args.source.now
+    (λ (r : Result (Unit {0}) Stop). Explains g.P.Source g.B.Bench c.args.schema.now.columns c.args.index.now c.args.core.now.history c.args.source.now
     c.next.new.source c.args.bench.now c.send.new.self r)
     (sym same)
     (unsent g.P.Source g.B.Bench c.args.schema.now.columns c.args.index.now c.args.core.now.history c.args.source.now c.args.bench.now

@@ -44,6 +44,7 @@ returns-in_err-send_columns g c =
       last_call = all.last_call;
       later = all.later;
       steady = all.steady;
+      ends = all.ends;
     }
 
 pub returns : goal.returns
@@ -60,4 +61,5 @@ returns g c =
       last_call = all.last_call;
       later = all.later;
       steady = all.steady;
+      ends = all.ends;
     }

@@ -1,9 +1,12 @@
 use Rattle.std.proofs.Common.{refl}
+use Rattle.bench_core.specs.Reports.{of_refusal}
+use Rattle.bench_core.specs.declared.stops.Stop.TheVariants as stop
+use Rattle.journal_audit.specs.Reports.{SendsLine}
 use Rattle.journal_audit.proofs.reporting.send_line.Goals as goal
 
-pub returns-in-Ok : goal.returns-in-Ok
-returns-in-Ok g c =
-    let e = c.in-Ok.ensures in
+pub returns : goal.returns
+returns g c =
+    let e = c.in_ok-send.ensures in
     record {
       sends = e.all;
       part = λ told. tt;
@@ -15,11 +18,14 @@ returns-in-Ok g c =
       failed = λ is. cc;
       last_call = λ is. cc;
       steady = λ other. e.cause.steady;
+      ends = tt;
     }
 
-pub returns-in-Err : goal.returns-in-Err
-returns-in-Err g c =
-    let e = c.in-Err.ensures in
+pub returns-in_err-send : goal.returns-in_err-send
+returns-in_err-send g c =
+    let e = c.in_err-send.ensures in
+    of_refusal c.from_residual.result stop.Bench c.from_residual.ensures
+    (λ r. SendsLine g.B.Bench c.args.line.now c.args.bench.now c.send.new.self r)
     record {
       sends = λ told. tt;
       part = e.part;
@@ -31,4 +37,5 @@ returns-in-Err g c =
       failed = λ is. e.cause.failed;
       last_call = λ is. e.last_call;
       steady = λ other. absurd (other refl);
+      ends = tt;
     }

@@ -12,21 +12,21 @@ use Rattle.question_plan.proofs.planning.plan_question.Goals as goal
 
 pub returns-then-is_empty-clause-exact : goal.returns-then-is_empty-clause-exact
 returns-then-is_empty-clause-exact c =
-    refused_as c.args.take c.args.column _ _ _ (sym c.rows_of-rows.ensures.rows ∙ c.is_empty.ensures.0 c.if-is_empty.true)
+    refused_as c.args.take c.args.column _ _ _ (sym c.fill_rows_of.ensures.rows ∙ c.is_empty.ensures.0 c.if-is_empty.true)
 
 pub returns-clause-exact : goal.returns-clause-exact
 returns-clause-exact c =
-    asked_as c.args.take c.args.column _ c.people.result (counts_of c.args.schema.now.columns c.args.index.now.public) _ c.rows_of-rows.result
-    c.rows_of-rows.ensures.n c.rows_of-rows.ensures.rows
+    asked_as c.args.take c.args.column _ c.people.result (counts_of c.args.schema.now.columns c.args.index.now.public) _ c.fill_rows_of.new.rows
+    c.fill_rows_of.ensures.n c.fill_rows_of.ensures.rows
     c.people.ensures.exact (λ none. false≢true (sym c.if-is_empty.false ∙ c.is_empty.ensures.1 none))
 
 pub returns-clause-served : goal.returns-clause-served
 returns-clause-served c =
     let counts = counts_of c.args.schema.now.columns c.args.index.now.public in
-    let list = c.rows_of-rows.result.list in
+    let list = c.fill_rows_of.new.rows.list in
     let least : length list ≤ people_behind counts list = subst (λ (n : ℕ). length list ≤ n) c.people.ensures.exact c.people.ensures.at_least in
     let most : people_behind counts list ≤ most_answer = subst (λ (n : ℕ). n ≤ most_answer) c.people.ensures.exact c.people.ensures.at_most in
     subst (λ (p : Plan). CanBeServed (shape_of c.args.schema.now.columns c.args.index.now.public.rows) p) (sym (returns-clause-exact c))
     (question_served c.args.schema.now.columns c.args.index.now.public c.args.take c.args.column counts c.requires.has (tree_of c.args.pred.now)
-    (subst (λ (rows : List ℕ). length rows ≤ people_behind counts rows) c.rows_of-rows.ensures.rows least)
-    (subst (λ (rows : List ℕ). people_behind counts rows ≤ most_answer) c.rows_of-rows.ensures.rows most))
+    (subst (λ (rows : List ℕ). length rows ≤ people_behind counts rows) c.fill_rows_of.ensures.rows least)
+    (subst (λ (rows : List ℕ). people_behind counts rows ≤ most_answer) c.fill_rows_of.ensures.rows most))

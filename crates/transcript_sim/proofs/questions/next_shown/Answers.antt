@@ -1,28 +1,28 @@
 use Rattle.std.proofs.Common.{rules, ◌≡◌, List, ℕ, Option, Result, Err, IfErr, sym, subst}
 use Rattle.std.proofs.lemmas.Result.{IfOk-from_err}
 use Rattle.line_wire.specs.Lines.{text, long}
+use Rattle.bench_core.specs.declared.stops.Stop.{Stop}
 use Rattle.line_wire.specs.declared.lines.Next.{Next}
 use Rattle.transcript_sim.specs.declared.shown.Shown.{Shown}
-use Rattle.transcript_sim.specs.declared.simulating.SimulationFault.{SimulationFault}
 use Rattle.line_wire.specs.Calls.{GivesNext}
-use Rattle.transcript_sim.specs.Steps.{ComesTo, IsCutShort, stop_fault}
-use Rattle.transcript_sim.proofs.Stops.{cutting_stops}
+use Rattle.question_plan.specs.Planned.{IsUnplanned, stops_planning}
+use Rattle.transcript_sim.specs.Steps.{ComesTo}
 use Rattle.transcript_sim.proofs.questions.next_shown.Goals as goal
 
-abbrev ended_by : SimulationFault → Result (Option Shown) SimulationFault
-ended_by fault = Err fault
+abbrev ended_by : Stop → Result (Option Shown) Stop
+ended_by why = Err why
 
 pub returns-in_err-next_line : goal.returns-in_err-next_line
 returns-in_err-next_line g c = record {
   shows = IfOk-from_err _ _ c.from_residual.ensures.0;
   short =
       let why = c.in_err-next_line.field-0.0 in
-      let same : c.from_residual.result ≡ ended_by (stop_fault why) = search rules in
+      let same : c.from_residual.result ≡ ended_by why = search rules in
       subst
-      (λ (r : Result (Option Shown) SimulationFault). IfErr r (IsCutShort g.P.Source c.args.lines.now c.next_line.new.self c.args.source.now
+      (λ (r : Result (Option Shown) Stop). IfErr r (IsUnplanned g.P.Source c.args.lines.now c.next_line.new.self c.args.source.now
       c.next_line.new.source))
       (sym same)
-      (cutting_stops g.P.Source c.args.lines.now c.next_line.new.self c.args.source.now c.next_line.new.source why c.in_err-next_line.ensures.stopped);
+      (stops_planning g.P.Source c.args.lines.now c.next_line.new.self c.args.source.now c.next_line.new.source why c.in_err-next_line.ensures.stopped);
   cuts = c.next_line.ensures.cuts;
 }
 

@@ -3,6 +3,7 @@ use Rattle.std.proofs.lemmas.List.{append-nil}
 use Rattle.audit_core.specs.Audited.{Audited}
 use Rattle.transcript_sim.specs.declared.expecting.Expected.{Expected}
 use Rattle.transcript_sim.specs.declared.simulating.SimulationFault.{SimulationFault}
+use Rattle.transcript_sim.specs.declared.simulating.SimulationFault.TheVariants as fault
 use Rattle.transcript_sim.specs.Verdicts.{due_of}
 use Rattle.transcript_sim.specs.Steps.{AsksNext, SendsFor, goes_on, records_shown}
 use Rattle.transcript_sim.specs.Ends.{Simulates}
@@ -31,7 +32,7 @@ loop-expected-init g c = record {
 pub returns-in_err-expected : goal.returns-in_err-expected
 returns-in_err-expected g c =
     let why = c.in_err-expected.field-0.0 in
-    let same : c.from_residual.result ≡ ended_by why = search rules in
+    let same : c.from_residual.result ≡ ended_by (fault.Stopped why) = search rules in
     subst
     (λ (r : Result (Unit {0}) SimulationFault). Simulates g.P.Source g.B.Bench c.args.schema.now.columns c.args.index.now
     c.args.simulation.now.core.history c.args.source.now
@@ -68,7 +69,7 @@ returns-in_err-shown g c =
     c.judge_question.new.self.lines c.judge_question.new.source c.in_ok-expected.ensures.cuts c.judge_question.new.bench
     c.in-Some.expected question sends in
     let why = c.in_err-shown.field-0.0 in
-    let same : c.from_residual-in_err-shown.result ≡ ended_by why = search rules in
+    let same : c.from_residual-in_err-shown.result ≡ ended_by (fault.Stopped why) = search rules in
     subst
     (λ (r : Result (Unit {0}) SimulationFault). Simulates g.P.Source g.B.Bench c.args.schema.now.columns c.args.index.now
     c.args.simulation.now.core.history c.args.source.now

@@ -1,6 +1,7 @@
 use Rattle.std.proofs.Common.{rules, ◌≡◌, sym, subst}
 use Rattle.audit_types.specs.History.{Setting, setting_of}
 use Rattle.audit_core.specs.Audited.{Audited}
+use Rattle.bench_core.specs.declared.stops.Stop.TheVariants as stop
 use Rattle.transcript_sim.specs.declared.simulating.SimulationFault.TheVariants as fault
 use Rattle.transcript_sim.specs.Beginning.{BeginsWith, EndBegins, public_setting}
 use Rattle.transcript_sim.proofs.Beginnings.{ended_by}
@@ -38,17 +39,18 @@ returns-in_err-core g c =
       bench = all.bench_rose;
       last_call = (all.source_last, all.bench_last);
       steady = (all.source_steady, all.bench_steady);
+      alone = all.alone;
     }
 
 pub returns-in_err-simulation : goal.returns-in_err-simulation
 returns-in_err-simulation g c =
     let columns = c.args.schema.now.columns in
     let index = c.args.index.now in
-    let same : c.from_residual-in_err-simulation.result ≡ ended_by (Unit {0}) fault.NoMemory = search rules in
+    let same : c.from_residual-in_err-simulation.result ≡ ended_by (Unit {0}) (fault.Stopped stop.NoMemory) = search rules in
     let tells = c.in_ok-core.ensures.fault in
     let all = subst (λ r. EndsSo g.P.Source g.B.Bench columns index c.args.source.now c.args.source.now c.args.bench.now c.begin.new.bench r) (sym same)
     (not_begun g.P.Source g.B.Bench columns index c.args.source.now c.args.bench.now c.one_reading.ensures c.no_break_in_a_journal.ensures c.begin.new.bench
-    c.begin.ensures.reads fault.NoMemory tt
+    c.begin.ensures.reads (fault.Stopped stop.NoMemory) tt
     (record { later = tells.later; failed = λ is. absurd cc; last_call = λ is. absurd cc; steady = λ other. tells.steady (λ is. cc) }) (λ told. tt)) in
     record {
       verdicts = all.verdicts;
@@ -66,6 +68,7 @@ returns-in_err-simulation g c =
       bench = all.bench_rose;
       last_call = (all.source_last, all.bench_last);
       steady = (all.source_steady, all.bench_steady);
+      alone = all.alone;
     }
 
 pub returns : goal.returns
@@ -98,4 +101,5 @@ returns g c =
       bench = all.bench_rose;
       last_call = (all.source_last, all.bench_last);
       steady = (all.source_steady, all.bench_steady);
+      alone = all.alone;
     }

@@ -7,13 +7,14 @@ use Rattle.audit_types.specs.declared.shapes.Shape.{Shape}
 use Rattle.audit_types.specs.History.{FitsShape}
 use Rattle.bench_core.specs.Calls.{LeavesOnly}
 use Rattle.bench_core.specs.Reports.{not_called, told_as}
+use Rattle.bench_core.specs.Stops.{ended_by_bench}
+use Rattle.bench_core.specs.declared.stops.Stop.TheVariants as stop
 use Rattle.journal_form.specs.Journal.{StandsAt}
 use Rattle.audit_core.specs.LegalFronts.{legal_fits}
 use Rattle.table_load.specs.Cells.{SecretView}
 use Rattle.audit_store.specs.Refusals.{no_refusal}
 use Rattle.audit_store.specs.Stores.{table_of}
 use Rattle.audit_store.specs.Twice.{IsBroughtUp, StandsWithSome, calls_to_bring_up}
-use Rattle.audit_store.specs.declared.outcome.StoreFault.TheVariants.{Failed, NoMemory}
 use Rattle.twin_journal.specs.Twins.{DifferFirst, Meet, missing}
 use Rattle.twin_journal.proofs.CatchingUp.{differ_first, lacks_nothing, main_lacks, meet_at_main, meet_at_other, other_lacks, same_as_main, some_between, still_between, still_there, while_brought_up, whole_is_main, whole_is_other}
 use Rattle.twin_journal.proofs.catching.catch_up.Goals as goal
@@ -99,8 +100,8 @@ returns-in-Ok g c =
       spare_fault = told_as g.S.Bench old new _ _ (λ is. no_refusal _ _ is) (λ is. no_refusal _ _ is) c.in-Ok.ensures.fault;
     }
 
-pub returns-in-Err-Failed : goal.returns-in-Err-Failed
-returns-in-Err-Failed g c =
+pub returns-in_default : goal.returns-in_default
+returns-in_default g c =
     let store = c.args.store.now in
     let main = store.history in
     let shown = c.history-history.result.now in
@@ -117,7 +118,8 @@ returns-in-Err-Failed g c =
     let here : g.S.Bench.told → StandsAt (g.S.Bench.file old) journal.shape list journal.gate = λ told.
     subst (λ (s : Shape). StandsAt (g.S.Bench.file old) s list journal.gate) (sym shape) (c.requires.spare_stands told) in
     let many : length list ≡ journal.count = sym c.requires.other.counted in
-    let is : c.bring_up.result ≡ Err Failed = cc in
+    let ended = ended_by_bench c.in-Err.stop c.in-Err.ensures.ends c.in_default.not-NoMemory in
+    let is : c.bring_up.result ≡ Err stop.Bench = cc in
     record {
       meet = tt;
       stands = λ told. tt;
@@ -151,8 +153,8 @@ returns-in-Err-Failed g c =
       spare_fault = told_as g.S.Bench old new _ _ (λ failed. refl) (λ refused. is) c.bring_up.ensures.fault;
     }
 
-pub returns-in-Err-NoMemory : goal.returns-in-Err-NoMemory
-returns-in-Err-NoMemory g c =
+pub returns-in-NoMemory : goal.returns-in-NoMemory
+returns-in-NoMemory g c =
     let store = c.args.store.now in
     let main = store.history in
     let shown = c.history-history.result.now in
@@ -169,7 +171,7 @@ returns-in-Err-NoMemory g c =
     let here : g.S.Bench.told → StandsAt (g.S.Bench.file old) journal.shape list journal.gate = λ told.
     subst (λ (s : Shape). StandsAt (g.S.Bench.file old) s list journal.gate) (sym shape) (c.requires.spare_stands told) in
     let many : length list ≡ journal.count = sym c.requires.other.counted in
-    let is : c.bring_up.result ≡ Err NoMemory = cc in
+    let is : c.bring_up.result ≡ Err stop.NoMemory = cc in
     record {
       meet = tt;
       stands = λ told. tt;
@@ -320,8 +322,8 @@ returns-in-Ok-bring_up g c =
       spare_fault = not_called g.S.Bench c.args.spare.now _ (λ is. no_refusal _ _ is);
     }
 
-pub returns-in-Err-Failed-bring_up : goal.returns-in-Err-Failed-bring_up
-returns-in-Err-Failed-bring_up g c =
+pub returns-in_default-stop : goal.returns-in_default-stop
+returns-in_default-stop g c =
     let store = c.args.store.now in
     let main = store.history in
     let shown = c.history-history.result.now in
@@ -334,7 +336,8 @@ returns-in-Err-Failed-bring_up g c =
     let all : list ≡ main ++ lacks = main_lacks main shown list place hist c.agreement-place.ensures.same at in
     let old = c.args.bench.now in
     let new = c.bring_up-2.new.bench in
-    let is : c.bring_up-2.result ≡ Err Failed = cc in
+    let ended = ended_by_bench c.in-Err-bring_up.stop c.in-Err-bring_up.ensures.ends c.in_default-stop.not-NoMemory in
+    let is : c.bring_up-2.result ≡ Err stop.Bench = cc in
     record {
       meet = tt;
       stands = λ told. tt;
@@ -366,8 +369,8 @@ returns-in-Err-Failed-bring_up g c =
       spare_fault = not_called g.S.Bench c.args.spare.now _ (λ refused. let none : ⊥ = cc in absurd none);
     }
 
-pub returns-in-Err-NoMemory-bring_up : goal.returns-in-Err-NoMemory-bring_up
-returns-in-Err-NoMemory-bring_up g c =
+pub returns-in-NoMemory-stop : goal.returns-in-NoMemory-stop
+returns-in-NoMemory-stop g c =
     let store = c.args.store.now in
     let main = store.history in
     let shown = c.history-history.result.now in
@@ -380,7 +383,7 @@ returns-in-Err-NoMemory-bring_up g c =
     let all : list ≡ main ++ lacks = main_lacks main shown list place hist c.agreement-place.ensures.same at in
     let old = c.args.bench.now in
     let new = c.bring_up-2.new.bench in
-    let is : c.bring_up-2.result ≡ Err NoMemory = cc in
+    let is : c.bring_up-2.result ≡ Err stop.NoMemory = cc in
     record {
       meet = tt;
       stands = λ told. tt;

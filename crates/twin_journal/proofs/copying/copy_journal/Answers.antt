@@ -7,8 +7,8 @@ use Rattle.bench_core.specs.Calls.{IsQuiet}
 use Rattle.bench_core.specs.Moments.{still_quiet}
 use Rattle.bench_core.specs.Reports.{not_called, not_written, told_as}
 use Rattle.journal_form.specs.Journal.{StandsAt, StandsFor}
-use Rattle.journal_compact.specs.Whole.{HoldsWhole}
-use Rattle.journal_compact.specs.declared.whole.WholeFault.TheVariants as whole
+use Rattle.answer_journal.specs.Whole.{HoldsWhole}
+use Rattle.answer_journal.specs.declared.whole.WholeFault.TheVariants as whole
 use Rattle.table_load.specs.Cells.{SecretView}
 use Rattle.table_load.specs.Database.{secret_table}
 use Rattle.audit_core.specs.LegalFronts.{legal_fits}

@@ -8,7 +8,7 @@ use Rattle.journal_form.specs.Journal.{StandsFor}
 use Rattle.answer_journal.specs.Make.{calls_to_make}
 use Rattle.answer_journal.specs.MadeFiles.{stands_is_made}
 use Rattle.answer_journal.specs.Moments.{IsMade}
-use Rattle.journal_compact.specs.Whole.{HoldsWhole}
+use Rattle.answer_journal.specs.Whole.{HoldsWhole}
 use Rattle.table_load.specs.Database.{secret_table}
 use Rattle.audit_store.specs.Refusals.{no_refusal}
 use Rattle.audit_store.specs.Starting.{GivesUp, StartCause}

@@ -2,14 +2,14 @@
 use Rattle.std.proofs.Common.{◌≡◌, ◌++◌, ◌||◌, Bool, false, not, Result, Ok, refl, ◌∙◌, ap, rules}
 use Rattle.line_wire.specs.Lines.{counted_lines}
 use Rattle.line_wire.specs.LinesSoFar.{all_within}
-use Rattle.audit_session.specs.declared.session.TwinEnd.{TwinEnd}
+use Rattle.bench_core.specs.declared.stops.Stop.{Stop}
 use Rattle.audit_session.proofs.GatheredLines.{still_ended, whole_or_last}
 use Rattle.audit_session.proofs.Served.{spare_turn, spare_calls_now, both_turn, turn_moments, all_served, all_calls, all_kept}
 use Rattle.audit_store.specs.Refusals.{no_refusal}
 use Rattle.audit_session.proofs.Refusals.{still_later}
 use Rattle.audit_session.proofs.session.answer_groups.Goals as goal
 
-abbrev given : Bool → Result Bool TwinEnd
+abbrev given : Bool → Result Bool Stop
 given more = Ok more
 
 pub last_turn : goal.returns-then-not-more
@@ -53,7 +53,7 @@ last_turn g c =
           c.args.source.now c.loop-more.source c.args.bench.now c.loop-more.bench c.loop-more.invariant.served
           now (not c.in_ok-more.more || now.ended) c.gather.new.source plans e.gathers e.most c.requires.batch.0
           (λ ended. still_ended c.in_ok-more.more now.ended (e.cuts.still ended)) c.answer.new.bench
-          (whole_or_last {E = TwinEnd} g.P.Source.told c.args.batch c.in_ok-more.more plans rest e.whole e.last) u quiet
+          (whole_or_last {E = Stop} g.P.Source.told c.args.batch c.in_ok-more.more plans rest e.whole e.last) u quiet
           (c.in_ok-answer.ensures.moments u (c.loop-more.invariant.served.quiet u quiet));
       table = (c.in_ok-answer.ensures.table.0 ∙ c.loop-more.invariant.served.secret, c.in_ok-answer.ensures.table.1 ∙ c.loop-more.invariant.served.protected);
       is = c.in_ok-answer.ensures.is;
@@ -74,7 +74,7 @@ last_turn g c =
           (g.K.Keeper.store c.loop-more.keeper) c.args.source.now c.loop-more.source c.args.bench.now c.loop-more.bench c.loop-more.invariant.served
           now (not c.in_ok-more.more || now.ended) c.gather.new.source plans e.gathers e.most c.requires.batch.0
           (λ ended. still_ended c.in_ok-more.more now.ended (e.cuts.still ended)) g.S.Bench c.args.spare.now c.loop-more.spare c.answer.new.spare
-          (whole_or_last {E = TwinEnd} g.P.Source.told c.args.batch c.in_ok-more.more plans (now.pending ++ g.P.Source.left c.gather.new.source) e.whole e.last)
+          (whole_or_last {E = Stop} g.P.Source.told c.args.batch c.in_ok-more.more plans (now.pending ++ g.P.Source.left c.gather.new.source) e.whole e.last)
           c.loop-more.invariant.spare.sent (c.loop-more.invariant.spare.moments spared told quiet)
           (c.answer.ensures.spare_moments spared told (c.loop-more.invariant.spare.quiet spared told quiet));
       spare_quiet = λ spared told quiet other.
@@ -100,7 +100,7 @@ last_turn g c =
           (g.K.Keeper.store c.loop-more.keeper) c.args.source.now c.loop-more.source c.args.bench.now c.loop-more.bench c.loop-more.invariant.served
           now (not c.in_ok-more.more || now.ended) c.gather.new.source plans e.gathers e.most c.requires.batch.0
           (λ ended. still_ended c.in_ok-more.more now.ended (e.cuts.still ended)) (g.B.Bench.sent c.answer.new.bench) image other t told
-          (whole_or_last {E = TwinEnd} g.P.Source.told c.args.batch c.in_ok-more.more plans (now.pending ++ g.P.Source.left c.gather.new.source) e.whole e.last)
+          (whole_or_last {E = Stop} g.P.Source.told c.args.batch c.in_ok-more.more plans (now.pending ++ g.P.Source.left c.gather.new.source) e.whole e.last)
           (c.in_ok-answer.ensures.both spared told spare_told (c.loop-more.invariant.served.quiet told quiet)
           (c.loop-more.invariant.spare.quiet spared spare_told spare_quiet) image other left spare_left);
       spare_fault = record {

@@ -1,4 +1,5 @@
-use Rattle.std.proofs.Common.{◌≡◌, true, false, List, All, ◌+◌, ◌-◌, refl, ◌++◌, length, take, drop, sym, ap, subst, ◌∙◌, arith}
+use Rattle.std.proofs.Common.{◌≡◌, true, false, Err, List, All, ◌+◌, ◌-◌, refl, ◌++◌, length, take, drop, sym, ap, subst, ◌∙◌, arith}
+use Rattle.std.specs.Prelude.{IfErr, IsErrOf}
 use Rattle.std.proofs.Math.Seq.{take-length}
 use Rattle.std.proofs.lemmas.List.Elements.{All-take, All-drop}
 use Rattle.std.proofs.lemmas.Result.{IfOk-from_err}
@@ -9,14 +10,15 @@ use Rattle.audit_types.specs.History.{FitsShape, IsLegal, Setting}
 use Rattle.journal_form.specs.Journal.{StandsAt}
 use Rattle.answer_journal.specs.Moments.{IsBeforeOrAfter}
 use Rattle.bench_core.specs.Calls.{LeavesOnly}
+use Rattle.bench_core.specs.Reports.{is_refusal, not_called, of_refusal, passed_on}
+use Rattle.bench_core.specs.Stops.{IsOfBench}
 use Rattle.audit_core.specs.Audited.{Audited}
 use Rattle.audit_core.specs.Outcomes.{AreOutcomes, records_made}
 use Rattle.table_load.specs.Cells.{SecretView}
 use Rattle.audit_store.specs.Stores.{StoreContents, IsStore, IsAuditedBy, table_of, HasGroup, calls_for}
 use Rattle.audit_store.specs.StoreLaws.{store_in, table_by, core_is_history, released_and_more, more_released, taken_since, refused_history, refused_store, kept_store}
-use Rattle.audit_store.specs.declared.outcome.StoreFault.TheVariants.{Failed, NoMemory}
+use Rattle.bench_core.specs.declared.stops.Stop.TheVariants as stop
 use Rattle.audit_store.specs.Refusals.{no_refusal}
-use Rattle.audit_store.proofs.StoreFaults.{is_memory, memory_no_call, given_is, answer_is}
 use Rattle.audit_store.proofs.store.Store.ask_all.Goals as goal
 
 pub keep-requires-clause-stands : goal.keep-requires-clause-stands
@@ -124,29 +126,22 @@ pub returns-in_err-keep : goal.returns-in_err-keep
 returns-in_err-keep g c =
     let i = c.self.inside in
     let usable : i.usable ≡ true = ap (λ (s : StoreContents). s.usable) c.self.view_is ∙ c.requires.usable in
+    let given = c.in_err-keep.field-0.0 in
+    let answer = c.from_residual-in_err-keep.result in
+    let refuses = c.from_residual-in_err-keep.ensures in
+    let same : answer ≡ Err given = is_refusal answer given refuses in
     record {
-      outcomes = IfOk-from_err _ _ c.from_residual-in_err-keep.ensures.0;
-      history = IfOk-from_err _ _ c.from_residual-in_err-keep.ensures.0;
-      stands = λ told. IfOk-from_err _ _ c.from_residual-in_err-keep.ensures.0;
-      usable = IfOk-from_err _ _ c.from_residual-in_err-keep.ensures.0;
+      outcomes = IfOk-from_err _ _ refuses.0;
+      history = IfOk-from_err _ _ refuses.0;
+      stands = λ told. IfOk-from_err _ _ refuses.0;
+      usable = IfOk-from_err _ _ refuses.0;
       kept =
-          refused_history c.from_residual-in_err-keep.result i.sealed.core.history c.decide_all.new.sealed.core.history c.args.self.now.history i.released
+          refused_history answer i.sealed.core.history c.decide_all.new.sealed.core.history c.args.self.now.history i.released
           (c.self.invariant.1.all usable) c.decide_all.ensures.begins
           (ap (λ (s : StoreContents). s.history) c.self.view_is);
-      no_memory = λ is.
-          c.in_err-keep.ensures.no_memory (given_is c.in_err-keep.field-0.0 NoMemory c.from_residual-in_err-keep.result c.from_residual-in_err-keep.ensures is);
-      fault = record {
-        failed = λ is.
-            c.in_err-keep.ensures.fault.failed (given_is c.in_err-keep.field-0.0 Failed c.from_residual-in_err-keep.result c.from_residual-in_err-keep.ensures
-            is);
-        last_call = λ is.
-            c.in_err-keep.ensures.fault.last_call (given_is c.in_err-keep.field-0.0 Failed c.from_residual-in_err-keep.result
-            c.from_residual-in_err-keep.ensures is);
-        steady = λ other.
-            c.in_err-keep.ensures.fault.steady
-            (λ is. other (answer_is c.in_err-keep.field-0.0 Failed c.from_residual-in_err-keep.result c.from_residual-in_err-keep.ensures is));
-        later = c.keep.ensures.fault.later;
-      };
+      no_memory = λ is. c.in_err-keep.ensures.no_memory cc;
+      fault = passed_on g.B.Bench c.args.bench.now c.keep.new.bench given stop.Bench answer same c.in_err-keep.ensures.fault;
+      ends = of_refusal answer given refuses (λ r. IfErr r IsOfBench) c.in_err-keep.ensures.ends;
       secret = c.decide_all.ensures.secret ∙ ap (λ (s : StoreContents). s.secret) c.self.view_is;
       protected = ap (λ (s : Setting). s.protected) c.decide_all.ensures.setting ∙ ap (λ (s : StoreContents). s.protected) c.self.view_is;
       is = (invariant_of-self-in_err-keep g c).0;
@@ -176,12 +171,12 @@ returns-in_err-keep g c =
           (subst (λ (h : List Answered). AreOutcomes
           (table_by i.sealed.secret i.sealed.core) h c.args.asked.now c.in_ok-outcomes.outcomes.items) all c.in_ok-outcomes.ensures.outcomes) in
           record { outcomes = c.in_ok-outcomes.outcomes.items; due = due; moments = moments };
-      moments = λ told quiet. IfOk-from_err _ _ c.from_residual-in_err-keep.ensures.0;
-      written = λ told. IfOk-from_err _ _ c.from_residual-in_err-keep.ensures.0;
-      quiet = λ told quiet. IfOk-from_err _ _ c.from_residual-in_err-keep.ensures.0;
+      moments = λ told quiet. IfOk-from_err _ _ refuses.0;
+      written = λ told. IfOk-from_err _ _ refuses.0;
+      quiet = λ told quiet. IfOk-from_err _ _ refuses.0;
       sent = c.keep.ensures.sent;
-      ticks = λ told. IfOk-from_err _ _ c.from_residual-in_err-keep.ensures.0;
-      unasked = IfOk-from_err _ _ c.from_residual-in_err-keep.ensures.0;
+      ticks = λ told. IfOk-from_err _ _ refuses.0;
+      unasked = IfOk-from_err _ _ refuses.0;
     }
 
 -- ---- no memory to decide
@@ -199,16 +194,14 @@ returns-in_err-outcomes g c = record {
       (c.self.invariant.1.all usable) c.decide_all.ensures.begins
       (ap (λ (s : StoreContents). s.history) c.self.view_is);
   no_memory = λ is. refl;
-  fault = record {
-    failed = λ is. memory_no_call c.from_residual.result c.from_residual.ensures is;
-    last_call = λ is. memory_no_call c.from_residual.result c.from_residual.ensures is;
-    steady = λ other. refl;
-    later = omega arith;
-  };
+  fault =
+      let same = is_refusal c.from_residual.result stop.NoMemory c.from_residual.ensures in
+      not_called g.B.Bench c.args.bench.now (IsErrOf c.from_residual.result stop.Bench) (λ is. let none : ⊥ = cc in none);
+  ends = of_refusal c.from_residual.result stop.NoMemory c.from_residual.ensures (λ r. IfErr r IsOfBench) tt;
   secret = c.decide_all.ensures.secret ∙ ap (λ (s : StoreContents). s.secret) c.self.view_is;
   protected = ap (λ (s : Setting). s.protected) c.decide_all.ensures.setting ∙ ap (λ (s : StoreContents). s.protected) c.self.view_is;
   is = (invariant_of-self g c).0;
-  any_moment = λ told quiet other. absurd (other (is_memory c.from_residual.result c.from_residual.ensures));
+  any_moment = λ told quiet other. absurd (other (is_refusal c.from_residual.result stop.NoMemory c.from_residual.ensures));
   moments = λ told quiet. IfOk-from_err _ _ c.from_residual.ensures.0;
   written = λ told. IfOk-from_err _ _ c.from_residual.ensures.0;
   quiet = λ told quiet. IfOk-from_err _ _ c.from_residual.ensures.0;
@@ -271,6 +264,7 @@ returns g c =
         steady = λ other. c.in_ok-keep.ensures.fault.steady (λ is. no_refusal _ _ is);
         later = c.keep.ensures.fault.later;
       };
+      ends = tt;
       secret = c.decide_all.ensures.secret ∙ ap (λ (s : StoreContents). s.secret) c.self.view_is;
       protected = ap (λ (s : Setting). s.protected) c.decide_all.ensures.setting ∙ ap (λ (s : StoreContents). s.protected) c.self.view_is;
       is = (invariant_of-self-2 g c).0;

@@ -1,5 +1,5 @@
 use Rattle.std.proofs.Common.{◌≡◌, true, false, List, ℕ, Err, refl, ◌+◌, ◌++◌, length, take, sym, ap, subst, ◌∙◌}
-use Rattle.std.specs.Prelude.{IsErrOf}
+use Rattle.std.specs.Prelude.{IfErr, IsErrOf}
 use Rattle.std.proofs.lemmas.Result.{IfOk-from_err}
 use Rattle.audit_types.specs.declared.records.Answered.{Answered}
 use Rattle.audit_types.specs.History.{Setting}
@@ -10,9 +10,10 @@ use Rattle.table_load.specs.Cells.{SecretView}
 use Rattle.audit_store.specs.Stores.{StoreContents, IsStore, IsAuditedBy, HasGroup, calls_for}
 use Rattle.audit_store.specs.StoreLaws.{kept_store, more_released, nothing_appended, refused_history, refused_store, still_released, store_in, table_by}
 use Rattle.audit_store.specs.Refusals.{no_refusal}
-use Rattle.bench_core.specs.Reports.{done_call, failed_call, is_refusal, not_called}
+use Rattle.bench_core.specs.Reports.{done_call, failed_call, is_refusal, not_called, of_refusal}
+use Rattle.bench_core.specs.Stops.{IsOfBenches}
 use Rattle.audit_store.specs.Twice.{group_of}
-use Rattle.audit_store.specs.declared.keeper.KeepFault.TheVariants as keep
+use Rattle.bench_core.specs.declared.stops.Stop.TheVariants as stop
 use Rattle.audit_store.proofs.KeptTwice.{decided, has_made, journal_after, keeps_group, kept_ahead, over_other, over_own_shape, stands_after}
 use Rattle.audit_store.proofs.store.Store.ask_all_twice.Goals as goal
 
@@ -94,7 +95,7 @@ returns-in_err-outcomes g c =
     let store = c.args.self.now in
     let usable : i.usable ≡ true = ap (λ (s : StoreContents). s.usable) c.self.view_is ∙ c.requires.usable in
     let answer = c.from_residual.result in
-    let same : answer ≡ Err keep.NoMemory = is_refusal answer keep.NoMemory c.from_residual.ensures in
+    let same : answer ≡ Err stop.NoMemory = is_refusal answer stop.NoMemory c.from_residual.ensures in
     record {
       outcomes = IfOk-from_err _ _ c.from_residual.ensures.0;
       history = IfOk-from_err _ _ c.from_residual.ensures.0;
@@ -106,8 +107,9 @@ returns-in_err-outcomes g c =
           (c.self.invariant.1.all usable) c.decide_all.ensures.begins (ap (λ (s : StoreContents). s.history) c.self.view_is);
       no_memory = λ is. (refl, refl);
       spare_first = λ is. refl;
-      fault = not_called g.B.Bench c.args.bench.now (IsErrOf c.from_residual.result keep.Bench) (λ is. let none : ⊥ = cc in none);
-      spare_fault = not_called g.S.Bench c.args.spare.now (IsErrOf c.from_residual.result keep.Spare) (λ is. let none : ⊥ = cc in none);
+      fault = not_called g.B.Bench c.args.bench.now (IsErrOf c.from_residual.result stop.Bench) (λ is. let none : ⊥ = cc in none);
+      spare_fault = not_called g.S.Bench c.args.spare.now (IsErrOf c.from_residual.result stop.Spare) (λ is. let none : ⊥ = cc in none);
+      ends = of_refusal answer stop.NoMemory c.from_residual.ensures (λ r. IfErr r IsOfBenches) tt;
       secret = c.decide_all.ensures.secret ∙ ap (λ (s : StoreContents). s.secret) c.self.view_is;
       protected = ap (λ (s : Setting). s.protected) c.decide_all.ensures.setting ∙ ap (λ (s : StoreContents). s.protected) c.self.view_is;
       is = (invariant_of-self g c).0;
@@ -131,7 +133,7 @@ returns-in_err-ready g c =
     let store = c.args.self.now in
     let usable : i.usable ≡ true = ap (λ (s : StoreContents). s.usable) c.self.view_is ∙ c.requires.usable in
     let answer = c.from_residual-in_err-ready.result in
-    let same : answer ≡ Err keep.NoMemory = is_refusal answer keep.NoMemory c.from_residual-in_err-ready.ensures in
+    let same : answer ≡ Err stop.NoMemory = is_refusal answer stop.NoMemory c.from_residual-in_err-ready.ensures in
     record {
       outcomes = IfOk-from_err _ _ c.from_residual-in_err-ready.ensures.0;
       history = IfOk-from_err _ _ c.from_residual-in_err-ready.ensures.0;
@@ -143,8 +145,9 @@ returns-in_err-ready g c =
           (c.self.invariant.1.all usable) c.decide_all.ensures.begins (ap (λ (s : StoreContents). s.history) c.self.view_is);
       no_memory = λ is. (refl, refl);
       spare_first = λ is. refl;
-      fault = not_called g.B.Bench c.args.bench.now (IsErrOf c.from_residual-in_err-ready.result keep.Bench) (λ is. let none : ⊥ = cc in none);
-      spare_fault = not_called g.S.Bench c.args.spare.now (IsErrOf c.from_residual-in_err-ready.result keep.Spare) (λ is. let none : ⊥ = cc in none);
+      fault = not_called g.B.Bench c.args.bench.now (IsErrOf c.from_residual-in_err-ready.result stop.Bench) (λ is. let none : ⊥ = cc in none);
+      spare_fault = not_called g.S.Bench c.args.spare.now (IsErrOf c.from_residual-in_err-ready.result stop.Spare) (λ is. let none : ⊥ = cc in none);
+      ends = of_refusal answer stop.NoMemory c.from_residual-in_err-ready.ensures (λ r. IfErr r IsOfBenches) tt;
       secret = c.decide_all.ensures.secret ∙ ap (λ (s : StoreContents). s.secret) c.self.view_is;
       protected = ap (λ (s : Setting). s.protected) c.decide_all.ensures.setting ∙ ap (λ (s : StoreContents). s.protected) c.self.view_is;
       is = (invariant_of-self-in_err-ready g c).0;
@@ -205,6 +208,7 @@ returns-in-Err g c =
       fault = not_called g.B.Bench c.args.bench.now _ (λ is. let none : ⊥ = cc in none);
       spare_fault =
           failed_call g.S.Bench c.args.spare.now c.keep_ready.new.bench _ _ c.in-Err.ensures.cause c.in-Err.ensures.last_call refl;
+      ends = tt;
       secret = c.decide_all.ensures.secret ∙ ap (λ (s : StoreContents). s.secret) c.self.view_is;
       protected = ap (λ (s : Setting). s.protected) c.decide_all.ensures.setting ∙ ap (λ (s : StoreContents). s.protected) c.self.view_is;
       is = (invariant_of-self-in-Err g c).0;
@@ -271,6 +275,7 @@ returns-in-Err-keep_ready g c =
           failed_call g.B.Bench c.args.bench.now c.keep_ready-2.new.bench _ _ c.in-Err-keep_ready.ensures.cause
           c.in-Err-keep_ready.ensures.last_call refl;
       spare_fault = done_call g.S.Bench c.args.spare.now c.keep_ready.new.bench _ _ c.in-Ok.ensures.cause (λ is. let none : ⊥ = cc in none);
+      ends = tt;
       secret = c.decide_all.ensures.secret ∙ ap (λ (s : StoreContents). s.secret) c.self.view_is;
       protected = ap (λ (s : Setting). s.protected) c.decide_all.ensures.setting ∙ ap (λ (s : StoreContents). s.protected) c.self.view_is;
       is = (invariant_of-self-in-Err-keep_ready g c).0;
@@ -359,6 +364,7 @@ returns g c =
       spare_first = λ is. no_refusal _ _ is;
       fault = done_call g.B.Bench c.args.bench.now c.keep_ready-2.new.bench _ _ c.in-Ok-keep_ready.ensures.cause (λ is. no_refusal _ _ is);
       spare_fault = done_call g.S.Bench c.args.spare.now c.keep_ready.new.bench _ _ kept.cause (λ is. no_refusal _ _ is);
+      ends = tt;
       secret = c.decide_all.ensures.secret ∙ ap (λ (s : StoreContents). s.secret) c.self.view_is;
       protected = ap (λ (s : Setting). s.protected) c.decide_all.ensures.setting ∙ ap (λ (s : StoreContents). s.protected) c.self.view_is;
       is = (invariant_of-self-2 g c).0;

@@ -1,5 +1,5 @@
-use Rattle.std.proofs.Common.{◌≡◌, ◌∙◌, ◌++◌, List, ℕ, true, false, All, length, take, refl, sym, ap, subst, append-nil}
-use Rattle.std.specs.Prelude.{IsErrOf}
+use Rattle.std.proofs.Common.{◌≡◌, ◌∙◌, ◌++◌, Err, List, ℕ, true, false, All, length, take, refl, sym, ap, subst, append-nil}
+use Rattle.std.specs.Prelude.{IfErr, IsErrOf}
 use Rattle.std.proofs.lemmas.Result.{IfOk-from_err}
 use Rattle.audit_types.specs.declared.records.Answered.{Answered}
 use Rattle.audit_types.specs.declared.shapes.Shape.{Shape}
@@ -7,16 +7,16 @@ use Rattle.audit_types.specs.History.{FitsShape, IsLegal, Setting, Table}
 use Rattle.audit_core.specs.Audited.{Audited}
 use Rattle.table_load.specs.Cells.{SecretView}
 use Rattle.bench_core.specs.Calls.{LeavesOnly}
-use Rattle.bench_core.specs.Reports.{not_called, told_as}
+use Rattle.bench_core.specs.Reports.{is_refusal, not_called, of_refusal, passed_on, told_as}
+use Rattle.bench_core.specs.Stops.{IsOfBench}
 use Rattle.journal_form.specs.Journal.{StandsAt}
-use Rattle.audit_store.specs.declared.outcome.StoreFault.TheVariants.{Failed, NoMemory}
+use Rattle.bench_core.specs.declared.stops.Stop.TheVariants as stop
 use Rattle.audit_store.specs.Refusals.{no_refusal}
 use Rattle.audit_store.specs.Stores.{StoreContents, IsStore, IsAuditedBy, table_of}
 use Rattle.audit_store.specs.StoreLaws.{core_is_history, kept_store, more_released, refused_history, refused_store, store_in, table_by}
 use Rattle.audit_store.specs.Twice.{IsBroughtUp, StandsWithSome}
 use Rattle.audit_store.proofs.LegalHistories.{legal_fits_after}
 use Rattle.audit_store.proofs.Appended.{nothing_brought_up}
-use Rattle.audit_store.proofs.StoreFaults.{answer_is, given_is, memory_no_call}
 use Rattle.audit_store.proofs.store.Store.bring_up.Goals as goal
 
 pub invariant_of-self : goal.invariant_of-self
@@ -106,8 +106,9 @@ returns-in_err-take_all g c =
       sent = refl;
       ticks = λ told. IfOk-from_err _ _ c.from_residual.ensures.0;
       fault =
-          not_called g.B.Bench c.args.bench.now (IsErrOf c.from_residual.result Failed)
-          (λ is. memory_no_call c.from_residual.result c.from_residual.ensures is);
+          let same = is_refusal c.from_residual.result stop.NoMemory c.from_residual.ensures in
+          not_called g.B.Bench c.args.bench.now (IsErrOf c.from_residual.result stop.Bench) (λ is. let none : ⊥ = cc in none);
+      ends = of_refusal c.from_residual.result stop.NoMemory c.from_residual.ensures (λ r. IfErr r IsOfBench) tt;
     }
 
 -- ---- the records were not appended
@@ -129,6 +130,7 @@ returns-in_err-bring_up g c =
     let given = c.in_err-bring_up.field-0.0 in
     let answer = c.from_residual-in_err-bring_up.result in
     let refuses = c.from_residual-in_err-bring_up.ensures in
+    let same : answer ≡ Err given = is_refusal answer given refuses in
     record {
       history = IfOk-from_err _ _ refuses.0;
       stands = λ told. IfOk-from_err _ _ refuses.0;
@@ -145,13 +147,12 @@ returns-in_err-bring_up g c =
           (c.bring_up.ensures.any_moment store.history told (here told) many quiet);
       no_memory = λ told is.
           subst (λ (s : Shape). StandsWithSome s store.history c.args.missing.now (g.B.Bench.file c.bring_up.new.bench)) shape
-          (c.in_err-bring_up.ensures.no_memory store.history told (here told) many (given_is given NoMemory answer refuses is));
-      quiet = λ told quiet other. c.in_err-bring_up.ensures.quiet told quiet (λ is. other (answer_is given Failed answer refuses is));
+          (c.in_err-bring_up.ensures.no_memory store.history told (here told) many cc);
+      quiet = λ told quiet other. c.in_err-bring_up.ensures.quiet told quiet (λ is. other cc);
       sent = c.bring_up.ensures.sent;
       ticks = λ told. IfOk-from_err _ _ refuses.0;
-      fault =
-          told_as g.B.Bench c.args.bench.now c.bring_up.new.bench _ (IsErrOf c.from_residual-in_err-bring_up.result Failed)
-          (λ is. answer_is given Failed answer refuses is) (λ is. given_is given Failed answer refuses is) c.in_err-bring_up.ensures.fault;
+      fault = passed_on g.B.Bench c.args.bench.now c.bring_up.new.bench given stop.Bench answer same c.in_err-bring_up.ensures.fault;
+      ends = of_refusal answer given refuses (λ r. IfErr r IsOfBench) c.in_err-bring_up.ensures.ends;
     }
 
 -- ---- they were
@@ -203,4 +204,5 @@ returns g c =
       fault =
           told_as g.B.Bench c.args.bench.now c.bring_up.new.bench _ _ (λ is. no_refusal _ _ is) (λ is. no_refusal _ _ is)
           c.in_ok-bring_up.ensures.fault;
+      ends = tt;
     }

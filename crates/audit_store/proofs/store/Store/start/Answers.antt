@@ -1,10 +1,10 @@
 use Rattle.std.proofs.Common.{ℕ, true, refl, sym, ap, subst, ◌∙◌}
 use Rattle.audit_core.specs.Audited.{Audited}
 use Rattle.table_load.specs.Cells.{SecretView}
+use Rattle.bench_core.specs.Reports.{of_refusal}
 use Rattle.audit_store.specs.Stores.{IsStore, IsAuditedBy}
 use Rattle.audit_store.specs.Starting.{StartsUnlessFailed}
 use Rattle.audit_store.specs.StoreLaws.{store_in, table_by, recovered_groups, recovered_store}
-use Rattle.audit_store.proofs.StoreFaults.{of_refusal}
 use Rattle.audit_store.proofs.store.Store.start.Goals as goal
 
 pub invariant_of-result : goal.invariant_of-result

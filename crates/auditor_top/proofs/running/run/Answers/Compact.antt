@@ -6,13 +6,14 @@ use Rattle.bench_core.specs.Moments.{joins, weakens}
 use Rattle.table_load.specs.Database.{Database, base_of, secret_table, table_in}
 use Rattle.answer_journal.specs.Moments.{IsMade}
 use Rattle.audit_store.specs.Stores.{IsAsLeft}
-use Rattle.auditor_top.specs.declared.compacting.CompactFault.TheVariants as compact
+use Rattle.journal_compact.specs.Compactions.{Compacts, CompactsFront, IsUnmadeOrKept, SendsCounts}
+use Rattle.journal_compact.specs.declared.compacting.CompactFault.TheVariants as compact
 use Rattle.auditor_top.specs.declared.words.Command.{Command}
 use Rattle.auditor_top.specs.declared.words.Command.TheVariants as command
 use Rattle.auditor_top.specs.declared.status.Status.{Status}
 use Rattle.auditor_top.specs.Words.{command_of}
 use Rattle.auditor_top.specs.Commands.{ServesOver, calls_spare, opens_store, reads_files, reads_lines, AreSoundFilesOf}
-use Rattle.auditor_top.specs.Compactions.{Compacts, CompactsFront, CompactEnds, IsUnmadeOrKept, SendsCounts}
+use Rattle.auditor_top.specs.Compactions.{CompactEnds}
 use Rattle.auditor_top.specs.Causes.{FaultCause, HoldsLegal, IsReadyFor, SpareCause}
 use Rattle.auditor_top.specs.Ends.{LeavesFile}
 use Rattle.auditor_top.specs.Ready.{IsReady, IsReadyOver, IsOpened}

@@ -6,7 +6,7 @@ use Rattle.table_load.specs.Cells.{SecretView}
 use Rattle.table_load.specs.Database.{Database, table_in}
 use Rattle.journal_form.specs.Journal.{StandsFor}
 use Rattle.answer_journal.specs.Make.{calls_to_make}
-use Rattle.answer_journal.specs.Moments.{IsAlready, IsUnmadeOrEmpty}
+use Rattle.answer_journal.specs.Moments.{IsAlready, IsUnmadeOrWhole}
 use Rattle.answer_journal.specs.declared.make.MakeFault.TheVariants as make
 use Rattle.auditor_top.specs.declared.words.Command.{Command}
 use Rattle.auditor_top.specs.declared.words.Command.TheVariants as command
@@ -66,9 +66,9 @@ making_it g c =
       untouched = λ told. subst (λ b. IsAlready (g.B.Bench.file b) → IsQuiet g.B.Bench b → LeavesOnly g.B.Bench b later
           (IsUntouched (g.B.Bench.file b) (g.B.Bench.sent b))) unopened (c.make.ensures.untouched told);
       making = λ ptold told absent quiet base files.
-          subst (λ (s : Shape). LeavesOnly g.B.Bench at later (IsUnmadeOrEmpty s (g.B.Bench.sent at))) (shape ptold base files)
+          subst (λ (s : Shape). LeavesOnly g.B.Bench at later (IsUnmadeOrWhole s [] (g.B.Bench.sent at))) (shape ptold base files)
           (subst (λ b. (IsAlready (g.B.Bench.file b) → ⊥) → IsQuiet g.B.Bench b → LeavesOnly g.B.Bench b later
-          (IsUnmadeOrEmpty c.in-Ok-Init.shape (g.B.Bench.sent b))) unopened (c.make.ensures.any_moment told) absent quiet);
+          (IsUnmadeOrWhole c.in-Ok-Init.shape [] (g.B.Bench.sent b))) unopened (c.make.ensures.any_moment told) absent quiet);
       unmade = λ is. absurd ((making_says c.make.result).no_memory is);
       init_calls = λ told done. (making_says c.make.result).done _ done (c.make.ensures.ticks told)
           ∙ ap (λ b. g.B.Bench.moment b + calls_to_make (g.B.Bench.file b)) unopened;

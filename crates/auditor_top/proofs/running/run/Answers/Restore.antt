@@ -4,8 +4,7 @@ use Rattle.audit_types.specs.declared.records.Answered.{Answered}
 use Rattle.audit_types.specs.History.{Table}
 use Rattle.bench_core.specs.Calls.{IsQuiet, IsUntouched, LeavesOnly}
 use Rattle.table_load.specs.Database.{Database, base_of, secret_table, table_in}
-use Rattle.journal_compact.specs.Whole.{IsUnmadeOrWhole}
-use Rattle.answer_journal.specs.Moments.{IsMade}
+use Rattle.answer_journal.specs.Moments.{IsMade, IsUnmadeOrWhole}
 use Rattle.twin_journal.specs.Restoring.{CanRestore, IsLost, IsLostOf, RestoreCause, Restored, RestoredUnlessGivenUp, TakeCalls}
 use Rattle.twin_journal.specs.declared.restoring.RestoreFault.{RestoreFault}
 use Rattle.auditor_top.specs.declared.words.Command.{Command}

@@ -3,20 +3,21 @@ use Rattle.std.proofs.lemmas.Result.{IfOk-from_err}
 use Rattle.audit_types.specs.History.{Setting}
 use Rattle.audit_types.specs.declared.records.Answered.{Answered}
 use Rattle.bench_core.specs.declared.source.Source.{Ghosts}
+use Rattle.bench_core.specs.declared.stops.Stop.{Stop}
+use Rattle.bench_core.specs.declared.stops.Stop.TheVariants as stop
 use Rattle.line_wire.specs.Lines.{CountedLine, text, long}
 use Rattle.line_wire.specs.Cutter.{Cutter}
+use Rattle.question_plan.specs.Planned.{IsUnplanned}
 use Rattle.transcript_sim.specs.declared.expecting.Expected.{Expected}
 use Rattle.transcript_sim.specs.declared.expecting.Expected.TheVariants.{Only, Answer}
 use Rattle.transcript_sim.specs.declared.shown.Shown.{Shown}
 use Rattle.transcript_sim.specs.declared.shown.Shown.TheVariants.{Agrees, Disagrees}
-use Rattle.transcript_sim.specs.declared.simulating.SimulationFault.{SimulationFault}
-use Rattle.transcript_sim.specs.declared.simulating.SimulationFault.TheVariants as fault
 use Rattle.transcript_sim.specs.Verdicts.{AgreesWith}
-use Rattle.transcript_sim.specs.Steps.{CanBeTaken, CanFollow, IsCutShort, ShowsNext}
+use Rattle.transcript_sim.specs.Steps.{CanBeTaken, CanFollow, ShowsNext}
 use Rattle.transcript_sim.proofs.judging.Simulation.take_shown.Goals as goal
 
-abbrev ended_by : SimulationFault → Result (Option Shown) SimulationFault
-ended_by fault = Err fault
+abbrev ended_by : Stop → Result (Option Shown) Stop
+ended_by why = Err why
 
 -- the record of a line that agrees is one of the question, which may be taken
 record_follows : (setting : Setting) (history : List Answered) (line : CountedLine) (expected : Expected) (added : Option Answered)
@@ -61,7 +62,7 @@ returns-in_err-shown g c = record {
   setting = refl;
   short =
       let same : c.from_residual.result ≡ ended_by c.in_err-shown.field-0.0 = search rules in
-      subst (λ (r : Result (Option Shown) SimulationFault). IfErr r (IsCutShort g.P.Source c.args.self.now.lines c.next_shown.new.lines c.args.source.now
+      subst (λ (r : Result (Option Shown) Stop). IfErr r (IsUnplanned g.P.Source c.args.self.now.lines c.next_shown.new.lines c.args.source.now
       c.next_shown.new.source)) (sym same)
       c.in_err-shown.ensures.short;
   cuts = c.next_shown.ensures.cuts;
@@ -73,8 +74,8 @@ returns-in_err-take_answer g c = record {
   takes = IfOk-from_err _ _ c.from_residual-in_err-take_answer.ensures.0;
   setting = c.take_answer.ensures.setting;
   short =
-      let same : c.from_residual-in_err-take_answer.result ≡ ended_by fault.NoMemory = search rules in
-      subst (λ (r : Result (Option Shown) SimulationFault). IfErr r (IsCutShort g.P.Source c.args.self.now.lines c.next_shown.new.lines c.args.source.now
+      let same : c.from_residual-in_err-take_answer.result ≡ ended_by stop.NoMemory = search rules in
+      subst (λ (r : Result (Option Shown) Stop). IfErr r (IsUnplanned g.P.Source c.args.self.now.lines c.next_shown.new.lines c.args.source.now
       c.next_shown.new.source)) (sym same)
       (steady g.P.Source c.args.self.now.lines c.next_shown.new.lines c.args.source.now c.next_shown.new.source c.args.expected.now c.in_ok-shown.shown
       c.in_ok-shown.ensures.shows);

@@ -1,0 +1,50 @@
+//! What ends a call of the outside before its work is done.
+ghost use Rattle.std.specs.Prelude.{◌≡◌};
+
+use crate::source::Failed;
+use audit_types::NoMemory;
+use std::alloc::AllocError;
+
+/// What ended a call before its work was done. A call answers those alone that its objects can bring about; its contract says which.
+#[derive(Clone, Copy, Debug, PartialEq, Eq)]
+pub enum Stop {
+    /// A read of the input failed.
+    Input,
+    /// The input has more than 2^30 bytes.
+    Limit,
+    /// A call of the bench failed.
+    Bench,
+    /// A call of the spare failed.
+    Spare,
+    NoMemory,
+}
+
+impl From<NoMemory> for Stop {
+    ghost use Rattle.bench_core.specs.declared.stops.Stop.TheVariants.{NoMemory};
+
+    ghost from_gives = { λ _ e. e ≡ NoMemory };
+
+    fn from(_e: NoMemory) -> Stop {
+        Stop::NoMemory
+    }
+}
+
+impl From<AllocError> for Stop {
+    ghost use Rattle.bench_core.specs.declared.stops.Stop.TheVariants.{NoMemory};
+
+    ghost from_gives = { λ _ e. e ≡ NoMemory };
+
+    fn from(_e: AllocError) -> Stop {
+        Stop::NoMemory
+    }
+}
+
+impl From<Failed> for Stop {
+    ghost use Rattle.bench_core.specs.declared.stops.Stop.TheVariants.{Bench};
+
+    ghost from_gives = { λ _ e. e ≡ Bench };
+
+    fn from(_e: Failed) -> Stop {
+        Stop::Bench
+    }
+}

@@ -1,0 +1,90 @@
+use Rattle.std.proofs.Common.{◌≡◌, refl, ℕ, List, [], Result, Ok, Err, OnOk, ap, sym, ◌∙◌, subst, arith}
+use Rattle.std.proofs.lemmas.List.Elements.{All-nil}
+use Rattle.audit_types.specs.declared.records.Answered.{Answered}
+use Rattle.audit_types.specs.declared.shapes.Shape.{Shape}
+use Rattle.audit_types.specs.History.{Protection, AreProtected, IsProtected}
+use Rattle.table_load.specs.Cells.{SecretView}
+use Rattle.bench_core.specs.BenchContents.{file_of, sent_of}
+use Rattle.audit_store.specs.Stores.{IsAsLeft}
+use Rattle.line_wire.specs.Lines.{counted_lines}
+use Rattle.audit_session.specs.Ends.{Serves}
+use Rattle.audit_store.specs.declared.starting.StartFault.{StartFault}
+use Rattle.audit_store.specs.declared.starting.StartFault.TheVariants.{NotMade, Damaged, OtherShape, Untrue, Illegal, Failed, NoMemory}
+use Rattle.audit_store.specs.Starting.{GivesUp}
+use Rattle.table_load.specs.Database.{base_of, secret_table}
+use Rattle.drill_case.specs.Drills.{drill_protection}
+use Rattle.audit_session.specs.HistoryFacts.{nothing_is_legal}
+use Rattle.drill_case.proofs.drilling.answer.Goals as goal
+
+-- the lines were answered up to some history
+up_to_some : {T E : Type 0} (r : Result T E) (last : List Answered) (UpTo : List Answered → Type 0) → OnOk r (UpTo last)
+    → OnOk r ((last : List Answered) × UpTo last)
+up_to_some (Ok done) last UpTo is = (last, is)
+up_to_some (Err fault) last UpTo is = tt
+
+-- it fits each table
+drill_fits : (shape : Shape) → AreProtected shape drill_protection
+drill_fits shape = (
+  All-nil (IsProtected shape),
+  omega arith,
+  record { within = omega arith; somebody = tt; fewest = omega arith; own = omega arith },
+  omega arith,
+  omega arith,
+  omega arith,
+  omega arith,
+)
+
+pub start-requires : goal.start-requires
+start-requires c = record {
+  fit = subst (λ (protected : Protection). AreProtected c.args.secret.shape protected)
+      (sym (c.in_ok-protected.ensures ∙ c.protected.ensures ∙ c.requires.none)) (drill_fits c.args.secret.shape);
+}
+
+pub answer_over-requires : goal.answer_over-requires
+answer_over-requires c = record {
+  usable = c.in-Ok.ensures.store.2;
+  entries = sym (c.in-Ok.ensures.store.1 ∙ c.in_ok-protected.ensures ∙ c.protected.ensures);
+  fits = c.requires.fits;
+  shape = ap (λ (secret : SecretView). secret.shape) c.in-Ok.ensures.store.0 ∙ c.requires.shape;
+  stands = subst (λ (file : List ℕ). IsAsLeft file c.in-Ok.store) (sym c.start.ensures.reads.file) (c.in-Ok.ensures.stands (tt {0}));
+  short = c.requires.short;
+}
+
+pub returns-in-Ok : goal.returns-in-Ok
+returns-in-Ok c =
+    let store = c.in-Ok.store in
+    let had = c.requires.stands in
+    let past = (c.one_reading.ensures (file_of c.args.bench.now) store.secret.shape c.args.secret.shape store.history [] store.journal.gate had.0
+    (c.in-Ok.ensures.stands (tt {0})) had.1).1 in
+    let result = c.answer_over.result in
+    let last = c.answer_over.new.store.history in
+    let before = sent_of c.args.bench.now in
+    let after = sent_of c.answer_over.new.bench in
+    let lines = counted_lines c.args.lines.items in
+    up_to_some result last
+    (λ (last : List Answered). Serves (base_of c.args.schema.now.columns c.args.index.now.public c.args.index.now.protected c.args.secret) [] lines last before
+    after)
+    (subst (λ (history : List Answered). OnOk result
+    (Serves (base_of c.args.schema.now.columns c.args.index.now.public c.args.index.now.protected c.args.secret) history lines last before after))
+    past
+    (subst (λ (secret : SecretView). OnOk result
+    (Serves (base_of c.args.schema.now.columns c.args.index.now.public c.args.index.now.protected secret) store.history lines last before after))
+    c.in-Ok.ensures.store.0
+    (subst (λ (before : List ℕ). OnOk result
+    (Serves (base_of c.args.schema.now.columns c.args.index.now.public c.args.index.now.protected store.secret) store.history lines last before after))
+    c.start.ensures.reads.sent c.answer_over.ensures)))
+
+-- a journal that stands for a legal history is refused only if a call failed, or memory ran out
+gave_up : (fault : StartFault) → (fault ≡ Failed → ⊥) → (fault ≡ NoMemory → ⊥) → GivesUp fault → ⊥
+gave_up NotMade failed memory gives = gives
+gave_up (Damaged at) failed memory gives = gives
+gave_up (OtherShape kept now) failed memory gives = gives
+gave_up (Untrue place kept now) failed memory gives = gives
+gave_up (Illegal place group) failed memory gives = gives
+gave_up Failed failed memory gives = failed refl
+gave_up NoMemory failed memory gives = memory refl
+
+pub unreachable-requires : goal.unreachable-requires
+unreachable-requires c =
+    let table = secret_table c.args.secret c.in_ok-protected.protected in
+    gave_up c.in-Err.fault c.in_default.not-Failed c.in_default.not-NoMemory (c.in-Err.ensures.opens [] (tt {0}) c.requires.stands (nothing_is_legal table))

@@ -1,0 +1,11 @@
+pub mod ImpliedSums
+pub mod ImpliedMaxima
+pub mod ToldAnswers
+pub mod HighestBounds
+pub mod Pushes
+pub mod KeptRecords
+pub mod KeptOfLegal
+pub mod GreatestBounds
+pub mod RowByRow
+pub mod OwnColumn
+pub mod NextRecord

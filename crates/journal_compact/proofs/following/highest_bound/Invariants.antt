@@ -1,9 +1,0 @@
-use Rattle.std.proofs.Common.{◌≡◌, ◌++◌}
-use Rattle.journal_compact.proofs.HighestBounds.{IsHighestSoFar}
-use Rattle.journal_compact.proofs.following.highest_bound.Given as goal
-
-abbrev pub invariant-loop-row : goal.invariant-loop-row
-invariant-loop-row l = record {
-  together : l.yielded ++ l.row-iterator ≡ l.rows.list;
-  so_far : IsHighestSoFar l.bounds.answers l.yielded l.highest;
-}

@@ -1,5 +1,0 @@
-use Rattle.journal_compact.proofs.ImpliedSums.{implied_by_span}
-use Rattle.journal_compact.proofs.laws.implied_sums.Goals as goal
-
-pub returns : goal.returns
-returns c = implied_by_span c.dangerous_sums.ensures.fixed
