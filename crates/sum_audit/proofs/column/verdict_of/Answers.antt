@@ -1,12 +1,11 @@
-use Rattle.std.proofs.Common.{sym, ap}
-use Rattle.sum_audit.specs.Sets.{verdict_of}
+use Rattle.std.proofs.Common.{rules}
 use Rattle.sum_audit.proofs.column.verdict_of.Goals as goal
 
 pub returns-in-Wide : goal.returns-in-Wide
-returns-in-Wide c = sym (ap verdict_of c.in-Wide.is)
+returns-in-Wide c = search rules
 
 pub returns-in-Fixing : goal.returns-in-Fixing
-returns-in-Fixing c = sym (ap verdict_of c.in-Fixing.is)
+returns-in-Fixing c = search rules
 
 pub returns-in-Open : goal.returns-in-Open
-returns-in-Open c = sym (ap verdict_of c.in-Open.is)
+returns-in-Open c = search rules
