@@ -48,17 +48,17 @@ opened g c = (subst (IsReady g.B.Bench c.open.new.bench) c.in-Ok-Audit.field-0-i
 is_of_bench : (g : Over) (c : goal.After-drop-schema-inside-in-Ok-Audit-3 g) (why : Stop) → c.audit.result ≡ Err why → IsOfBench why
 is_of_bench g c why is = of_bench c.audit.result why c.audit.ensures.ends is
 
-reported_faults : (g : Over) (c : goal.After-drop-schema-inside-in-Ok-Audit-3 g) → FaultCause c.ended.result
+reported_faults : (g : Over) (c : goal.After-drop-schema-inside-in-Ok-Audit-3 g) → FaultCause c.ended-in-Ok-Audit.result
     (faults_of g.P.Source g.I.Source g.B.Bench (objects c.args.schema.now c.args.table.now c.args.input.now c.args.bench.now c.args.spare.now))
     (faults_of g.P.Source g.I.Source g.B.Bench (objects c.open.new.schema c.open.new.table c.args.input.now c.audit.new.bench c.args.spare.now))
 reported_faults g c =
-    faults_so c.ended.result _ (faults_of g.P.Source g.I.Source g.B.Bench
+    faults_so c.ended-in-Ok-Audit.result _ (faults_of g.P.Source g.I.Source g.B.Bench
     (objects c.args.schema.now c.args.table.now c.args.input.now c.args.bench.now c.args.spare.now)) _
-    _ c.ended.ensures c.in-Ok-Audit.ensures.steady (stop_faults c.audit.result _ _ _ _ (λ is. absurd (is_of_bench g c stop.Input is)) (λ other. refl)
+    _ c.ended-in-Ok-Audit.ensures c.in-Ok-Audit.ensures.steady (stop_faults c.audit.result _ _ _ _ (λ is. absurd (is_of_bench g c stop.Input is)) (λ other. refl)
     c.audit.ensures.failed c.audit.ensures.steady (λ is. absurd (is_of_bench g c stop.Spare is)) (λ other. refl))
 
 reporting : (g : Over) (c : goal.After-drop-schema-inside-in-Ok-Audit-3 g) →
-    Auditing g.P.Source g.I.Source g.B.Bench c.ended.result (objects c.args.schema.now c.args.table.now c.args.input.now c.args.bench.now c.args.spare.now)
+    Auditing g.P.Source g.I.Source g.B.Bench c.ended-in-Ok-Audit.result (objects c.args.schema.now c.args.table.now c.args.input.now c.args.bench.now c.args.spare.now)
     (objects c.open.new.schema c.open.new.table c.args.input.now c.audit.new.bench c.args.spare.now)
 reporting g c =
     let at = c.args.bench.now in
@@ -80,7 +80,7 @@ reporting g c =
     λ ptold told base history over. same_given c.one_reading.ensures c.groups_of_a_schema.ensures.entries _ _ file
     (known ptold) base kept history store.journal.gate
     (are g c ptold).1 (stands_so g.B.Bench at c.open.new.bench store (opened g c) reads.file told) over in
-    subst (λ (s : Status). Auditing g.P.Source g.I.Source g.B.Bench s old new) (sym c.ended.ensures) (record {
+    subst (λ (s : Status). Auditing g.P.Source g.I.Source g.B.Bench s old new) (sym c.ended-in-Ok-Audit.ensures) (record {
       audited = λ ptold told base history over.
           carried (λ (b : Database) (h : List Answered). AuditEnds (ended_status c.audit.result) b h sent (g.B.Bench.sent later))
           (known ptold) base kept history
@@ -115,20 +115,20 @@ reporting g c =
       audits = λ ptold told base history over fine.
           stop_wants c.audit.result (faults_of g.P.Source g.I.Source g.B.Bench old) (faults_of g.P.Source g.I.Source g.B.Bench new)
           (subst (λ (s : Status). FaultCause s (faults_of g.P.Source g.I.Source g.B.Bench old) (faults_of g.P.Source g.I.Source g.B.Bench new))
-          c.ended.ensures (reported_faults g c)) fine (is_of_bench g c stop.Limit) (is_of_bench g c stop.Spare);
+          c.ended-in-Ok-Audit.ensures (reported_faults g c)) fine (is_of_bench g c stop.Limit) (is_of_bench g c stop.Spare);
     })
 
 pub audit_ends : goal.returns-in-Ok-Audit
 audit_ends g c =
     let store = c.in-Ok-Audit.store in
-    let status = c.ended.result in
+    let status = c.ended-in-Ok-Audit.result in
     let reads = c.open.ensures.reads in
     let file = g.B.Bench.file c.args.bench.now in
     let holds = holds_so g.B.Bench c.args.bench.now c.open.new.bench store (opened g c) reads.file in
     let is_named : command_of (map string_bytes c.args.words.now.items) ≡ Some command.Audit =
     asked_for _ _ _ _ c.in-Ok.ensures.command c.in-Ok-Audit.field-0-is c.in-Ok-Audit.ensures.asked in
-    let last = subst EndsLastStep (sym c.ended.ensures) ((stop_says c.audit.result).last) in
-    let words = words_so _ command.Audit status _ is_named c.ended.ensures
+    let last = subst EndsLastStep (sym c.ended-in-Ok-Audit.ensures) ((stop_says c.audit.result).last) in
+    let words = words_so _ command.Audit status _ is_named c.ended-in-Ok-Audit.ensures
     ((stop_says c.audit.result).words command.Audit (λ is. absurd (is_of_bench g c stop.Input is)) (λ is. absurd (is_of_bench g c stop.Limit is))
     (λ is. absurd (is_of_bench g c stop.Spare is))) in
     record {
@@ -139,15 +139,15 @@ audit_ends g c =
       groups = λ ptold command asked reads. groups_so c.groups_of_a_schema.ensures.entries status _ _ _ last (are g c ptold).1;
       own_schema_fault = no_schema_fault status last;
       own_table_fault = no_table_fault status last;
-      file = λ ptold told. file_so _ command.Audit status _ is_named c.ended.ensures refl _ _ file
+      file = λ ptold told. file_so _ command.Audit status _ is_named c.ended-in-Ok-Audit.ensures refl _ _ file
           (λ base sound. (stop_says c.audit.result).file command.Audit file (table_in base)
           (holds_over c.groups_of_a_schema.ensures.entries _ _ file _ base (are g c ptold).1 sound (holds told)));
       input = λ itold command asked reads. lacks_step reads_lines _ _ command is_named asked refl reads;
       faults = reported_faults g c;
       schema_last = schema_was_read status last;
       table_last = table_was_read status last;
-      input_last = λ is. absurd (is_of_bench g c stop.Input ((stop_says c.audit.result).input (sym c.ended.ensures ∙ is)));
-      bench_last = λ is. c.audit.ensures.last_call ((stop_says c.audit.result).bench (sym c.ended.ensures ∙ is));
+      input_last = λ is. absurd (is_of_bench g c stop.Input ((stop_says c.audit.result).input (sym c.ended-in-Ok-Audit.ensures ∙ is)));
+      bench_last = λ is. c.audit.ensures.last_call ((stop_says c.audit.result).bench (sym c.ended-in-Ok-Audit.ensures ∙ is));
       spare_last = spare_called _ _ status is_named refl words;
       spare_file = λ told command asked calls. lacks_step calls_spare _ _ command is_named asked refl calls;
       later = later_so _ _ _ c.open.ensures.later (stays _) c.audit.ensures.later (stays _);
@@ -163,8 +163,8 @@ audit_ends g c =
       before_table = past_table _ status last;
       before_bench = past_journal _ status last;
       before_spare = λ other. always_before opening_spare status refl;
-      before_lines = at_lines _ _ _ c.ended.ensures ((stop_says c.audit.result).at_lines _);
-      unwritten = λ told. at_lines _ _ _ c.ended.ensures ((stop_says c.audit.result).at_lines _);
+      before_lines = at_lines _ _ _ c.ended-in-Ok-Audit.ensures ((stop_says c.audit.result).at_lines _);
+      unwritten = λ told. at_lines _ _ _ c.ended-in-Ok-Audit.ensures ((stop_says c.audit.result).at_lines _);
       unread = λ none. none_asked _ _ none is_named;
       no_files = λ command asked none. takes_step reads_files _ _ _ is_named asked refl none;
       no_lines = λ command asked none. refl;

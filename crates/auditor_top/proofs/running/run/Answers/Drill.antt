@@ -22,20 +22,20 @@ use Rattle.auditor_top.proofs.running.run.Given.{Over}
 use Rattle.auditor_top.proofs.running.run.Goals as goal
 
 -- nothing was opened
-unopened : (g : Over) (c : goal.After-ended g) → c.open.new.bench ≡ c.args.bench.now
+unopened : (g : Over) (c : goal.After-ended-in-Ok-Drill g) → c.open.new.bench ≡ c.args.bench.now
 unopened g c = c.open.ensures.unopened (ap opens_store (same_command _ _ _ c.in-Ok-Drill.field-0-is c.in-Ok-Drill.ensures.asked))
 
-drilled_faults : (g : Over) (c : goal.After-ended g) → FaultCause c.ended.result
+drilled_faults : (g : Over) (c : goal.After-ended-in-Ok-Drill g) → FaultCause c.ended-in-Ok-Drill.result
     (faults_of g.P.Source g.I.Source g.B.Bench (objects c.args.schema.now c.args.table.now c.args.input.now c.args.bench.now c.args.spare.now))
     (faults_of g.P.Source g.I.Source g.B.Bench (objects c.open.new.schema c.open.new.table c.args.input.now c.drill.new.bench c.args.spare.now))
 drilled_faults g c =
-    faults_so c.ended.result _ (faults_of g.P.Source g.I.Source g.B.Bench
+    faults_so c.ended-in-Ok-Drill.result _ (faults_of g.P.Source g.I.Source g.B.Bench
     (objects c.args.schema.now c.args.table.now c.args.input.now c.args.bench.now c.args.spare.now)) _
-    _ c.ended.ensures c.in-Ok-Drill.ensures.steady (drill_faults c.drill.result _ _ c.drill.ensures.ends c.drill.ensures.fault.failed
+    _ c.ended-in-Ok-Drill.ensures c.in-Ok-Drill.ensures.steady (drill_faults c.drill.result _ _ c.drill.ensures.ends c.drill.ensures.fault.failed
     c.drill.ensures.fault.steady)
 
-drilling : (g : Over) (c : goal.After-ended g) →
-    Drilling g.P.Source g.I.Source g.B.Bench c.in-Ok-Drill.number c.ended.result
+drilling : (g : Over) (c : goal.After-ended-in-Ok-Drill g) →
+    Drilling g.P.Source g.I.Source g.B.Bench c.in-Ok-Drill.number c.ended-in-Ok-Drill.result
     (objects c.args.schema.now c.args.table.now c.args.input.now c.args.bench.now c.args.spare.now)
     (objects c.open.new.schema c.open.new.table c.args.input.now c.drill.new.bench c.args.spare.now)
 drilling g c =
@@ -49,7 +49,7 @@ drilling g c =
     let says = drill_says ended n does.ends in
     let same = unopened g c in
     let sent = ap g.B.Bench.sent same in
-    subst (λ (s : Status). Drilling g.P.Source g.I.Source g.B.Bench n s old new) (sym c.ended.ensures) (record {
+    subst (λ (s : Status). Drilling g.P.Source g.I.Source g.B.Bench n s old new) (sym c.ended-in-Ok-Drill.ensures) (record {
       drilled = λ told.
           drill_sends ended n (g.B.Bench.sent at) (g.B.Bench.sent later) does.ends
           (subst (λ (bytes : List ℕ). OnOk ended (SendsSummary n bytes (g.B.Bench.sent later))) sent (does.done told))
@@ -61,21 +61,21 @@ drilling g c =
       drills = λ none.
           drill_wants ended (faults_of g.P.Source g.I.Source g.B.Bench old) (faults_of g.P.Source g.I.Source g.B.Bench new) does.ends
           (subst (λ (s : Status). FaultCause s (faults_of g.P.Source g.I.Source g.B.Bench old) (faults_of g.P.Source g.I.Source g.B.Bench new))
-          c.ended.ensures (drilled_faults g c)) none;
+          c.ended-in-Ok-Drill.ensures (drilled_faults g c)) none;
     })
 
 pub drill_ends : goal.returns-in-Ok-Drill
 drill_ends g c =
     let n = c.in-Ok-Drill.number in
-    let status = c.ended.result in
+    let status = c.ended-in-Ok-Drill.result in
     let reads = c.open.ensures.reads in
     let file = g.B.Bench.file c.args.bench.now in
     let same : c.in-Ok.command ≡ command.Drill n = same_command _ _ _ c.in-Ok-Drill.field-0-is c.in-Ok-Drill.ensures.asked in
     let is_named : command_of (map string_bytes c.args.words.now.items) ≡ Some (command.Drill n) =
     asked_for _ _ _ _ c.in-Ok.ensures.command c.in-Ok-Drill.field-0-is c.in-Ok-Drill.ensures.asked in
     let says = drill_says c.drill.result n c.drill.ensures.ends in
-    let last = subst EndsLastStep (sym c.ended.ensures) says.last in
-    let words = words_so _ (command.Drill n) status _ is_named c.ended.ensures says.words in
+    let last = subst EndsLastStep (sym c.ended-in-Ok-Drill.ensures) says.last in
+    let words = words_so _ (command.Drill n) status _ is_named c.ended-in-Ok-Drill.ensures says.words in
     let unread = c.open.ensures.unread (ap reads_files same) in
     record {
       words = words;
@@ -86,14 +86,14 @@ drill_ends g c =
       own_schema_fault = no_schema_fault status last;
       own_table_fault = no_table_fault status last;
       file = λ ptold told command asked base files sound.
-          named_so _ _ status _ is_named c.ended.ensures (λ (s : Status) (k : Command). FileCause s k file (table_in base)) (says.file file (table_in base))
+          named_so _ _ status _ is_named c.ended-in-Ok-Drill.ensures (λ (s : Status) (k : Command). FileCause s k file (table_in base)) (says.file file (table_in base))
           command asked;
       input = λ itold command asked reads. lacks_step reads_lines _ _ command is_named asked refl reads;
       faults = drilled_faults g c;
       schema_last = schema_was_read status last;
       table_last = table_was_read status last;
-      input_last = λ is. absurd (says.no_input (sym c.ended.ensures ∙ is));
-      bench_last = λ is. c.drill.ensures.fault.last_call (says.bench (sym c.ended.ensures ∙ is));
+      input_last = λ is. absurd (says.no_input (sym c.ended-in-Ok-Drill.ensures ∙ is));
+      bench_last = λ is. c.drill.ensures.fault.last_call (says.bench (sym c.ended-in-Ok-Drill.ensures ∙ is));
       spare_last = spare_called _ _ status is_named refl words;
       spare_file = λ told command asked calls. lacks_step calls_spare _ _ command is_named asked refl calls;
       later = later_so _ _ _ c.open.ensures.later (stays _) c.drill.ensures.fault.later (stays _);
@@ -106,8 +106,8 @@ drill_ends g c =
       before_table = always_before reading_table status unread.1;
       before_bench = past_journal _ status last;
       before_spare = λ other. always_before opening_spare status refl;
-      before_lines = at_lines _ _ _ c.ended.ensures (says.at_lines _);
-      unwritten = λ told. at_lines _ _ _ c.ended.ensures (says.at_lines _);
+      before_lines = at_lines _ _ _ c.ended-in-Ok-Drill.ensures (says.at_lines _);
+      unwritten = λ told. at_lines _ _ _ c.ended-in-Ok-Drill.ensures (says.at_lines _);
       unread = λ none. none_asked _ _ none is_named;
       no_files = λ command asked none. unread;
       no_lines = λ command asked none. refl;

@@ -54,19 +54,19 @@ holds g c told =
       subst (λ (p : Protection). IsLegal (secret_table store.secret p) store.history) (sym ready.3) ready.0.is.legal,
     )
 
-explained_faults : (g : Over) (c : goal.After-drop-schema-inside-in-Ok-Explain-3 g) → FaultCause c.ended.result
+explained_faults : (g : Over) (c : goal.After-drop-schema-inside-in-Ok-Explain-3 g) → FaultCause c.ended-in-Ok-Explain.result
     (faults_of g.P.Source g.I.Source g.B.Bench (objects c.args.schema.now c.args.table.now c.args.input.now c.args.bench.now c.args.spare.now))
     (faults_of g.P.Source g.I.Source g.B.Bench (objects c.open.new.schema c.open.new.table c.explain.new.source c.explain.new.bench c.args.spare.now))
 explained_faults g c =
     let ended = c.explain.result in
     let does = c.explain.ensures in
-    faults_so c.ended.result _ (faults_of g.P.Source g.I.Source g.B.Bench
+    faults_so c.ended-in-Ok-Explain.result _ (faults_of g.P.Source g.I.Source g.B.Bench
     (objects c.args.schema.now c.args.table.now c.args.input.now c.args.bench.now c.args.spare.now)) _
-    _ c.ended.ensures c.in-Ok-Explain.ensures.steady
+    _ c.ended-in-Ok-Explain.ensures c.in-Ok-Explain.ensures.steady
     (stop_faults ended _ _ _ _ does.input does.steady.0 does.bench does.steady.1 (λ is. absurd (does.alone is)) (λ other. refl))
 
 explaining : (g : Over) (c : goal.After-drop-schema-inside-in-Ok-Explain-3 g) →
-    Explaining g.P.Source g.I.Source g.B.Bench c.ended.result
+    Explaining g.P.Source g.I.Source g.B.Bench c.ended-in-Ok-Explain.result
     (objects c.args.schema.now c.args.table.now c.args.input.now c.args.bench.now c.args.spare.now)
     (objects c.open.new.schema c.open.new.table c.explain.new.source c.explain.new.bench c.args.spare.now)
 explaining g c =
@@ -100,7 +100,7 @@ explaining g c =
     (subst (λ (bytes : List ℕ). LeavesOnly g.B.Bench opened later
     (ExplainsMeanwhile g.I.Source.told columns index kept text (g.B.Bench.file opened) bytes)) reads.sent
     (does.any_moment told (as_quiet g.B.Bench at opened reads quiet)))) in
-    subst (λ (s : Status). Explaining g.P.Source g.I.Source g.B.Bench s old new) (sym c.ended.ensures) (record {
+    subst (λ (s : Status). Explaining g.P.Source g.I.Source g.B.Bench s old new) (sym c.ended-in-Ok-Explain.ensures) (record {
       explained = λ ptold itold told base history over.
           carried (λ (b : Database) (h : List Answered). (asked : List CountedLine) × (lines : List (List ℕ)) ×
           ExplainEnds (ended_status ended) text left asked × AreExplained b.columns (public_part b) h asked lines ×
@@ -124,14 +124,14 @@ explaining g c =
       explains = λ ptold itold told base history over within none.
           stop_wants ended (faults_of g.P.Source g.I.Source g.B.Bench old) (faults_of g.P.Source g.I.Source g.B.Bench new)
           (subst (λ (s : Status). FaultCause s (faults_of g.P.Source g.I.Source g.B.Bench old) (faults_of g.P.Source g.I.Source g.B.Bench new))
-          c.ended.ensures
+          c.ended-in-Ok-Explain.ensures
           (explained_faults g c)) none
           (λ is. let over = subst (λ r. EndReads r text left) is (does.reads itold) in omega (arith, over, within)) does.alone;
     })
 
 pub explanation_ends : goal.returns-in-Ok-Explain
 explanation_ends g c =
-    let status = c.ended.result in
+    let status = c.ended-in-Ok-Explain.result in
     let ended = c.explain.result in
     let reads = c.open.ensures.reads in
     let does = c.explain.ensures in
@@ -139,8 +139,8 @@ explanation_ends g c =
     let store = c.in-Ok-Explain.store in
     let is_named : command_of (map string_bytes c.args.words.now.items) ≡ Some command.Explain =
     asked_for _ _ _ _ c.in-Ok.ensures.command c.in-Ok-Explain.field-0-is c.in-Ok-Explain.ensures.asked in
-    let last = subst EndsLastStep (sym c.ended.ensures) ((stop_says ended).last) in
-    let words = words_so _ command.Explain status _ is_named c.ended.ensures
+    let last = subst EndsLastStep (sym c.ended-in-Ok-Explain.ensures) ((stop_says ended).last) in
+    let words = words_so _ command.Explain status _ is_named c.ended-in-Ok-Explain.ensures
     ((stop_says ended).words command.Explain (λ is. refl) (λ is. refl) (λ is. absurd (does.alone is))) in
     record {
       words = words;
@@ -150,17 +150,17 @@ explanation_ends g c =
       groups = λ ptold command asked reads. groups_so c.groups_of_a_schema.ensures.entries status _ _ _ last (are g c ptold);
       own_schema_fault = no_schema_fault status last;
       own_table_fault = no_table_fault status last;
-      file = λ ptold told. file_so _ command.Explain status _ is_named c.ended.ensures refl _ _ file (λ base sound.
+      file = λ ptold told. file_so _ command.Explain status _ is_named c.ended-in-Ok-Explain.ensures refl _ _ file (λ base sound.
           (stop_says ended).file command.Explain file (table_in base)
           (holds_over c.groups_of_a_schema.ensures.entries _ _ file _ base (are g c ptold) sound (holds g c told)));
       input = λ itold command asked reads.
-          subst (λ (s : Status). InputCause s (g.I.Source.left c.args.input.now) (g.I.Source.left c.explain.new.source)) (sym c.ended.ensures)
+          subst (λ (s : Status). InputCause s (g.I.Source.left c.args.input.now) (g.I.Source.left c.explain.new.source)) (sym c.ended-in-Ok-Explain.ensures)
           (explain_reads c.explain.result _ _ (does.reads itold));
       faults = explained_faults g c;
       schema_last = schema_was_read status last;
       table_last = table_was_read status last;
-      input_last = λ is. does.last_call.0 ((stop_says ended).input (sym c.ended.ensures ∙ is));
-      bench_last = λ is. does.last_call.1 ((stop_says ended).bench (sym c.ended.ensures ∙ is));
+      input_last = λ is. does.last_call.0 ((stop_says ended).input (sym c.ended-in-Ok-Explain.ensures ∙ is));
+      bench_last = λ is. does.last_call.1 ((stop_says ended).bench (sym c.ended-in-Ok-Explain.ensures ∙ is));
       spare_last = spare_called _ _ status is_named refl words;
       spare_file = λ told command asked calls. lacks_step calls_spare _ _ command is_named asked refl calls;
       later = later_so _ _ _ c.open.ensures.later does.later.0 does.later.1 (stays _);
@@ -175,8 +175,8 @@ explanation_ends g c =
       before_table = past_table _ status last;
       before_bench = past_journal _ status last;
       before_spare = λ other. always_before opening_spare status refl;
-      before_lines = at_lines _ _ _ c.ended.ensures ((stop_says ended).at_lines _);
-      unwritten = λ told. at_lines _ _ _ c.ended.ensures ((stop_says ended).at_lines _);
+      before_lines = at_lines _ _ _ c.ended-in-Ok-Explain.ensures ((stop_says ended).at_lines _);
+      unwritten = λ told. at_lines _ _ _ c.ended-in-Ok-Explain.ensures ((stop_says ended).at_lines _);
       unread = λ none. none_asked _ _ none is_named;
       no_files = λ command asked none. takes_step reads_files _ _ _ is_named asked refl none;
       no_lines = λ command asked none. takes_step reads_lines _ _ _ is_named asked refl none;

@@ -24,7 +24,7 @@ use Rattle.auditor_top.proofs.running.run.Answers.TwinServed.{takes_calls, both_
 use Rattle.auditor_top.proofs.running.run.Given.{Over}
 use Rattle.auditor_top.proofs.running.run.Goals as goal
 
-twin_faults_so : (g : Over) (c : goal.After-drop-schema-inside-in-Ok-start-3 g) → FaultCause c.ended.result
+twin_faults_so : (g : Over) (c : goal.After-drop-schema-inside-in-Ok-start-3 g) → FaultCause c.ended-in-Ok-start.result
     (faults_of g.P.Source g.I.Source g.B.Bench (objects c.args.schema.now c.args.table.now c.args.input.now c.args.bench.now c.args.spare.now))
     (faults_of g.P.Source g.I.Source g.B.Bench
     (objects c.open.new.schema c.open.new.table c.serve_twin.new.source c.serve_twin.new.bench c.serve_twin.new.spare))
@@ -33,9 +33,9 @@ twin_faults_so g c =
     let begun = c.in-Ok-start.ensures in
     let same = begun.fault.steady (not_both _ _) in
     let spare_same = begun.spare_fault.steady (not_both _ _) in
-    faults_so c.ended.result _ (faults_of g.P.Source g.I.Source g.B.Bench
+    faults_so c.ended-in-Ok-start.result _ (faults_of g.P.Source g.I.Source g.B.Bench
     (objects c.args.schema.now c.args.table.now c.args.input.now c.args.bench.now c.args.spare.now)) _
-    _ c.ended.ensures c.in-Ok-Twin.ensures.steady
+    _ c.ended-in-Ok-start.ensures c.in-Ok-Twin.ensures.steady
     (stop_faults c.serve_twin.result _ _ _ _ does.input does.steady
     (λ is. subst (λ (n : ℕ). Rose n (g.B.Bench.faults c.serve_twin.new.bench)) same (does.fault.failed is)) (λ other. does.fault.steady other ∙ same)
     (λ is. subst (λ (n : ℕ). Rose n (g.B.Bench.faults c.serve_twin.new.spare)) spare_same (does.spare_fault.failed is))
@@ -52,7 +52,7 @@ is_named : (g : Over) (c : goal.After-drop-schema-inside-in-Ok-start-3 g) → co
 is_named g c = asked_for _ _ _ _ c.in-Ok.ensures.command c.in-Ok-Twin.field-0-is c.in-Ok-Twin.ensures.asked
 
 answering : (g : Over) (c : goal.After-drop-schema-inside-in-Ok-start-3 g) →
-    TwinServing g.P.Source g.I.Source g.B.Bench c.in-Ok-Twin.batch c.ended.result
+    TwinServing g.P.Source g.I.Source g.B.Bench c.in-Ok-Twin.batch c.ended-in-Ok-start.result
     (objects c.args.schema.now c.args.table.now c.args.input.now c.args.bench.now c.args.spare.now)
     (objects c.open.new.schema c.open.new.table c.serve_twin.new.source c.serve_twin.new.bench c.serve_twin.new.spare)
 answering g c =
@@ -60,7 +60,7 @@ answering g c =
     let new = objects c.open.new.schema c.open.new.table c.serve_twin.new.source c.serve_twin.new.bench c.serve_twin.new.spare in
     let n = c.in-Ok-Twin.batch in
     let ended = c.serve_twin.result in
-    subst (λ (s : Status). TwinServing g.P.Source g.I.Source g.B.Bench n s old new) (sym c.ended.ensures) (record {
+    subst (λ (s : Status). TwinServing g.P.Source g.I.Source g.B.Bench n s old new) (sym c.ended-in-Ok-start.ensures) (record {
       twins_served = served g c;
       twin_moment = moments_so g c;
       spare_moment = spare_moments_so g c;
@@ -90,14 +90,14 @@ answering g c =
       twins_complete = λ ptold itold told base main other whole over within none fine.
           stop_wants ended (faults_of g.P.Source g.I.Source g.B.Bench old) (faults_of g.P.Source g.I.Source g.B.Bench new)
           (subst (λ (s : Status). FaultCause s (faults_of g.P.Source g.I.Source g.B.Bench old) (faults_of g.P.Source g.I.Source g.B.Bench new))
-          c.ended.ensures
+          c.ended-in-Ok-start.ensures
           (twin_faults_so g c)) none (λ is. omega (arith, c.serve_twin.ensures.limit itold is, within))
           (λ is. fine (c.serve_twin.ensures.spare_fault.failed is ∙ ap next_count (c.in-Ok-start.ensures.spare_fault.steady (not_both _ _))));
     })
 
 pub twin_ends : goal.returns-in-Ok-start
 twin_ends g c =
-    let status = c.ended.result in
+    let status = c.ended-in-Ok-start.result in
     let ended = c.serve_twin.result in
     let begun = c.in-Ok-start.ensures in
     let does = c.serve_twin.ensures in
@@ -105,28 +105,28 @@ twin_ends g c =
     let file = g.B.Bench.file c.args.bench.now in
     let spare = g.B.Bench.file c.args.spare.now in
     let named = is_named g c in
-    let last = subst EndsLastStep (sym c.ended.ensures) (stop_says ended).last in
+    let last = subst EndsLastStep (sym c.ended-in-Ok-start.ensures) (stop_says ended).last in
     record {
-      words = words_so _ one status _ named c.ended.ensures ((stop_says ended).words one (λ is. refl) (λ is. refl) (λ is. refl));
+      words = words_so _ one status _ named c.ended-in-Ok-start.ensures ((stop_says ended).words one (λ is. refl) (λ is. refl) (λ is. refl));
       schema = λ ptold command asked reads. schema_so status _ _ _ last (are g c ptold).files;
       table = λ ptold command asked reads. table_so status _ _ _ last (are g c ptold).files;
       public = λ ptold asked. not_asked _ _ _ named asked refl;
       groups = λ ptold command asked reads. groups_so c.groups_of_a_schema.ensures.entries status _ _ _ last (are g c ptold);
       own_schema_fault = no_schema_fault status last;
       own_table_fault = no_table_fault status last;
-      file = λ ptold told. file_so _ one status _ named c.ended.ensures refl _ _ file (λ base sound.
+      file = λ ptold told. file_so _ one status _ named c.ended-in-Ok-start.ensures refl _ _ file (λ base sound.
           (stop_says ended).file one file (table_in base)
           (holds_over c.groups_of_a_schema.ensures.entries _ _ file _ base (are g c ptold) sound (holds_legal g c told)));
       input = λ itold command asked reads.
-          subst (λ (s : Status). InputCause s (g.I.Source.left c.args.input.now) (g.I.Source.left c.serve_twin.new.source)) (sym c.ended.ensures)
+          subst (λ (s : Status). InputCause s (g.I.Source.left c.args.input.now) (g.I.Source.left c.serve_twin.new.source)) (sym c.ended-in-Ok-start.ensures)
           (reads_so g c itold);
       faults = twin_faults_so g c;
       schema_last = schema_was_read status last;
       table_last = table_was_read status last;
-      input_last = λ is. does.last_read ((stop_says ended).input (sym c.ended.ensures ∙ is));
-      bench_last = λ is. does.fault.last_call ((stop_says ended).bench (sym c.ended.ensures ∙ is));
-      spare_last = λ is. does.spare_fault.last_call ((stop_says ended).spare (sym c.ended.ensures ∙ is));
-      spare_file = λ told command asked calls. named_so _ one status _ named c.ended.ensures (λ (s : Status) (k : Command). SpareCause s k spare)
+      input_last = λ is. does.last_read ((stop_says ended).input (sym c.ended-in-Ok-start.ensures ∙ is));
+      bench_last = λ is. does.fault.last_call ((stop_says ended).bench (sym c.ended-in-Ok-start.ensures ∙ is));
+      spare_last = λ is. does.spare_fault.last_call ((stop_says ended).spare (sym c.ended-in-Ok-start.ensures ∙ is));
+      spare_file = λ told command asked calls. named_so _ one status _ named c.ended-in-Ok-start.ensures (λ (s : Status) (k : Command). SpareCause s k spare)
           ((stop_says ended).spare_file one spare tt) command asked;
       later = later_so _ _ _ c.open.ensures.later does.later (later_still _ _ _ begun.fault.later does.fault.later)
           (later_still _ _ _ begun.spare_fault.later does.spare_fault.later);
@@ -139,13 +139,13 @@ twin_ends g c =
       nothing_began = λ ptold told command asked opens quiet none.
           absurd (none (seen g c) (are g c ptold)
           (subst (λ (k : Command). IsReadyFor k file (table_in (seen g c))) (one_command _ _ command named asked) (holds_legal g c told)));
-      quiet = λ told quiet fine. does.quiet told (quiet_started g c told quiet) (λ is. fine (c.ended.ensures ∙ ap ended_status is));
+      quiet = λ told quiet fine. does.quiet told (quiet_started g c told quiet) (λ is. fine (c.ended-in-Ok-start.ensures ∙ ap ended_status is));
       before_table = past_table _ status last;
       before_bench = past_journal _ status last;
-      before_spare = λ other. subst (λ (s : Status). Before opening_spare s (c.serve_twin.new.spare ≡ c.args.spare.now)) (sym c.ended.ensures)
+      before_spare = λ other. subst (λ (s : Status). Before opening_spare s (c.serve_twin.new.spare ≡ c.args.spare.now)) (sym c.ended-in-Ok-start.ensures)
           ((stop_says ended).at_spare _);
-      before_lines = at_lines _ _ _ c.ended.ensures ((stop_says ended).at_lines _);
-      unwritten = λ told. at_lines _ _ _ c.ended.ensures ((stop_says ended).at_lines _);
+      before_lines = at_lines _ _ _ c.ended-in-Ok-start.ensures ((stop_says ended).at_lines _);
+      unwritten = λ told. at_lines _ _ _ c.ended-in-Ok-start.ensures ((stop_says ended).at_lines _);
       unread = λ none. none_asked _ _ none named;
       no_files = λ command asked none. takes_step reads_files _ _ _ named asked refl none;
       no_lines = λ command asked none. takes_step reads_lines _ _ _ named asked refl none;
