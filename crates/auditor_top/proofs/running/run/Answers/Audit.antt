@@ -54,11 +54,13 @@ reported_faults : (g : Over) (c : goal.After-drop-schema-inside-in-Ok-Audit-3 g)
 reported_faults g c =
     faults_so c.ended-in-Ok-Audit.result _ (faults_of g.P.Source g.I.Source g.B.Bench
     (objects c.args.schema.now c.args.table.now c.args.input.now c.args.bench.now c.args.spare.now)) _
-    _ c.ended-in-Ok-Audit.ensures c.in-Ok-Audit.ensures.steady (stop_faults c.audit.result _ _ _ _ (λ is. absurd (is_of_bench g c stop.Input is)) (λ other. refl)
+    _ c.ended-in-Ok-Audit.ensures c.in-Ok-Audit.ensures.steady
+    (stop_faults c.audit.result _ _ _ _ (λ is. absurd (is_of_bench g c stop.Input is)) (λ other. refl)
     c.audit.ensures.failed c.audit.ensures.steady (λ is. absurd (is_of_bench g c stop.Spare is)) (λ other. refl))
 
 reporting : (g : Over) (c : goal.After-drop-schema-inside-in-Ok-Audit-3 g) →
-    Auditing g.P.Source g.I.Source g.B.Bench c.ended-in-Ok-Audit.result (objects c.args.schema.now c.args.table.now c.args.input.now c.args.bench.now c.args.spare.now)
+    Auditing g.P.Source g.I.Source g.B.Bench c.ended-in-Ok-Audit.result
+    (objects c.args.schema.now c.args.table.now c.args.input.now c.args.bench.now c.args.spare.now)
     (objects c.open.new.schema c.open.new.table c.args.input.now c.audit.new.bench c.args.spare.now)
 reporting g c =
     let at = c.args.bench.now in

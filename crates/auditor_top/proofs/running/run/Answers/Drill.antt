@@ -86,8 +86,8 @@ drill_ends g c =
       own_schema_fault = no_schema_fault status last;
       own_table_fault = no_table_fault status last;
       file = λ ptold told command asked base files sound.
-          named_so _ _ status _ is_named c.ended-in-Ok-Drill.ensures (λ (s : Status) (k : Command). FileCause s k file (table_in base)) (says.file file (table_in base))
-          command asked;
+          named_so _ _ status _ is_named c.ended-in-Ok-Drill.ensures
+          (λ (s : Status) (k : Command). FileCause s k file (table_in base)) (says.file file (table_in base)) command asked;
       input = λ itold command asked reads. lacks_step reads_lines _ _ command is_named asked refl reads;
       faults = drilled_faults g c;
       schema_last = schema_was_read status last;
