@@ -3,14 +3,6 @@ use Rattle.std.specs.Prelude.{◌≡◌, refl}
 use Rattle.bench_core.specs.declared.stops.Stop.{Stop}
 use Rattle.bench_core.specs.declared.stops.Stop.TheVariants.{Input, Limit, Bench, Spare, NoMemory}
 
--- a call that reads an input, and calls no bench
-abbrev pub IsOfInput : Stop → Type 0
-IsOfInput Input = Unit {0}
-IsOfInput Limit = Unit {0}
-IsOfInput Bench = ⊥
-IsOfInput Spare = ⊥
-IsOfInput NoMemory = Unit {0}
-
 -- a call that calls one bench, and reads no input
 abbrev pub IsOfBench : Stop → Type 0
 IsOfBench Input = ⊥
