@@ -76,6 +76,11 @@ module _ (a : Inside) (now : ListOfRows) (is : sets_of a ≡ now) where
       let sets = count in
       (le-div_iff_mul-le {k = words_over a.n} {x = a.len + 1} {y = vec_capacity a.words} some).0 (omega arith)
 
+-- nothing is true along with what is false
+no_and : (x : _) → (x && false) ≡ false
+no_and true = refl
+no_and false = refl
+
 -- a row's bit in both words
 both_bits : (x y i : ℕ) → (bit_at (bit_and x y) i == 1) ≡ ((bit_at x i == 1) && (bit_at y i == 1))
 both_bits x y i = ap (λ b. b == 1) (bit_at_and x y i) ∙ min_test _ _ (bit_at-lt x i) (bit_at-lt y i)
@@ -86,6 +91,25 @@ pub rows-both : (n : ℕ) (a b both : List ℕ) → ((k : ℕ) → k < words_ove
 rows-both n a b both each = rows_that_agree (has_bit both) (λ r. has_row (rows_that (has_bit a) n) r && has_row (rows_that (has_bit b) n) r) n (λ r l.
     ap (λ x. bit_at x (r % 64) == 1) (each (r / 64) (row_within n r l)) ∙ both_bits (get_or a (r / 64) 0) (get_or b (r / 64) 0) (r % 64)
     ∙ sym (ap (λ x. x && has_row (rows_that (has_bit b) n) r) (has-rows_that (has_bit a) n r l) ∙ ap (λ x. has_bit a r && x) (has-rows_that (has_bit b) n r l)))
+
+module _ (n : ℕ) (words others old new : List ℕ) (are : AreWords n others) (was : AreWords n old) (long : length words ≡ words_over n)
+    (both : (k : ℕ) → k < length words → get_or new k 0 ≡ bit_and (get_or words k 0) (get_or others k 0))
+    (after : (k : ℕ) → length words ≤ k → get_or new k 0 ≡ get_or old k 0) where
+  -- no number past the last row has a bit in both, or had one before
+  none_shared : (r : ℕ) → n ≤ r → has_bit new r ≡ false
+  none_shared r above = elim (cases_lt (r / 64) (length words)) [
+    | inl l ↦ ap (λ x. bit_at x (r % 64) == 1) (both (r / 64) l) ∙ both_bits (get_or words (r / 64) 0) (get_or others (r / 64) 0) (r % 64)
+        ∙ ap (λ x. has_bit words r && x) (are.none_above r above) ∙ no_and (has_bit words r)
+    | inr l ↦ ap (λ x. bit_at x (r % 64) == 1) (after (r / 64) l) ∙ was.none_above r above
+  ]
+
+  -- so what both share are words of a set
+  pub are_shared : length new ≡ most_words → ((k : ℕ) → get_or new k 0 < 2 ^ 64) → AreWords n new
+  are_shared is_long ranges = record { some = was.some; at_most = was.at_most; words_are = is_long; ranges = ranges; none_above = none_shared }
+
+  -- of the rows of both
+  pub rows_shared : rows_that (has_bit new) n ≡ intersection n (rows_that (has_bit words) n) (rows_that (has_bit others) n)
+  rows_shared = rows-both n words others new (λ k l. both k (omega (arith, long)))
 
 module _ (n : ℕ) (a b : List ℕ) where
   abbrev shared : List ℕ
@@ -118,10 +142,6 @@ module _ (n : ℕ) (a b : List ℕ) where
         ])
       ]) in
       omega (arith, small)
-    where
-      no_and : (x : _) → (x && false) ≡ false
-      no_and true = refl
-      no_and false = refl
 
 module _ (w place : ℕ) (front : List ℕ) (some : 0 < w) (at : length front ≡ place * w) where
   -- the sets that stand in front keep their words

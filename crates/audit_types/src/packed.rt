@@ -62,3 +62,15 @@ pub(crate) fn are_apart(words: &[u64], others: &[u64; MOST_WORDS]) -> bool
     }
     true
 }
+
+/// The words of a set become each the `&` of two others'. Those past the last of the first stay.
+pub(crate) fn put_shared(shared: &mut [u64; MOST_WORDS], words: &[u64], others: &[u64; MOST_WORDS])
+    requires { length words.now ≤ most_words }
+    ensures words_are { length shared.new ≡ most_words }
+    ensures both { (k : ℕ) → k < length words.now → slice_index shared.new k ≡ bit_and (slice_index words.now k) (slice_index others.now k) }
+    ensures after { (k : ℕ) → length words.now ≤ k → slice_index shared.new k ≡ slice_index shared.old k }
+{
+    for k in 0..words.len() {
+        shared[k] = words[k] & others[k];
+    }
+}

@@ -107,6 +107,17 @@ impl RowSets {
         are_apart(words_at(&self.words, words_over(self.n), k), other.words())
     }
 
+    /// A set becomes the intersection of the set at a place with another, whatever rows it had.
+    pub fn put_shared(&self, k: usize, other: &RowSet, shared: &mut RowSet)
+        requires place { k < length self.now.list }
+        requires same_n { other.now.n ≡ self.now.n }
+        requires same_n_shared { shared.old.n ≡ self.now.n }
+        ensures n { shared.new.n ≡ self.now.n }
+        ensures both { shared.new.list ≡ intersection self.now.n (rows_at self.now.list k) other.now.list }
+    {
+        shared.put_shared(words_at(&self.words, words_over(self.n), k), other);
+    }
+
     /// The set at a place becomes its intersection with another.
     pub fn and_with(&mut self, k: usize, other: &RowSet)
         requires place { k < length self.old.list }

@@ -108,6 +108,17 @@ impl AnsweredMaxima {
         self.sets.is_apart(k, other)
     }
 
+    /// A set becomes the intersection of the set at a place with another, whatever rows it had.
+    pub(crate) fn put_shared(&self, k: usize, other: &RowSet, shared: &mut RowSet)
+        requires place { k < length self.now.items }
+        requires same_n { other.now.n ≡ self.now.n }
+        requires same_n_shared { shared.old.n ≡ self.now.n }
+        ensures n { shared.new.n ≡ self.now.n }
+        ensures both { shared.new.list ≡ intersection self.now.n (pair_at self.now.items k).rows.list other.now.list }
+    {
+        self.sets.put_shared(k, other, shared);
+    }
+
     /// Makes room for one more.
     pub(crate) fn reserve(&mut self) -> Result<(), NoMemory>
         ensures n { self.new.n ≡ self.old.n }

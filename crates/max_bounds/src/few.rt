@@ -1,7 +1,7 @@
 //! Sets of extreme rows of which a question's set leaves few people.
-ghost use Rattle.std.specs.Prelude.{◌≡◌, ◌↔◌, ◌+◌, ℕ, List, IsTrue};
+ghost use Rattle.std.specs.Prelude.{◌≡◌, ◌↔◌, ◌+◌, ◌<◌, ℕ, List, length, IsTrue};
 ghost use Rattle.audit_types.specs.Rows.{complement};
-ghost use Rattle.max_bounds.specs.Maxima.{answers_of};
+ghost use Rattle.max_bounds.specs.Maxima.{answers_of, pair_at};
 ghost use Rattle.max_bounds.specs.Outside.{outside};
 ghost use Rattle.max_bounds.specs.Kept.{Descend};
 ghost use Rattle.max_bounds.specs.Marks.{AreMarked};
@@ -22,20 +22,29 @@ pub(crate) enum Left {
     Enough,
 }
 
-// What of a set is left outside another, told from the rows that are not in that.
-fn left_outside(extremes: &RowSet, others: &RowSet, people: &CountedRows, enough: u64) -> Left
-    requires same_n { extremes.now.n ≡ others.now.n }
+// What of a set is left outside another, told from the rows that are not in that. A set that is given takes these rows.
+fn left_outside(
+    least: &AnsweredMaxima,
+    k: usize,
+    others: &RowSet,
+    left: &mut RowSet,
+    people: &CountedRows,
+    enough: u64,
+) -> Left
+    requires place { k < length least.now.items }
+    requires same_n { least.now.n ≡ others.now.n }
+    requires same_n_left { left.old.n ≡ others.now.n }
     requires enough { enough ≡ people.now.people.fewest + people.now.people.own }
-    ensures { (rows : List ℕ) → others.now.list ≡ complement others.now.n rows → IsLeft people.now.people (outside rows extremes.now.list) result }
+    ensures n { left.new.n ≡ others.now.n }
+    ensures left { (rows : List ℕ) → others.now.list ≡ complement others.now.n rows → IsLeft people.now.people (outside rows (pair_at least.now.items k).rows.list) result }
 {
-    // A set says of its n that no row is past it.
-    let _ = extremes.n();
-    let mut left = *extremes;
-    left.and_with(others);
+    // A list says of its n that no row of a set is past it.
+    let _ = least.n();
+    least.put_shared(k, others, left);
     if left.is_empty() {
         return Left::Nothing;
     }
-    if are_fewer(&left, people, enough) {
+    if are_fewer(left, people, enough) {
         Left::Few
     } else {
         Left::Enough
@@ -62,13 +71,14 @@ pub(crate) fn nearly_holds(
     let _ = least.n();
     let _ = people.n();
     let enough = enough(people);
+    // One set takes what is left of each in turn.
+    let mut left = RowSet::new(others.n());
     let mut k = next_maybe_few(marked, 0, lacking.bits, enough);
     while k < least.len() {
-        let set = least.get(k);
-        match left_outside(&set.rows, &others, people, enough) {
+        match left_outside(least, k, &others, &mut left, people, enough) {
             Left::Nothing => return false,
             // No set before it lies there whole, but one of its answer may.
-            Left::Few => return !has_within(least, marks, rows, set.answer),
+            Left::Few => return !has_within(least, marks, rows, least.answer(k)),
             Left::Enough => {}
         }
         k = next_maybe_few(marked, k + 1, lacking.bits, enough);
