@@ -100,12 +100,30 @@ clear_away() {
     rm -f "$proved" "$proved.said" "$proved.crate"
 }
 
+# What the program is made from, and the program: the kit, the crates and their files, and what was built of them, as one sum.
+sum_of_all() {
+    (
+        cd "$top" || exit 1
+        rt version
+        cat crates.txt
+        find crates/*/src crates/*/specs crates/*/proofs crates/auditor/out/auditor -type f -print0 | LC_ALL=C sort -z | xargs -0 sha256sum
+    ) 2>/dev/null | sha256sum
+}
+
 build() {
     command -v rt >/dev/null || { echo "the Rattle kit is missing, which has rt: without it take a package, which has the built program" >&2; return 1; }
     proved=$(mktemp) || return 1
     # What each crate took on this machine, of this run and of earlier ones.
     took=$top/crates/auditor/out/took.txt
     mkdir -p "$top/crates/auditor/out" || return 1
+    program=$top/crates/auditor/out/auditor
+    # rt itself looks at each crate by way of each that stands on it, which takes minutes though nothing has changed.
+    built=$top/crates/auditor/out/built.txt
+    if [ -x "$program" ] && [ "$(sum_of_all)" = "$(cat "$built" 2>/dev/null)" ]; then
+        rm -f "$proved"
+        echo 'the program is proved and built, and nothing has changed since' >&2
+        return 0
+    fi
     began=$(date +%s)
     number=0 kept=0 told=0
     of=$(crates_below | wc -l)
@@ -150,6 +168,6 @@ build() {
     [ "$kept" = "$told" ] || printf '%d of %d were proved before\n' "$kept" "$of" >&2
     [ "$(wc -l <"$proved")" != "$of" ] || cp "$proved" "$top/crates/auditor/out/shares.txt"
     clear_away
+    sum_of_all >"$built"
     printf 'the program is built, after %d s\n' $(($(date +%s) - began)) >&2
-    program=$top/crates/auditor/out/auditor
 }

@@ -16,6 +16,8 @@ TOP = FRONT.parent
 RT = f"""#!{sys.executable}
 import os, pathlib, subprocess, sys, tempfile, time
 words = sys.argv[1:]
+if words[0] == "version":
+    sys.exit(print("a kit"))
 if words[0] == "try":
     if os.environ.get("HANGS") == "try":
         pathlib.Path(os.environ["TMPDIR"], "pid").write_text(str(os.getpid()))
@@ -36,6 +38,9 @@ if not (crate / "out/proved").exists():
     print("fn it: proved")
     (crate / "out").mkdir(exist_ok=True)
     (crate / "out/proved").touch()
+if words[0] == "run" and "BUILDS" in os.environ:
+    (crate / "out/auditor").write_text("built")
+    (crate / "out/auditor").chmod(0o755)
 sys.exit(5 if words[0] == "run" else 0)
 """
 
@@ -241,6 +246,22 @@ class Build(Demo):
         self.assertEqual(done.stderr.split("\n")[1], f"{number} of {number} were proved before")
         self.assertEqual(self.lines(done), [])
         self.assertIn("the program is built", done.stderr)
+
+    def test_what_is_built_is_looked_at_again_once_something_changes(self):
+        source, program = self.top / "crates/int_rows/src/lib.rt", self.top / "crates/auditor/out/auditor"
+        source.parent.mkdir()
+        source.write_text("//! Rows.\n")
+        self.assertEqual(self.run_it(*self.build, BUILDS="").returncode, 0)
+        again = self.run_it(*self.build, FAILS="int_rows")
+        self.assertEqual((again.returncode, again.stderr), (0, "the program is proved and built, and nothing has changed since\n"))
+        for file in (source, program):
+            before = file.read_text()
+            file.write_text("another")
+            self.assertEqual(self.run_it(*self.build, FAILS="int_rows").returncode, 1, file)
+            file.write_text(before)
+        program.unlink()
+        self.assertEqual(self.run_it(*self.build, FAILS="int_rows").returncode, 1)
+        self.assertEqual(os.listdir(self.top / "tmp"), [])
 
     def left_at(self, crate):
         """The minutes that are left by the line of a crate."""
