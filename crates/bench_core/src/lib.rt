@@ -21,4 +21,4 @@ pub use memory_source::MemorySource;
 pub use room::Room;
 pub use source::{Failed, Source};
 pub use steady_source::SteadySource;
-pub use stops::Stop;
+pub use stops::{End, Stop};

@@ -1,5 +1,6 @@
 //! What ends a call of the outside before its work is done.
 ghost use Rattle.std.specs.Prelude.{◌≡◌};
+ghost use Rattle.bench_core.specs.declared.stops.Stop.{Stop};
 
 use crate::source::Failed;
 use audit_types::NoMemory;
@@ -46,5 +47,52 @@ impl From<Failed> for Stop {
 
     fn from(_e: Failed) -> Stop {
         Stop::Bench
+    }
+}
+
+/// How a call ends that isn't done: something of the outside ended it, or it was refused for a cause of its own.
+#[derive(Clone, Copy, Debug, PartialEq, Eq)]
+pub enum End<R> {
+    Stopped(Stop),
+    Refused(R),
+}
+
+impl<R> From<Stop> for End<R> {
+    ghost use Rattle.bench_core.specs.declared.stops.End.TheVariants.{Stopped};
+
+    ghost from_gives = { λ stop e. e ≡ Stopped stop };
+
+    fn from(stop: Stop) -> End<R> {
+        End::Stopped(stop)
+    }
+}
+
+impl<R> From<NoMemory> for End<R> {
+    ghost use Rattle.bench_core.specs.declared.stops.End.TheVariants.{Stopped};
+
+    ghost from_gives = { λ _ e. e ≡ Stopped Stop.NoMemory };
+
+    fn from(_e: NoMemory) -> End<R> {
+        End::Stopped(Stop::NoMemory)
+    }
+}
+
+impl<R> From<AllocError> for End<R> {
+    ghost use Rattle.bench_core.specs.declared.stops.End.TheVariants.{Stopped};
+
+    ghost from_gives = { λ _ e. e ≡ Stopped Stop.NoMemory };
+
+    fn from(_e: AllocError) -> End<R> {
+        End::Stopped(Stop::NoMemory)
+    }
+}
+
+impl<R> From<Failed> for End<R> {
+    ghost use Rattle.bench_core.specs.declared.stops.End.TheVariants.{Stopped};
+
+    ghost from_gives = { λ _ e. e ≡ Stopped Stop.Bench };
+
+    fn from(_e: Failed) -> End<R> {
+        End::Stopped(Stop::Bench)
     }
 }
