@@ -1,7 +1,9 @@
 //! Verdicts on sums of which no group is protected, before and after they are answered, by hand. The width is the greatest.
 ghost use Rattle.std.specs.Prelude.{◌≡◌, ◌≤◌};
 
-use audit_types::{ColumnAudit, MOST_REACH, MOST_WIDTH, NoMemory, RowSet, Verdict};
+use audit_types::{
+    Askers, ColumnAudit, CountedRows, MOST_REACH, MOST_WIDTH, NoMemory, RowSet, Verdict,
+};
 use std::alloc::Global;
 use sum_audit::SumColumn;
 
@@ -46,7 +48,8 @@ fn ask(column: &mut SumColumn, rows: &RowSet, answer: i64) -> Result<Option<[Ver
 
 // What becomes of the sum over rows 0 and 1, of that over rows 1 and 2 after it, and then of that over rows 0 and 2.
 fn verdicts(alloc: Global) -> Result<[Option<[Verdict; 2]>; 3], NoMemory> {
-    let mut column = SumColumn::new(alloc, 3, MOST_WIDTH, MOST_REACH)?;
+    let people = CountedRows::new(3, Vec::new(alloc), 2, Askers::Outside);
+    let mut column = SumColumn::new(alloc, people, MOST_WIDTH, MOST_REACH, Vec::new(alloc))?;
     let first = ask(&mut column, &pair(0), 3)?;
     let last = ask(&mut column, &pair(1), 5)?;
     let ends = ask(&mut column, &ends(), 4)?;

@@ -3,3 +3,4 @@ pub mod HighestLaws
 pub mod Laws
 pub mod Candidates
 pub mod Knowing
+pub mod Columns

@@ -1,18 +1,19 @@
-use Rattle.std.proofs.Common.{[], ap, ◌∙◌, subst}
-use Rattle.std.specs.Prelude.{IfOk}
-use Rattle.audit_types.specs.Column.{IsPossible, guarding}
-use Rattle.audit_types.specs.Headcount.{headcount}
-use Rattle.audit_types.specs.Judgement.{IsJudgement, IsDecision}
+use Rattle.std.proofs.Common.{sym, ◌∙◌}
+use Rattle.std.proofs.lemmas.Bool.{true≢false}
+use Rattle.max_audit.proofs.Verdicts.{unsafe_is_right, released_is_right}
 use Rattle.max_audit.proofs.column.MaxColumnColumnAudit.probe.Goals as goal
 
-pub returns-clause-judged : goal.returns-clause-judged
-returns-clause-judged c =
-    subst (λ k. IfOk c.probe_among.result (IsJudgement k c.args.rows.now.list))
-    (ap (λ p. guarding c.args.self.now p []) (c.new-people.ensures.people ∙ ap (λ counts. headcount counts 2 0) c.new.ensures.items)
-    ∙ c.probe_among.ensures.plain) c.probe_among.ensures.judged
+pub returns-then-leaves_few : goal.returns-then-leaves_few
+returns-then-leaves_few c =
+    let inside = c.self.inside in
+    let right = unsafe_is_right inside.people inside.bounds c.self.invariant inside.width inside.reach c.args.self.now c.self.view_is c.args.rows.now.list
+        c.args.rows.now.n c.n.ensures.are_rows c.requires.same_n c.requires.some (c.leaves_few.ensures.0 c.if-leaves_few.true) in
+    record { judged = right.judged; decided = λ possible. right.decided; never_wide = λ wide. absurd cc }
 
-pub returns-clause-decided : goal.returns-clause-decided
-returns-clause-decided c =
-    subst (λ k. IfOk c.probe_among.result (λ verdict. IsPossible c.args.self.now → IsDecision k c.args.rows.now.list verdict))
-    (ap (λ p. guarding c.args.self.now p []) (c.new-people.ensures.people ∙ ap (λ counts. headcount counts 2 0) c.new.ensures.items)
-    ∙ c.probe_among.ensures.plain) c.probe_among.ensures.decided
+pub returns-else-leaves_few : goal.returns-else-leaves_few
+returns-else-leaves_few c =
+    let inside = c.self.inside in
+    let right = released_is_right inside.people inside.bounds c.self.invariant inside.width inside.reach c.args.self.now c.self.view_is c.args.rows.now.list
+        c.args.rows.now.n c.n.ensures.are_rows c.requires.same_n c.requires.some
+        (λ few. true≢false (sym (c.leaves_few.ensures.1 few) ∙ c.if-leaves_few.false)) in
+    record { judged = right.judged; decided = λ possible. right.decided; never_wide = λ wide. absurd cc }

@@ -3,6 +3,6 @@ use Rattle.sum_audit.proofs.column.SumColumn.fixed.Goals as goal
 
 pub returns : goal.returns
 returns c =
-    least_pinned _ c.self.inside.basis.width c.self.inside.reach _ c.args.self.now c.self.view_is c.self.inside.basis c.unit_row.result c.self.invariant.same_n
-    c.self.invariant.are_rows
-    c.self.invariant.form c.unit_row.ensures
+    let inside = c.self.inside in
+    least_pinned inside.people inside.apart.items inside.reach inside.basis inside.told.answers c.self.invariant c.args.self.now c.self.view_is
+    c.unit_row.result c.unit_row.ensures

@@ -1,9 +1,13 @@
-use Rattle.std.proofs.Common.{subst}
-use Rattle.audit_types.specs.Judgement.{IsWithinWidthFor}
-use Rattle.audit_types.specs.WidthLaws.{narrow_within}
+use Rattle.std.proofs.Common.{arith}
+use Rattle.std.proofs.lemmas.List.{map-append}
+use Rattle.sum_audit.proofs.Verdicts.{stays_narrow}
 use Rattle.sum_audit.proofs.column.SumColumnColumnAudit.accept.Goals as goal
 
-pub add-requires-clause-narrow : goal.add-requires-clause-narrow
-add-requires-clause-narrow c =
-    narrow_within c.args.self.now c.args.rows.now.list
-    (subst (λ kind. IsWithinWidthFor kind c.args.self.now c.args.rows.now.list) c.n.ensures.sums c.requires.narrow)
+pub insert-requires-clause-narrow : goal.insert-requires-clause-narrow
+insert-requires-clause-narrow c =
+    let inside = c.self.inside in
+    stays_narrow inside.people inside.apart.items inside.reach inside.basis inside.told.answers c.self.invariant c.args.self.now c.self.view_is
+    c.args.rows.now.list c.requires.narrow
+
+pub returns-clause-ok : goal.returns-clause-ok
+returns-clause-ok c = grind (arith, map-append)
