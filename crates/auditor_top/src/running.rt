@@ -145,8 +145,8 @@ pub fn run<P: Source, I: Source, B: Bench>(
             )),
             Err(fault) => Status::from(fault),
         },
-        Ok(Ready::Audit(index, people, store)) => {
-            ended(audit(alloc, index.schema(), &store, people, bench))
+        Ok(Ready::Audit(schema, people, store)) => {
+            ended(audit(alloc, &schema, &store, people, bench))
         }
         Ok(Ready::Simulate(index)) => judged(transcript_sim::simulate(
             alloc, &index, input, bench,
