@@ -1,17 +1,15 @@
 //! Serving over one journal, with no spare.
 ghost use Rattle.std.specs.Prelude.{◌≡◌, ◌≢◌, ◌-◌, ◌^◌, [], true, Err};
-ghost use Rattle.schema_json.specs.SecretShape.{shape_of};
-ghost use Rattle.table_load.specs.Cells.{FitsSchema};
-ghost use Rattle.table_load.specs.Database.{base_of};
+ghost use Rattle.set_index.specs.Indexed.{public_shape};
 ghost use Rattle.bench_core.specs.declared.stops.Stop.{Stop};
 ghost use Rattle.audit_store.specs.Stores.{IsAsLeft};
+ghost use Rattle.audit_session.specs.Ends.{base_over};
 ghost use Rattle.audit_session.specs.Sessions.{SessionOn};
 ghost use Rattle.audit_session.specs.Stops.{IsBatch};
 
 use crate::session::serve_with;
 use audit_store::Store;
 use bench_core::{Bench, Failed, Source, Stop};
-use schema_json::Schema;
 use set_index::Index;
 use std::alloc::Global;
 
@@ -68,7 +66,6 @@ impl Bench for NoSpare {
 /// group that a failed read or the limit cuts short are read and not answered.
 pub fn serve<P: Source, B: Bench>(
     alloc: Global,
-    schema: &Schema,
     index: &Index,
     store: &mut Store,
     source: &mut P,
@@ -76,18 +73,16 @@ pub fn serve<P: Source, B: Bench>(
     batch: u8,
 ) -> Result<(), Stop>
     requires usable { store.old.usable ≡ true }
-    requires fits { FitsSchema schema.now.columns index.now.public }
-    requires entries { index.now.protected ≡ store.old.protected }
-    requires shape { store.old.secret.shape ≡ shape_of schema.now.columns index.now.public.rows }
+    requires shape { store.old.secret.shape ≡ public_shape index.now }
     requires stands { B.told → IsAsLeft (B.file bench.old) store.old }
     requires batch { IsBatch batch }
 
     // Which lines were answered, what the file stands for at each end and at every moment, and which calls were made.
-    ensures session { SessionOn P.Source B.Bench (base_of schema.now.columns index.now.public index.now.protected store.old.secret) batch store.old store.new result source.old source.new bench.old bench.new }
+    ensures session { SessionOn P.Source B.Bench (base_over index.now store.old) batch store.old store.new result source.old source.new bench.old bench.new }
     ensures alone { result ≢ Err Stop.Spare }
 {
     // What the store says of itself: a legal history.
     let _history = store.history();
     let mut none = NoSpare;
-    serve_with(alloc, schema, index, store, source, bench, &mut none, batch)
+    serve_with(alloc, index, store, source, bench, &mut none, batch)
 }

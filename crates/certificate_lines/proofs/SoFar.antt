@@ -11,7 +11,6 @@ use Rattle.bench_core.specs.Bench.{AppendsFront, Elapses, Sending}
 use Rattle.bench_core.specs.Causes.{Rose}
 use Rattle.bench_core.specs.declared.stops.Stop.{Stop}
 use Rattle.bench_core.specs.declared.stops.Stop.TheVariants as stop
-use Rattle.schema_json.specs.Columns.{Column}
 use Rattle.set_index.specs.Indexed.{IndexView}
 use Rattle.line_wire.specs.Lines.{CountedLine, counted_lines}
 use Rattle.line_wire.specs.Cutter.{Cutter}
@@ -31,12 +30,12 @@ bytes-push lines line = concat-append lines (line ∷ []) ∙ ap (λ (l : List �
 pub no_stop : (why : Stop) → (let done : Result (Unit {0}) Stop = Ok tt in done) ≡ Err why → ⊥
 no_stop why is = search rules
 
-module _ {P B : Type 0} (source : SourceGhosts P) (bench : Ghosts B) (columns : List Column) (index : IndexView) (history : List Answered)
+module _ {P B : Type 0} (source : SourceGhosts P) (bench : Ghosts B) (index : IndexView) (history : List Answered)
     (first_source : P) (first : B) where
   -- one line more
   pub explained-push : (asked : List CountedLine) (lines : List (List ℕ)) (next : CountedLine) (line : List ℕ) →
-      AreExplained columns index history asked lines → IsExplained columns index history next line →
-      AreExplained columns index history (asked ++ next ∷ []) (lines ++ line ∷ [])
+      AreExplained index history asked lines → IsExplained index history next line →
+      AreExplained index history (asked ++ next ∷ []) (lines ++ line ∷ [])
   explained-push [] [] next line are is = (is, tt)
   explained-push [] (l ∷ lines) next line are is = absurd are
   explained-push (a ∷ asked) [] next line are is = absurd are
@@ -44,12 +43,12 @@ module _ {P B : Type 0} (source : SourceGhosts P) (bench : Ghosts B) (columns : 
 
   -- what a crash finds meanwhile
   abbrev pub Meanwhile : List ℕ → List ℕ → Type 0
-  Meanwhile = ExplainsMeanwhile source.told columns index history (source.left first_source) (bench.file first) (bench.sent first)
+  Meanwhile = ExplainsMeanwhile source.told index history (source.left first_source) (bench.file first) (bench.sent first)
 
   -- these counted lines were read, and these lines sent for them
   pub record SoFar (cutter : Cutter) (from : P) (at : B) (asked : List CountedLine) (lines : List (List ℕ)) : Type 0 where
     pub read : LinesSoFar source first_source from cutter asked
-    pub are : AreExplained columns index history asked lines
+    pub are : AreExplained index history asked lines
     pub sends : SentSoFar bench first at Meanwhile (concat lines) (length lines)
 
   -- before the first line nothing was sent
@@ -77,11 +76,11 @@ module _ {P B : Type 0} (source : SourceGhosts P) (bench : Ghosts B) (columns : 
     -- ---- a line more
 
     module _ (new : Cutter) (after : P) (next : CountedLine) (line : List ℕ) (gives : GivesLine source cutter new from after next)
-        (cuts : Cuts source cutter new from after) (is : IsExplained columns index history next line) where
+        (cuts : Cuts source cutter new from after) (is : IsExplained index history next line) where
       read_now : LinesSoFar source first_source after new (asked ++ next ∷ [])
       read_now = one_line_more source first_source from cutter asked so_far.read after new cuts next gives
 
-      are_now : AreExplained columns index history (asked ++ next ∷ []) (lines ++ line ∷ [])
+      are_now : AreExplained index history (asked ++ next ∷ []) (lines ++ line ∷ [])
       are_now = explained-push asked lines next line so_far.are is
 
       first_now : source.told → AreFirst (counted_lines (source.left first_source)) (asked ++ next ∷ [])
@@ -111,7 +110,7 @@ module _ {P B : Type 0} (source : SourceGhosts P) (bench : Ghosts B) (columns : 
         -- it couldn't be
         pub line_unsent : (bench.told → AppendsFront (bench.sent at) line (bench.sent sending)) → Rose (bench.faults at) (bench.faults sending)
             → bench.last_failed sending ≡ true → bench.faults at ≤ bench.faults sending
-            → Explains source bench columns index history first_source after first sending (Err stop.Bench)
+            → Explains source bench index history first_source after first sending (Err stop.Bench)
         line_unsent part rose last later = record {
           explains = λ t. (
             asked ++ next ∷ [],
@@ -149,7 +148,7 @@ module _ {P B : Type 0} (source : SourceGhosts P) (bench : Ghosts B) (columns : 
         (source.told → EndReads result (source.left first_source) (source.left after)) → source.faults from ≤ source.faults after
         → (result ≡ Err stop.Input → Rose (source.faults from) (source.faults after)) → (result ≡ Err stop.Input → source.last_failed after ≡ true) →
         (result ≢ Err stop.Input → source.faults after ≡ source.faults from)
-        → Explains source bench columns index history first_source after first at result
+        → Explains source bench index history first_source after first at result
     ends after result fine alone end sends calls reads later rose last steady = record {
       explains = λ t. (asked, lines, end t, so_far.are, sends);
       calls = calls;
@@ -170,7 +169,7 @@ module _ {P B : Type 0} (source : SourceGhosts P) (bench : Ghosts B) (columns : 
 
     -- there was no memory
     pub wants_memory : (after : P) → source.faults after ≡ source.faults from →
-        Explains source bench columns index history first_source after first at (Err stop.NoMemory)
+        Explains source bench index history first_source after first at (Err stop.NoMemory)
     wants_memory after steady =
         ends after (Err stop.NoMemory) (search rules) (search rules) (first_lines source first_source from cutter asked so_far.read) so_far.sends.sent
         (λ t told. tt) (λ t. tt)
@@ -178,7 +177,7 @@ module _ {P B : Type 0} (source : SourceGhosts P) (bench : Ghosts B) (columns : 
 
     module _ (new : Cutter) (after : P) (cuts : Cuts source cutter new from after) where
       -- no line is left
-      pub all_read : GivesNone source cutter new from after → Explains source bench columns index history first_source after first at (Ok tt)
+      pub all_read : GivesNone source cutter new from after → Explains source bench index history first_source after first at (Ok tt)
       all_read gives =
           let all = all_lines source first_source from cutter asked so_far.read after new cuts gives in
           ends after (Ok tt) (no_stop stop.Bench) (no_stop stop.Spare) (λ t. sym (all t)) so_far.sends.sent
@@ -186,14 +185,14 @@ module _ {P B : Type 0} (source : SourceGhosts P) (bench : Ghosts B) (columns : 
           omega (
             arith,
             so_far.sends.ticks told,
-            AllZip-long (IsExplained columns index history) asked lines so_far.are,
+            AllZip-long (IsExplained index history) asked lines so_far.are,
             ap (λ (ls : List CountedLine). length ls) (all t),
           )) (all_input source first_source from cutter asked so_far.read after new cuts gives) cuts.later (λ is. absurd (no_stop stop.Input is))
           (λ is. absurd (no_stop stop.Input is)) (λ other. gives.steady)
 
       -- no line was planned
       pub cut_short : (why : Stop) → IsUnplanned source cutter new from after why →
-          Explains source bench columns index history first_source after first at (Err why)
+          Explains source bench index history first_source after first at (Err why)
       cut_short stop.Input short =
           ends after (Err stop.Input) (search rules) (search rules) (lines_read source first_source from cutter asked so_far.read after new cuts short)
           so_far.sends.sent (λ t told. tt)

@@ -9,7 +9,6 @@ use Rattle.bench_core.specs.declared.stops.Stop.TheVariants as stop
 use Rattle.bench_core.specs.Bench.{AppendsFront}
 use Rattle.bench_core.specs.Calls.{IsQuiet, LeavesOnly}
 use Rattle.bench_core.specs.Causes.{Rose}
-use Rattle.schema_json.specs.Columns.{Column}
 use Rattle.set_index.specs.Indexed.{IndexView}
 use Rattle.line_wire.specs.Lines.{CountedLine, counted_lines, most_input}
 use Rattle.line_wire.specs.WhichLines.{AreFirst, AreRead, AreWithin}
@@ -32,16 +31,16 @@ EndSends (Err stop.Bench) lines before after = AppendsFront before (concat lines
 EndSends ended lines before after = after ≡ before ++ concat lines
 
 -- a front of what is due to some first lines of the input was sent
-pub record SendsFront (columns : List Column) (index : IndexView) (history : List Answered) (input before sent : List ℕ) : Type 0 where
+pub record SendsFront (index : IndexView) (history : List Answered) (input before sent : List ℕ) : Type 0 where
   pub asked : List CountedLine
   pub first : AreFirst (counted_lines input) asked
   pub lines : List (List ℕ)
-  pub are : AreExplained columns index history asked lines
+  pub are : AreExplained index history asked lines
   pub front : AppendsFront before (concat lines) sent
 
 -- what a crash finds meanwhile: the file as it was, and such a front, if the source tells its lines
-abbrev pub ExplainsMeanwhile : Type 0 → List Column → IndexView → List Answered → List ℕ → List ℕ → List ℕ → List ℕ → List ℕ → Type 0
-ExplainsMeanwhile told columns index history input file before image sent = (image ≡ file) × (told → SendsFront columns index history input before sent)
+abbrev pub ExplainsMeanwhile : Type 0 → IndexView → List Answered → List ℕ → List ℕ → List ℕ → List ℕ → List ℕ → Type 0
+ExplainsMeanwhile told index history input file before image sent = (image ≡ file) × (told → SendsFront index history input before sent)
 
 -- ---- how much of the input there was
 
@@ -55,14 +54,14 @@ EndReads ended input left = Unit {0}
 -- ---- all of it
 
 -- lines were explained up to this end
-pub record Explains {P B : Type 0} (source : SourceGhosts P) (bench : Ghosts B) (columns : List Column) (index : IndexView) (history : List Answered)
+pub record Explains {P B : Type 0} (source : SourceGhosts P) (bench : Ghosts B) (index : IndexView) (history : List Answered)
     (first from : P) (old at : B) (result : Result (Unit {0}) Stop) : Type 0 where
   pub explains : source.told → (asked : List CountedLine) × (lines : List (List ℕ)) × EndLines result (source.left first) (source.left from) asked ×
-      AreExplained columns index history asked lines × (bench.told → EndSends result lines (bench.sent old) (bench.sent at))
+      AreExplained index history asked lines × (bench.told → EndSends result lines (bench.sent old) (bench.sent at))
   pub calls : source.told → bench.told → OnOk result (bench.moment at ≡ bench.moment old + length (counted_lines (source.left first)))
   pub reads : source.told → EndReads result (source.left first) (source.left from)
   pub moments : bench.told → IsQuiet bench old →
-      LeavesOnly bench old at (ExplainsMeanwhile source.told columns index history (source.left first) (bench.file old) (bench.sent old))
+      LeavesOnly bench old at (ExplainsMeanwhile source.told index history (source.left first) (bench.file old) (bench.sent old))
   pub file : bench.file at ≡ bench.file old
   pub crash : (image : List ℕ) → bench.leaves at image → bench.leaves old image
   pub source_later : source.faults first ≤ source.faults from

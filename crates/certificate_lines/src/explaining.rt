@@ -1,12 +1,10 @@
 //! Explaining the lines of an input.
 ghost use Rattle.std.specs.Prelude.{◌≡◌, ◌≢◌, ◌≤◌, ◌+◌, [], List, ℕ, length, OnOk, Err, true, false};
-ghost use Rattle.audit_types.specs.History.{setting_of};
 ghost use Rattle.denial_proof.specs.Denied.{IsLegalIn};
 ghost use Rattle.bench_core.specs.Causes.{Rose};
 ghost use Rattle.bench_core.specs.Calls.{IsQuiet, LeavesOnly};
 ghost use Rattle.bench_core.specs.declared.stops.Stop.{Stop};
-ghost use Rattle.schema_json.specs.SecretShape.{shape_of};
-ghost use Rattle.table_load.specs.Cells.{FitsSchema};
+ghost use Rattle.set_index.specs.Indexed.{public_setting, public_shape};
 ghost use Rattle.line_wire.specs.Lines.{CountedLine, counted_lines};
 ghost use Rattle.certificate_lines.specs.Explained.{AreExplained};
 ghost use Rattle.certificate_lines.specs.Ends.{EndLines, EndReads, EndSends, Explains, ExplainsMeanwhile};
@@ -17,7 +15,6 @@ use audit_core::Core;
 use audit_store::Store;
 use bench_core::{Bench, Source, Stop};
 use question_plan::Planner;
-use schema_json::Schema;
 use set_index::Index;
 use std::alloc::Global;
 use table_load::lists_of_secrets;
@@ -26,21 +23,19 @@ use table_load::lists_of_secrets;
 fn explain_lines<P: Source, B: Bench>(
     alloc: Global,
     planner: &mut Planner,
-    schema: &Schema,
     index: &Index,
     core: &Core,
     source: &mut P,
     bench: &mut B,
 ) -> Result<(), Stop>
     requires fresh { (planner.old.taken ≡ 0) × (planner.old.pending ≡ []) × (planner.old.ended ≡ false) }
-    requires fits { FitsSchema schema.now.columns index.now.public }
-    requires setting { core.now.setting ≡ setting_of (shape_of schema.now.columns index.now.public.rows) index.now.protected }
+    requires setting { core.now.setting ≡ public_setting index.now }
     requires legal { IsLegalIn core.now.setting core.now.history }
-    ensures { Explains P.Source B.Bench schema.now.columns index.now core.now.history source.old source.new bench.old bench.new result }
+    ensures { Explains P.Source B.Bench index.now core.now.history source.old source.new bench.old bench.new result }
 {
     let mut provers = Provers::new();
     let mut line = Vec::new(alloc);
-    while let Some(plan) = planner.next(alloc, schema, index, source)? {
+    while let Some(plan) = planner.next(alloc, index, source)? {
         write_line(alloc, core, &plan, &mut provers, &mut line)?;
         bench.send(&line)?;
     }
@@ -52,27 +47,25 @@ fn explain_lines<P: Source, B: Bench>(
 /// is that of the schema's public columns and protected groups.
 pub fn explain<P: Source, B: Bench>(
     alloc: Global,
-    schema: &Schema,
     index: &Index,
     store: &Store,
     source: &mut P,
     bench: &mut B,
 ) -> Result<(), Stop>
     requires usable { store.now.usable ≡ true }
-    requires fits { FitsSchema schema.now.columns index.now.public }
     requires entries { index.now.protected ≡ store.now.protected }
-    requires shape { store.now.secret.shape ≡ shape_of schema.now.columns index.now.public.rows }
+    requires shape { store.now.secret.shape ≡ public_shape index.now }
 
     // Which lines are explained, and what is due to each, whether or not the bench tells what was sent; that it was sent, by one
     // call for each counted line and no other.
     ensures explains { P.told → (asked : List CountedLine) × (lines : List (List ℕ)) × EndLines result (P.left source.old) (P.left source.new) asked
-        × AreExplained schema.now.columns index.now store.now.history asked lines × (B.told → EndSends result lines (B.sent bench.old) (B.sent bench.new)) }
+        × AreExplained index.now store.now.history asked lines × (B.told → EndSends result lines (B.sent bench.old) (B.sent bench.new)) }
     ensures calls { P.told → B.told → OnOk result (B.moment bench.new ≡ B.moment bench.old + length (counted_lines (P.left source.old))) }
     ensures reads { P.told → EndReads result (P.left source.old) (P.left source.new) }
 
     // The file isn't touched, at the end and at every moment.
     ensures any_moment { B.told → IsQuiet B.Bench bench.old
-        → LeavesOnly B.Bench bench.old bench.new (ExplainsMeanwhile P.told schema.now.columns index.now store.now.history (P.left source.old) (B.file bench.old) (B.sent bench.old)) }
+        → LeavesOnly B.Bench bench.old bench.new (ExplainsMeanwhile P.told index.now store.now.history (P.left source.old) (B.file bench.old) (B.sent bench.old)) }
     ensures file { B.file bench.new ≡ B.file bench.old }
     ensures crash { (image : List ℕ) → B.leaves bench.new image → B.leaves bench.old image }
 
@@ -91,7 +84,6 @@ pub fn explain<P: Source, B: Bench>(
     explain_lines(
         alloc,
         &mut planner,
-        schema,
         index,
         store.core(),
         source,

@@ -11,14 +11,13 @@ use Rattle.bench_core.specs.Moments.{joins, still_quiet, weakens}
 use Rattle.bench_core.specs.Stops.{IsOfBench}
 use Rattle.bench_core.specs.declared.stops.Stop.{Stop}
 use Rattle.bench_core.specs.declared.stops.Stop.TheVariants as stop
-use Rattle.schema_json.specs.Columns.{Column}
-use Rattle.set_index.specs.Indexed.{IndexView}
+use Rattle.set_index.specs.Indexed.{IndexView, public_setting}
 use Rattle.line_wire.specs.Lines.{CountedLine, counted_lines}
 use Rattle.question_plan.specs.Session.{Replied}
 use Rattle.transcript_sim.specs.declared.simulating.SimulationFault.{SimulationFault}
 use Rattle.transcript_sim.specs.declared.simulating.SimulationFault.TheVariants as fault
 use Rattle.transcript_sim.specs.Verdicts.{exchanges}
-use Rattle.transcript_sim.specs.Beginning.{BeginsWith, EndBegins, IsUnbegun, OnRefused, public_setting}
+use Rattle.transcript_sim.specs.Beginning.{BeginsWith, EndBegins, IsUnbegun, OnRefused}
 use Rattle.transcript_sim.specs.Ends.{BeginVerdicts, EndReads, EndSends, EndVerdicts, Simulates, SimulatesMeanwhile}
 use Rattle.transcript_sim.proofs.Beginnings.{OneReading, NoBreak, ended_by, never_refused, one_beginning}
 
@@ -65,20 +64,20 @@ so_on_ok : {P Q : Type 0} (ended : Result (Unit {0}) SimulationFault) → (P →
 so_on_ok (Ok done) follows holds = follows holds
 so_on_ok (Err why) follows holds = tt
 
-module _ {P B : Type 0} (source : SourceGhosts P) (bench : Ghosts B) (columns : List Column) (index : IndexView) where
+module _ {P B : Type 0} (source : SourceGhosts P) (bench : Ghosts B) (index : IndexView) where
   -- all that is said of a whole simulation
   pub record EndsSo (first from : P) (old at : B) (ended : Result (Unit {0}) SimulationFault) : Type 0 where
-    pub verdicts : (history : List Answered) → source.told → bench.told → BeginsWith (bench.file old) (public_setting columns index) history →
-        (verdicts : List (Replied Answered)) × EndVerdicts ended columns index history (source.left first) (source.left from) verdicts
+    pub verdicts : (history : List Answered) → source.told → bench.told → BeginsWith (bench.file old) (public_setting index) history →
+        (verdicts : List (Replied Answered)) × EndVerdicts ended index history (source.left first) (source.left from) verdicts
         × EndSends ended verdicts (bench.sent old) (bench.sent at)
     pub calls : source.told → bench.told → OnOk ended (bench.moment at ≡ bench.moment old + 2 + length (exchanges (counted_lines (source.left first))))
     pub reads : source.told → EndReads ended (source.left first) (source.left from)
-    pub begins : bench.told → EndBegins ended (bench.file old) (public_setting columns index)
+    pub begins : bench.told → EndBegins ended (bench.file old) (public_setting index)
     pub unbegun : OnRefused ended ((from ≡ first) × (bench.sent at ≡ bench.sent old))
-    pub moments : (history : List Answered) → bench.told → IsQuiet bench old → BeginsWith (bench.file old) (public_setting columns index) history →
-        LeavesOnly bench old at (SimulatesMeanwhile source.told columns index history (counted_lines (source.left first)) (bench.file old) (bench.sent old))
+    pub moments : (history : List Answered) → bench.told → IsQuiet bench old → BeginsWith (bench.file old) (public_setting index) history →
+        LeavesOnly bench old at (SimulatesMeanwhile source.told index history (counted_lines (source.left first)) (bench.file old) (bench.sent old))
     pub undisturbed : bench.told → IsQuiet bench old → LeavesOnly bench old at (λ image sent. image ≡ bench.file old)
-    pub untouched : bench.told → IsQuiet bench old → ((history : List Answered) → BeginsWith (bench.file old) (public_setting columns index) history → ⊥) →
+    pub untouched : bench.told → IsQuiet bench old → ((history : List Answered) → BeginsWith (bench.file old) (public_setting index) history → ⊥) →
         LeavesOnly bench old at (IsUntouched (bench.file old) (bench.sent old))
     pub file : bench.file at ≡ bench.file old
     pub crash : (image : List ℕ) → bench.leaves at image → bench.leaves old image
@@ -94,9 +93,9 @@ module _ {P B : Type 0} (source : SourceGhosts P) (bench : Ghosts B) (columns : 
 
   module _ (first : P) (old : B) where
     abbrev Meanwhile : List Answered → List ℕ → List ℕ → Type 0
-    Meanwhile history = SimulatesMeanwhile source.told columns index history (counted_lines (source.left first)) (bench.file old) (bench.sent old)
+    Meanwhile history = SimulatesMeanwhile source.told index history (counted_lines (source.left first)) (bench.file old) (bench.sent old)
 
-    none_begun : (history : List Answered) (lines : List CountedLine) → BeginVerdicts columns index history lines []
+    none_begun : (history : List Answered) (lines : List CountedLine) → BeginVerdicts index history lines []
     none_begun history lines = ([], record { count = 0; are = refl }, tt)
 
     -- while the journal is read no verdict is sent
@@ -109,11 +108,11 @@ module _ {P B : Type 0} (source : SourceGhosts P) (bench : Ghosts B) (columns : 
     -- and then the lines are judged
     judging : (mid at : B) (history : List Answered) → OnlyReads bench old mid →
         (IsQuiet bench mid → LeavesOnly bench mid at
-        (SimulatesMeanwhile source.told columns index history (counted_lines (source.left first)) (bench.file mid) (bench.sent mid))) →
+        (SimulatesMeanwhile source.told index history (counted_lines (source.left first)) (bench.file mid) (bench.sent mid))) →
         IsQuiet bench old → LeavesOnly bench old at (Meanwhile history)
     judging mid at history reads judged quiet =
         let Said : List ℕ → List ℕ → List ℕ → List ℕ → Type 0 =
-        SimulatesMeanwhile source.told columns index history (counted_lines (source.left first)) in
+        SimulatesMeanwhile source.told index history (counted_lines (source.left first)) in
         joins bench old mid at (Meanwhile history) (reading mid history reads quiet)
         (subst (λ (f : List ℕ). LeavesOnly bench mid at (Said f (bench.sent old))) reads.file
         (subst (λ (s : List ℕ). LeavesOnly bench mid at (Said (bench.file mid) s)) reads.sent (judged (still_quiet bench old mid reads quiet))))
@@ -122,9 +121,9 @@ module _ {P B : Type 0} (source : SourceGhosts P) (bench : Ghosts B) (columns : 
       -- it didn't begin
       module _ (whole : NoBreak) (at : B) (reads : OnlyReads bench old at) (why : SimulationFault) (unbegun : IsUnbegun why)
           (tells : TellsFault bench old at (why ≡ fault.Stopped stop.Bench))
-          (cause : bench.told → EndBegins (ended_by (Unit {0}) why) (bench.file old) (public_setting columns index)) where
+          (cause : bench.told → EndBegins (ended_by (Unit {0}) why) (bench.file old) (public_setting index)) where
         no_verdict : (history : List Answered) (input left : List ℕ) (given : SimulationFault) → IsUnbegun given → OnRefused (ended_by (Unit {0}) given) ⊥ →
-            EndVerdicts (Err given) columns index history input left [] × EndSends (Err given) [] (bench.sent old) (bench.sent at)
+            EndVerdicts (Err given) index history input left [] × EndSends (Err given) [] (bench.sent old) (bench.sent at)
         no_verdict history input left (fault.Stopped stop.Bench) is none =
             (none_begun history (counted_lines input), (0, reads.sent ∙ sym (append-nil (bench.sent old))))
         no_verdict history input left (fault.Stopped stop.NoMemory) is none =
@@ -150,7 +149,7 @@ module _ {P B : Type 0} (source : SourceGhosts P) (bench : Ghosts B) (columns : 
         not_begun = record {
           verdicts = λ history t told begins.
               let said = no_verdict history (source.left first) (source.left first) why unbegun
-              (never_refused one (bench.file old) (public_setting columns index) whole history begins (ended_by (Unit {0}) why) (cause told)) in
+              (never_refused one (bench.file old) (public_setting index) whole history begins (ended_by (Unit {0}) why) (cause told)) in
               ([], said.0, said.1);
           calls = λ t told. tt;
           reads = λ t. nothing_read (source.left first) (source.left first) why unbegun;
@@ -177,22 +176,22 @@ module _ {P B : Type 0} (source : SourceGhosts P) (bench : Ghosts B) (columns : 
       -- it did, and its lines were judged
       pub judged_so : (mid at : B) (from : P) (history : List Answered) (ended : Result (Unit {0}) SimulationFault) → OnlyReads bench old mid →
           bench.faults mid ≡ bench.faults old → (bench.told → bench.moment mid ≡ bench.moment old + 2) →
-          (bench.told → BeginsWith (bench.file old) (public_setting columns index) history) →
-          Simulates source bench columns index history first from mid at ended → EndsSo first from old at ended
+          (bench.told → BeginsWith (bench.file old) (public_setting index) history) →
+          Simulates source bench index history first from mid at ended → EndsSo first from old at ended
       judged_so mid at from history ended reads steady ticks begun all = record {
         verdicts = λ others t told begins.
-            let same = one_beginning one (bench.file old) (public_setting columns index) history others (begun told) begins in
+            let same = one_beginning one (bench.file old) (public_setting index) history others (begun told) begins in
             let found = all.verdicts t in (
               found.0,
-              subst (λ (h : List Answered). EndVerdicts ended columns index h (source.left first) (source.left from) found.0) same found.1,
+              subst (λ (h : List Answered). EndVerdicts ended index h (source.left first) (source.left from) found.0) same found.1,
               subst (λ (s : List ℕ). EndSends ended found.0 s (bench.sent at)) reads.sent (found.2 told),
             );
         calls = λ t told. so_on_ok ended (λ is. omega (arith, is, ticks told)) (all.calls t told);
         reads = all.reads;
-        begins = λ told. begun_with ended (bench.file old) (public_setting columns index) history all.begun (begun told);
+        begins = λ told. begun_with ended (bench.file old) (public_setting index) history all.begun (begun told);
         unbegun = not_refused _ ended all.begun;
         moments = λ others told quiet begins.
-            let same = one_beginning one (bench.file old) (public_setting columns index) history others (begun told) begins in
+            let same = one_beginning one (bench.file old) (public_setting index) history others (begun told) begins in
             subst (λ (h : List Answered). LeavesOnly bench old at (Meanwhile h)) same (judging mid at history reads (all.moments told) quiet);
         undisturbed = λ told quiet.
             weakens bench old at (Meanwhile history) (λ image sent. image ≡ bench.file old) (λ image sent is. is.0)

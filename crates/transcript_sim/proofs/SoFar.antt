@@ -10,7 +10,6 @@ use Rattle.bench_core.specs.Bench.{AppendsFront, Elapses, Sending}
 use Rattle.bench_core.specs.Causes.{Rose}
 use Rattle.bench_core.specs.declared.stops.Stop.{Stop}
 use Rattle.bench_core.specs.declared.stops.Stop.TheVariants as stop
-use Rattle.schema_json.specs.Columns.{Column}
 use Rattle.set_index.specs.Indexed.{IndexView}
 use Rattle.line_wire.specs.Lines.{CountedLine, counted_lines}
 use Rattle.line_wire.specs.Cutter.{Cutter}
@@ -52,16 +51,16 @@ records-push verdicts out =
 pub no_fault : (fault : SimulationFault) → (let done : Result (Unit {0}) SimulationFault = Ok tt in done) ≡ Err fault → ⊥
 no_fault fault is = search rules
 
-module _ {P B : Type 0} (source : SourceGhosts P) (bench : Ghosts B) (columns : List Column) (index : IndexView) (begun : List Answered) (first_source : P)
+module _ {P B : Type 0} (source : SourceGhosts P) (bench : Ghosts B) (index : IndexView) (begun : List Answered) (first_source : P)
     (first : B) where
   -- what a crash finds meanwhile
   abbrev pub Meanwhile : List ℕ → List ℕ → Type 0
-  Meanwhile = SimulatesMeanwhile source.told columns index begun (counted_lines (source.left first_source)) (bench.file first) (bench.sent first)
+  Meanwhile = SimulatesMeanwhile source.told index begun (counted_lines (source.left first_source)) (bench.file first) (bench.sent first)
 
   -- these lines were read, and these are the verdicts on them
   pub record SoFar (cutter : Cutter) (from : P) (at : B) (lines : List CountedLine) (verdicts : List (Replied Answered)) : Type 0 where
     pub read : LinesSoFar source first_source from cutter lines
-    pub are : AreVerdicts columns index begun lines verdicts
+    pub are : AreVerdicts index begun lines verdicts
     pub sends : SentSoFar bench first at Meanwhile (bytes_of verdicts) (length verdicts)
 
   -- before the first line nothing was sent
@@ -87,22 +86,22 @@ module _ {P B : Type 0} (source : SourceGhosts P) (bench : Ghosts B) (columns : 
       read_now = one_line_more source first_source from cutter lines so_far.read after new cuts line gives
 
       -- a question, whose verdict is sent
-      module _ (half : ℕ) (even : length lines ≡ 2 * half) (expected : Expected) (expects : Expects columns index (begun ++ records_of verdicts) line
+      module _ (half : ℕ) (even : length lines ≡ 2 * half) (expected : Expected) (expects : Expects index (begun ++ records_of verdicts) line
           expected) where
-        are_with : AreVerdicts columns index begun (lines ++ line ∷ []) (verdicts ++ sent_for expected ∷ [])
+        are_with : AreVerdicts index begun (lines ++ line ∷ []) (verdicts ++ sent_for expected ∷ [])
         are_with =
             let asked : Exchange = record { question = line; shown = None } in
-            let verdict : IsVerdict columns index (begun ++ records_of verdicts) asked (sent_for expected) = record {
+            let verdict : IsVerdict index (begun ++ records_of verdicts) asked (sent_for expected) = record {
               expected = expected;
               expects = expects;
               bytes_are = refl;
               taken = refl;
             } in
-            subst (λ (es : List Exchange). AreReplies (IsVerdict columns index) begun es (verdicts ++ sent_for expected ∷ []))
+            subst (λ (es : List Exchange). AreReplies (IsVerdict index) begun es (verdicts ++ sent_for expected ∷ []))
             (sym (exchanges-append lines (line ∷ []) half even))
-            (replies-append (IsVerdict columns index) begun (exchanges lines) (asked ∷ []) verdicts (sent_for expected ∷ []) so_far.are (verdict, tt))
+            (replies-append (IsVerdict index) begun (exchanges lines) (asked ∷ []) verdicts (sent_for expected ∷ []) so_far.are (verdict, tt))
 
-        begun_with : source.told → BeginVerdicts columns index begun (counted_lines (source.left first_source)) (verdicts ++ sent_for expected ∷ [])
+        begun_with : source.told → BeginVerdicts index begun (counted_lines (source.left first_source)) (verdicts ++ sent_for expected ∷ [])
         begun_with t = (lines ++ line ∷ [], first_lines source first_source after new (lines ++ line ∷ []) read_now t, are_with)
 
         -- a front of the verdicts, whose last one was sent so far
@@ -130,7 +129,7 @@ module _ {P B : Type 0} (source : SourceGhosts P) (bench : Ghosts B) (columns : 
           -- it couldn't be
           pub question_unsent : (bench.told → AppendsFront (bench.sent at) (line_of expected) (bench.sent sending))
               → Rose (bench.faults at) (bench.faults sending) → bench.last_failed sending ≡ true → bench.faults at ≤ bench.faults sending
-              → Simulates source bench columns index begun first_source after first sending (Err (fault.Stopped stop.Bench))
+              → Simulates source bench index begun first_source after first sending (Err (fault.Stopped stop.Bench))
           question_unsent part rose last later = record {
             verdicts =
                 λ t. (
@@ -163,14 +162,14 @@ module _ {P B : Type 0} (source : SourceGhosts P) (bench : Ghosts B) (columns : 
 
     -- by what is said of the verdicts and of the input
     pub ends : (after : P) (result : Result (Unit {0}) SimulationFault) → result ≢ Err (fault.Stopped stop.Bench)
-        → (source.told → EndVerdicts result columns index begun (source.left first_source) (source.left after) verdicts)
+        → (source.told → EndVerdicts result index begun (source.left first_source) (source.left after) verdicts)
         → (bench.told → EndSends result verdicts (bench.sent first) (bench.sent at)) →
         (source.told → bench.told → OnOk result (bench.moment at ≡ bench.moment first + length (exchanges (counted_lines (source.left first_source))))) →
         (source.told → EndReads result (source.left first_source) (source.left after)) → source.faults from ≤ source.faults after
         → (result ≡ Err (fault.Stopped stop.Input) → Rose (source.faults from) (source.faults after))
         → (result ≡ Err (fault.Stopped stop.Input) → source.last_failed after ≡ true)
         → (result ≢ Err (fault.Stopped stop.Input) → source.faults after ≡ source.faults from)
-        → result ≢ Err (fault.Stopped stop.Spare) → OnRefused result ⊥ → Simulates source bench columns index begun first_source after first at result
+        → result ≢ Err (fault.Stopped stop.Spare) → OnRefused result ⊥ → Simulates source bench index begun first_source after first at result
     ends after result fine are sends calls reads later rose last steady alone taken = record {
       verdicts = λ t. (verdicts, are t, sends);
       calls = calls;
@@ -192,7 +191,7 @@ module _ {P B : Type 0} (source : SourceGhosts P) (bench : Ghosts B) (columns : 
 
     -- there was no memory
     pub wants_memory : (after : P) → source.faults after ≡ source.faults from →
-        Simulates source bench columns index begun first_source after first at (Err (fault.Stopped stop.NoMemory))
+        Simulates source bench index begun first_source after first at (Err (fault.Stopped stop.NoMemory))
     wants_memory after steady =
         ends after (Err (fault.Stopped stop.NoMemory)) (search rules)
         (λ t. (lines, first_lines source first_source from cutter lines so_far.read t, so_far.are)) so_far.sends.sent
@@ -200,16 +199,16 @@ module _ {P B : Type 0} (source : SourceGhosts P) (bench : Ghosts B) (columns : 
 
     module _ (new : Cutter) (after : P) (cuts : Cuts source cutter new from after) where
       -- no line is left
-      pub all_read : GivesNone source cutter new from after → Simulates source bench columns index begun first_source after first at (Ok tt)
+      pub all_read : GivesNone source cutter new from after → Simulates source bench index begun first_source after first at (Ok tt)
       all_read gives =
           let all = all_lines source first_source from cutter lines so_far.read after new cuts gives in
           ends after (Ok tt) (no_fault (fault.Stopped stop.Bench))
-          (λ t. subst (λ (ls : List CountedLine). AreVerdicts columns index begun ls verdicts) (sym (all t)) so_far.are) so_far.sends.sent
+          (λ t. subst (λ (ls : List CountedLine). AreVerdicts index begun ls verdicts) (sym (all t)) so_far.are) so_far.sends.sent
           (λ t told.
           omega (
             arith,
             so_far.sends.ticks told,
-            length-replies (IsVerdict columns index) begun (exchanges lines) verdicts so_far.are,
+            length-replies (IsVerdict index) begun (exchanges lines) verdicts so_far.are,
             ap (λ (ls : List CountedLine). length (exchanges ls)) (all t),
           )) (all_input source first_source from cutter lines so_far.read after new cuts gives) cuts.later
           (λ is. absurd (no_fault (fault.Stopped stop.Input) is)) (λ is. absurd (no_fault (fault.Stopped stop.Input) is)) (λ other. gives.steady)
@@ -217,7 +216,7 @@ module _ {P B : Type 0} (source : SourceGhosts P) (bench : Ghosts B) (columns : 
 
       -- no line was given
       pub cut_short : (why : Stop) → IsUnplanned source cutter new from after why →
-          Simulates source bench columns index begun first_source after first at (Err (fault.Stopped why))
+          Simulates source bench index begun first_source after first at (Err (fault.Stopped why))
       cut_short stop.Input short =
           ends after (Err (fault.Stopped stop.Input)) (search rules)
           (λ t. (lines, lines_read source first_source from cutter lines so_far.read after new cuts short t, so_far.are)) so_far.sends.sent (λ t told. tt)

@@ -1,16 +1,14 @@
 //! Reading a transcript, and sending its verdicts.
 ghost use Rattle.std.specs.Prelude.{◌≡◌, ◌≢◌, ◌≤◌, ◌+◌, [], List, ℕ, false, length, OnOk, Err, true};
-ghost use Rattle.audit_types.specs.History.{AreProtected, setting_of};
 ghost use Rattle.audit_types.specs.declared.records.Answered.{Answered};
 ghost use Rattle.bench_core.specs.Causes.{Rose};
 ghost use Rattle.bench_core.specs.Calls.{IsQuiet, IsUntouched, LeavesOnly};
 ghost use Rattle.bench_core.specs.declared.stops.Stop.{Stop};
-ghost use Rattle.schema_json.specs.SecretShape.{shape_of};
-ghost use Rattle.table_load.specs.Cells.{FitsSchema};
+ghost use Rattle.set_index.specs.Indexed.{public_setting};
 ghost use Rattle.line_wire.specs.Lines.{counted_lines};
 ghost use Rattle.question_plan.specs.Session.{Replied};
 ghost use Rattle.transcript_sim.specs.Verdicts.{exchanges};
-ghost use Rattle.transcript_sim.specs.Beginning.{BeginsWith, EndBegins, OnRefused, public_setting};
+ghost use Rattle.transcript_sim.specs.Beginning.{BeginsWith, EndBegins, OnRefused};
 ghost use Rattle.transcript_sim.specs.Ends.{EndReads, EndSends, EndVerdicts, Simulates, SimulatesMeanwhile};
 ghost use Rattle.transcript_sim.specs.declared.simulating.SimulationFault.TheVariants as fault;
 
@@ -22,7 +20,6 @@ use audit_types::{NoMemory, Shape};
 use bench_core::{Bench, Source, Stop};
 use journal_form::laws::{no_break_in_a_journal, one_reading};
 use question_plan::Due;
-use schema_json::Schema;
 use set_index::Index;
 use std::alloc::Global;
 
@@ -76,19 +73,17 @@ impl From<ReplayFault> for SimulationFault {
 fn judge<P: Source, B: Bench>(
     alloc: Global,
     simulation: &mut Simulation,
-    schema: &Schema,
     index: &Index,
     source: &mut P,
     bench: &mut B,
 ) -> Result<(), SimulationFault>
     requires fresh { (simulation.old.lines.taken ≡ 0) × (simulation.old.lines.pending ≡ []) × (simulation.old.lines.ended ≡ false) }
-    requires fits { FitsSchema schema.now.columns index.now.public }
-    requires setting { simulation.old.core.setting ≡ setting_of (shape_of schema.now.columns index.now.public.rows) index.now.protected }
-    ensures { Simulates P.Source B.Bench schema.now.columns index.now simulation.old.core.history source.old source.new bench.old bench.new result }
+    requires setting { simulation.old.core.setting ≡ public_setting index.now }
+    ensures { Simulates P.Source B.Bench index.now simulation.old.core.history source.old source.new bench.old bench.new result }
 {
     one_verdict();
     let mut line = 0;
-    while let Some(expected) = simulation.judge_question(alloc, schema, index, source, bench)? {
+    while let Some(expected) = simulation.judge_question(alloc, index, source, bench)? {
         line += 2;
         let shown = simulation.take_shown(source, &expected)?;
         if !goes_on(shown, line, expected.due())? {
@@ -100,34 +95,31 @@ fn judge<P: Source, B: Bench>(
 
 /// Sends the verdict on each question of a transcript, by one call before its reply is looked at, and takes an answer only from
 /// a reply that agrees. No verdict depends on its own reply. The transcript begins with the history of the bench's journal, if one is
-/// made there. The index is that of the schema's public columns and protected groups; no secret is read, and nothing is written.
+/// made there. No secret is read, and nothing is written.
 pub fn simulate<P: Source, B: Bench>(
     alloc: Global,
-    schema: &Schema,
     index: &Index,
     source: &mut P,
     bench: &mut B,
 ) -> Result<(), SimulationFault>
-    requires fits { FitsSchema schema.now.columns index.now.public }
-    requires protected { AreProtected (shape_of schema.now.columns index.now.public.rows) index.now.protected }
 
     // Which verdicts there are after the history that it begins with, and that their lines were sent, by one call for each question and no
     // other after the two that open the journal.
-    ensures verdicts { (history : List Answered) → P.told → B.told → BeginsWith (B.file bench.old) (public_setting schema.now.columns index.now) history
-        → (verdicts : List (Replied Answered)) × EndVerdicts result schema.now.columns index.now history (P.left source.old) (P.left source.new) verdicts
+    ensures verdicts { (history : List Answered) → P.told → B.told → BeginsWith (B.file bench.old) (public_setting index.now) history
+        → (verdicts : List (Replied Answered)) × EndVerdicts result index.now history (P.left source.old) (P.left source.new) verdicts
         × EndSends result verdicts (B.sent bench.old) (B.sent bench.new) }
     ensures calls { P.told → B.told → OnOk result (B.moment bench.new ≡ B.moment bench.old + 2 + length (exchanges (counted_lines (P.left source.old)))) }
     ensures reads { P.told → EndReads result (P.left source.old) (P.left source.new) }
 
     // A journal is refused only for what it is, before anything is read or sent; over any other there is a history to begin with.
-    ensures begins { B.told → EndBegins result (B.file bench.old) (public_setting schema.now.columns index.now) }
+    ensures begins { B.told → EndBegins result (B.file bench.old) (public_setting index.now) }
     ensures unbegun { OnRefused result ((source.new ≡ source.old) × (B.sent bench.new ≡ B.sent bench.old)) }
 
     // The file isn't touched, at the end and at every moment. If no history can be begun with, nothing is sent.
-    ensures any_moment { (history : List Answered) → B.told → IsQuiet B.Bench bench.old → BeginsWith (B.file bench.old) (public_setting schema.now.columns index.now) history
-        → LeavesOnly B.Bench bench.old bench.new (SimulatesMeanwhile P.told schema.now.columns index.now history (counted_lines (P.left source.old)) (B.file bench.old) (B.sent bench.old)) }
+    ensures any_moment { (history : List Answered) → B.told → IsQuiet B.Bench bench.old → BeginsWith (B.file bench.old) (public_setting index.now) history
+        → LeavesOnly B.Bench bench.old bench.new (SimulatesMeanwhile P.told index.now history (counted_lines (P.left source.old)) (B.file bench.old) (B.sent bench.old)) }
     ensures undisturbed { B.told → IsQuiet B.Bench bench.old → LeavesOnly B.Bench bench.old bench.new (λ image sent. image ≡ B.file bench.old) }
-    ensures untouched { B.told → IsQuiet B.Bench bench.old → ((history : List Answered) → BeginsWith (B.file bench.old) (public_setting schema.now.columns index.now) history → ⊥)
+    ensures untouched { B.told → IsQuiet B.Bench bench.old → ((history : List Answered) → BeginsWith (B.file bench.old) (public_setting index.now) history → ⊥)
         → LeavesOnly B.Bench bench.old bench.new (IsUntouched (B.file bench.old) (B.sent bench.old)) }
     ensures file { B.file bench.new ≡ B.file bench.old }
     ensures crash { (image : List ℕ) → B.leaves bench.new image → B.leaves bench.old image }
@@ -144,7 +136,7 @@ pub fn simulate<P: Source, B: Bench>(
     no_break_in_a_journal();
     // A public part says of itself that it has 1 to `MOST_ROWS` rows.
     let rows = index.public().rows();
-    let core = begin(alloc, schema.shape(rows), index.protected(), bench)?;
+    let core = begin(alloc, index.schema().shape(rows), index.protected(), bench)?;
     let mut simulation = Simulation::new(alloc, core)?;
-    judge(alloc, &mut simulation, schema, index, source, bench)
+    judge(alloc, &mut simulation, index, source, bench)
 }

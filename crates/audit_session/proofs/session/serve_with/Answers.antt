@@ -13,7 +13,8 @@ use Rattle.bench_core.specs.Stops.{IsOfBenches}
 use Rattle.journal_form.specs.Journal.{StandsFor}
 use Rattle.question_plan.specs.Plans.{CanBeServed}
 use Rattle.table_load.specs.Cells.{SecretView}
-use Rattle.table_load.specs.Database.{IsDatabase, base_of}
+use Rattle.table_load.specs.Database.{IsDatabase}
+use Rattle.audit_session.specs.Ends.{base_over}
 use Rattle.line_wire.specs.Lines.{counted_lines}
 use Rattle.line_wire.specs.LinesSoFar.{not_over}
 use Rattle.audit_session.specs.Groups.{IsUngathered}
@@ -23,7 +24,6 @@ use Rattle.audit_session.proofs.GatheredLines.{still_ended, unfailed, whole_or_l
 use Rattle.audit_session.proofs.HarmlessStops.{harmless, spare_harmless, told_stops, told_spare_stops}
 use Rattle.audit_session.proofs.Served.{HasGathered, both_turn, first_moments, next_turn, nothing_served, spare_calls_now, spare_turn, spare_unserved, turn_moments}
 use Rattle.audit_session.proofs.ServedEnds.{both_kept, served_limited, served_whole, some_served, still_served}
-use Rattle.audit_session.proofs.GivenGroups.{over_given, spare_over_given}
 use Rattle.audit_session.proofs.Refusals.{of_stop, only_memory, still_later}
 use Rattle.audit_session.proofs.session.serve_with.Answers.LastTurn.{last_turn}
 use Rattle.audit_session.proofs.session.serve_with.Goals as goal
@@ -38,22 +38,20 @@ given more = Ok more
 
 pub returns-in_err-planner : goal.returns-in_err-planner
 returns-in_err-planner g c =
-    let columns = c.args.schema.now.columns in
-    let public = c.args.index.now.public in
     let store = g.K.Keeper.store c.args.keeper.now in
-    let base = base_of columns public store.protected store.secret in
+    let base = base_over c.args.index.now store in
     let lines = counted_lines (g.P.Source.left c.args.source.now) in
     let same : c.from_residual.result ≡ ended_by end.NoMemory = is_refusal c.from_residual.result _ c.from_residual.ensures in
     let moments = λ (told : g.B.Bench.told) (quiet : IsQuiet g.B.Bench c.args.bench.now).
-    first_moments g.P.Source.told g.B.Bench columns public c.args.batch store lines c.args.bench.now
+    first_moments g.P.Source.told g.B.Bench c.args.index.now c.args.batch store lines c.args.bench.now
     (λ image bytes was. g.met.B.Bench.only_now c.args.bench.now image bytes was) quiet (c.requires.stands told) in
     let spare_moments = λ (told : g.K.Keeper.spared × g.S.Bench.told) (quiet : IsQuiet g.S.Bench c.args.spare.now).
     spare_first g.P.Source.told g.S.Bench c.args.spare.now base c.args.batch store.history lines
     (λ image bytes was. g.met.S.Bench.only_now c.args.spare.now image bytes was) quiet
     (g.K.Keeper.spare_gate c.args.keeper.now, c.requires.spare_stands told.0 told.1) in
-    let is_base : IsDatabase base = record { schema = c.count-columns.ensures.columns; shape = c.requires.shape; protected = c.requires.is.fit } in
+    let is_base : IsDatabase base = record { schema = c.schema-schema.ensures.columns; shape = c.requires.shape; protected = c.requires.is.fit } in
     record {
-      session = over_given columns public store.secret (sym c.requires.entries) (record {
+      session = record {
         done = λ t u. IfOk-from_err _ _ c.from_residual.ensures.0;
         input_end = λ t u is. absurd cc;
         limit_end = λ t u is. absurd cc;
@@ -78,8 +76,8 @@ returns-in_err-planner g c =
         last_read = λ is. absurd cc;
         steady = λ other. refl;
         fault = not_called g.B.Bench c.args.bench.now _ (λ is. let none : ⊥ = cc in none);
-      });
-      spare = spare_over_given columns public store.secret (sym c.requires.entries) (record {
+      };
+      spare = record {
         stands = λ told bench spare. (g.K.Keeper.spare_gate c.args.keeper.now, c.requires.spare_stands told.0 told.1);
         moments = λ t told quiet. told_spare_stops (spare_moments told quiet) t;
         legal = λ told quiet. spare_harmless c.stops.ensures is_base c.requires.is.numbers c.requires.is.legal (spare_moments told quiet);
@@ -91,7 +89,7 @@ returns-in_err-planner g c =
             (g.K.Keeper.spare_gate c.args.keeper.now, c.requires.spare_stands told.0 told.1) left spare_left;
         calls = λ t told. IfOk-from_err _ _ c.from_residual.ensures.0;
         fault = not_called g.S.Bench c.args.spare.now _ (λ is. let none : ⊥ = cc in none);
-      });
+      };
       own = λ is. absurd cc;
       untouched = λ none. refl;
     }
@@ -101,11 +99,11 @@ returns-in_err-planner g c =
 pub loop-more-init : goal.loop-more-init
 loop-more-init g c = record {
   served =
-      nothing_served g.P.Source g.B.Bench c.args.schema.now.columns c.args.index.now.public c.args.batch c.in_ok-planner.planner
+      nothing_served g.P.Source g.B.Bench c.args.index.now c.args.batch c.in_ok-planner.planner
       (g.K.Keeper.store c.args.keeper.now) c.args.source.now c.args.bench.now c.in_ok-planner.ensures.fresh c.requires.usable c.requires.is
       c.requires.stands (λ image bytes was. g.met.B.Bench.only_now c.args.bench.now image bytes was);
   spare =
-      spare_unserved g.P.Source g.K.Keeper g.S.Bench c.args.schema.now.columns c.args.index.now.public c.args.batch c.args.keeper.now c.args.source.now
+      spare_unserved g.P.Source g.K.Keeper g.S.Bench c.args.index.now c.args.batch c.args.keeper.now c.args.source.now
       c.args.spare.now (λ image bytes was. g.met.S.Bench.only_now c.args.spare.now image bytes was)
       (λ told. c.requires.spare_stands told.0 told.1);
   room = c.in_ok-planner.ensures.room;
@@ -119,7 +117,7 @@ loop-more-preserved g c =
     let so_far = c.loop-more.invariant.spare in
     let now = c.gather.new.planner in
     let plans = c.gather.new.group.plans.items in
-    let turn : HasGathered g.P.Source c.args.schema.now.columns c.args.index.now.public c.args.batch c.loop-more.planner now c.loop-more.source
+    let turn : HasGathered g.P.Source c.args.index.now c.args.batch c.loop-more.planner now c.loop-more.source
     c.gather.new.source (not c.in_ok-more.more || now.ended) plans =
     record {
       gathers = e.gathers;
@@ -189,11 +187,9 @@ returns-in_err-more g c =
     let e = c.in_err-more.ensures in
     let why = c.in_err-more.field-0.0 in
     let same : c.from_residual-in_err-more.result ≡ ended_by why = search rules in
-    let columns = c.args.schema.now.columns in
-    let public = c.args.index.now.public in
     let store = g.K.Keeper.store c.args.keeper.now in
-    let is_base : IsDatabase (base_of columns public store.protected store.secret) =
-    record { schema = c.count-columns.ensures.columns; shape = c.requires.shape; protected = c.requires.is.fit } in
+    let is_base : IsDatabase (base_over c.args.index.now store) =
+    record { schema = c.schema-schema.ensures.columns; shape = c.requires.shape; protected = c.requires.is.fit } in
     let s = c.loop-more.invariant.served in
     let so_far = c.loop-more.invariant.spare in
     let now = c.gather.new.planner in
@@ -204,7 +200,7 @@ returns-in_err-more g c =
     let by : (is : Stop) → c.from_residual-in_err-more.result ≡ ended_by is → Ungathered is =
     λ stop is. of_stop {X = Unit {0}} why stop Ungathered ungathered (sym same ∙ is) in
     record {
-      session = over_given columns public store.secret (sym c.requires.entries) (record {
+      session = record {
         done = λ t u. IfOk-from_err _ _ c.from_residual-in_err-more.ensures.0;
         input_end = λ t u is. let fails = by end.Input is in served_whole s t u left (λ ended none. fails.going ended) (fails.short t);
         limit_end = λ t u is.
@@ -241,8 +237,8 @@ returns-in_err-more g c =
           last_call = λ is. absurd (by end.Bench is);
           steady = λ other. s.bench_steady;
         };
-      });
-      spare = spare_over_given columns public store.secret (sym c.requires.entries) (record {
+      };
+      spare = record {
         stands = λ told bench spare. (g.K.Keeper.spare_gate c.loop-more.keeper, so_far.stands told);
         moments = λ t told quiet. told_spare_stops (so_far.moments told quiet) t;
         legal = λ told quiet. spare_harmless c.stops.ensures is_base c.requires.is.numbers c.requires.is.legal (so_far.moments told quiet);
@@ -258,7 +254,7 @@ returns-in_err-more g c =
           last_call = λ is. absurd (by end.Spare is);
           steady = λ other. so_far.steady;
         };
-      });
+      };
       own = λ is. absurd (by end.Spare is);
       untouched = so_far.untouched;
     }
@@ -271,18 +267,16 @@ returns-in_err-answer g c =
     let a = c.in_err-answer.ensures in
     let why = c.in_err-answer.field-0.0 in
     let same : c.from_residual-in_err-answer.result ≡ ended_by why = search rules in
-    let columns = c.args.schema.now.columns in
-    let public = c.args.index.now.public in
     let store = g.K.Keeper.store c.args.keeper.now in
-    let is_base : IsDatabase (base_of columns public store.protected store.secret) =
-    record { schema = c.count-columns.ensures.columns; shape = c.requires.shape; protected = c.requires.is.fit } in
+    let is_base : IsDatabase (base_over c.args.index.now store) =
+    record { schema = c.schema-schema.ensures.columns; shape = c.requires.shape; protected = c.requires.is.fit } in
     let s = c.loop-more.invariant.served in
     let so_far = c.loop-more.invariant.spare in
     let now = c.gather.new.planner in
     let before = g.K.Keeper.store c.loop-more.keeper in
     let after = g.K.Keeper.store c.answer.new.keeper in
     let plans = c.gather.new.group.plans.items in
-    let turn : HasGathered g.P.Source c.args.schema.now.columns c.args.index.now.public c.args.batch c.loop-more.planner now c.loop-more.source
+    let turn : HasGathered g.P.Source c.args.index.now c.args.batch c.loop-more.planner now c.loop-more.source
     c.gather.new.source (not c.in_ok-more.more || now.ended) plans =
     record {
       gathers = e.gathers;
@@ -297,7 +291,7 @@ returns-in_err-answer g c =
     rests_by {X = Unit {0}} why a.ends (λ is. no (same ∙ is)) g.B.Bench c.args.bench.now c.loop-more.bench c.answer.new.bench before after a.no_memory
     a.spare_first a.table.0 (record { stands = λ u. (before.journal.gate, s.as_left u); quiet = s.quiet }) in
     record {
-      session = over_given columns public store.secret (sym c.requires.entries) (record {
+      session = record {
         done = λ t u. IfOk-from_err _ _ c.from_residual-in_err-answer.ensures.0;
         input_end = λ t u is. absurd (by end.Input is);
         limit_end = λ t u is. absurd (by end.Limit is);
@@ -329,8 +323,8 @@ returns-in_err-answer g c =
           last_call = λ is. a.fault.last_call (sym same ∙ is);
           steady = λ other. a.fault.steady (λ is. other (same ∙ is)) ∙ s.bench_steady;
         };
-      });
-      spare = spare_over_given columns public store.secret (sym c.requires.entries) (record {
+      };
+      spare = record {
         stands = λ told bench spare.
             let memory : why ≡ end.NoMemory =
             only_memory {X = Unit {0}} why a.ends (λ is. bench (same ∙ is)) (λ is. spare (same ∙ is)) in
@@ -359,7 +353,7 @@ returns-in_err-answer g c =
           last_call = λ is. a.spare.fault.last_call (sym same ∙ is);
           steady = λ other. a.spare.fault.steady (λ is. other (same ∙ is)) ∙ so_far.steady;
         };
-      });
+      };
       own = λ is. a.own (sym same ∙ is);
       untouched = λ none. c.answer.ensures.untouched none ∙ so_far.untouched none;
     }

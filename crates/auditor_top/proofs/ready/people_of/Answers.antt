@@ -8,7 +8,6 @@ use Rattle.auditor_top.proofs.ready.people_of.Goals as goal
 
 pub returns : goal.returns
 returns c =
-    let columns = c.args.schema.now.columns in
     let public = c.args.index.now.public in
     let there : people_place columns ≡ Some c.in_ok-_place._place = sym c.people.ensures.place ∙ c.in_ok-_place.was in
     let rows : c.new-everyone.result.n ≡ public.rows =

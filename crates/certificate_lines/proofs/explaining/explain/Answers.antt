@@ -21,13 +21,13 @@ returns-in_err-planner-clause-explains g c = λ t.
     let same : c.from_residual.result ≡ ended_by stop.NoMemory = search rules in
     subst
     (λ (r : Result (Unit {0}) Stop). (asked : List CountedLine) × (lines : List (List ℕ)) × EndLines r input input asked ×
-    AreExplained c.args.schema.now.columns c.args.index.now c.args.store.now.history asked lines × (g.B.Bench.told → EndSends r lines sent sent))
+    AreExplained c.args.index.now c.args.store.now.history asked lines × (g.B.Bench.told → EndSends r lines sent sent))
     (sym same)
     ([], [], record { count = 0; are = refl }, tt, λ u. sym (append-nil sent))
 
 pub returns-in_err-planner-clause-any_moment : goal.returns-in_err-planner-clause-any_moment
 returns-in_err-planner-clause-any_moment g c = λ told quiet.
-    (nothing_sent g.P.Source g.B.Bench c.args.schema.now.columns c.args.index.now c.args.store.now.history c.args.source.now c.args.bench.now
+    (nothing_sent g.P.Source g.B.Bench c.args.index.now c.args.store.now.history c.args.source.now c.args.bench.now
     (λ image bytes was. g.met.B.Bench.only_now c.args.bench.now image bytes was)).moments told quiet
 
 pub explain_lines-requires-clause-legal : goal.explain_lines-requires-clause-legal

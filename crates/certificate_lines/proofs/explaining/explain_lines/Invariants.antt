@@ -5,7 +5,7 @@ use Rattle.certificate_lines.proofs.explaining.explain_lines.Given as goal
 
 abbrev pub invariant-loop-line : goal.invariant-loop-line
 invariant-loop-line g l = record {
-  turn : Turn g.P.Source g.B.Bench l.schema.columns l.index l.core.history l.fn.source l.fn.bench l.planner l.source l.bench;
+  turn : Turn g.P.Source g.B.Bench l.index l.core.history l.fn.source l.fn.bench l.planner l.source l.bench;
   provers : AreProversOf l.core.setting l.core.history l.provers;
 }
 

@@ -19,7 +19,7 @@ loop-expected-init g c = record {
   lines = [];
   verdicts = [];
   so_far =
-      nothing_yet g.P.Source g.B.Bench c.args.schema.now.columns c.args.index.now c.args.simulation.now.core.history c.args.source.now c.args.bench.now
+      nothing_yet g.P.Source g.B.Bench c.args.index.now c.args.simulation.now.core.history c.args.source.now c.args.bench.now
       c.args.simulation.now.lines c.requires.fresh (λ image bytes was. g.met.B.Bench.only_now c.args.bench.now image bytes was);
   even = refl;
   line_is = refl;
@@ -34,11 +34,11 @@ returns-in_err-expected g c =
     let why = c.in_err-expected.field-0.0 in
     let same : c.from_residual.result ≡ ended_by (fault.Stopped why) = search rules in
     subst
-    (λ (r : Result (Unit {0}) SimulationFault). Simulates g.P.Source g.B.Bench c.args.schema.now.columns c.args.index.now
+    (λ (r : Result (Unit {0}) SimulationFault). Simulates g.P.Source g.B.Bench c.args.index.now
     c.args.simulation.now.core.history c.args.source.now
     c.judge_question.new.source c.args.bench.now c.judge_question.new.bench r)
     (sym same)
-    (unjudged g.P.Source g.B.Bench c.args.schema.now.columns c.args.index.now c.args.simulation.now.core.history c.args.source.now c.args.bench.now
+    (unjudged g.P.Source g.B.Bench c.args.index.now c.args.simulation.now.core.history c.args.source.now c.args.bench.now
     c.loop-expected.simulation.lines c.loop-expected.source c.loop-expected.bench c.loop-expected.simulation.core c.loop-expected.line c.loop-expected.invariant
     c.judge_question.new.self.lines c.judge_question.new.source c.in_err-expected.ensures.cuts c.judge_question.new.bench why
     c.in_err-expected.ensures.unjudged)
@@ -46,11 +46,11 @@ returns-in_err-expected g c =
 pub returns : goal.returns
 returns g c =
     let none = subst (λ (o : Option Expected). AsksNext g.P.Source c.loop-expected.simulation.lines c.judge_question.new.self.lines c.loop-expected.source
-    c.judge_question.new.source c.args.schema.now.columns c.args.index.now c.loop-expected.simulation.core.history o) c.in_default.is
+    c.judge_question.new.source c.args.index.now c.loop-expected.simulation.core.history o) c.in_default.is
     c.in_ok-expected.ensures.asks in
     let nothing = subst (λ (o : Option Expected). SendsFor g.B.Bench c.loop-expected.bench c.judge_question.new.bench o) c.in_default.is
     c.in_ok-expected.ensures.sends in
-    none_left g.P.Source g.B.Bench c.args.schema.now.columns c.args.index.now c.args.simulation.now.core.history c.args.source.now c.args.bench.now
+    none_left g.P.Source g.B.Bench c.args.index.now c.args.simulation.now.core.history c.args.source.now c.args.bench.now
     c.loop-expected.simulation.lines c.loop-expected.source c.loop-expected.bench c.loop-expected.simulation.core c.loop-expected.line c.loop-expected.invariant
     c.judge_question.new.self.lines c.judge_question.new.source c.in_ok-expected.ensures.cuts c.judge_question.new.bench none nothing
 
@@ -59,23 +59,23 @@ returns g c =
 pub returns-in_err-shown : goal.returns-in_err-shown
 returns-in_err-shown g c =
     let question = subst (λ (o : Option Expected). AsksNext g.P.Source c.loop-expected.simulation.lines c.judge_question.new.self.lines c.loop-expected.source
-    c.judge_question.new.source c.args.schema.now.columns c.args.index.now c.loop-expected.simulation.core.history o) c.in-Some.is
+    c.judge_question.new.source c.args.index.now c.loop-expected.simulation.core.history o) c.in-Some.is
     c.in_ok-expected.ensures.asks in
     let sends = subst (λ (o : Option Expected). SendsFor g.B.Bench c.loop-expected.bench c.judge_question.new.bench o) c.in-Some.is
     c.in_ok-expected.ensures.sends in
     let half =
-    asked_half g.P.Source g.B.Bench c.args.schema.now.columns c.args.index.now c.args.simulation.now.core.history c.args.source.now c.args.bench.now
+    asked_half g.P.Source g.B.Bench c.args.index.now c.args.simulation.now.core.history c.args.source.now c.args.bench.now
     c.loop-expected.simulation.lines c.loop-expected.source c.loop-expected.bench c.loop-expected.simulation.core c.loop-expected.line c.loop-expected.invariant
     c.judge_question.new.self.lines c.judge_question.new.source c.in_ok-expected.ensures.cuts c.judge_question.new.bench
     c.in-Some.expected question sends in
     let why = c.in_err-shown.field-0.0 in
     let same : c.from_residual-in_err-shown.result ≡ ended_by (fault.Stopped why) = search rules in
     subst
-    (λ (r : Result (Unit {0}) SimulationFault). Simulates g.P.Source g.B.Bench c.args.schema.now.columns c.args.index.now
+    (λ (r : Result (Unit {0}) SimulationFault). Simulates g.P.Source g.B.Bench c.args.index.now
     c.args.simulation.now.core.history c.args.source.now
     c.take_shown.new.source c.args.bench.now c.judge_question.new.bench r)
     (sym same)
-    (unshown g.P.Source g.B.Bench c.args.schema.now.columns c.args.index.now c.args.simulation.now.core.history c.args.source.now c.args.bench.now
+    (unshown g.P.Source g.B.Bench c.args.index.now c.args.simulation.now.core.history c.args.source.now c.args.bench.now
     c.judge_question.new.self.lines c.judge_question.new.source c.judge_question.new.bench c.loop-expected.simulation.core
     (c.loop-expected.line + 2) c.in-Some.expected half c.take_shown.new.self.lines c.take_shown.new.source c.in_err-shown.ensures.cuts why
     c.in_err-shown.ensures.short)
@@ -83,12 +83,12 @@ returns-in_err-shown g c =
 pub returns-in_err-goes_on : goal.returns-in_err-goes_on
 returns-in_err-goes_on g c =
     let question = subst (λ (o : Option Expected). AsksNext g.P.Source c.loop-expected.simulation.lines c.judge_question.new.self.lines c.loop-expected.source
-    c.judge_question.new.source c.args.schema.now.columns c.args.index.now c.loop-expected.simulation.core.history o) c.in-Some.is
+    c.judge_question.new.source c.args.index.now c.loop-expected.simulation.core.history o) c.in-Some.is
     c.in_ok-expected.ensures.asks in
     let sends = subst (λ (o : Option Expected). SendsFor g.B.Bench c.loop-expected.bench c.judge_question.new.bench o) c.in-Some.is
     c.in_ok-expected.ensures.sends in
     let half =
-    asked_half g.P.Source g.B.Bench c.args.schema.now.columns c.args.index.now c.args.simulation.now.core.history c.args.source.now c.args.bench.now
+    asked_half g.P.Source g.B.Bench c.args.index.now c.args.simulation.now.core.history c.args.source.now c.args.bench.now
     c.loop-expected.simulation.lines c.loop-expected.source c.loop-expected.bench c.loop-expected.simulation.core c.loop-expected.line c.loop-expected.invariant
     c.judge_question.new.self.lines c.judge_question.new.source c.in_ok-expected.ensures.cuts c.judge_question.new.bench
     c.in-Some.expected question sends in
@@ -96,11 +96,11 @@ returns-in_err-goes_on g c =
     let same : c.from_residual-in_err-goes_on.result ≡ ended_by why = search rules in
     let is : Err why ≡ goes_on c.in_ok-shown.shown (c.loop-expected.line + 2) (due_of c.in-Some.expected) = search rules in
     subst
-    (λ (r : Result (Unit {0}) SimulationFault). Simulates g.P.Source g.B.Bench c.args.schema.now.columns c.args.index.now
+    (λ (r : Result (Unit {0}) SimulationFault). Simulates g.P.Source g.B.Bench c.args.index.now
     c.args.simulation.now.core.history c.args.source.now
     c.take_shown.new.source c.args.bench.now c.judge_question.new.bench r)
     (sym same)
-    (refused g.P.Source g.B.Bench c.args.schema.now.columns c.args.index.now c.args.simulation.now.core.history c.args.source.now c.args.bench.now
+    (refused g.P.Source g.B.Bench c.args.index.now c.args.simulation.now.core.history c.args.source.now c.args.bench.now
     c.judge_question.new.self.lines c.judge_question.new.source c.judge_question.new.bench c.loop-expected.simulation.core
     (c.loop-expected.line + 2) c.in-Some.expected half c.take_shown.new.self.lines c.take_shown.new.source c.in_ok-shown.ensures.cuts
     c.one_verdict.ensures.called c.one_verdict.ensures.due c.in_ok-shown.shown c.in_ok-shown.ensures.shows why is)
@@ -108,17 +108,17 @@ returns-in_err-goes_on g c =
 pub returns-then-not-branch : goal.returns-then-not-branch
 returns-then-not-branch g c =
     let question = subst (λ (o : Option Expected). AsksNext g.P.Source c.loop-expected.simulation.lines c.judge_question.new.self.lines c.loop-expected.source
-    c.judge_question.new.source c.args.schema.now.columns c.args.index.now c.loop-expected.simulation.core.history o) c.in-Some.is
+    c.judge_question.new.source c.args.index.now c.loop-expected.simulation.core.history o) c.in-Some.is
     c.in_ok-expected.ensures.asks in
     let sends = subst (λ (o : Option Expected). SendsFor g.B.Bench c.loop-expected.bench c.judge_question.new.bench o) c.in-Some.is
     c.in_ok-expected.ensures.sends in
     let half =
-    asked_half g.P.Source g.B.Bench c.args.schema.now.columns c.args.index.now c.args.simulation.now.core.history c.args.source.now c.args.bench.now
+    asked_half g.P.Source g.B.Bench c.args.index.now c.args.simulation.now.core.history c.args.source.now c.args.bench.now
     c.loop-expected.simulation.lines c.loop-expected.source c.loop-expected.bench c.loop-expected.simulation.core c.loop-expected.line c.loop-expected.invariant
     c.judge_question.new.self.lines c.judge_question.new.source c.in_ok-expected.ensures.cuts c.judge_question.new.bench
     c.in-Some.expected question sends in
     let is : Ok false ≡ goes_on c.in_ok-shown.shown (c.loop-expected.line + 2) (due_of c.in-Some.expected) = search rules in
-    ended g.P.Source g.B.Bench c.args.schema.now.columns c.args.index.now c.args.simulation.now.core.history c.args.source.now c.args.bench.now
+    ended g.P.Source g.B.Bench c.args.index.now c.args.simulation.now.core.history c.args.source.now c.args.bench.now
     c.judge_question.new.self.lines c.judge_question.new.source c.judge_question.new.bench c.loop-expected.simulation.core
     (c.loop-expected.line + 2) c.in-Some.expected half c.take_shown.new.self.lines c.take_shown.new.source c.in_ok-shown.ensures.cuts c.in_ok-shown.shown
     c.in_ok-shown.ensures.shows is
@@ -126,19 +126,19 @@ returns-then-not-branch g c =
 pub loop-expected-preserved : goal.loop-expected-preserved
 loop-expected-preserved g c =
     let question = subst (λ (o : Option Expected). AsksNext g.P.Source c.loop-expected.simulation.lines c.judge_question.new.self.lines c.loop-expected.source
-    c.judge_question.new.source c.args.schema.now.columns c.args.index.now c.loop-expected.simulation.core.history o) c.in-Some.is
+    c.judge_question.new.source c.args.index.now c.loop-expected.simulation.core.history o) c.in-Some.is
     c.in_ok-expected.ensures.asks in
     let sends = subst (λ (o : Option Expected). SendsFor g.B.Bench c.loop-expected.bench c.judge_question.new.bench o) c.in-Some.is
     c.in_ok-expected.ensures.sends in
     let half =
-    asked_half g.P.Source g.B.Bench c.args.schema.now.columns c.args.index.now c.args.simulation.now.core.history c.args.source.now c.args.bench.now
+    asked_half g.P.Source g.B.Bench c.args.index.now c.args.simulation.now.core.history c.args.source.now c.args.bench.now
     c.loop-expected.simulation.lines c.loop-expected.source c.loop-expected.bench c.loop-expected.simulation.core c.loop-expected.line c.loop-expected.invariant
     c.judge_question.new.self.lines c.judge_question.new.source c.in_ok-expected.ensures.cuts c.judge_question.new.bench
     c.in-Some.expected question sends in
     let is : Ok true ≡ goes_on c.in_ok-shown.shown (c.loop-expected.line + 2) (due_of c.in-Some.expected) = search rules in
     let same : c.judge_question.new.self.core ≡ c.loop-expected.simulation.core = c.in_ok-expected.ensures.same in
     let shown = records_shown c.in_ok-shown.shown in
-    went_on g.P.Source g.B.Bench c.args.schema.now.columns c.args.index.now c.args.simulation.now.core.history c.args.source.now c.args.bench.now
+    went_on g.P.Source g.B.Bench c.args.index.now c.args.simulation.now.core.history c.args.source.now c.args.bench.now
     c.judge_question.new.self.lines c.judge_question.new.source c.judge_question.new.bench c.loop-expected.simulation.core
     (c.loop-expected.line + 2) c.in-Some.expected half c.take_shown.new.self.lines c.take_shown.new.source c.in_ok-shown.ensures.cuts c.in_ok-shown.shown
     c.in_ok-shown.ensures.shows is c.take_shown.new.self.core (c.in_ok-shown.ensures.takes ∙ ap (λ (k : Audited). k.history ++ shown) same)

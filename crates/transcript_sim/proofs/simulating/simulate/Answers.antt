@@ -2,25 +2,25 @@ use Rattle.std.proofs.Common.{rules, ◌≡◌, sym, subst}
 use Rattle.audit_types.specs.History.{Setting, setting_of}
 use Rattle.audit_core.specs.Audited.{Audited}
 use Rattle.bench_core.specs.declared.stops.Stop.TheVariants as stop
+use Rattle.set_index.specs.Indexed.{public_setting}
 use Rattle.transcript_sim.specs.declared.simulating.SimulationFault.TheVariants as fault
-use Rattle.transcript_sim.specs.Beginning.{BeginsWith, EndBegins, public_setting}
+use Rattle.transcript_sim.specs.Beginning.{BeginsWith, EndBegins}
 use Rattle.transcript_sim.proofs.Beginnings.{ended_by}
 use Rattle.transcript_sim.proofs.Begun.{EndsSo, judged_so, not_begun, said_too, told_by_fault}
 use Rattle.transcript_sim.proofs.simulating.simulate.Goals as goal
 
 pub returns-in_err-core : goal.returns-in_err-core
 returns-in_err-core g c =
-    let columns = c.args.schema.now.columns in
     let index = c.args.index.now in
     let file = g.B.Bench.file c.args.bench.now in
     let why = c.in_err-core.field-0.0 in
     let same : c.from_residual.result ≡ ended_by (Unit {0}) why = search rules in
-    let setting : setting_of c.shape.result c.protected.result.now ≡ public_setting columns index = search rules in
+    let setting : setting_of c.shape.result c.protected.result.now ≡ public_setting index = search rules in
     let cause = λ (told : g.B.Bench.told).
     subst (λ (s : Setting). EndBegins (ended_by (Unit {0}) why) file s) setting (said_too Audited why file (setting_of c.shape.result
     c.protected.result.now) (c.in_err-core.ensures.cause told)) in
-    let all = subst (λ r. EndsSo g.P.Source g.B.Bench columns index c.args.source.now c.args.source.now c.args.bench.now c.begin.new.bench r) (sym same)
-    (not_begun g.P.Source g.B.Bench columns index c.args.source.now c.args.bench.now c.one_reading.ensures c.no_break_in_a_journal.ensures c.begin.new.bench
+    let all = subst (λ r. EndsSo g.P.Source g.B.Bench index c.args.source.now c.args.source.now c.args.bench.now c.begin.new.bench r) (sym same)
+    (not_begun g.P.Source g.B.Bench index c.args.source.now c.args.bench.now c.one_reading.ensures c.no_break_in_a_journal.ensures c.begin.new.bench
     c.begin.ensures.reads why c.in_err-core.ensures.unbegun
     (told_by_fault g.B.Bench c.args.bench.now c.begin.new.bench _ why c.in_err-core.ensures.fault) cause) in
     record {
@@ -44,12 +44,11 @@ returns-in_err-core g c =
 
 pub returns-in_err-simulation : goal.returns-in_err-simulation
 returns-in_err-simulation g c =
-    let columns = c.args.schema.now.columns in
     let index = c.args.index.now in
     let same : c.from_residual-in_err-simulation.result ≡ ended_by (Unit {0}) (fault.Stopped stop.NoMemory) = search rules in
     let tells = c.in_ok-core.ensures.fault in
-    let all = subst (λ r. EndsSo g.P.Source g.B.Bench columns index c.args.source.now c.args.source.now c.args.bench.now c.begin.new.bench r) (sym same)
-    (not_begun g.P.Source g.B.Bench columns index c.args.source.now c.args.bench.now c.one_reading.ensures c.no_break_in_a_journal.ensures c.begin.new.bench
+    let all = subst (λ r. EndsSo g.P.Source g.B.Bench index c.args.source.now c.args.source.now c.args.bench.now c.begin.new.bench r) (sym same)
+    (not_begun g.P.Source g.B.Bench index c.args.source.now c.args.bench.now c.one_reading.ensures c.no_break_in_a_journal.ensures c.begin.new.bench
     c.begin.ensures.reads (fault.Stopped stop.NoMemory) tt
     (record { later = tells.later; failed = λ is. absurd cc; last_call = λ is. absurd cc; steady = λ other. tells.steady (λ is. cc) }) (λ told. tt)) in
     record {
@@ -73,16 +72,15 @@ returns-in_err-simulation g c =
 
 pub returns : goal.returns
 returns g c =
-    let columns = c.args.schema.now.columns in
     let index = c.args.index.now in
     let file = g.B.Bench.file c.args.bench.now in
     let history = c.in_ok-simulation.simulation.core.history in
-    let setting : setting_of c.shape.result c.protected.result.now ≡ public_setting columns index = search rules in
+    let setting : setting_of c.shape.result c.protected.result.now ≡ public_setting index = search rules in
     let begun = λ (told : g.B.Bench.told).
     subst (λ (s : Setting). BeginsWith file s history) setting
     (subst (λ (a : Audited). BeginsWith file (setting_of c.shape.result c.protected.result.now) a.history) (sym c.in_ok-simulation.ensures.core)
     (c.in_ok-core.ensures.begins told)) in
-    let all = judged_so g.P.Source g.B.Bench columns index c.args.source.now c.args.bench.now c.one_reading.ensures c.begin.new.bench c.judge.new.bench
+    let all = judged_so g.P.Source g.B.Bench index c.args.source.now c.args.bench.now c.one_reading.ensures c.begin.new.bench c.judge.new.bench
     c.judge.new.source history c.judge.result c.begin.ensures.reads (c.in_ok-core.ensures.fault.steady (λ is. cc)) c.in_ok-core.ensures.ticks begun
     c.judge.ensures in
     record {

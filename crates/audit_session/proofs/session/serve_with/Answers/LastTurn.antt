@@ -4,10 +4,10 @@ use Rattle.line_wire.specs.Lines.{counted_lines}
 use Rattle.line_wire.specs.LinesSoFar.{all_within}
 use Rattle.bench_core.specs.Calls.{IsQuiet}
 use Rattle.bench_core.specs.declared.stops.Stop.{Stop}
-use Rattle.table_load.specs.Database.{IsDatabase, base_of}
+use Rattle.table_load.specs.Database.{IsDatabase}
+use Rattle.audit_session.specs.Ends.{base_over}
 use Rattle.audit_store.specs.Refusals.{no_refusal}
 use Rattle.audit_session.proofs.GatheredLines.{still_ended, whole_or_last}
-use Rattle.audit_session.proofs.GivenGroups.{over_given, spare_over_given}
 use Rattle.audit_session.proofs.HarmlessStops.{harmless, spare_harmless, told_stops, told_spare_stops}
 use Rattle.audit_session.proofs.Served.{HasGathered, all_calls, all_kept, all_served, both_turn, spare_calls_now, spare_turn, turn_moments}
 use Rattle.audit_session.proofs.Refusals.{still_later}
@@ -20,16 +20,14 @@ pub last_turn : goal.returns-then-not-more
 last_turn g c =
     let e = c.in_ok-more.ensures in
     let a = c.in_ok-answer.ensures in
-    let columns = c.args.schema.now.columns in
-    let public = c.args.index.now.public in
     let store = g.K.Keeper.store c.args.keeper.now in
-    let is_base : IsDatabase (base_of columns public store.protected store.secret) =
-    record { schema = c.count-columns.ensures.columns; shape = c.requires.shape; protected = c.requires.is.fit } in
+    let is_base : IsDatabase (base_over c.args.index.now store) =
+    record { schema = c.schema-schema.ensures.columns; shape = c.requires.shape; protected = c.requires.is.fit } in
     let s = c.loop-more.invariant.served in
     let so_far = c.loop-more.invariant.spare in
     let now = c.gather.new.planner in
     let plans = c.gather.new.group.plans.items in
-    let turn : HasGathered g.P.Source c.args.schema.now.columns c.args.index.now.public c.args.batch c.loop-more.planner now c.loop-more.source
+    let turn : HasGathered g.P.Source c.args.index.now c.args.batch c.loop-more.planner now c.loop-more.source
     c.gather.new.source (not c.in_ok-more.more || now.ended) plans =
     record {
       gathers = e.gathers;
@@ -48,7 +46,7 @@ last_turn g c =
     all_within (g.P.Source.left c.args.source.now) now.pending (g.P.Source.left c.gather.new.source) now.taken (e.last t (ap given more_is))
     (e.cuts.taken t ∙ s.taken t) e.cuts.within in
     record {
-      session = over_given columns public store.secret (sym c.requires.entries) (record {
+      session = record {
         done = λ t u. all_served s turn a.answers t u (ap counted_lines (e.last t (ap given more_is))) (g.K.Keeper.store c.answer.new.keeper).history refl;
         input_end = λ t u is. no_refusal _ _ is;
         limit_end = λ t u is. no_refusal _ _ is;
@@ -78,8 +76,8 @@ last_turn g c =
           last_call = λ is. no_refusal _ _ is;
           steady = λ no. a.fault.steady (λ is. no_refusal _ _ is) ∙ s.bench_steady;
         };
-      });
-      spare = spare_over_given columns public store.secret (sym c.requires.entries) (record {
+      };
+      spare = record {
         stands = λ told bench spare. (g.K.Keeper.spare_gate c.answer.new.keeper, a.spare.stands told);
         moments = λ t told quiet. told_spare_stops (spare_moments told quiet) t;
         legal = λ told quiet. spare_harmless c.stops.ensures is_base c.requires.is.numbers c.requires.is.legal (spare_moments told quiet);
@@ -99,7 +97,7 @@ last_turn g c =
           last_call = λ is. no_refusal _ _ is;
           steady = λ no. a.spare.fault.steady (λ is. no_refusal _ _ is) ∙ so_far.steady;
         };
-      });
+      };
       own = λ is. no_refusal _ _ is;
       untouched = λ none. c.answer.ensures.untouched none ∙ so_far.untouched none;
     }

@@ -86,19 +86,19 @@ explaining g c =
     let kept = store.history in
     let columns = c.in-Ok-Explain.schema.columns in
     let index = c.in-Ok-Explain.index in
-    let seen = base_of columns index.public index.protected store.secret in
+    let seen = base_of index.columns index.public index.protected store.secret in
     let same : c.in-Ok.command ≡ command.Explain = same_command _ _ _ c.in-Ok-Explain.field-0-is c.in-Ok-Explain.ensures.asked in
     let given : (g.P.Source.told → g.B.Bench.told → (base : Database) (history : List Answered) →
     ServesOver (g.P.Source.left old.schema) (g.P.Source.left old.table) file base history → (seen ≡ base) × (kept ≡ history)) =
     λ ptold told base history over. same_given c.one_reading.ensures c.groups_of_a_schema.ensures.entries _ _ file seen base kept history store.journal.gate
     (are g c ptold) (stands g c told) over in
     let moments : (g.B.Bench.told → IsQuiet g.B.Bench at → LeavesOnly g.B.Bench at later
-    (ExplainsMeanwhile g.I.Source.told columns index kept text file sent)) = λ told quiet.
-    joins g.B.Bench at opened later (ExplainsMeanwhile g.I.Source.told columns index kept text file sent)
-    (weakens g.B.Bench at opened (IsUntouched file sent) _ (untouched_lines g.I.Source.told columns index kept text file sent) (reads.untouched quiet))
-    (subst (λ (f : List ℕ). LeavesOnly g.B.Bench opened later (ExplainsMeanwhile g.I.Source.told columns index kept text f sent)) reads.file
+    (ExplainsMeanwhile g.I.Source.told index kept text file sent)) = λ told quiet.
+    joins g.B.Bench at opened later (ExplainsMeanwhile g.I.Source.told index kept text file sent)
+    (weakens g.B.Bench at opened (IsUntouched file sent) _ (untouched_lines g.I.Source.told index kept text file sent) (reads.untouched quiet))
+    (subst (λ (f : List ℕ). LeavesOnly g.B.Bench opened later (ExplainsMeanwhile g.I.Source.told index kept text f sent)) reads.file
     (subst (λ (bytes : List ℕ). LeavesOnly g.B.Bench opened later
-    (ExplainsMeanwhile g.I.Source.told columns index kept text (g.B.Bench.file opened) bytes)) reads.sent
+    (ExplainsMeanwhile g.I.Source.told index kept text (g.B.Bench.file opened) bytes)) reads.sent
     (does.any_moment told (as_quiet g.B.Bench at opened reads quiet)))) in
     subst (λ (s : Status). Explaining g.P.Source g.I.Source g.B.Bench s old new) (sym c.ended-in-Ok-Explain.ensures) (record {
       explained = λ ptold itold told base history over.

@@ -71,15 +71,15 @@ judging g c =
     let unopened = same_bench g c in
     let sends = subst (λ b. (history : List Answered) → g.I.Source.told → g.B.Bench.told → BeginsWith (g.B.Bench.file b) (public_setting columns
     index) history →
-    (verdicts : List (Replied Answered)) × EndVerdicts ended columns index history text left verdicts
+    (verdicts : List (Replied Answered)) × EndVerdicts ended index history text left verdicts
     × EndSends ended verdicts (g.B.Bench.sent b) (g.B.Bench.sent later)) unopened c.simulate.ensures.verdicts in
     let moments = subst (λ b. (history : List Answered) → g.B.Bench.told → IsQuiet g.B.Bench b → BeginsWith (g.B.Bench.file b) (public_setting
-    columns index) history →
-    LeavesOnly g.B.Bench b later (SimulatesMeanwhile g.I.Source.told columns index history (counted_lines text) (g.B.Bench.file b) (g.B.Bench.sent b)))
+    index) history →
+    LeavesOnly g.B.Bench b later (SimulatesMeanwhile g.I.Source.told index history (counted_lines text) (g.B.Bench.file b) (g.B.Bench.sent b)))
     unopened c.simulate.ensures.any_moment in
     -- what is said of what was read is said of what the files mean
-    let carried : ((ptold : g.P.Source.told) (Says : List Column → IndexView → Type 0) (columns_given : List Column) (given : IndexView) →
-    ArePublicFilesOf schema table columns_given given → Says columns index → Says columns_given given) = λ ptold Says columns_given given files.
+    let carried : ((ptold : g.P.Source.told) (Says : IndexView → Type 0) (columns_given : List Column) (given : IndexView) →
+    ArePublicFilesOf schema table columns_given given → Says index → Says columns_given given) = λ ptold Says columns_given given files.
     carried_public c.groups_of_a_schema.ensures.entries Says schema table columns columns_given index given (are g c ptold) files in
     let verdicts_over : ((ptold : g.P.Source.told) (itold : g.I.Source.told) (told : g.B.Bench.told) (columns_given : List Column) (given : IndexView)
     (history : List Answered) → SimulatesOver schema table file columns_given given history →
@@ -103,14 +103,14 @@ judging g c =
       cause = λ ptold told columns_given given files.
           simulation_cause ended file (public_setting columns_given given)
           (carried ptold (λ cs p. EndBegins ended file (public_setting cs p)) columns_given given files
-          (subst (λ b. EndBegins ended (g.B.Bench.file b) (public_setting columns index)) unopened (c.simulate.ensures.begins told)));
+          (subst (λ b. EndBegins ended (g.B.Bench.file b) (public_setting index)) unopened (c.simulate.ensures.begins told)));
       undisturbed = λ told.
           subst (λ b. IsQuiet g.B.Bench b → LeavesOnly g.B.Bench b later (λ image bytes. image ≡ g.B.Bench.file b)) unopened
           (c.simulate.ensures.undisturbed told);
       untouched = λ ptold told quiet none.
-          subst (λ b. IsQuiet g.B.Bench b → ((history : List Answered) → BeginsWith (g.B.Bench.file b) (public_setting columns index) history → ⊥) →
+          subst (λ b. IsQuiet g.B.Bench b → ((history : List Answered) → BeginsWith (g.B.Bench.file b) (public_setting index) history → ⊥) →
           LeavesOnly g.B.Bench b later (IsUntouched (g.B.Bench.file b) (g.B.Bench.sent b))) unopened (c.simulate.ensures.untouched told) quiet
-          (λ history begins. none columns index history (record { files = are g c ptold; begins = begins }));
+          (λ history begins. none index history (record { files = are g c ptold; begins = begins }));
       simulate_calls = λ itold told done.
           (simulation_says ended).done _ done (c.simulate.ensures.calls itold told)
           ∙ ap (λ b. g.B.Bench.moment b + 2 + length (exchanges (counted_lines text))) unopened;
