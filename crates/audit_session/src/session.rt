@@ -61,14 +61,7 @@ pub fn serve_with<K: Keeper, P: Source, B: Bench, S: Bench>(
     stops();
     let (mut planner, mut group) = make_room(alloc, batch)?;
     loop {
-        let more = gather(
-            alloc,
-            &mut planner,
-            index,
-            source,
-            batch,
-            &mut group,
-        )?;
+        let more = gather(alloc, &mut planner, index, source, batch, &mut group)?;
         answer(keeper, bench, spare, &mut group)?;
         if !more {
             return Ok(());
