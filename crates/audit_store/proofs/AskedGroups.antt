@@ -181,12 +181,12 @@ none_failed bench old new Answered steady none = record {
 
 module _ {store : StoreContents} {questions : List Asked} (outcomes : Vec Outcome Global) {journal : JournalContents} {group : List Answered}
     (is : IsDecided store questions outcomes.items journal group) (own : journal.gate ≡ store.journal.gate) {B : Type 0} (bench : Ghosts B) (old : B)
-    (as_left : bench.told → IsAsLeft (bench.file old) store) {now : StoreContents} where
+    (as_left : bench.told → IsAsLeft (bench.file old) store) where
   stands : bench.told → StandsAt (bench.file old) store.secret.shape store.history journal.gate
   stands told = subst (λ (n : ℕ). StandsAt (bench.file old) store.secret.shape store.history n) (sym own) (as_left told)
 
   -- a call of the spare failed, and the bench wasn't called
-  pub uncalled : ((image sent : List ℕ) → bench.since old (bench.moment old) image sent → bench.leaves old image × (sent ≡ bench.sent old))
+  pub uncalled : {now : StoreContents} → ((image sent : List ℕ) → bench.since old (bench.moment old) image sent → bench.leaves old image × (sent ≡ bench.sent old))
       → HasRefused store now → AsksOn bench store now questions (Err stop.Spare) old old
   uncalled only_now refused = record {
     outcomes = tt;
@@ -212,9 +212,9 @@ module _ {store : StoreContents} {questions : List Asked} (outcomes : Vec Outcom
 
   module _ (new : B) (may : MayAppend bench journal group old new) (sent : bench.sent new ≡ bench.sent old) where
     -- a call of the bench failed
-    pub asked_in_vain : {answer : Result (Vec Outcome Global) Stop} → answer ≡ Err stop.Bench → HasRefused store now
+    pub asked_in_vain : {now : StoreContents} {answer : Result (Vec Outcome Global) Stop} → answer ≡ Err stop.Bench → HasRefused store now
         → ((Answered : Type 0) → Answered → TellsFault bench old new Answered) → AsksOn bench store now questions answer old new
-    asked_in_vain same refused tells = subst (λ (a : Result (Vec Outcome Global) Stop). AsksOn bench store now questions a old new) (sym same) (record {
+    asked_in_vain {now} same refused tells = subst (λ (a : Result (Vec Outcome Global) Stop). AsksOn bench store now questions a old new) (sym same) (record {
       outcomes = tt;
       history = tt;
       stands = λ told. tt;
@@ -234,9 +234,9 @@ module _ {store : StoreContents} {questions : List Asked} (outcomes : Vec Outcom
     })
 
     -- none did
-    pub asked : (after : JournalContents) → WasAppended bench journal after group old new → HasKept store now (records_made questions outcomes.items) after
-        → AsksOn bench store now questions (Ok outcomes) old new
-    asked after appended kept = record {
+    pub asked : {now : StoreContents} (after : JournalContents) → WasAppended bench journal after group old new
+        → HasKept store now (records_made questions outcomes.items) after → AsksOn bench store now questions (Ok outcomes) old new
+    asked {now} after appended kept = record {
       outcomes = is.due;
       history = kept.history;
       stands = λ told.
@@ -285,8 +285,10 @@ module _ {store : StoreContents} {questions : List Asked} (outcomes : Vec Outcom
 
   module _ (appended : WasAppended spare other ended group before after) where
     -- none did, and then a call of the bench failed
-    pub spare_is_ahead : ((image : List ℕ) → bench.moment old ≤ bench.moment new → bench.leaves new image → bench.since new (bench.moment old) image (bench.sent new))
-        → (bench.told → IsQuiet bench old → LeavesOnly bench old new (IsBeforeOrAfter store.secret.shape store.history (records_made questions outcomes.items) (bench.sent old)))
+    pub spare_is_ahead : ((image : List ℕ) → bench.moment old ≤ bench.moment new → bench.leaves new image
+        → bench.since new (bench.moment old) image (bench.sent new))
+        → (bench.told → IsQuiet bench old
+        → LeavesOnly bench old new (IsBeforeOrAfter store.secret.shape store.history (records_made questions outcomes.items) (bench.sent old)))
         → SpareAsksOn bench spare spare.told store now other.gate ended.gate questions (Err stop.Bench) old new before after
     spare_is_ahead counts_now moments = record {
       stands = λ told. tt;

@@ -6,6 +6,7 @@ use Rattle.audit_types.specs.declared.records.Answered.{Answered}
 use Rattle.audit_types.specs.declared.shapes.Shape.{Shape}
 use Rattle.bench_core.specs.Calls.{IsQuiet}
 use Rattle.bench_core.specs.Causes.{Rose}
+use Rattle.bench_core.specs.Moments.{weakens}
 use Rattle.bench_core.specs.Reports.{is_refusal, not_called}
 use Rattle.bench_core.specs.declared.stops.Stop.{Stop}
 use Rattle.bench_core.specs.declared.stops.Stop.TheVariants as end
@@ -21,7 +22,7 @@ use Rattle.audit_session.specs.Groups.{IsUngathered}
 use Rattle.audit_session.proofs.EndsByFault.{rests_by}
 use Rattle.audit_session.proofs.FirstStop.{both_first, serves_none, spare_first}
 use Rattle.audit_session.proofs.GatheredLines.{still_ended, unfailed, whole_or_last}
-use Rattle.audit_session.proofs.HarmlessStops.{harmless, spare_harmless, told_stops, told_spare_stops}
+use Rattle.audit_session.proofs.HarmlessStops.{harmless, spare_harmless}
 use Rattle.audit_session.proofs.Served.{HasGathered, both_turn, first_moments, next_turn, nothing_served, spare_calls_now, spare_turn, spare_unserved, turn_moments}
 use Rattle.audit_session.proofs.ServedEnds.{both_kept, served_limited, served_whole, some_served, still_served}
 use Rattle.audit_session.proofs.Refusals.{of_stop, only_memory, still_later}
@@ -50,6 +51,12 @@ returns-in_err-planner g c =
     (λ image bytes was. g.met.S.Bench.only_now c.args.spare.now image bytes was) quiet
     (g.K.Keeper.spare_gate c.args.keeper.now, c.requires.spare_stands told.0 told.1) in
     let is_base : IsDatabase base = record { schema = c.schema-schema.ensures.columns; shape = c.requires.shape; protected = c.requires.is.fit } in
+    let harm =
+    harmless c.stops.ensures g.P.Source.told base c.args.batch store.history lines is_base c.requires.is.numbers c.requires.is.legal
+    (g.B.Bench.sent c.args.bench.now) in
+    let spare_harm =
+    spare_harmless c.stops.ensures g.P.Source.told base c.args.batch store.history lines is_base c.requires.is.numbers c.requires.is.legal
+    (g.S.Bench.sent c.args.spare.now) in
     record {
       session = record {
         done = λ t u. IfOk-from_err _ _ c.from_residual.ensures.0;
@@ -63,8 +70,8 @@ returns-in_err-planner g c =
         usable = λ bench spare memory. c.requires.usable;
         left = λ u usable. c.requires.stands u;
         calls = λ t u. IfOk-from_err _ _ c.from_residual.ensures.0;
-        any_moment = λ t u quiet. told_stops (moments u quiet) t;
-        legal = λ u quiet. harmless c.stops.ensures is_base c.requires.is.numbers c.requires.is.legal (moments u quiet);
+        any_moment = λ t u quiet. weakens g.B.Bench c.args.bench.now c.args.bench.now _ _ (λ image sent stop. stop.1 t) (moments u quiet);
+        legal = λ u quiet. weakens g.B.Bench c.args.bench.now c.args.bench.now _ _ harm (moments u quiet);
         table = (refl, refl);
         is = c.requires.is;
         read = λ t. IfOk-from_err _ _ c.from_residual.ensures.0;
@@ -79,8 +86,10 @@ returns-in_err-planner g c =
       };
       spare = record {
         stands = λ told bench spare. (g.K.Keeper.spare_gate c.args.keeper.now, c.requires.spare_stands told.0 told.1);
-        moments = λ t told quiet. told_spare_stops (spare_moments told quiet) t;
-        legal = λ told quiet. spare_harmless c.stops.ensures is_base c.requires.is.numbers c.requires.is.legal (spare_moments told quiet);
+        moments = λ t told quiet.
+            weakens g.S.Bench c.args.spare.now c.args.spare.now _ _ (λ image sent found. (found.0, (found.1.0, found.1.1.1 t)))
+            (spare_moments told quiet);
+        legal = λ told quiet. weakens g.S.Bench c.args.spare.now c.args.spare.now _ _ spare_harm (spare_moments told quiet);
         quiet = λ told quiet other. quiet;
         sent = refl;
         both = λ t u told quiet spare_quiet image other left spare_left.
@@ -188,8 +197,15 @@ returns-in_err-more g c =
     let why = c.in_err-more.field-0.0 in
     let same : c.from_residual-in_err-more.result ≡ ended_by why = search rules in
     let store = g.K.Keeper.store c.args.keeper.now in
-    let is_base : IsDatabase (base_over c.args.index.now store) =
-    record { schema = c.schema-schema.ensures.columns; shape = c.requires.shape; protected = c.requires.is.fit } in
+    let base = base_over c.args.index.now store in
+    let lines = counted_lines (g.P.Source.left c.args.source.now) in
+    let is_base : IsDatabase base = record { schema = c.schema-schema.ensures.columns; shape = c.requires.shape; protected = c.requires.is.fit } in
+    let harm =
+    harmless c.stops.ensures g.P.Source.told base c.args.batch store.history lines is_base c.requires.is.numbers c.requires.is.legal
+    (g.B.Bench.sent c.args.bench.now) in
+    let spare_harm =
+    spare_harmless c.stops.ensures g.P.Source.told base c.args.batch store.history lines is_base c.requires.is.numbers c.requires.is.legal
+    (g.S.Bench.sent c.args.spare.now) in
     let s = c.loop-more.invariant.served in
     let so_far = c.loop-more.invariant.spare in
     let now = c.gather.new.planner in
@@ -217,8 +233,8 @@ returns-in_err-more g c =
         usable = λ bench spare memory. s.usable;
         left = λ u usable. s.as_left u;
         calls = λ t u. IfOk-from_err _ _ c.from_residual-in_err-more.ensures.0;
-        any_moment = λ t u quiet. told_stops (s.moments u quiet) t;
-        legal = λ u quiet. harmless c.stops.ensures is_base c.requires.is.numbers c.requires.is.legal (s.moments u quiet);
+        any_moment = λ t u quiet. weakens g.B.Bench c.args.bench.now c.loop-more.bench _ _ (λ image sent stop. stop.1 t) (s.moments u quiet);
+        legal = λ u quiet. weakens g.B.Bench c.args.bench.now c.loop-more.bench _ _ harm (s.moments u quiet);
         table = (s.secret, s.protected);
         is = s.is;
         read = λ t. IfOk-from_err _ _ c.from_residual-in_err-more.ensures.0;
@@ -240,8 +256,10 @@ returns-in_err-more g c =
       };
       spare = record {
         stands = λ told bench spare. (g.K.Keeper.spare_gate c.loop-more.keeper, so_far.stands told);
-        moments = λ t told quiet. told_spare_stops (so_far.moments told quiet) t;
-        legal = λ told quiet. spare_harmless c.stops.ensures is_base c.requires.is.numbers c.requires.is.legal (so_far.moments told quiet);
+        moments = λ t told quiet.
+            weakens g.S.Bench c.args.spare.now c.loop-more.spare _ _ (λ image sent found. (found.0, (found.1.0, found.1.1.1 t)))
+            (so_far.moments told quiet);
+        legal = λ told quiet. weakens g.S.Bench c.args.spare.now c.loop-more.spare _ _ spare_harm (so_far.moments told quiet);
         quiet = λ told quiet other. so_far.quiet told quiet;
         sent = so_far.sent;
         both = λ t u told quiet spare_quiet image other left spare_left.
@@ -268,8 +286,15 @@ returns-in_err-answer g c =
     let why = c.in_err-answer.field-0.0 in
     let same : c.from_residual-in_err-answer.result ≡ ended_by why = search rules in
     let store = g.K.Keeper.store c.args.keeper.now in
-    let is_base : IsDatabase (base_over c.args.index.now store) =
-    record { schema = c.schema-schema.ensures.columns; shape = c.requires.shape; protected = c.requires.is.fit } in
+    let base = base_over c.args.index.now store in
+    let lines = counted_lines (g.P.Source.left c.args.source.now) in
+    let is_base : IsDatabase base = record { schema = c.schema-schema.ensures.columns; shape = c.requires.shape; protected = c.requires.is.fit } in
+    let harm =
+    harmless c.stops.ensures g.P.Source.told base c.args.batch store.history lines is_base c.requires.is.numbers c.requires.is.legal
+    (g.B.Bench.sent c.args.bench.now) in
+    let spare_harm =
+    spare_harmless c.stops.ensures g.P.Source.told base c.args.batch store.history lines is_base c.requires.is.numbers c.requires.is.legal
+    (g.S.Bench.sent c.args.spare.now) in
     let s = c.loop-more.invariant.served in
     let so_far = c.loop-more.invariant.spare in
     let now = c.gather.new.planner in
@@ -290,6 +315,11 @@ returns-in_err-answer g c =
     let rests = λ (no : c.from_residual-in_err-answer.result ≡ ended_by end.Bench → ⊥).
     rests_by {X = Unit {0}} why a.ends (λ is. no (same ∙ is)) g.B.Bench c.args.bench.now c.loop-more.bench c.answer.new.bench before after a.no_memory
     a.spare_first a.table.0 (record { stands = λ u. (before.journal.gate, s.as_left u); quiet = s.quiet }) in
+    let moments = λ (u : g.B.Bench.told) (quiet : IsQuiet g.B.Bench c.args.bench.now).
+    turn_moments s turn c.answer.new.bench u quiet (a.moments u (s.quiet u quiet)) in
+    let spare_moments = λ (told : g.K.Keeper.spared × g.S.Bench.told) (quiet : IsQuiet g.S.Bench c.args.spare.now).
+    spare_turn s turn g.S.Bench c.args.spare.now c.loop-more.spare c.answer.new.spare so_far.sent (so_far.moments told quiet)
+    (a.spare.moments told (so_far.quiet told quiet)) in
     record {
       session = record {
         done = λ t u. IfOk-from_err _ _ c.from_residual-in_err-answer.ensures.0;
@@ -303,10 +333,8 @@ returns-in_err-answer g c =
         usable = search rules;
         left = c.answer.ensures.left;
         calls = λ t u. IfOk-from_err _ _ c.from_residual-in_err-answer.ensures.0;
-        any_moment = λ t u quiet. told_stops (turn_moments s turn c.answer.new.bench u quiet (a.moments u (s.quiet u quiet))) t;
-        legal = λ u quiet.
-            harmless c.stops.ensures is_base c.requires.is.numbers c.requires.is.legal
-            (turn_moments s turn c.answer.new.bench u quiet (a.moments u (s.quiet u quiet)));
+        any_moment = λ t u quiet. weakens g.B.Bench c.args.bench.now c.answer.new.bench _ _ (λ image sent stop. stop.1 t) (moments u quiet);
+        legal = λ u quiet. weakens g.B.Bench c.args.bench.now c.answer.new.bench _ _ harm (moments u quiet);
         table = (a.table.0 ∙ s.secret, a.table.1 ∙ s.protected);
         is = a.is;
         read = λ t. IfOk-from_err _ _ c.from_residual-in_err-answer.ensures.0;
@@ -335,12 +363,9 @@ returns-in_err-answer g c =
             (subst (λ (s : SecretView). StandsFor file s.shape after.history) (sym a.table.0)
             (subst (λ (h : List Answered). StandsFor file before.secret.shape h) (sym (a.no_memory is).1) stood));
         moments = λ t told quiet.
-            told_spare_stops (spare_turn s turn g.S.Bench c.args.spare.now c.loop-more.spare c.answer.new.spare so_far.sent (so_far.moments told quiet)
-            (a.spare.moments told (so_far.quiet told quiet))) t;
-        legal = λ told quiet.
-            spare_harmless c.stops.ensures is_base c.requires.is.numbers c.requires.is.legal
-            (spare_turn s turn g.S.Bench c.args.spare.now c.loop-more.spare c.answer.new.spare so_far.sent (so_far.moments told quiet)
-            (a.spare.moments told (so_far.quiet told quiet)));
+            weakens g.S.Bench c.args.spare.now c.answer.new.spare _ _ (λ image sent found. (found.0, (found.1.0, found.1.1.1 t)))
+            (spare_moments told quiet);
+        legal = λ told quiet. weakens g.S.Bench c.args.spare.now c.answer.new.spare _ _ spare_harm (spare_moments told quiet);
         quiet = λ told quiet other. a.spare.quiet told (so_far.quiet told quiet) (λ is. other (same ∙ is));
         sent = a.spare.sent ∙ so_far.sent;
         both = λ t u told quiet spare_quiet image other left spare_left.

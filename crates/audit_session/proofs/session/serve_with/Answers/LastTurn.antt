@@ -3,12 +3,13 @@ use Rattle.std.proofs.Common.{◌≡◌, ◌++◌, ◌||◌, Bool, false, not, R
 use Rattle.line_wire.specs.Lines.{counted_lines}
 use Rattle.line_wire.specs.LinesSoFar.{all_within}
 use Rattle.bench_core.specs.Calls.{IsQuiet}
+use Rattle.bench_core.specs.Moments.{weakens}
 use Rattle.bench_core.specs.declared.stops.Stop.{Stop}
 use Rattle.table_load.specs.Database.{IsDatabase}
 use Rattle.audit_session.specs.Ends.{base_over}
 use Rattle.audit_store.specs.Refusals.{no_refusal}
 use Rattle.audit_session.proofs.GatheredLines.{still_ended, whole_or_last}
-use Rattle.audit_session.proofs.HarmlessStops.{harmless, spare_harmless, told_stops, told_spare_stops}
+use Rattle.audit_session.proofs.HarmlessStops.{harmless, spare_harmless}
 use Rattle.audit_session.proofs.Served.{HasGathered, all_calls, all_kept, all_served, both_turn, spare_calls_now, spare_turn, turn_moments}
 use Rattle.audit_session.proofs.Refusals.{still_later}
 use Rattle.audit_session.proofs.session.serve_with.Goals as goal
@@ -21,8 +22,15 @@ last_turn g c =
     let e = c.in_ok-more.ensures in
     let a = c.in_ok-answer.ensures in
     let store = g.K.Keeper.store c.args.keeper.now in
-    let is_base : IsDatabase (base_over c.args.index.now store) =
-    record { schema = c.schema-schema.ensures.columns; shape = c.requires.shape; protected = c.requires.is.fit } in
+    let base = base_over c.args.index.now store in
+    let lines = counted_lines (g.P.Source.left c.args.source.now) in
+    let is_base : IsDatabase base = record { schema = c.schema-schema.ensures.columns; shape = c.requires.shape; protected = c.requires.is.fit } in
+    let harm =
+    harmless c.stops.ensures g.P.Source.told base c.args.batch store.history lines is_base c.requires.is.numbers c.requires.is.legal
+    (g.B.Bench.sent c.args.bench.now) in
+    let spare_harm =
+    spare_harmless c.stops.ensures g.P.Source.told base c.args.batch store.history lines is_base c.requires.is.numbers c.requires.is.legal
+    (g.S.Bench.sent c.args.spare.now) in
     let s = c.loop-more.invariant.served in
     let so_far = c.loop-more.invariant.spare in
     let now = c.gather.new.planner in
@@ -58,8 +66,8 @@ last_turn g c =
         usable = λ bench spare memory. a.stands.usable;
         left = λ u usable. a.stands.as_left u;
         calls = λ t u. all_calls s turn a.answers t u (ap counted_lines (e.last t (ap given more_is)));
-        any_moment = λ t u quiet. told_stops (moments u quiet) t;
-        legal = λ u quiet. harmless c.stops.ensures is_base c.requires.is.numbers c.requires.is.legal (moments u quiet);
+        any_moment = λ t u quiet. weakens g.B.Bench c.args.bench.now c.answer.new.bench _ _ (λ image sent stop. stop.1 t) (moments u quiet);
+        legal = λ u quiet. weakens g.B.Bench c.args.bench.now c.answer.new.bench _ _ harm (moments u quiet);
         table = (a.table.0 ∙ s.secret, a.table.1 ∙ s.protected);
         is = a.is;
         read = λ t. (within t).0;
@@ -79,8 +87,10 @@ last_turn g c =
       };
       spare = record {
         stands = λ told bench spare. (g.K.Keeper.spare_gate c.answer.new.keeper, a.spare.stands told);
-        moments = λ t told quiet. told_spare_stops (spare_moments told quiet) t;
-        legal = λ told quiet. spare_harmless c.stops.ensures is_base c.requires.is.numbers c.requires.is.legal (spare_moments told quiet);
+        moments = λ t told quiet.
+            weakens g.S.Bench c.args.spare.now c.answer.new.spare _ _ (λ image sent found. (found.0, (found.1.0, found.1.1.1 t)))
+            (spare_moments told quiet);
+        legal = λ told quiet. weakens g.S.Bench c.args.spare.now c.answer.new.spare _ _ spare_harm (spare_moments told quiet);
         quiet = λ told quiet other. a.spare.quiet told (so_far.quiet told quiet) (λ is. no_refusal _ _ is);
         sent = a.spare.sent ∙ so_far.sent;
         both = λ t u told quiet spare_quiet image other left spare_left.

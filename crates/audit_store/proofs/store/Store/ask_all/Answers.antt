@@ -49,7 +49,8 @@ invariant_of-self-2 g c =
     let made = records_made c.args.asked.now c.in_ok-outcomes.outcomes.items in
     let group = group_of c.in_ok-ready.ready in
     let decided_is =
-    decided c.decide_all.new.sealed.core c.args.asked.now c.in_ok-outcomes.outcomes.items c.history.result.now group c.self.view_is c.requires.usable c.self.invariant took.outcomes took.history
+    decided c.decide_all.new.sealed.core c.args.asked.now c.in_ok-outcomes.outcomes.items c.history.result.now group c.self.view_is c.requires.usable
+    c.self.invariant took.outcomes took.history
     (c.history.ensures.is ∙ ap (λ (a : Audited). a.history) c.core.ensures) c.in_ok-ready.ensures.group in
     let done = c.in_ok-keep_ready.ensures in
     let is =
@@ -111,7 +112,8 @@ returns-in_err-keep_ready g c =
     let took = c.in_ok-outcomes.ensures in
     let group = group_of c.in_ok-ready.ready in
     let decided_is =
-    decided c.decide_all.new.sealed.core c.args.asked.now c.in_ok-outcomes.outcomes.items c.history.result.now group c.self.view_is c.requires.usable c.self.invariant took.outcomes took.history
+    decided c.decide_all.new.sealed.core c.args.asked.now c.in_ok-outcomes.outcomes.items c.history.result.now group c.self.view_is c.requires.usable
+    c.self.invariant took.outcomes took.history
     (c.history.ensures.is ∙ ap (λ (a : Audited). a.history) c.core.ensures) c.in_ok-ready.ensures.group in
     let is =
     refused c.self.view_is c.requires.usable c.self.invariant
@@ -124,7 +126,7 @@ returns-in_err-keep_ready g c =
           asked_in_vain c.in_ok-outcomes.outcomes decided_is
           (ap (λ (s : StoreContents). s.journal.gate) c.self.view_is) g.B.Bench c.args.bench.now c.requires.stands c.keep_ready.new.bench
           c.keep_ready.ensures.any_moment c.keep_ready.ensures.sent (is_refusal answer.result stop.Bench answer.ensures) is.0
-          (λ (Answered : Type 0) (answered : Answered). failed_call g.B.Bench c.args.bench.now c.keep_ready.new.bench _ Answered failed.cause failed.last_call answered);
+          (λ (Told : Type 0) (told : Told). failed_call g.B.Bench c.args.bench.now c.keep_ready.new.bench _ Told failed.cause failed.last_call told);
       ends = of_refusal answer.result stop.Bench answer.ensures (λ r. IfErr r IsOfBench) tt;
     }
 
@@ -136,7 +138,8 @@ returns g c =
     let took = c.in_ok-outcomes.ensures in
     let group = group_of c.in_ok-ready.ready in
     let decided_is =
-    decided c.decide_all.new.sealed.core c.args.asked.now c.in_ok-outcomes.outcomes.items c.history.result.now group c.self.view_is c.requires.usable c.self.invariant took.outcomes took.history
+    decided c.decide_all.new.sealed.core c.args.asked.now c.in_ok-outcomes.outcomes.items c.history.result.now group c.self.view_is c.requires.usable
+    c.self.invariant took.outcomes took.history
     (c.history.ensures.is ∙ ap (λ (a : Audited). a.history) c.core.ensures) c.in_ok-ready.ensures.group in
     let made = records_made c.args.asked.now c.in_ok-outcomes.outcomes.items in
     let done = c.in_ok-keep_ready.ensures in

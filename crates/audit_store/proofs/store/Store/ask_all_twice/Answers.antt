@@ -59,7 +59,8 @@ invariant_of-self-2 g c =
     let made = records_made c.args.asked.now c.in_ok-outcomes.outcomes.items in
     let group = group_of c.in_ok-ready.ready in
     let decided_is =
-    decided c.decide_all.new.sealed.core c.args.asked.now c.in_ok-outcomes.outcomes.items c.history.result.now group c.self.view_is c.requires.usable c.self.invariant took.outcomes took.history
+    decided c.decide_all.new.sealed.core c.args.asked.now c.in_ok-outcomes.outcomes.items c.history.result.now group c.self.view_is c.requires.usable
+    c.self.invariant took.outcomes took.history
     (c.history.ensures.is ∙ ap (λ (a : Audited). a.history) c.core.ensures) c.in_ok-ready.ensures.group in
     let done = c.in-Ok-keep_ready.ensures in
     let is =
@@ -125,7 +126,8 @@ returns-in-Err g c =
     let took = c.in_ok-outcomes.ensures in
     let group = group_of c.in_ok-ready.ready in
     let decided_is =
-    decided c.decide_all.new.sealed.core c.args.asked.now c.in_ok-outcomes.outcomes.items c.history.result.now group c.self.view_is c.requires.usable c.self.invariant took.outcomes took.history
+    decided c.decide_all.new.sealed.core c.args.asked.now c.in_ok-outcomes.outcomes.items c.history.result.now group c.self.view_is c.requires.usable
+    c.self.invariant took.outcomes took.history
     (c.history.ensures.is ∙ ap (λ (a : Audited). a.history) c.core.ensures) c.in_ok-ready.ensures.group in
     let own = ap (λ (s : StoreContents). s.journal.gate) c.self.view_is in
     let of_other = over_other decided_is c.args.other.now c.requires.other in
@@ -142,7 +144,7 @@ returns-in-Err g c =
           spare_asked_in_vain c.in_ok-outcomes.outcomes of_other g.B.Bench g.S.Bench
           c.args.bench.now c.args.bench.now c.args.spare.now c.keep_ready.new.bench c.requires.spare_stands c.keep_ready.ensures.any_moment
           c.keep_ready.ensures.sent c.keep_ready.new.journal
-          (λ (Answered : Type 0) (answered : Answered). failed_call g.S.Bench c.args.spare.now c.keep_ready.new.bench _ Answered failed.cause failed.last_call answered)
+          (λ (Told : Type 0) (told : Told). failed_call g.S.Bench c.args.spare.now c.keep_ready.new.bench _ Told failed.cause failed.last_call told)
           refl;
       other = tt;
       ends = tt;
@@ -156,7 +158,8 @@ returns-in-Err-keep_ready g c =
     let took = c.in_ok-outcomes.ensures in
     let group = group_of c.in_ok-ready.ready in
     let decided_is =
-    decided c.decide_all.new.sealed.core c.args.asked.now c.in_ok-outcomes.outcomes.items c.history.result.now group c.self.view_is c.requires.usable c.self.invariant took.outcomes took.history
+    decided c.decide_all.new.sealed.core c.args.asked.now c.in_ok-outcomes.outcomes.items c.history.result.now group c.self.view_is c.requires.usable
+    c.self.invariant took.outcomes took.history
     (c.history.ensures.is ∙ ap (λ (a : Audited). a.history) c.core.ensures) c.in_ok-ready.ensures.group in
     let own = ap (λ (s : StoreContents). s.journal.gate) c.self.view_is in
     let of_other = over_other decided_is c.args.other.now c.requires.other in
@@ -182,7 +185,7 @@ returns-in-Err-keep_ready g c =
       asks =
           asked_in_vain c.in_ok-outcomes.outcomes decided_is own g.B.Bench c.args.bench.now
           c.requires.stands c.keep_ready-2.new.bench c.keep_ready-2.ensures.any_moment c.keep_ready-2.ensures.sent refl is.0
-          (λ (Answered : Type 0) (answered : Answered). failed_call g.B.Bench c.args.bench.now c.keep_ready-2.new.bench _ Answered failed.cause failed.last_call answered);
+          (λ (Told : Type 0) (told : Told). failed_call g.B.Bench c.args.bench.now c.keep_ready-2.new.bench _ Told failed.cause failed.last_call told);
       spare =
           spare_is_ahead c.in_ok-outcomes.outcomes of_other g.B.Bench g.S.Bench
           c.args.bench.now c.keep_ready-2.new.bench c.args.spare.now c.keep_ready.new.bench c.requires.spare_stands c.keep_ready.ensures.any_moment
@@ -204,7 +207,8 @@ returns g c =
     let took = c.in_ok-outcomes.ensures in
     let group = group_of c.in_ok-ready.ready in
     let decided_is =
-    decided c.decide_all.new.sealed.core c.args.asked.now c.in_ok-outcomes.outcomes.items c.history.result.now group c.self.view_is c.requires.usable c.self.invariant took.outcomes took.history
+    decided c.decide_all.new.sealed.core c.args.asked.now c.in_ok-outcomes.outcomes.items c.history.result.now group c.self.view_is c.requires.usable
+    c.self.invariant took.outcomes took.history
     (c.history.ensures.is ∙ ap (λ (a : Audited). a.history) c.core.ensures) c.in_ok-ready.ensures.group in
     let made = records_made c.args.asked.now c.in_ok-outcomes.outcomes.items in
     let own = ap (λ (s : StoreContents). s.journal.gate) c.self.view_is in
