@@ -1,3 +1,4 @@
+use Rattle.std.proofs.Common.{refl}
 use Rattle.std.proofs.lemmas.Result.{IfErr-at_err, IfErr-weaker}
 use Rattle.bench_core.specs.Stops.{IsOfBench, IsOfBenches, of_benches}
 use Rattle.audit_store.proofs.AskedGroups.{no_spare}

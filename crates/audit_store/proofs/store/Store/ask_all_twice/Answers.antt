@@ -1,4 +1,4 @@
-use Rattle.std.proofs.Common.{◌≡◌, true, List, All, ◌+◌, ◌-◌, Err, refl, ◌++◌, length, take, drop, sym, ap, subst, ◌∙◌, arith}
+use Rattle.std.proofs.Common.{◌≡◌, ℕ, true, List, All, ◌+◌, ◌-◌, Err, refl, ◌++◌, length, take, drop, sym, ap, subst, ◌∙◌, arith}
 use Rattle.std.specs.Prelude.{IfErr}
 use Rattle.std.proofs.lemmas.Result.{IfOk-from_err}
 use Rattle.audit_types.specs.declared.records.Answered.{Answered}
@@ -9,6 +9,8 @@ use Rattle.bench_core.specs.Stops.{IsOfBenches}
 use Rattle.bench_core.specs.declared.stops.Stop.TheVariants as stop
 use Rattle.audit_core.specs.Audited.{Audited}
 use Rattle.audit_core.specs.Outcomes.{records_made}
+use Rattle.table_load.specs.Cells.{SecretView}
+use Rattle.journal_form.specs.Journal.{StandsAt}
 use Rattle.audit_store.specs.Stores.{StoreContents}
 use Rattle.audit_store.specs.StoreLaws.{table_by, core_is_history}
 use Rattle.audit_store.specs.Twice.{group_of}
