@@ -3,7 +3,6 @@ use Rattle.std.proofs.Common.{◌≡◌, ℕ, List, [], Result, Err, OnOk, refl,
 use Rattle.std.specs.List.{concat}
 use Rattle.std.proofs.lemmas.List.{append-nil}
 use Rattle.audit_types.specs.declared.records.Answered.{Answered}
-use Rattle.schema_json.specs.Columns.{Column}
 use Rattle.set_index.specs.Indexed.{IndexView}
 use Rattle.bench_core.specs.Calls.{IsUntouched}
 use Rattle.bench_core.specs.declared.stops.Stop.{Stop}

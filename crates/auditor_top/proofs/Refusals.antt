@@ -9,8 +9,7 @@ use Rattle.bench_core.specs.declared.bench.Bench.{Ghosts}
 use Rattle.bench_core.specs.declared.source.Source as source
 use Rattle.bench_core.specs.Calls.{IsQuiet, IsUntouched, LeavesOnly, OnlyReads}
 use Rattle.bench_core.specs.Moments.{started, weakens}
-use Rattle.schema_json.specs.Columns.{Column}
-use Rattle.set_index.specs.Indexed.{IndexView}
+use Rattle.set_index.specs.Indexed.{IndexView, public_setting}
 use Rattle.table_load.specs.Database.{Database, table_in}
 use Rattle.journal_form.specs.Journal.{StandsFor}
 use Rattle.answer_journal.specs.Moments.{IsMade}
@@ -28,7 +27,6 @@ use Rattle.twin_journal.specs.Fronts.{main_is_legal, spare_is_legal}
 use Rattle.twin_journal.specs.Twins.{StandsBetween}
 use Rattle.auditor_top.specs.Stages.{opening_journal, reading_lines}
 use Rattle.auditor_top.specs.Twins.{TwinEnds}
-use Rattle.transcript_sim.specs.Beginning.{public_setting}
 use Rattle.auditor_top.specs.Causes.{BeginningCause, BothCause, FaultCause, NothingFailed, IsDoneOrWants}
 use Rattle.auditor_top.specs.Commands.{ArePublicFilesOf, AreSoundFilesOf, opens_store}
 use Rattle.auditor_top.specs.Compactions.{CompactEnds}

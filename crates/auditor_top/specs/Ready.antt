@@ -10,10 +10,10 @@ use Rattle.schema_json.specs.Columns.{Column, SchemaView}
 use Rattle.schema_json.specs.Reading.{schema_of, most_schema}
 use Rattle.schema_json.specs.SecretShape.{shape_of}
 use Rattle.schema_json.specs.declared.faults.SchemaFault.TheVariants as schema_fault
-use Rattle.table_load.specs.Cells.{FitsSchema, PublicView}
+use Rattle.table_load.specs.Cells.{PublicView}
 use Rattle.table_load.specs.Database.{Database, base_of, table_in}
 use Rattle.set_index.specs.Groups.{Protects}
-use Rattle.set_index.specs.Indexed.{IndexView}
+use Rattle.set_index.specs.Indexed.{IndexView, public_shape}
 use Rattle.table_load.specs.Reading.{most_table}
 use Rattle.table_load.specs.Tables.{table_of, public_of}
 use Rattle.table_load.specs.declared.faults.TableFault.TheVariants as table_fault
@@ -26,7 +26,7 @@ use Rattle.auditor_top.specs.declared.words.Command.TheVariants as command
 use Rattle.auditor_top.specs.declared.status.Which.TheVariants.{Schema, Table, Input}
 use Rattle.auditor_top.specs.declared.status.Status.{Status}
 use Rattle.auditor_top.specs.declared.status.Status.TheVariants.{Done, BadWords, BadSchema, BadTable, SourceFault, BenchFault, AlreadyThere, NothingNew, InputLimit, Disagrees, SpareThere, SpareFault, BadSpare, TwinsDiffer, NothingLost, NoMemory}
-use Rattle.auditor_top.specs.Ends.{people_over}
+use Rattle.auditor_top.specs.Ends.{people_told}
 use Rattle.auditor_top.specs.Causes.{WordCause, SchemaCause, TableCause, GroupCause, FileCause, FaultCause, counts}
 use Rattle.auditor_top.specs.Commands.{AreFilesOf, AreSoundFilesOf, ArePublicFilesOf, ServesOver, opens_store, reads_files, reads_groups, reads_secrets}
 use Rattle.auditor_top.specs.Stages.{Before, reading_table, opening_journal}
@@ -51,7 +51,7 @@ abbrev pub command_for : Ready → Command
 command_for (Init shape) = command.Init
 command_for (Serve index store batch) = command.Serve batch false
 command_for (Twin index secret protected batch) = command.Serve batch true
-command_for (Audit index people store) = command.Audit
+command_for (Audit schema people store) = command.Audit
 command_for (Simulate index) = command.Simulate
 command_for (Drill number) = command.Drill number
 command_for (Grow secret protected) = command.Grow
@@ -70,7 +70,7 @@ abbrev pub IsReady : {B : Type 0} → Ghosts B → B → Ready → Type 0
 IsReady bench now (Init shape) = IsShape shape
 IsReady bench now (Serve index store batch) = IsOpened bench now store × (store.secret.shape ≡ public_shape index)
 IsReady bench now (Twin index secret protected batch) = AreProtected secret.shape protected × (secret.shape ≡ public_shape index)
-IsReady bench now (Audit index people store) = IsOpened bench now store × (store.secret.shape ≡ shape_of index.columns store.secret.shape.rows)
+IsReady bench now (Audit schema people store) = IsOpened bench now store × (store.secret.shape ≡ shape_of schema.columns store.secret.shape.rows)
 IsReady bench now (Simulate index) = Unit {0}
 IsReady bench now (Drill number) = Unit {0}
 IsReady bench now (Grow secret protected) = AreProtected secret.shape protected
@@ -85,8 +85,9 @@ IsReadyOver schema_file table_file (Init shape) = (base : Database) × AreFilesO
 IsReadyOver schema_file table_file (Serve index store batch) = AreSoundFilesOf schema_file table_file (base_over index store)
 IsReadyOver schema_file table_file (Twin index secret protected batch) =
     AreSoundFilesOf schema_file table_file (base_of index.columns index.public protected secret)
-IsReadyOver schema_file table_file (Audit index people store) =
-    AreSoundFilesOf schema_file table_file (base_over index store) × (people ≡ people_over (base_over index store))
+IsReadyOver schema_file table_file (Audit schema people store) =
+    (public : PublicView) × AreSoundFilesOf schema_file table_file (base_of schema.columns public store.protected store.secret) ×
+    (people ≡ people_told schema.columns public)
 IsReadyOver schema_file table_file (Simulate index) = ArePublicFilesOf schema_file table_file index
 IsReadyOver schema_file table_file (Drill number) = Unit {0}
 IsReadyOver schema_file table_file (Grow secret protected) =

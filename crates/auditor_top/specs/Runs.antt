@@ -7,8 +7,7 @@ use Rattle.audit_types.specs.Widening.{over}
 use Rattle.bench_core.specs.declared.bench.Bench.{Ghosts}
 use Rattle.bench_core.specs.declared.source.Source as source
 use Rattle.bench_core.specs.Calls.{IsQuiet, IsUntouched, LeavesOnly}
-use Rattle.schema_json.specs.Columns.{Column}
-use Rattle.set_index.specs.Indexed.{IndexView}
+use Rattle.set_index.specs.Indexed.{IndexView, public_setting}
 use Rattle.table_load.specs.Database.{Database, table_in}
 use Rattle.journal_form.specs.Journal.{StandsFor}
 use Rattle.answer_journal.specs.Make.{calls_to_make}
@@ -21,7 +20,6 @@ use Rattle.audit_session.specs.Lives.{IsLife, Run, Standing, shape_in, serves}
 use Rattle.journal_audit.specs.Reports.{SendsMeanwhile, TakesOneEach}
 use Rattle.certificate_lines.specs.Ends.{ExplainsMeanwhile}
 use Rattle.certificate_lines.specs.Explained.{AreExplained}
-use Rattle.transcript_sim.specs.Beginning.{public_setting}
 use Rattle.transcript_sim.specs.Ends.{SimulatesMeanwhile}
 use Rattle.transcript_sim.specs.Verdicts.{AreVerdicts, exchanges}
 use Rattle.auditor_top.specs.declared.words.Command.{Command}

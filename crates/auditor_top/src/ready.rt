@@ -2,9 +2,8 @@
 ghost use Rattle.std.specs.Prelude.{◌≡◌, ◌≤◌, ◌+◌, true, false, IfOk, IfErr, IsOk, OnOk};
 ghost use Rattle.audit_types.specs.History.{AreProtected};
 ghost use Rattle.bench_core.specs.Calls.{OnlyReads};
-ghost use Rattle.schema_json.specs.SecretShape.{shape_of};
-ghost use Rattle.table_load.specs.Cells.{FitsSchema};
 ghost use Rattle.table_load.specs.Database.{base_of};
+ghost use Rattle.set_index.specs.Indexed.{public_shape};
 ghost use Rattle.audit_session.specs.Ends.{base_over};
 ghost use Rattle.auditor_top.specs.Commands.{AreSoundFilesOf, opens_journal, opens_store, reads_files};
 ghost use Rattle.auditor_top.specs.Ends.{people_told};
@@ -17,6 +16,7 @@ use crate::words::Command;
 use audit_store::Store;
 use audit_types::{Guard, RowSet, Shape};
 use bench_core::{Bench, Source};
+use schema_json::Schema;
 use set_index::{Index, groups_of_a_schema};
 use std::alloc::Global;
 use table_load::Secret;
@@ -28,7 +28,7 @@ pub enum Ready {
     Serve(Index, Store, u8),
     Twin(Index, Secret, Guard, u8),
     // With how many people the rows stand for, if the schema counts them.
-    Audit(Index, Option<u64>, Store),
+    Audit(Schema, Option<u64>, Store),
     Simulate(Index),
     Drill(u32),
     Grow(Secret, Guard),
@@ -146,7 +146,7 @@ pub fn open<P: Source, B: Bench>(
         Command::Audit => {
             let started = open_store(alloc, command, schema, table, bench)?;
             let people = people_of(&started.index);
-            Ok(Ready::Audit(started.index, people, started.store))
+            Ok(Ready::Audit(started.index.into_schema(), people, started.store))
         }
         Command::Simulate => {
             let OpenedPublic { schema, public } = open_public(alloc, schema, table)?;

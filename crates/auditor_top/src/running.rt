@@ -140,17 +140,13 @@ pub fn run<P: Source, I: Source, B: Bench>(
         Ok(Ready::Twin(index, secret, protected, batch)) => match TwinStore::start(
             alloc, secret, protected, bench, spare,
         ) {
-            Ok(mut twin) => ended(serve_twin(
-                alloc, &index, &mut twin, input, bench, spare, batch,
-            )),
+            Ok(mut twin) => ended(serve_twin(alloc, &index, &mut twin, input, bench, spare, batch)),
             Err(fault) => Status::from(fault),
         },
-        Ok(Ready::Audit(index, people, store)) => {
-            ended(audit(alloc, index.schema(), &store, people, bench))
+        Ok(Ready::Audit(schema, people, store)) => {
+            ended(audit(alloc, &schema, &store, people, bench))
         }
-        Ok(Ready::Simulate(index)) => judged(transcript_sim::simulate(
-            alloc, &index, input, bench,
-        )),
+        Ok(Ready::Simulate(index)) => judged(transcript_sim::simulate(alloc, &index, input, bench)),
         Ok(Ready::Drill(number)) => ended(drill(alloc, number, bench)),
         Ok(Ready::Grow(secret, protected)) => grown(Store::grow(alloc, secret, protected, bench)),
         Ok(Ready::Explain(index, store)) => ended(certificate_lines::explain(

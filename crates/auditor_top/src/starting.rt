@@ -106,10 +106,7 @@ pub fn start<B: Bench>(alloc: Global, opened: Opened, bench: &mut B) -> Result<S
         Err(fault) => return Err(NotStarted::Groups(fault)),
     };
     match Store::start(alloc, secret, protected, bench) {
-        Ok(store) => Ok(Started {
-            index,
-            store,
-        }),
+        Ok(store) => Ok(Started { index, store }),
         Err(fault) => Err(NotStarted::Journal(fault)),
     }
 }

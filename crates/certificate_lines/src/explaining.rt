@@ -81,12 +81,5 @@ pub fn explain<P: Source, B: Bench>(
     let _history = store.history();
     lists_of_secrets();
     let mut planner = Planner::new(alloc)?;
-    explain_lines(
-        alloc,
-        &mut planner,
-        index,
-        store.core(),
-        source,
-        bench,
-    )
+    explain_lines(alloc, &mut planner, index, store.core(), source, bench)
 }

@@ -300,6 +300,13 @@ impl Index {
         &self.schema
     }
 
+    /// Gives back the schema, and drops the rest.
+    pub fn into_schema(self) -> Schema
+        ensures { result.columns ≡ self.columns }
+    {
+        self.schema
+    }
+
     /// The public part.
     pub fn public(&self) -> &Public
         ensures { result.now ≡ whole self.now.public }

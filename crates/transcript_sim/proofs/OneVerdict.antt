@@ -61,7 +61,8 @@ module _ (replies : LineIsOneReply) (plans : OnePlanIsMade) (judgements : OneJud
   one_expected index history line a b first second =
       let setting = public_setting index in
       one_call setting history first.plan a b first.calls
-      (subst (λ (p : Plan). CallsFor setting history p b) (plans index.columns index.public line second.plan first.plan second.planned first.planned) second.calls)
+      (subst (λ (p : Plan). CallsFor setting history p b)
+      (plans index.columns index.public line second.plan first.plan second.planned first.planned) second.calls)
 
   -- a line that agrees makes one record
   one_record : (line : CountedLine) (expected : Expected) (a b : Option Answered) → AgreesWith line expected a → AgreesWith line expected b → a ≡ b

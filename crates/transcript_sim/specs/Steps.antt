@@ -112,7 +112,8 @@ SendsFor bench old new None = new ≡ old
 SendsFor bench old new (Some expected) = SendsVerdict bench old new expected
 
 -- a question whose verdict couldn't be sent
-pub record GivesUnsent {P B : Type 0} (source : Ghosts P) (bench : BenchGhosts B) (old new : Cutter) (before after : P) (at now : B) (index : IndexView) (history : List Answered) : Type 0 where
+pub record GivesUnsent {P B : Type 0} (source : Ghosts P) (bench : BenchGhosts B) (old new : Cutter) (before after : P) (at now : B)
+    (index : IndexView) (history : List Answered) : Type 0 where
   pub expected : Expected
   pub question : GivesQuestion source old new before after index history expected
   pub fails : FailsSending bench at now expected
