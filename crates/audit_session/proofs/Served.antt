@@ -175,7 +175,8 @@ module _ {P B : Type 0} {source : SourceGhosts P} {bench : Ghosts B} {index : In
         ReadsLines (source.left first_source) (lines_now.pending ++ source.left source_now) ended_now (served.answered.lines ++ turn.gathers.lines)
     reads_now t =
         reads_more (source.left first_source) (lines.pending ++ source.left from)
-        (lines_now.pending ++ source.left source_now) lines.ended ended_now served.answered.lines turn.gathers.lines (served.answered.reads t) (turn.gathers.reads t) turn.once
+        (lines_now.pending ++ source.left source_now) lines.ended ended_now served.answered.lines turn.gathers.lines (served.answered.reads t)
+        (turn.gathers.reads t) turn.once
 
     all_are : source.told → all ≡ served.answered.lines ++ (turn.gathers.lines ++ behind)
     all_are t = (reads_now t).counted ∙ append_assoc served.answered.lines turn.gathers.lines behind
@@ -221,7 +222,8 @@ module _ {P B : Type 0} {source : SourceGhosts P} {bench : Ghosts B} {index : In
           bytes_of served.answered.replies,
           stops_among base batch served.answered.count first_store.history store.history served.answered.lines turn.gathers.lines served.answered.replies plans
               served.answered.many turn.few served.answered.due served.answered.history_is turn.gathers.planned
-              source.told all behind [] (bytes_of served.answered.replies) image (bytes_of served.answered.replies) all_are turn.ends refl (inl (refl, found.1)),
+              source.told all behind [] (bytes_of served.answered.replies) image (bytes_of served.answered.replies) all_are turn.ends refl
+              (inl (refl, found.1)),
         )
         stops_where image before (inr found) = (
           bytes_of served.answered.replies,

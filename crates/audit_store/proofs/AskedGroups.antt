@@ -13,13 +13,13 @@ use Rattle.bench_core.specs.declared.stops.Stop.{Stop}
 use Rattle.bench_core.specs.declared.stops.Stop.TheVariants as stop
 use Rattle.bench_core.specs.Calls.{IsQuiet, LeavesOnly, TellsFault}
 use Rattle.bench_core.specs.Reports.{not_called}
-use Rattle.journal_form.specs.Journal.{StandsAt, StandsFor}
+use Rattle.journal_form.specs.Journal.{StandsAt}
 use Rattle.table_load.specs.Cells.{SecretView}
 use Rattle.answer_journal.specs.Contents.{JournalContents}
 use Rattle.answer_journal.specs.Moments.{IsBeforeOrAfter}
 use Rattle.audit_store.specs.Asks.{AsksOn, SpareAsksOn}
 use Rattle.audit_store.specs.Refusals.{no_refusal}
-use Rattle.audit_store.specs.Stores.{StoreContents, IsAsLeft, IsStore, IsAuditedBy, HasGroup, Keeps, KeptAhead, calls_for, table_of}
+use Rattle.audit_store.specs.Stores.{StoreContents, IsAsLeft, IsStore, IsAuditedBy, HasGroup, Keeps, calls_for, table_of}
 use Rattle.audit_store.specs.StoreLaws.{core_is_history, nothing_appended, store_in, table_by, taken_since}
 use Rattle.audit_store.specs.Twice.{IsJournalOf}
 use Rattle.audit_store.proofs.InsideStores.{HasKept, HasRefused}
@@ -186,7 +186,8 @@ module _ {store : StoreContents} {questions : List Asked} (outcomes : Vec Outcom
   stands told = subst (λ (n : ℕ). StandsAt (bench.file old) store.secret.shape store.history n) (sym own) (as_left told)
 
   -- a call of the spare failed, and the bench wasn't called
-  pub uncalled : {now : StoreContents} → ((image sent : List ℕ) → bench.since old (bench.moment old) image sent → bench.leaves old image × (sent ≡ bench.sent old))
+  pub uncalled : {now : StoreContents}
+      → ((image sent : List ℕ) → bench.since old (bench.moment old) image sent → bench.leaves old image × (sent ≡ bench.sent old))
       → HasRefused store now → AsksOn bench store now questions (Err stop.Spare) old old
   uncalled only_now refused = record {
     outcomes = tt;
