@@ -102,7 +102,6 @@ pub fn simulate<P: Source, B: Bench>(
     source: &mut P,
     bench: &mut B,
 ) -> Result<(), SimulationFault>
-
     // Which verdicts there are after the history that it begins with, and that their lines were sent, by one call for each question and no
     // other after the two that open the journal.
     ensures verdicts { (history : List Answered) → P.told → B.told → BeginsWith (B.file bench.old) (public_setting index.now) history

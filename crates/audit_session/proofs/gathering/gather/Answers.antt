@@ -49,8 +49,8 @@ loop-alloc-smaller g c =
       length-append c.loop-alloc.group.plans.items (c.in-Some.plan ∷ []),
     )
 
-pub next-requires-clause-same : goal.next-requires-clause-same
-next-requires-clause-same g c = c.loop-alloc.invariant.gathering.cuts.same
+pub next-requires : goal.next-requires
+next-requires g c = record { same = c.loop-alloc.invariant.gathering.cuts.same }
 
 pub returns-in_err-plan : goal.returns-in_err-plan
 returns-in_err-plan g c =
