@@ -15,39 +15,10 @@ use Rattle.journal_form.specs.Journal.{StandsFor}
 use Rattle.audit_store.specs.Stores.{StoreContents}
 use Rattle.audit_session.specs.Ends.{Ends, Reads, Rests, Serves, ServesWhole, ServesSome, limited}
 
-pub ends_by : {X : Type 0} (batch : ℕ) (base : Database) (history : List Answered) (input left : List ℕ) (now : List Answered) (before after : List ℕ)
-    (why : Stop)
-    → (IsErrOf {T = X} (Err why) end.Input → ServesWhole base history batch input left now before after)
-    → (IsErrOf {T = X} (Err why) end.Limit → ServesWhole base history batch (limited input) [] now before after) →
-    (IsErrOf {T = X} (Err why) end.NoMemory → ServesSome base history batch (counted_lines input) now before after)
-    → (IsErrOf {T = X} (Err why) end.Spare → ServesSome base history batch (counted_lines input) now before after)
-    → Ends batch (Err why) base history input left now before after
-ends_by batch base history input left now before after end.Input whole limit some spare = whole refl
-ends_by batch base history input left now before after end.Limit whole limit some spare = limit refl
-ends_by batch base history input left now before after end.NoMemory whole limit some spare = some refl
-ends_by batch base history input left now before after end.Bench whole limit some spare = tt
-ends_by batch base history input left now before after end.Spare whole limit some spare = spare refl
-
-pub reads_by : {X : Type 0} (input left : List ℕ) (why : Stop) → (IsErrOf {T = X} (Err why) end.Input → length input ≤ most_input + length left) →
-    (IsErrOf {T = X} (Err why) end.Limit → most_input + length left < length input) → Reads (Err why) input left
-reads_by input left end.Input within over = within refl
-reads_by input left end.Limit within over = over refl
-reads_by input left other within over = tt
-
--- the clauses on an end without a stop
-pub all_by : (answer : Result (Unit {0}) Stop) (batch : ℕ) (base : Database) (history : List Answered) (input left : List ℕ) (now : List Answered)
-    (before after : List ℕ)
-    → Ends batch answer base history input left now before after → OnOk answer (Serves base history (counted_lines input) now before after)
-all_by (Ok done) batch base history input left now before after ends = ends
-all_by (Err why) batch base history input left now before after ends = tt
-
-pub read_by : (answer : Result (Unit {0}) Stop) (input left : List ℕ) → Reads answer input left → OnOk answer (left ≡ [])
-read_by (Ok done) input left reads = reads.0
-read_by (Err why) input left reads = tt
-
-pub within_by : (answer : Result (Unit {0}) Stop) (input left : List ℕ) → Reads answer input left → OnOk answer (length input ≤ most_input)
-within_by (Ok done) input left reads = reads.1
-within_by (Err why) input left reads = tt
+-- the file stands for the history, and a quiet bench is still quiet
+pub record Rests {B : Type 0} (bench : Ghosts B) (old new : B) (store : StoreContents) : Type 0 where
+  pub stands : bench.told → StandsFor (bench.file new) store.secret.shape store.history
+  pub quiet : bench.told → IsQuiet bench old → IsQuiet bench new
 
 -- a stop of two benches is one of three
 uncalled : {X Claim : Type 0} (why : Stop) → IsOfBenches why → (IsErrOf {T = X} (Err why) end.Bench → ⊥) →

@@ -69,14 +69,14 @@ pub record Served {P B : Type 0} (source : SourceGhosts P) (bench : Ghosts B) (i
 -- and of a spare, which isn't called if the keeper isn't spared
 pub record SpareServed {P K S : Type 0} (source : SourceGhosts P) (keeper : KeeperGhosts K) (spare : Ghosts S) (index : IndexView)
     (batch : ℕ) (first_keeper kept : K) (first_source : P) (first at : S) (replies : List (Replied Answered)) : Type 0 where
-  pub stands : keeper.spared → spare.told → StandsAt (spare.file at) (keeper.store kept).secret.shape (keeper.store kept).history (keeper.spare_gate kept)
-  pub moments : keeper.spared → spare.told → IsQuiet spare first →
+  pub stands : keeper.spared × spare.told → StandsAt (spare.file at) (keeper.store kept).secret.shape (keeper.store kept).history (keeper.spare_gate kept)
+  pub moments : keeper.spared × spare.told → IsQuiet spare first →
       LeavesOnly spare first at
       (SpareAmong source.told (base_over index (keeper.store first_keeper)) batch
       (keeper.store first_keeper).history (counted_lines (source.left first_source)) (spare.sent first))
-  pub quiet : keeper.spared → spare.told → IsQuiet spare first → IsQuiet spare at
+  pub quiet : keeper.spared × spare.told → IsQuiet spare first → IsQuiet spare at
   pub sent : spare.sent at ≡ spare.sent first
-  pub calls : keeper.spared → spare.told → spare.moment at ≡ spare.moment first + 4 * commits batch replies
+  pub calls : keeper.spared × spare.told → spare.moment at ≡ spare.moment first + 4 * commits batch replies
   pub steady : spare.faults at ≡ spare.faults first
   pub untouched : (keeper.spared → ⊥) → at ≡ first
 
@@ -133,23 +133,32 @@ nothing_served source bench index batch lines store from at fresh usable is stan
 pub spare_unserved : {P K S : Type 0} (source : SourceGhosts P) (keeper : KeeperGhosts K) (spare : Ghosts S) (index : IndexView)
     (batch : ℕ) (kept : K) (from : P) (at : S)
     → ((image bytes : List ℕ) → spare.since at (spare.moment at) image bytes → spare.leaves at image × (bytes ≡ spare.sent at))
-    → (keeper.spared → spare.told → StandsAt (spare.file at) (keeper.store kept).secret.shape (keeper.store kept).history (keeper.spare_gate kept))
+    → (keeper.spared × spare.told → StandsAt (spare.file at) (keeper.store kept).secret.shape (keeper.store kept).history (keeper.spare_gate kept))
     → SpareServed source keeper spare index batch kept kept from at at []
 spare_unserved source keeper spare index batch kept from at only_now stands = record {
   stands = stands;
-  moments = λ spared told quiet.
+  moments = λ told quiet.
       let store = keeper.store kept in
       spare_first source.told spare at (base_over index store) batch store.history (counted_lines (source.left from)) only_now
-      quiet (keeper.spare_gate kept, stands spared told);
-  quiet = λ spared told quiet. quiet;
+      quiet (keeper.spare_gate kept, stands told);
+  quiet = λ told quiet. quiet;
   sent = refl;
-  calls = λ spared told. omega arith;
+  calls = λ told. omega arith;
   steady = refl;
   untouched = λ none. refl;
 }
 
-module _ {P B : Type 0} (source : SourceGhosts P) (bench : Ghosts B) (index : IndexView) (batch : ℕ) (lines : Cutter)
-    (first_store store : StoreContents) (first_source from : P) (first at : B)
+-- a group was gathered from the rest of an input: it is whole, unless no line is left behind it
+pub record HasGathered {P : Type 0} (source : SourceGhosts P) (index : IndexView) (batch : ℕ) (lines lines_now : Cutter)
+    (from source_now : P) (ended_now : Bool) (plans : List Plan) : Type 0 where
+  pub gathers : Gathers source.told index (lines.pending ++ source.left from) (lines_now.pending ++ source.left source_now) ended_now plans
+  pub few : length plans ≤ batch
+  pub some : 0 < batch
+  pub once : lines.ended ≡ true → ended_now ≡ true
+  pub ends : source.told → (length plans ≡ batch) ⊎ (counted_lines (lines_now.pending ++ source.left source_now) ≡ [])
+
+module _ {P B : Type 0} {source : SourceGhosts P} {bench : Ghosts B} {index : IndexView} {batch : ℕ} {lines : Cutter}
+    {first_store store : StoreContents} {first_source from : P} {first at : B}
     (served : Served source bench index batch lines first_store store first_source from first at) where
   abbrev base : Database
   base = base_over index first_store
@@ -157,23 +166,23 @@ module _ {P B : Type 0} (source : SourceGhosts P) (bench : Ghosts B) (index : In
   abbrev all : List CountedLine
   all = counted_lines (source.left first_source)
 
-  module _ (lines_now : Cutter) (ended_now : Bool) (source_now : P) (plans : List Plan)
-      (gathers : Gathers source.told index (lines.pending ++ source.left from) (lines_now.pending ++ source.left source_now) ended_now plans)
-      (few : length plans ≤ batch) (some : 0 < batch) (once : lines.ended ≡ true → ended_now ≡ true) where
+  module _ {lines_now : Cutter} {ended_now : Bool} {source_now : P} {plans : List Plan}
+      (turn : HasGathered source index batch lines lines_now from source_now ended_now plans) where
     abbrev behind : List CountedLine
     behind = counted_lines (lines_now.pending ++ source.left source_now)
 
     pub reads_now : source.told →
-        ReadsLines (source.left first_source) (lines_now.pending ++ source.left source_now) ended_now (served.answered.lines ++ gathers.lines)
+        ReadsLines (source.left first_source) (lines_now.pending ++ source.left source_now) ended_now (served.answered.lines ++ turn.gathers.lines)
     reads_now t =
         reads_more (source.left first_source) (lines.pending ++ source.left from)
-        (lines_now.pending ++ source.left source_now) lines.ended ended_now served.answered.lines gathers.lines (served.answered.reads t) (gathers.reads t) once
+        (lines_now.pending ++ source.left source_now) lines.ended ended_now served.answered.lines turn.gathers.lines (served.answered.reads t)
+        (turn.gathers.reads t) turn.once
 
-    all_are : source.told → all ≡ served.answered.lines ++ (gathers.lines ++ behind)
-    all_are t = (reads_now t).counted ∙ append_assoc served.answered.lines gathers.lines behind
+    all_are : source.told → all ≡ served.answered.lines ++ (turn.gathers.lines ++ behind)
+    all_are t = (reads_now t).counted ∙ append_assoc served.answered.lines turn.gathers.lines behind
 
-    pub as_many : length gathers.lines ≡ length plans
-    as_many = length-plans index.columns index.public gathers.lines plans gathers.planned
+    pub as_many : length turn.gathers.lines ≡ length plans
+    as_many = length-plans index.columns index.public turn.gathers.lines plans turn.gathers.planned
 
     -- of the store as it was before the group
     over_first : (claim : SecretView → Protection → Type 0) → claim store.secret store.protected → claim first_store.secret first_store.protected
@@ -181,24 +190,23 @@ module _ {P B : Type 0} (source : SourceGhosts P) (bench : Ghosts B) (index : In
         (subst (λ (s : SecretView). claim s store.protected) served.secret holds)
 
     -- while it is answered
-    pub turn_moments : (new : B) → (source.told → (length plans ≡ batch) ⊎ (behind ≡ [])) → bench.told → IsQuiet bench first
+    pub turn_moments : (new : B) → bench.told → IsQuiet bench first
         → LeavesOnly bench at new (InGroup (IsReplyOf (table_of store)) (stands_of store.secret.shape) store.history plans (bench.sent at))
         → LeavesOnly bench first new (StopsAmong source.told base batch first_store.history all (bench.sent first))
-    turn_moments new ends u quiet moments =
+    turn_moments new u quiet moments =
         joins bench first at new _ (served.moments u quiet)
         (weakens bench at new _ _ (λ image bytes found.
-        stops_among base batch served.answered.count first_store.history store.history served.answered.lines gathers.lines served.answered.replies plans
-        served.answered.many few served.answered.due served.answered.history_is gathers.planned
-        source.told all behind (bench.sent first) (bench.sent at) image bytes all_are ends (served.sent_is u) found)
+        stops_among base batch served.answered.count first_store.history store.history served.answered.lines turn.gathers.lines served.answered.replies plans
+        served.answered.many turn.few served.answered.due served.answered.history_is turn.gathers.planned
+        source.told all behind (bench.sent first) (bench.sent at) image bytes all_are turn.ends (served.sent_is u) found)
         (over_first (λ s p. LeavesOnly bench at new (InGroup (IsReplyOf (secret_table s p)) (stands_of s.shape) store.history plans (bench.sent at))) moments))
 
     -- the same of a spare, on which nothing is sent
-    pub spare_turn : {E : Type 0} (spare : Ghosts E) (start mid end : E) → (source.told → (length plans ≡ batch) ⊎ (behind ≡ []))
-        → spare.sent mid ≡ spare.sent start
+    pub spare_turn : {E : Type 0} (spare : Ghosts E) (start mid end : E) → spare.sent mid ≡ spare.sent start
         → LeavesOnly spare start mid (SpareAmong source.told base batch first_store.history all (spare.sent start))
         → LeavesOnly spare mid end (UnsentInGroup (IsReplyOf (table_of store)) (stands_of store.secret.shape) store.history plans (spare.sent mid))
         → LeavesOnly spare start end (SpareAmong source.told base batch first_store.history all (spare.sent start))
-    spare_turn spare start mid end ends same so_far moments =
+    spare_turn spare start mid end same so_far moments =
         joins spare start mid end _ so_far
         (weakens spare mid end _ _ (λ image bytes found. (
           found.0 ∙ same,
@@ -212,33 +220,34 @@ module _ {P B : Type 0} (source : SourceGhosts P) (bench : Ghosts B) (index : In
             (bytes : List ℕ) × StopsAmong source.told base batch first_store.history all [] image bytes
         stops_where image before (inl found) = (
           bytes_of served.answered.replies,
-          stops_among base batch served.answered.count first_store.history store.history served.answered.lines gathers.lines served.answered.replies plans
-              served.answered.many few served.answered.due served.answered.history_is gathers.planned
-              source.told all behind [] (bytes_of served.answered.replies) image (bytes_of served.answered.replies) all_are ends refl (inl (refl, found.1)),
+          stops_among base batch served.answered.count first_store.history store.history served.answered.lines turn.gathers.lines served.answered.replies plans
+              served.answered.many turn.few served.answered.due served.answered.history_is turn.gathers.planned
+              source.told all behind [] (bytes_of served.answered.replies) image (bytes_of served.answered.replies) all_are turn.ends refl
+              (inl (refl, found.1)),
         )
         stops_where image before (inr found) = (
           bytes_of served.answered.replies,
-          stops_among base batch served.answered.count first_store.history store.history served.answered.lines gathers.lines served.answered.replies plans
-              served.answered.many few served.answered.due served.answered.history_is gathers.planned
-              source.told all behind [] (bytes_of served.answered.replies) image (bytes_of served.answered.replies) all_are ends refl
+          stops_among base batch served.answered.count first_store.history store.history served.answered.lines turn.gathers.lines served.answered.replies plans
+              served.answered.many turn.few served.answered.due served.answered.history_is turn.gathers.planned
+              source.told all behind [] (bytes_of served.answered.replies) image (bytes_of served.answered.replies) all_are turn.ends refl
               (inr (found.0, found.1, found.2, (0, sym (append-nil (bytes_of served.answered.replies))))),
         )
 
     -- both files, whatever a crash left of them
-    pub both_turn : (sent image other : List ℕ) → source.told → bench.told → (source.told → (length plans ≡ batch) ⊎ (behind ≡ []))
+    pub both_turn : (sent image other : List ℕ) → source.told → bench.told
         → BothInGroup (IsReplyOf (table_of store)) (stands_of store.secret.shape) store.history plans (bench.sent at) sent image other
         → LeavesBoth base batch first_store.history all (bench.sent first) sent image other
-    both_turn sent image other t u ends found =
-        both_after base batch served.answered.count first_store.history store.history served.answered.lines gathers.lines served.answered.replies plans
-        served.answered.many few served.answered.due served.answered.history_is gathers.planned
-        all behind (bench.sent first) (bench.sent at) sent image other (all_are t) (ends t) (served.sent_is u)
+    both_turn sent image other t u found =
+        both_after base batch served.answered.count first_store.history store.history served.answered.lines turn.gathers.lines served.answered.replies plans
+        served.answered.many turn.few served.answered.due served.answered.history_is turn.gathers.planned
+        all behind (bench.sent first) (bench.sent at) sent image other (all_are t) (turn.ends t) (served.sent_is u)
         (over_first (λ s p. BothInGroup (IsReplyOf (secret_table s p)) (stands_of s.shape) store.history plans (bench.sent at) sent image other) found)
 
-    module _ (now : List Answered) (new : B) (answers : AnswersGroup bench at new (table_of store) store.history now plans) where
-      pub due_now : AreReplies (IsDue base) first_store.history (served.answered.lines ++ gathers.lines) (served.answered.replies ++ answers.replies)
+    module _ {now : List Answered} {new : B} (answers : AnswersGroup bench at new (table_of store) store.history now plans) where
+      pub due_now : AreReplies (IsDue base) first_store.history (served.answered.lines ++ turn.gathers.lines) (served.answered.replies ++ answers.replies)
       due_now =
-          all_due base batch served.answered.count first_store.history store.history served.answered.lines gathers.lines served.answered.replies plans
-          served.answered.many few served.answered.due served.answered.history_is gathers.planned answers.replies
+          all_due base batch served.answered.count first_store.history store.history served.answered.lines turn.gathers.lines served.answered.replies plans
+          served.answered.many turn.few served.answered.due served.answered.history_is turn.gathers.planned answers.replies
           (over_first (λ s p. AreReplies (IsReplyOf (secret_table s p)) store.history plans answers.replies) answers.due)
 
       pub history_now : now ≡ first_store.history ++ records_of (served.answered.replies ++ answers.replies)
@@ -260,13 +269,13 @@ module _ {P B : Type 0} (source : SourceGhosts P) (bench : Ghosts B) (index : In
           length-replies (IsDue base) first_store.history served.answered.lines served.answered.replies served.answered.due ∙ served.answered.many in
           let more : length answers.replies ≡ length plans =
           length-replies (IsReplyOf (table_of store)) store.history plans answers.replies answers.due in
-          commits_more batch served.answered.count served.answered.replies some long answers.replies (omega (arith, more, few))
+          commits_more batch served.answered.count served.answered.replies turn.some long answers.replies (omega (arith, more, turn.few))
 
       pub calls_now : bench.told →
-          bench.moment new ≡ bench.moment first + length (served.answered.lines ++ gathers.lines) + 4 * commits batch
+          bench.moment new ≡ bench.moment first + length (served.answered.lines ++ turn.gathers.lines) + 4 * commits batch
           (served.answered.replies ++ answers.replies)
       calls_now u =
-          omega (arith, answers.calls u, served.calls u, as_many, length-append served.answered.lines gathers.lines, commits_now)
+          omega (arith, answers.calls u, served.calls u, as_many, length-append served.answered.lines turn.gathers.lines, commits_now)
 
       -- the calls of a spare, by its moments
       pub spare_calls_now : (first mid last : ℕ) → mid ≡ first + 4 * commits batch served.answered.replies
@@ -298,32 +307,32 @@ module _ {P B : Type 0} (source : SourceGhosts P) (bench : Ghosts B) (index : In
         as_left = stands.as_left;
         quiet = λ u quiet. stands.quiet u (served.quiet u quiet);
         answered = record {
-          lines = served.answered.lines ++ gathers.lines;
+          lines = served.answered.lines ++ turn.gathers.lines;
           reads =
               λ t. subst (λ (b : Bool). ReadsLines (source.left first_source) (lines_now.pending ++ source.left source_now) b
-              (served.answered.lines ++ gathers.lines)) is_ended (reads_now t);
+              (served.answered.lines ++ turn.gathers.lines)) is_ended (reads_now t);
           count = served.answered.count + 1;
           many =
               let size : (served.answered.count + 1) * batch ≡ served.answered.count * batch + batch = ap (λ (n : ℕ). n * batch) (omega arith)
               ∙ suc-mul served.answered.count batch in
-              omega (arith, length-append served.answered.lines gathers.lines, served.answered.many, as_many, full, size);
+              omega (arith, length-append served.answered.lines turn.gathers.lines, served.answered.many, as_many, full, size);
           replies = served.answered.replies ++ answers.replies;
           due = due_now;
           history_is = is ∙ history_now;
         };
         sent_is = sent_now;
         calls = calls_now;
-        moments = λ u quiet. turn_moments new (λ t. inl full) u quiet (moments u (served.quiet u quiet));
+        moments = λ u quiet. turn_moments new u quiet (moments u (served.quiet u quiet));
         source_steady = source_steady ∙ served.source_steady;
         bench_steady = bench_steady ∙ served.bench_steady;
       }
 
       -- the group was the last one
-      lines_are_all : source.told → behind ≡ [] → served.answered.lines ++ gathers.lines ≡ all
+      lines_are_all : source.told → behind ≡ [] → served.answered.lines ++ turn.gathers.lines ≡ all
       lines_are_all t none =
           sym
-          ((reads_now t).counted ∙ ap (λ (ls : List CountedLine). (served.answered.lines ++ gathers.lines) ++ ls) none
-          ∙ append-nil (served.answered.lines ++ gathers.lines))
+          ((reads_now t).counted ∙ ap (λ (ls : List CountedLine). (served.answered.lines ++ turn.gathers.lines) ++ ls) none
+          ∙ append-nil (served.answered.lines ++ turn.gathers.lines))
 
       pub all_served : source.told → bench.told → behind ≡ [] → (last : List Answered) → last ≡ now →
           Serves base first_store.history all last (bench.sent first) (bench.sent new)

@@ -24,8 +24,8 @@ use Rattle.audit_session.proofs.GroupStops.{first_groups}
 use Rattle.audit_session.proofs.EndsByFault.{limited_is}
 use Rattle.audit_session.proofs.Served.{Served}
 
-module _ {P B : Type 0} (source : SourceGhosts P) (bench : Ghosts B) (index : IndexView) (batch : ℕ) (lines : Cutter)
-    (first_store store : StoreContents) (first_source from : P) (first at : B)
+module _ {P B : Type 0} {source : SourceGhosts P} {bench : Ghosts B} {index : IndexView} {batch : ℕ} {lines : Cutter}
+    {first_store store : StoreContents} {first_source from : P} {first at : B}
     (served : Served source bench index batch lines first_store store first_source from first at) where
   abbrev base : Database
   base = base_over index first_store
@@ -53,6 +53,13 @@ module _ {P B : Type 0} (source : SourceGhosts P) (bench : Ghosts B) (index : In
     count = served.answered.count;
     serves = groups_served u all (groups_are t);
   }
+
+  -- and if the next one wasn't
+  pub still_served : {later : B} {now : List Answered} → later ≡ at → now ≡ store.history → source.told → bench.told
+      → ServesSome base first_store.history batch all now (bench.sent first) (bench.sent later)
+  still_served {later} {now} same_bench same_history t u =
+      subst (λ (h : List Answered). ServesSome base first_store.history batch all h (bench.sent first) (bench.sent later)) (sym same_history)
+      (subst (λ b. ServesSome base first_store.history batch all store.history (bench.sent first) (bench.sent b)) (sym same_bench) (some_served t u))
 
   -- both files, of which neither was called since the last group
   pub both_kept : {E : Type 0} (spare : Ghosts E) (end : E) (image other : List ℕ) → source.told → bench.told → IsQuiet bench first → IsQuiet spare end

@@ -38,14 +38,6 @@ pub record ServesSome (base : Database) (history : List Answered) (batch : ℕ) 
 unfoldable pub limited : List ℕ → List ℕ
 limited input = take most_input input
 
--- which lines were answered, by the end
-abbrev pub Ends : ℕ → Result (Unit {0}) Stop → Database → List Answered → List ℕ → List ℕ → List Answered → List ℕ → List ℕ → Type 0
-Ends batch (Ok done) base history input left now before after = Serves base history (counted_lines input) now before after
-Ends batch (Err end.Input) base history input left now before after = ServesWhole base history batch input left now before after
-Ends batch (Err end.Limit) base history input left now before after = ServesWhole base history batch (limited input) [] now before after
-Ends batch (Err end.Bench) base history input left now before after = Unit {0}
-Ends batch ended base history input left now before after = ServesSome base history batch (counted_lines input) now before after
-
 -- the calls of the bench: one for each line's reply, and four for each group in which some reply makes a record
 pub record TakesCalls (base : Database) (history : List Answered) (batch : ℕ) (lines : List CountedLine) (before after : ℕ) : Type 0 where
   pub replies : List (Replied Answered)
@@ -57,15 +49,3 @@ pub record KeepsCalls (base : Database) (history : List Answered) (batch : ℕ) 
   pub replies : List (Replied Answered)
   pub due : AreReplies (IsDue base) history lines replies
   pub calls : after ≡ before + 4 * commits batch replies
-
--- how much of the input there was, by the end
-abbrev pub Reads : Result (Unit {0}) Stop → List ℕ → List ℕ → Type 0
-Reads (Ok done) input left = (left ≡ []) × (length input ≤ most_input)
-Reads (Err end.Input) input left = length input ≤ most_input + length left
-Reads (Err end.Limit) input left = most_input + length left < length input
-Reads ended input left = Unit {0}
-
--- the file stands for the history, and a quiet bench is still quiet
-pub record Rests {B : Type 0} (bench : Ghosts B) (old new : B) (store : StoreContents) : Type 0 where
-  pub stands : bench.told → StandsFor (bench.file new) store.secret.shape store.history
-  pub quiet : bench.told → IsQuiet bench old → IsQuiet bench new

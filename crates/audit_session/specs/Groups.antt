@@ -1,5 +1,5 @@
 -- A group of lines: what was read, what the lines come to, and what is left of the store and the bench.
-use Rattle.std.specs.Prelude.{◌≡◌, ◌⊎◌, ℕ, ◌+◌, ◌<◌, ◌≤◌, Bool, true, List, [], ◌∷◌, ◌++◌, length}
+use Rattle.std.specs.Prelude.{◌≡◌, ◌≢◌, ◌⊎◌, ℕ, ◌+◌, ◌<◌, ◌≤◌, Bool, true, List, [], ◌∷◌, ◌++◌, length, drop, Result, Err, OnOk}
 use Rattle.std.specs.List.{flat_map}
 use Rattle.audit_types.specs.Limits.{most_answer}
 use Rattle.audit_types.specs.declared.records.Asked.{Asked}
@@ -9,17 +9,17 @@ use Rattle.audit_core.specs.declared.outcome.Outcome.{Outcome}
 use Rattle.schema_json.specs.Columns.{Column}
 use Rattle.audit_types.specs.declared.shapes.Shape.{Shape}
 use Rattle.table_load.specs.Cells.{PublicView}
-use Rattle.table_load.specs.Database.{Database}
 use Rattle.set_index.specs.Indexed.{IndexView}
-use Rattle.journal_form.specs.Journal.{StandsFor}
+use Rattle.table_load.specs.Database.{Database}
+use Rattle.journal_form.specs.Journal.{StandsAt, StandsFor}
 use Rattle.bench_core.specs.declared.bench.Bench.{Ghosts}
 use Rattle.bench_core.specs.declared.source.Source.{Ghosts as SourceGhosts}
 use Rattle.bench_core.specs.Causes.{Rose}
 use Rattle.bench_core.specs.Bench.{AppendsFront}
-use Rattle.bench_core.specs.Calls.{IsQuiet}
+use Rattle.bench_core.specs.Calls.{IsQuiet, LeavesOnly, TellsFault}
 use Rattle.bench_core.specs.declared.stops.Stop.{Stop}
 use Rattle.bench_core.specs.declared.stops.Stop.TheVariants as end
-use Rattle.audit_store.specs.Stores.{StoreContents, IsAsLeft, calls_for}
+use Rattle.audit_store.specs.Stores.{StoreContents, IsAsLeft, calls_for, table_of}
 use Rattle.line_wire.specs.Lines.{CountedLine, whole_lines, most_input}
 use Rattle.line_wire.specs.Cutter.{Cutter}
 use Rattle.line_wire.specs.ReadLines.{ReadsLines}
@@ -150,6 +150,18 @@ StopsAmong told base batch history lines before image sent =
 -- group, or for that with the records of the group's replies
 abbrev pub UnsentInGroup : {R L : Type 0} → (List R → L → Replied R → Type 0) → (List ℕ → List R → Type 0) → List R → List L → List ℕ → List ℕ → List ℕ → Type 0
 UnsentInGroup rule stands history lines before image sent = (sent ≡ before) × InGroup rule stands history lines before image before
+
+-- a group was kept on a spare, whose journal then ends at this gate; what its file holds is said if Told holds
+pub record SpareAnswersOn {S : Type 0} (spare : Ghosts S) (Told : Type 0) (store now : StoreContents) (ended : ℕ) (plans : List Plan) (answer : Result (Unit {0}) Stop)
+    (before after : S) : Type 0 where
+  pub stands : Told → OnOk answer (StandsAt (spare.file after) now.secret.shape now.history ended)
+  pub moments : Told → IsQuiet spare before
+      → LeavesOnly spare before after (UnsentInGroup (IsReplyOf (table_of store)) (stands_of store.secret.shape) store.history plans (spare.sent before))
+  pub quiet : Told → IsQuiet spare before → answer ≢ Err end.Spare → IsQuiet spare after
+  pub sent : spare.sent after ≡ spare.sent before
+  pub ticks : Told → OnOk answer (spare.moment after ≡ spare.moment before + calls_for (drop (length store.history) now.history))
+  pub no_memory : answer ≡ Err end.NoMemory → after ≡ before
+  pub fault : TellsFault spare before after (answer ≡ Err end.Spare)
 
 -- nothing was sent on a spare, and its image stands as at some stop of a session over the lines that were read
 abbrev pub SpareAmong : Type 0 → Database → ℕ → List Answered → List CountedLine → List ℕ → List ℕ → List ℕ → Type 0

@@ -12,7 +12,7 @@ ghost use Rattle.audit_store.specs.Stores.{IsAsLeft, IsStore, calls_for, table_o
 ghost use Rattle.line_wire.specs.Reply.{reply_bytes, IsInRange};
 ghost use Rattle.question_plan.specs.Plans.{CanBeServed};
 ghost use Rattle.question_plan.specs.Replies.{IsReplyOf};
-ghost use Rattle.audit_session.specs.Groups.{AnswersGroup, AreTold, BothInGroup, CanAllBeTold, DecidesGroup, InGroup, StandsOn, UnsentInGroup, questions_of, stands_of};
+ghost use Rattle.audit_session.specs.Groups.{AnswersGroup, AreTold, BothInGroup, CanAllBeTold, DecidesGroup, InGroup, SpareAnswersOn, StandsOn, questions_of, stands_of};
 
 use crate::gathering::Group;
 use audit_store::{Keeper, Outcome};
@@ -61,7 +61,7 @@ fn decide<K: Keeper, B: Bench, S: Bench>(
     ensures in_range { OnOk result (All IsInRange group.new.replies.items) }
     ensures stands { OnOk result (StandsOn B.Bench bench.old bench.new (K.store keeper.new)) }
     ensures err { OnErr result (((K.store keeper.new).history ≡ (K.store keeper.old).history) × ((K.store keeper.new).usable ≡ false)) }
-    ensures no_memory { IsErrOf result Stop.NoMemory → (bench.new ≡ bench.old) × (spare.new ≡ spare.old) }
+    ensures no_memory { IsErrOf result Stop.NoMemory → bench.new ≡ bench.old }
     ensures moments { B.told → IsQuiet B.Bench bench.old
         → LeavesOnly B.Bench bench.old bench.new (InGroup (IsReplyOf (table_of (K.store keeper.old))) (stands_of (K.store keeper.old).secret.shape) (K.store keeper.old).history group.old.plans.items (B.sent bench.old)) }
     ensures sent { B.sent bench.new ≡ B.sent bench.old }
@@ -71,15 +71,9 @@ fn decide<K: Keeper, B: Bench, S: Bench>(
     ensures is { IsStore (K.store keeper.new) }
     ensures fault { TellsFault B.Bench bench.old bench.new (IsErrOf result Stop.Bench) }
     ensures ends { IfErr result IsOfBenches }
-    ensures spare_stands { K.spared → S.told → OnOk result (StandsAt (S.file spare.new) (K.store keeper.new).secret.shape (K.store keeper.new).history (K.spare_gate keeper.new)) }
-    ensures spare_moments { K.spared → S.told → IsQuiet S.Bench spare.old
-        → LeavesOnly S.Bench spare.old spare.new (UnsentInGroup (IsReplyOf (table_of (K.store keeper.old))) (stands_of (K.store keeper.old).secret.shape) (K.store keeper.old).history group.old.plans.items (S.sent spare.old)) }
-    ensures spare_quiet { K.spared → S.told → IsQuiet S.Bench spare.old → (IsErrOf result Stop.Spare → ⊥) → IsQuiet S.Bench spare.new }
-    ensures spare_sent { S.sent spare.new ≡ S.sent spare.old }
+    ensures spare { SpareAnswersOn S.Bench (K.spared × S.told) (K.store keeper.old) (K.store keeper.new) (K.spare_gate keeper.new) group.old.plans.items result spare.old spare.new }
     ensures both { K.spared → B.told → S.told → IsQuiet B.Bench bench.old → IsQuiet S.Bench spare.old → IsErr result → (image other : List ℕ) → B.leaves bench.new image → S.leaves spare.new other
         → BothInGroup (IsReplyOf (table_of (K.store keeper.old))) (stands_of (K.store keeper.old).secret.shape) (K.store keeper.old).history group.old.plans.items (B.sent bench.old) (B.sent bench.new) image other }
-    ensures spare_ticks { K.spared → S.told → OnOk result (S.moment spare.new ≡ S.moment spare.old + calls_for (drop (length (K.store keeper.old).history) (K.store keeper.new).history)) }
-    ensures spare_fault { TellsFault S.Bench spare.old spare.new (IsErrOf result Stop.Spare) }
     ensures spare_first { IsErrOf result Stop.Spare → bench.new ≡ bench.old }
     ensures own { IsErrOf result Stop.Spare → K.spared }
     ensures untouched { (K.spared → ⊥) → spare.new ≡ spare.old }
@@ -145,20 +139,14 @@ pub(crate) fn answer<K: Keeper, B: Bench, S: Bench>(
     ensures moments { B.told → IsQuiet B.Bench bench.old
         → LeavesOnly B.Bench bench.old bench.new (InGroup (IsReplyOf (table_of (K.store keeper.old))) (stands_of (K.store keeper.old).secret.shape) (K.store keeper.old).history group.old.plans.items (B.sent bench.old)) }
     ensures left { B.told → (K.store keeper.new).usable ≡ true → IsAsLeft (B.file bench.new) (K.store keeper.new) }
-    ensures no_memory { result ≡ Err Stop.NoMemory → (bench.new ≡ bench.old) × (spare.new ≡ spare.old) × ((K.store keeper.new).history ≡ (K.store keeper.old).history) }
+    ensures no_memory { result ≡ Err Stop.NoMemory → (bench.new ≡ bench.old) × ((K.store keeper.new).history ≡ (K.store keeper.old).history) }
     ensures room { vec_capacity group.new.replies ≡ vec_capacity group.old.replies }
     ensures table { ((K.store keeper.new).secret ≡ (K.store keeper.old).secret) × ((K.store keeper.new).protected ≡ (K.store keeper.old).protected) }
     ensures is { IsStore (K.store keeper.new) }
     ensures fault { TellsFault B.Bench bench.old bench.new (result ≡ Err Stop.Bench) }
-    ensures spare_stands { K.spared → S.told → OnOk result (StandsAt (S.file spare.new) (K.store keeper.new).secret.shape (K.store keeper.new).history (K.spare_gate keeper.new)) }
-    ensures spare_moments { K.spared → S.told → IsQuiet S.Bench spare.old
-        → LeavesOnly S.Bench spare.old spare.new (UnsentInGroup (IsReplyOf (table_of (K.store keeper.old))) (stands_of (K.store keeper.old).secret.shape) (K.store keeper.old).history group.old.plans.items (S.sent spare.old)) }
-    ensures spare_quiet { K.spared → S.told → IsQuiet S.Bench spare.old → result ≢ Err Stop.Spare → IsQuiet S.Bench spare.new }
-    ensures spare_sent { S.sent spare.new ≡ S.sent spare.old }
+    ensures spare { SpareAnswersOn S.Bench (K.spared × S.told) (K.store keeper.old) (K.store keeper.new) (K.spare_gate keeper.new) group.old.plans.items result spare.old spare.new }
     ensures both { K.spared → B.told → S.told → IsQuiet B.Bench bench.old → IsQuiet S.Bench spare.old → (image other : List ℕ) → B.leaves bench.new image → S.leaves spare.new other
         → BothInGroup (IsReplyOf (table_of (K.store keeper.old))) (stands_of (K.store keeper.old).secret.shape) (K.store keeper.old).history group.old.plans.items (B.sent bench.old) (B.sent bench.new) image other }
-    ensures spare_ticks { K.spared → S.told → OnOk result (S.moment spare.new ≡ S.moment spare.old + calls_for (drop (length (K.store keeper.old).history) (K.store keeper.new).history)) }
-    ensures spare_fault { TellsFault S.Bench spare.old spare.new (result ≡ Err Stop.Spare) }
     ensures spare_first { result ≡ Err Stop.Spare → (bench.new ≡ bench.old) × ((K.store keeper.new).history ≡ (K.store keeper.old).history) }
     ensures own { result ≡ Err Stop.Spare → K.spared }
     ensures untouched { (K.spared → ⊥) → spare.new ≡ spare.old }

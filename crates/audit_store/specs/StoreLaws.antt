@@ -3,7 +3,7 @@
 use Rattle.std.proofs.Common.{◌≡◌, ℕ, ◌+◌, ◌<◌, ◌≤◌, Bool, true, false, List, [], ◌∷◌, refl, ◌-◌, ◌++◌, length, length-append, length-take, length-drop, take, drop, sym, ap, subst, ◌∙◌, arith, inl, Result, Ok, Err}
 use Rattle.std.specs.Prelude.{OnErr}
 use Rattle.std.proofs.Math.Seq.{take-length, drop-append_seam}
-use Rattle.std.proofs.lemmas.List.{take-append-drop, take_all}
+use Rattle.std.proofs.lemmas.List.{take_all}
 use Rattle.audit_types.specs.declared.records.Answered.{Answered}
 use Rattle.audit_types.specs.declared.shapes.Shape.{Shape}
 use Rattle.audit_types.specs.History.{Protection, Table, Setting, AreProtected, IsLegal, setting_of}
@@ -24,16 +24,6 @@ pub core_is_history : (table : Table) (core : Audited) (released : ℕ) (usable 
     IsAuditedBy table core released usable → usable ≡ true → take released core.history ≡ history → core.history ≡ history
 core_is_history table core released usable history audited is_usable view =
     sym (ap (λ n. take n core.history) (audited.all is_usable) ∙ take-length core.history) ∙ view
-
--- the records that were released, and those that the core took after them
-pub released_and_more : (old new : List Answered) (released : ℕ) → released ≡ length old → take (length old) new ≡ old →
-    take released old ++ take (length new - released) (drop released new) ≡ new
-released_and_more old new released long begins =
-    let more : take (length new - released) (drop released new) ≡ drop released new =
-    take_all (length new - released) (drop released new) (omega (arith, length-drop released new)) in
-    ap (λ t. take released old ++ t) more
-    ∙ ap (λ t. t ++ drop released new) (ap (λ n. take n old) long ∙ take-length old ∙ sym begins ∙ ap (λ n. take n new) (sym long))
-    ∙ take-append-drop released new
 
 -- the records that the core took after those released
 pub taken_since : (old new shown made : List Answered) (released : ℕ) → shown ≡ new → released ≡ length old → new ≡ old ++ made →

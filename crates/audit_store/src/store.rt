@@ -5,19 +5,19 @@ ghost use Rattle.audit_types.specs.History.{FitsShape, AreProtected, IsLegal, se
 ghost use Rattle.bench_core.specs.Calls.{IsQuiet, LeavesOnly, IsUntouched, OnlyReads, TellsFault};
 ghost use Rattle.bench_core.specs.Stops.{IsOfBench, IsOfBenches};
 ghost use Rattle.journal_form.specs.Journal.{StandsAt, StandsFor};
-ghost use Rattle.answer_journal.specs.Moments.{IsBeforeOrAfter, IsBeforeOrGrown};
+ghost use Rattle.answer_journal.specs.Moments.{IsBeforeOrGrown};
 ghost use Rattle.audit_types.specs.Widening.{over, widened};
 ghost use Rattle.audit_store.specs.Growing.{GrowCause, CanGrow, GivesUpGrowing, GrowsUnlessFailed, NotGrownUnlessFailed};
 ghost use Rattle.audit_store.specs.declared.growing.GrowFault.{GrowFault};
-ghost use Rattle.audit_core.specs.Outcomes.{AreOutcomes, records_made};
-ghost use Rattle.audit_store.specs.Stores.{IsAsLeft, IsStore, table_of, Keeps, KeptAhead, HasGroup, calls_for};
+ghost use Rattle.audit_store.specs.Asks.{AsksOn, SpareAsksOn};
+ghost use Rattle.audit_store.specs.Stores.{IsAsLeft, IsStore, table_of};
 ghost use Rattle.audit_store.specs.Twice.{IsBroughtUp, IsJournalOf, StandsWithSome, calls_to_bring_up};
 ghost use Rattle.table_load.specs.Cells.{IsSecret};
 ghost use Rattle.table_load.specs.Database.{secret_table};
 ghost use Rattle.audit_store.specs.Starting.{StartCause, GivesUp, StartsUnlessFailed, RefusedUnlessFailed};
 ghost use Rattle.audit_store.specs.declared.starting.StartFault.{StartFault};
 
-use crate::asking::{decide_all, keep, keep_ready, made_ready};
+use crate::asking::{decide_all, keep_ready, made_ready};
 use crate::bringing::{bring_up, take_all};
 use crate::growing::{GrowFault, may_grow};
 use crate::sealed::Sealed;
@@ -144,37 +144,16 @@ impl Store {
         requires fit { All (λ a. FitsShape self.old.secret.shape a.column a.rows) asked.now }
         requires stands { B.told → IsAsLeft (B.file bench.old) self.old }
 
-        // One outcome for each question, and the history has the records that they make.
-        ensures outcomes { IfOk result (λ v. AreOutcomes (table_of self.old) self.old.history asked.now v.items) }
-        ensures history { IfOk result (λ v. self.new.history ≡ self.old.history ++ records_made asked.now v.items) }
-        ensures stands { B.told → OnOk result (IsAsLeft (B.file bench.new) self.new) }
-        ensures usable { OnOk result (self.new.usable ≡ true) }
-
-        // A refusal leaves the history as it was.
-        ensures kept { OnErr result ((self.new.history ≡ self.old.history) × (self.new.usable ≡ false)) }
-        ensures no_memory { IsErrOf result Stop.NoMemory → bench.new ≡ bench.old }
-        ensures fault { TellsFault B.Bench bench.old bench.new (IsErrOf result Stop.Bench) }
+        // One outcome for each question, and their records are kept. A crash at any moment leaves the history before, or that with the
+        // records of the group; after a refusal the history is as it was.
+        ensures asks { AsksOn B.Bench self.old self.new asked.now result bench.old bench.new }
         ensures ends { IfErr result IsOfBench }
-        ensures secret { self.new.secret ≡ self.old.secret }
-        ensures protected { self.new.protected ≡ self.old.protected }
-        ensures is { IsStore self.new }
-
-        // A crash at any moment leaves the history before, or that with the records of the group; if outcomes are given,
-        // with theirs. A group that makes no record leaves the bench as it was, any other takes four calls.
-        ensures any_moment { B.told → IsQuiet B.Bench bench.old → (IsErrOf result Stop.NoMemory → ⊥)
-            → Keeps B.Bench bench.old bench.new (table_of self.old) self.old.history asked.now (B.sent bench.old) }
-        ensures moments { B.told → IsQuiet B.Bench bench.old
-            → IfOk result (λ v. LeavesOnly B.Bench bench.old bench.new (IsBeforeOrAfter self.old.secret.shape self.old.history (records_made asked.now v.items) (B.sent bench.old))) }
-        ensures written { B.told → IfOk result (λ v. HasGroup self.old.secret.shape (records_made asked.now v.items) self.old.journal.gate (B.file bench.old) (B.file bench.new)) }
-        ensures quiet { B.told → IsQuiet B.Bench bench.old → OnOk result (IsQuiet B.Bench bench.new) }
-        ensures sent { B.sent bench.new ≡ B.sent bench.old }
-        ensures ticks { B.told → IfOk result (λ v. B.moment bench.new ≡ B.moment bench.old + calls_for (records_made asked.now v.items)) }
-        ensures unasked { IfOk result (λ v. records_made asked.now v.items ≡ [] → bench.new ≡ bench.old) }
     {
         self.usable = false;
         let outcomes = decide_all(self.alloc, &mut self.sealed, asked)?;
         let group = &self.sealed.core().history()[self.released as usize..];
-        keep(&mut self.journal, bench, group)?;
+        let ready = made_ready(&self.journal, group)?;
+        keep_ready(&mut self.journal, bench, &ready)?;
         self.released = self.sealed.core().history().len() as u32;
         self.usable = true;
         Ok(outcomes)
@@ -197,43 +176,11 @@ impl Store {
         requires stands { B.told → IsAsLeft (B.file bench.old) self.old }
         requires spare_stands { S.told → StandsAt (S.file spare.old) self.old.secret.shape self.old.history other.old.gate }
 
-        // One outcome for each question, and the history has the records that they make.
-        ensures outcomes { IfOk result (λ v. AreOutcomes (table_of self.old) self.old.history asked.now v.items) }
-        ensures history { IfOk result (λ v. self.new.history ≡ self.old.history ++ records_made asked.now v.items) }
-        ensures stands { B.told → OnOk result (IsAsLeft (B.file bench.new) self.new) }
-        ensures spare_stands { S.told → OnOk result (StandsAt (S.file spare.new) self.new.secret.shape self.new.history other.new.gate) }
-        ensures usable { OnOk result ((self.new.usable ≡ true) × IsJournalOf self.new.secret.shape self.new.history other.new) }
-
-        // A refusal leaves the history as it was. The spare comes first: if a call of it failed the bench wasn't called.
-        ensures kept { OnErr result ((self.new.history ≡ self.old.history) × (self.new.usable ≡ false)) }
-        ensures no_memory { IsErrOf result Stop.NoMemory → (bench.new ≡ bench.old) × (spare.new ≡ spare.old) }
-        ensures spare_first { IsErrOf result Stop.Spare → bench.new ≡ bench.old }
-        ensures fault { TellsFault B.Bench bench.old bench.new (IsErrOf result Stop.Bench) }
-        ensures spare_fault { TellsFault S.Bench spare.old spare.new (IsErrOf result Stop.Spare) }
+        // The same as over one journal, and of the spare, which comes first. The other journal is that of the new history, too.
+        ensures asks { AsksOn B.Bench self.old self.new asked.now result bench.old bench.new }
+        ensures spare { SpareAsksOn B.Bench S.Bench S.told self.old self.new other.old.gate other.new.gate asked.now result bench.old bench.new spare.old spare.new }
+        ensures other { OnOk result (IsJournalOf self.new.secret.shape self.new.history other.new) }
         ensures ends { IfErr result IsOfBenches }
-        ensures secret { self.new.secret ≡ self.old.secret }
-        ensures protected { self.new.protected ≡ self.old.protected }
-        ensures is { IsStore self.new }
-
-        // A crash at any moment leaves on each the history before, or that with the records of the group. If a call of the bench failed
-        // the spare stands for the latter.
-        ensures any_moment { B.told → IsQuiet B.Bench bench.old → (IsErrOf result Stop.NoMemory → ⊥)
-            → Keeps B.Bench bench.old bench.new (table_of self.old) self.old.history asked.now (B.sent bench.old) }
-        ensures spare_moments { S.told → IsQuiet S.Bench spare.old → (IsErrOf result Stop.NoMemory → ⊥)
-            → Keeps S.Bench spare.old spare.new (table_of self.old) self.old.history asked.now (S.sent spare.old) }
-        ensures ahead { B.told → S.told → IsQuiet B.Bench bench.old → IsErrOf result Stop.Bench → (image : List ℕ) → B.leaves bench.new image
-            → KeptAhead (S.file spare.new) image (table_of self.old) self.old.history asked.now }
-
-        // A group that makes no record leaves both as they were, any other takes four calls of each.
-        ensures written { B.told → IfOk result (λ v. HasGroup self.old.secret.shape (records_made asked.now v.items) self.old.journal.gate (B.file bench.old) (B.file bench.new)) }
-        ensures spare_written { S.told → IfOk result (λ v. HasGroup self.old.secret.shape (records_made asked.now v.items) other.old.gate (S.file spare.old) (S.file spare.new)) }
-        ensures quiet { B.told → IsQuiet B.Bench bench.old → (IsErrOf result Stop.Bench → ⊥) → IsQuiet B.Bench bench.new }
-        ensures spare_quiet { S.told → IsQuiet S.Bench spare.old → (IsErrOf result Stop.Spare → ⊥) → IsQuiet S.Bench spare.new }
-        ensures sent { B.sent bench.new ≡ B.sent bench.old }
-        ensures spare_sent { S.sent spare.new ≡ S.sent spare.old }
-        ensures ticks { B.told → IfOk result (λ v. B.moment bench.new ≡ B.moment bench.old + calls_for (records_made asked.now v.items)) }
-        ensures spare_ticks { S.told → IfOk result (λ v. S.moment spare.new ≡ S.moment spare.old + calls_for (records_made asked.now v.items)) }
-        ensures unasked { IfOk result (λ v. records_made asked.now v.items ≡ [] → (bench.new ≡ bench.old) × (spare.new ≡ spare.old)) }
     {
         self.usable = false;
         let outcomes = decide_all(self.alloc, &mut self.sealed, asked)?;

@@ -2,12 +2,11 @@
 ghost use Rattle.std.specs.Prelude.{◌≡◌, ◌≢◌, ◌≤◌, ◌+◌, ◌++◌, [], List, ℕ, true, false, length, All, Err, IfOk, IfErr, OnOk, OnErr, IsErrOf};
 ghost use Rattle.audit_types.specs.declared.records.Answered.{Answered};
 ghost use Rattle.audit_types.specs.History.{AreProtected, FitsShape};
-ghost use Rattle.audit_core.specs.Outcomes.{AreOutcomes, records_made};
 ghost use Rattle.bench_core.specs.Calls.{IsQuiet, IsUntouched, LeavesOnly, OnlyReads, TellsFault};
 ghost use Rattle.bench_core.specs.Stops.{IsOfBenches};
-ghost use Rattle.answer_journal.specs.Moments.{IsBeforeOrAfter};
 ghost use Rattle.table_load.specs.Database.{secret_table};
-ghost use Rattle.audit_store.specs.Stores.{HasGroup, IsAsLeft, IsStore, Keeps, KeptAhead, calls_for, table_of};
+ghost use Rattle.audit_store.specs.Asks.{AsksOn, SpareAsksOn};
+ghost use Rattle.audit_store.specs.Stores.{IsAsLeft, IsStore};
 ghost use Rattle.audit_store.specs.Starting.{GivesUp};
 ghost use Rattle.audit_store.specs.declared.starting.StartFault.{StartFault};
 ghost use Rattle.twin_journal.specs.declared.starting.TwinFault.{TwinFault};
@@ -168,42 +167,11 @@ impl TwinStore {
         requires stands { B.told → IsAsLeft (B.file bench.old) self.old.store }
         requires spare_stands { S.told → IsSpareAsLeft (S.file spare.old) self.old }
 
-        // One outcome for each question, and the history has the records that they make.
-        ensures outcomes { IfOk result (λ v. AreOutcomes (table_of self.old.store) self.old.store.history asked.now v.items) }
-        ensures history { IfOk result (λ v. self.new.store.history ≡ self.old.store.history ++ records_made asked.now v.items) }
-        ensures stands { B.told → OnOk result (IsAsLeft (B.file bench.new) self.new.store) }
-        ensures spare_stands { S.told → OnOk result (IsSpareAsLeft (S.file spare.new) self.new) }
-        ensures usable { OnOk result (self.new.store.usable ≡ true) }
-
-        // A refusal leaves the history as it was. The spare comes first: if a call of it failed the bench wasn't called.
-        ensures kept { OnErr result ((self.new.store.history ≡ self.old.store.history) × (self.new.store.usable ≡ false)) }
-        ensures no_memory { IsErrOf result Stop.NoMemory → (bench.new ≡ bench.old) × (spare.new ≡ spare.old) }
-        ensures spare_first { IsErrOf result Stop.Spare → bench.new ≡ bench.old }
-        ensures fault { TellsFault B.Bench bench.old bench.new (IsErrOf result Stop.Bench) }
-        ensures spare_fault { TellsFault S.Bench spare.old spare.new (IsErrOf result Stop.Spare) }
+        // The same as over one journal, and of the spare, which comes first.
+        ensures asks { AsksOn B.Bench self.old.store self.new.store asked.now result bench.old bench.new }
+        ensures spare { SpareAsksOn B.Bench S.Bench S.told self.old.store self.new.store self.old.spare.gate self.new.spare.gate asked.now result bench.old bench.new spare.old spare.new }
         ensures ends { IfErr result IsOfBenches }
-        ensures table { (self.new.store.secret ≡ self.old.store.secret) × (self.new.store.protected ≡ self.old.store.protected) }
         ensures is { IsStore self.new.store × IsTwin self.new }
-
-        // A crash at any moment leaves on each the history before, or that with the records of the group. If a call of the bench failed
-        // the spare stands for the latter.
-        ensures any_moment { B.told → IsQuiet B.Bench bench.old → (IsErrOf result Stop.NoMemory → ⊥)
-            → Keeps B.Bench bench.old bench.new (table_of self.old.store) self.old.store.history asked.now (B.sent bench.old) }
-        ensures spare_moments { S.told → IsQuiet S.Bench spare.old → (IsErrOf result Stop.NoMemory → ⊥)
-            → Keeps S.Bench spare.old spare.new (table_of self.old.store) self.old.store.history asked.now (S.sent spare.old) }
-        ensures ahead { B.told → S.told → IsQuiet B.Bench bench.old → IsErrOf result Stop.Bench → (image : List ℕ) → B.leaves bench.new image
-            → KeptAhead (S.file spare.new) image (table_of self.old.store) self.old.store.history asked.now }
-
-        // A group that makes no record leaves both as they were, any other takes four calls of each.
-        ensures written { B.told → IfOk result (λ v. HasGroup self.old.store.secret.shape (records_made asked.now v.items) self.old.store.journal.gate (B.file bench.old) (B.file bench.new)) }
-        ensures spare_written { S.told → IfOk result (λ v. HasGroup self.old.store.secret.shape (records_made asked.now v.items) self.old.spare.gate (S.file spare.old) (S.file spare.new)) }
-        ensures quiet { B.told → IsQuiet B.Bench bench.old → (IsErrOf result Stop.Bench → ⊥) → IsQuiet B.Bench bench.new }
-        ensures spare_quiet { S.told → IsQuiet S.Bench spare.old → (IsErrOf result Stop.Spare → ⊥) → IsQuiet S.Bench spare.new }
-        ensures sent { B.sent bench.new ≡ B.sent bench.old }
-        ensures spare_sent { S.sent spare.new ≡ S.sent spare.old }
-        ensures ticks { B.told → IfOk result (λ v. B.moment bench.new ≡ B.moment bench.old + calls_for (records_made asked.now v.items)) }
-        ensures spare_ticks { S.told → IfOk result (λ v. S.moment spare.new ≡ S.moment spare.old + calls_for (records_made asked.now v.items)) }
-        ensures unasked { IfOk result (λ v. records_made asked.now v.items ≡ [] → (bench.new ≡ bench.old) × (spare.new ≡ spare.old)) }
     {
         self.store
             .ask_all_twice(&mut self.spare, bench, spare, asked)

@@ -9,7 +9,7 @@ use Rattle.line_wire.specs.Reply.{reply_bytes}
 use Rattle.line_wire.specs.declared.reply.Reply.{Reply}
 use Rattle.audit_session.proofs.Sending.{SendsPart}
 use Rattle.table_load.specs.Cells.{SecretView}
-use Rattle.audit_session.specs.Groups.{stands_of}
+use Rattle.audit_session.specs.Groups.{SpareAnswersOn, stands_of}
 use Rattle.audit_session.proofs.BothFiles.{sends_failed}
 use Rattle.audit_session.proofs.DecidedGroup.{group_answered, left_stands, then_sent}
 use Rattle.audit_store.specs.Refusals.{no_refusal, same_fault}
@@ -63,10 +63,20 @@ returns-in_err-send_all g c =
         last_call = λ is. c.in_err-send_all.ensures.last_call;
         steady = λ other. absurd (other same);
       };
-      spare_stands = λ spared told. IfOk-from_err _ _ c.from_residual-in_err-send_all.ensures.0;
-      spare_moments = c.decide.ensures.spare_moments;
-      spare_quiet = λ spared told quiet other. c.in_ok-decide.ensures.spare_quiet spared told quiet (λ is. no_refusal _ _ is);
-      spare_sent = c.decide.ensures.spare_sent;
+      spare = record {
+        stands = λ told. IfOk-from_err _ _ c.from_residual-in_err-send_all.ensures.0;
+        moments = c.decide.ensures.spare.moments;
+        quiet = λ told quiet other. c.in_ok-decide.ensures.spare.quiet told quiet (λ is. no_refusal _ _ is);
+        sent = c.decide.ensures.spare.sent;
+        ticks = λ told. IfOk-from_err _ _ c.from_residual-in_err-send_all.ensures.0;
+        no_memory = λ is. absurd cc;
+        fault = record {
+          later = c.decide.ensures.spare.fault.later;
+          failed = λ is. absurd cc;
+          last_call = λ is. absurd cc;
+          steady = λ other. c.in_ok-decide.ensures.spare.fault.steady (λ is. no_refusal _ _ is);
+        };
+      };
       both = λ spared told spare_told quiet spare_quiet.
           let store = g.K.Keeper.store c.args.keeper.now in
           let after = g.K.Keeper.store c.decide.new.keeper in
@@ -79,17 +89,10 @@ returns-in_err-send_all g c =
           sends_failed g.B.Bench g.S.Bench c.args.bench.now c.send_all.new.bench c.args.spare.now c.decide.new.spare store.secret store.protected store.history
           c.args.group.now.plans.items mid after.history c.decide.new.group.replies.items e.decides e.sent
           (left_stands (g.B.Bench.file mid) store after (e.stands.as_left told) e.table.0)
-          (e.spare_quiet spared spare_told spare_quiet (λ is. no_refusal _ _ is))
+          (e.spare.quiet (spared, spare_told) spare_quiet (λ is. no_refusal _ _ is))
           (subst (λ (s : SecretView). stands_of s.shape (g.S.Bench.file c.decide.new.spare) after.history) e.table.0
-          (g.K.Keeper.spare_gate c.decide.new.keeper, e.spare_stands spared spare_told))
+          (g.K.Keeper.spare_gate c.decide.new.keeper, e.spare.stands (spared, spare_told)))
           sends (λ image le left. g.met.B.Bench.counts_now c.send_all.new.bench (g.B.Bench.moment mid) image le left);
-      spare_fault = record {
-        later = c.decide.ensures.spare_fault.later;
-        failed = λ is. absurd cc;
-        last_call = λ is. absurd cc;
-        steady = λ other. c.in_ok-decide.ensures.spare_fault.steady (λ is. no_refusal _ _ is);
-      };
-      spare_ticks = λ spared told. IfOk-from_err _ _ c.from_residual-in_err-send_all.ensures.0;
       spare_first = λ is. absurd cc;
       own = λ is. absurd cc;
       untouched = c.decide.ensures.untouched;
@@ -107,18 +110,16 @@ returns-in_err-decide g c =
       left = λ t usable. absurd (false≢true (sym c.in_err-decide.ensures.err.1 ∙ usable));
       no_memory = λ is.
           let still = c.in_err-decide.ensures.no_memory (same_fault given end.NoMemory (sym same ∙ is)) in
-          (still.0, still.1, c.in_err-decide.ensures.err.0);
+          (still, c.in_err-decide.ensures.err.0);
       room = c.decide.ensures.room;
       table = c.decide.ensures.table;
       is = c.decide.ensures.is;
       fault = passed_on g.B.Bench c.args.bench.now c.decide.new.bench given end.Bench _ same c.in_err-decide.ensures.fault;
-      spare_stands = λ spared told. IfOk-from_err _ _ c.from_residual.ensures.0;
-      spare_moments = c.decide.ensures.spare_moments;
-      spare_quiet = λ spared told quiet other. c.in_err-decide.ensures.spare_quiet spared told quiet (λ is. other (same ∙ same_fault given end.Spare is));
-      spare_sent = c.decide.ensures.spare_sent;
+      spare =
+          of_refusal _ given c.from_residual.ensures (λ r. SpareAnswersOn g.S.Bench (g.K.Keeper.spared × g.S.Bench.told)
+          (g.K.Keeper.store c.args.keeper.now) (g.K.Keeper.store c.decide.new.keeper) (g.K.Keeper.spare_gate c.decide.new.keeper)
+          c.args.group.now.plans.items r c.args.spare.now c.decide.new.spare) c.in_err-decide.ensures.spare;
       both = λ spared told spare_told quiet spare_quiet. c.in_err-decide.ensures.both spared told spare_told quiet spare_quiet refl;
-      spare_fault = passed_on g.S.Bench c.args.spare.now c.decide.new.spare given end.Spare _ same c.in_err-decide.ensures.spare_fault;
-      spare_ticks = λ spared told. IfOk-from_err _ _ c.from_residual.ensures.0;
       spare_first = λ is. (c.in_err-decide.ensures.spare_first (same_fault given end.Spare (sym same ∙ is)), c.in_err-decide.ensures.err.0);
       own = λ is. c.in_err-decide.ensures.own (same_fault given end.Spare (sym same ∙ is));
       untouched = c.decide.ensures.untouched;
@@ -166,10 +167,7 @@ returns g c =
         last_call = λ is. no_refusal _ _ is;
         steady = λ other. c.in_ok-send_all.ensures.cause.steady ∙ c.in_ok-decide.ensures.fault.steady (λ is. no_refusal _ _ is);
       };
-      spare_stands = c.in_ok-decide.ensures.spare_stands;
-      spare_moments = c.decide.ensures.spare_moments;
-      spare_quiet = λ spared told quiet other. c.in_ok-decide.ensures.spare_quiet spared told quiet (λ is. no_refusal _ _ is);
-      spare_sent = c.decide.ensures.spare_sent;
+      spare = c.in_ok-decide.ensures.spare;
       both = λ spared told spare_told quiet spare_quiet.
           let after = g.K.Keeper.store c.decide.new.keeper in
           let sends =
@@ -179,17 +177,10 @@ returns g c =
           sends_failed g.B.Bench g.S.Bench c.args.bench.now c.send_all.new.bench c.args.spare.now c.decide.new.spare store.secret store.protected store.history
           c.args.group.now.plans.items mid after.history c.decide.new.group.replies.items e.decides e.sent
           (left_stands (g.B.Bench.file mid) store after (e.stands.as_left told) e.table.0)
-          (e.spare_quiet spared spare_told spare_quiet (λ is. no_refusal _ _ is))
+          (e.spare.quiet (spared, spare_told) spare_quiet (λ is. no_refusal _ _ is))
           (subst (λ (s : SecretView). stands_of s.shape (g.S.Bench.file c.decide.new.spare) after.history) e.table.0
-          (g.K.Keeper.spare_gate c.decide.new.keeper, e.spare_stands spared spare_told))
+          (g.K.Keeper.spare_gate c.decide.new.keeper, e.spare.stands (spared, spare_told)))
           sends (λ image le left. g.met.B.Bench.counts_now c.send_all.new.bench (g.B.Bench.moment mid) image le left);
-      spare_fault = record {
-        later = c.decide.ensures.spare_fault.later;
-        failed = λ is. no_refusal _ _ is;
-        last_call = λ is. no_refusal _ _ is;
-        steady = λ other. c.in_ok-decide.ensures.spare_fault.steady (λ is. no_refusal _ _ is);
-      };
-      spare_ticks = c.in_ok-decide.ensures.spare_ticks;
       spare_first = λ is. no_refusal _ _ is;
       own = λ is. no_refusal _ _ is;
       untouched = c.decide.ensures.untouched;

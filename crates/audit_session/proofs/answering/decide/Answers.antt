@@ -48,7 +48,7 @@ tell_all-requires-clause-can g c =
     let asked : c.deref.result.now ≡ questions_of plans = c.deref.ensures.value ∙ c.requires.questions in
     let due =
     subst (λ (l : List Asked). AreOutcomes
-    (table_of store) store.history l c.in_ok-outcomes.outcomes.items) asked c.in_ok-outcomes.ensures.outcomes in
+    (table_of store) store.history l c.in_ok-outcomes.outcomes.items) asked c.in_ok-outcomes.ensures.asks.outcomes in
     let can : CanAllBeTold plans c.in_ok-outcomes.outcomes.items =
     can_all c.told_outcomes.ensures.can store.secret store.protected c.requires.is.numbers store.history plans c.in_ok-outcomes.outcomes.items
     c.requires.served due in
@@ -64,45 +64,50 @@ returns-in_err-outcomes g c =
       in_range = IfOk-from_err _ _ c.from_residual.ensures.0;
       stands = IfOk-from_err _ _ c.from_residual.ensures.0;
       err = search rules;
-      no_memory = λ is. c.in_err-outcomes.ensures.no_memory (same_fault given end.NoMemory (sym same ∙ is));
+      no_memory = λ is. c.in_err-outcomes.ensures.asks.no_memory (same_fault given end.NoMemory (sym same ∙ is));
       moments = λ told quiet.
           let store = g.K.Keeper.store c.args.keeper.now in
           let plans = c.args.group.now.plans.items in
           let asked : c.deref.result.now ≡ questions_of plans = c.deref.ensures.value ∙ c.requires.questions in
           let e = c.in_err-outcomes.ensures in
           by_memory given
-          (λ memory. nothing_called g.B.Bench c.args.bench.now c.ask_group.new.bench store.secret store.protected store.history plans (e.no_memory memory).0
+          (λ memory. nothing_called g.B.Bench c.args.bench.now c.ask_group.new.bench store.secret store.protected store.history plans (e.asks.no_memory memory)
           (λ image bytes was. g.met.B.Bench.only_now c.args.bench.now image bytes was) quiet (store.journal.gate, c.requires.stands told))
           (λ other. while_kept g.B.Bench c.args.bench.now c.ask_group.new.bench store.secret store.protected store.history plans c.told_outcomes.ensures.can
           c.told_outcomes.ensures.some c.requires.is.numbers c.requires.served (g.B.Bench.sent c.args.bench.now)
           (subst (λ (l : List Asked). Keeps g.B.Bench c.args.bench.now c.ask_group.new.bench (table_of store) store.history l
           (g.B.Bench.sent c.args.bench.now)) asked
-          (e.any_moment told quiet other)));
-      sent = c.ask_group.ensures.sent;
+          (e.asks.any_moment told quiet other)));
+      sent = c.ask_group.ensures.asks.sent;
       room = search rules;
       plans = search rules;
-      table = c.ask_group.ensures.table;
-      is = c.ask_group.ensures.is;
-      fault = passed_on g.B.Bench c.args.bench.now c.ask_group.new.bench given end.Bench _ same c.in_err-outcomes.ensures.fault;
+      table = c.ask_group.ensures.asks.table;
+      is = c.ask_group.ensures.asks.is;
+      fault = passed_on g.B.Bench c.args.bench.now c.ask_group.new.bench given end.Bench _ same c.in_err-outcomes.ensures.asks.fault;
       ends = of_refusal _ given c.from_residual.ensures (λ r. IfErr r IsOfBenches) c.in_err-outcomes.ensures.ends;
-      spare_stands = λ spared told. IfOk-from_err _ _ c.from_residual.ensures.0;
-      spare_moments = λ spared told quiet.
-          let store = g.K.Keeper.store c.args.keeper.now in
-          let plans = c.args.group.now.plans.items in
-          let asked : c.deref.result.now ≡ questions_of plans = c.deref.ensures.value ∙ c.requires.questions in
-          let e = c.in_err-outcomes.ensures in
-          by_memory given
-          (λ memory. nothing_called_unsent g.S.Bench c.args.spare.now c.ask_group.new.spare store.secret store.protected store.history plans
-          (e.no_memory memory).1
-          (λ image bytes was. g.met.S.Bench.only_now c.args.spare.now image bytes was) quiet
-          (g.K.Keeper.spare_gate c.args.keeper.now, c.requires.spare_stands spared told))
-          (λ other. while_kept_unsent g.S.Bench c.args.spare.now c.ask_group.new.spare store.secret store.protected store.history plans
-          c.told_outcomes.ensures.can c.told_outcomes.ensures.some c.requires.is.numbers c.requires.served (g.S.Bench.sent c.args.spare.now)
-          (subst (λ (l : List Asked). Keeps g.S.Bench c.args.spare.now c.ask_group.new.spare (table_of store) store.history l
-          (g.S.Bench.sent c.args.spare.now)) asked
-          (e.spare_moments spared told quiet other)));
-      spare_quiet = λ spared told quiet other. c.in_err-outcomes.ensures.spare_quiet spared told quiet (λ is. other (same ∙ same_fault given end.Spare is));
-      spare_sent = c.ask_group.ensures.spare_sent;
+      spare = record {
+        stands = λ told. IfOk-from_err _ _ c.from_residual.ensures.0;
+        moments = λ told quiet.
+            let store = g.K.Keeper.store c.args.keeper.now in
+            let plans = c.args.group.now.plans.items in
+            let asked : c.deref.result.now ≡ questions_of plans = c.deref.ensures.value ∙ c.requires.questions in
+            let e = c.in_err-outcomes.ensures.spare in
+            by_memory given
+            (λ memory. nothing_called_unsent g.S.Bench c.args.spare.now c.ask_group.new.spare store.secret store.protected store.history plans
+            (e.no_memory memory)
+            (λ image bytes was. g.met.S.Bench.only_now c.args.spare.now image bytes was) quiet
+            (g.K.Keeper.spare_gate c.args.keeper.now, c.requires.spare_stands told.0 told.1))
+            (λ other. while_kept_unsent g.S.Bench c.args.spare.now c.ask_group.new.spare store.secret store.protected store.history plans
+            c.told_outcomes.ensures.can c.told_outcomes.ensures.some c.requires.is.numbers c.requires.served (g.S.Bench.sent c.args.spare.now)
+            (subst (λ (l : List Asked). Keeps g.S.Bench c.args.spare.now c.ask_group.new.spare (table_of store) store.history l
+            (g.S.Bench.sent c.args.spare.now)) asked
+            (e.moments told quiet other)));
+        quiet = λ told quiet other. c.in_err-outcomes.ensures.spare.quiet told quiet (λ is. other (same ∙ same_fault given end.Spare is));
+        sent = c.ask_group.ensures.spare.sent;
+        ticks = λ told. IfOk-from_err _ _ c.from_residual.ensures.0;
+        no_memory = λ is. c.in_err-outcomes.ensures.spare.no_memory (same_fault given end.NoMemory (sym same ∙ is));
+        fault = passed_on g.S.Bench c.args.spare.now c.ask_group.new.spare given end.Spare _ same c.in_err-outcomes.ensures.spare.fault;
+      };
       both = λ spared told spare_told quiet spare_quiet refused.
           let store = g.K.Keeper.store c.args.keeper.now in
           let plans = c.args.group.now.plans.items in
@@ -114,23 +119,21 @@ returns-in_err-outcomes g c =
           by_kind given e.ends
           (λ memory. neither_called g.B.Bench g.S.Bench c.args.bench.now c.ask_group.new.bench c.args.spare.now c.ask_group.new.spare store.secret
           store.protected
-          store.history plans quiet spare_quiet stands spare_stands (e.no_memory memory).0 (e.no_memory memory).1)
+          store.history plans quiet spare_quiet stands spare_stands (e.asks.no_memory memory) (e.spare.no_memory memory))
           (λ failed. bench_call_failed g.B.Bench g.S.Bench c.args.bench.now c.ask_group.new.bench c.args.spare.now c.ask_group.new.spare store.secret
           store.protected store.history plans c.told_outcomes.ensures.can c.told_outcomes.ensures.some c.requires.is.numbers c.requires.served
-          c.ask_group.ensures.sent (e.spare_quiet spared spare_told spare_quiet (λ is. cc))
+          c.ask_group.ensures.asks.sent (e.spare.quiet (spared, spare_told) spare_quiet (λ is. cc))
           (λ image left. subst (λ (l : List Asked). KeptAhead (g.S.Bench.file c.ask_group.new.spare) image (table_of store) store.history l) asked
-          (e.ahead spared told spare_told quiet spare_quiet failed image left)))
+          (e.spare.ahead told (spared, spare_told) quiet failed image left)))
           (λ failed. spare_call_failed g.B.Bench g.S.Bench c.args.bench.now c.ask_group.new.bench c.args.spare.now c.ask_group.new.spare store.secret
-          store.protected store.history plans quiet stands (e.spare_first failed)
+          store.protected store.history plans quiet stands (e.spare.first failed)
           (while_kept_unsent g.S.Bench c.args.spare.now c.ask_group.new.spare store.secret store.protected store.history plans c.told_outcomes.ensures.can
           c.told_outcomes.ensures.some c.requires.is.numbers c.requires.served (g.S.Bench.sent c.args.spare.now)
           (subst (λ (l : List Asked). Keeps g.S.Bench c.args.spare.now c.ask_group.new.spare (table_of store) store.history l
           (g.S.Bench.sent c.args.spare.now)) asked
-          (e.spare_moments spared spare_told spare_quiet (λ is. cc))))
+          (e.spare.moments (spared, spare_told) spare_quiet (λ is. cc))))
           (λ image le left. g.met.S.Bench.counts_now c.ask_group.new.spare (g.S.Bench.moment c.args.spare.now) image le left));
-      spare_fault = passed_on g.S.Bench c.args.spare.now c.ask_group.new.spare given end.Spare _ same c.in_err-outcomes.ensures.spare_fault;
-      spare_ticks = λ spared told. IfOk-from_err _ _ c.from_residual.ensures.0;
-      spare_first = λ is. c.in_err-outcomes.ensures.spare_first (same_fault given end.Spare (sym same ∙ is));
+      spare_first = λ is. c.in_err-outcomes.ensures.spare.first (same_fault given end.Spare (sym same ∙ is));
       own = λ is. c.in_err-outcomes.ensures.own (same_fault given end.Spare (sym same ∙ is));
       untouched = c.ask_group.ensures.untouched;
     }
@@ -144,17 +147,21 @@ returns g c =
       decides =
           let outcomes = c.in_ok-outcomes.outcomes.items in
           let e = c.in_ok-outcomes.ensures in
-          let due = subst (λ (l : List Asked). AreOutcomes (table_of store) store.history l outcomes) asked e.outcomes in
+          let due = subst (λ (l : List Asked). AreOutcomes (table_of store) store.history l outcomes) asked e.asks.outcomes in
           let told =
           subst (λ (os : List Outcome). AreTold plans os c.tell_all.new.replies.items) c.deref-3.ensures.value
           (subst (λ (ps : List Plan). AreTold ps c.deref-3.result.now c.tell_all.new.replies.items) c.deref-2.ensures.value c.tell_all.ensures.told) in
           told_group g.B.Bench c.args.bench.now c.ask_group.new.bench store.secret store.protected store.history plans
           (g.K.Keeper.store c.ask_group.new.self).history outcomes
           c.tell_all.new.replies.items due told
-          (e.history ∙ ap (λ (l : List Asked). store.history ++ records_made l outcomes) asked)
-          (λ t. e.ticks t ∙ ap (λ (l : List Asked). g.B.Bench.moment c.args.bench.now + calls_for (records_made l outcomes)) asked);
+          (e.asks.history ∙ ap (λ (l : List Asked). store.history ++ records_made l outcomes) asked)
+          (λ t. e.asks.ticks t ∙ ap (λ (l : List Asked). g.B.Bench.moment c.args.bench.now + calls_for (records_made l outcomes)) asked);
       in_range = c.tell_all.ensures.in_range;
-      stands = record { usable = c.in_ok-outcomes.ensures.usable; as_left = c.in_ok-outcomes.ensures.stands; quiet = c.in_ok-outcomes.ensures.quiet };
+      stands = record {
+        usable = c.in_ok-outcomes.ensures.asks.usable;
+        as_left = c.in_ok-outcomes.ensures.asks.stands;
+        quiet = λ told quiet. c.in_ok-outcomes.ensures.asks.quiet told quiet (λ is. no_refusal _ _ is);
+      };
       err = search rules;
       no_memory = λ is. no_refusal _ _ is;
       moments = λ told quiet.
@@ -164,41 +171,44 @@ returns g c =
           (g.B.Bench.sent c.args.bench.now)
           (subst (λ (l : List Asked). Keeps g.B.Bench c.args.bench.now c.ask_group.new.bench (table_of store) store.history l
           (g.B.Bench.sent c.args.bench.now)) asked
-          (c.in_ok-outcomes.ensures.any_moment told quiet (search rules)));
-      sent = c.ask_group.ensures.sent;
+          (c.in_ok-outcomes.ensures.asks.any_moment told quiet (λ is. no_refusal _ _ is)));
+      sent = c.ask_group.ensures.asks.sent;
       room = c.tell_all.ensures.room;
       plans = search rules;
-      table = c.ask_group.ensures.table;
-      is = c.ask_group.ensures.is;
+      table = c.ask_group.ensures.asks.table;
+      is = c.ask_group.ensures.asks.is;
       fault = record {
-        later = c.ask_group.ensures.fault.later;
+        later = c.ask_group.ensures.asks.fault.later;
         failed = λ is. no_refusal _ _ is;
         last_call = λ is. no_refusal _ _ is;
-        steady = λ other. c.in_ok-outcomes.ensures.fault.steady (λ is. no_refusal _ _ is);
+        steady = λ other. c.in_ok-outcomes.ensures.asks.fault.steady (λ is. no_refusal _ _ is);
       };
       ends = tt;
-      spare_stands = c.in_ok-outcomes.ensures.spare_stands;
-      spare_moments = λ spared told quiet.
-          while_kept_unsent g.S.Bench c.args.spare.now c.ask_group.new.spare store.secret store.protected store.history plans c.told_outcomes.ensures.can
-          c.told_outcomes.ensures.some c.requires.is.numbers c.requires.served (g.S.Bench.sent c.args.spare.now)
-          (subst (λ (l : List Asked). Keeps g.S.Bench c.args.spare.now c.ask_group.new.spare (table_of store) store.history l
-          (g.S.Bench.sent c.args.spare.now)) asked
-          (c.in_ok-outcomes.ensures.spare_moments spared told quiet (λ is. no_refusal _ _ is)));
-      spare_quiet = λ spared told quiet other. c.in_ok-outcomes.ensures.spare_quiet spared told quiet (λ is. no_refusal _ _ is);
-      spare_sent = c.ask_group.ensures.spare_sent;
-      both = λ spared told spare_told quiet spare_quiet refused. absurd (false≢true refused);
-      spare_fault = record {
-        later = c.ask_group.ensures.spare_fault.later;
-        failed = λ is. no_refusal _ _ is;
-        last_call = λ is. no_refusal _ _ is;
-        steady = λ other. c.in_ok-outcomes.ensures.spare_fault.steady (λ is. no_refusal _ _ is);
+      spare = record {
+        stands = c.in_ok-outcomes.ensures.spare.stands;
+        moments = λ told quiet.
+            while_kept_unsent g.S.Bench c.args.spare.now c.ask_group.new.spare store.secret store.protected store.history plans c.told_outcomes.ensures.can
+            c.told_outcomes.ensures.some c.requires.is.numbers c.requires.served (g.S.Bench.sent c.args.spare.now)
+            (subst (λ (l : List Asked). Keeps g.S.Bench c.args.spare.now c.ask_group.new.spare (table_of store) store.history l
+            (g.S.Bench.sent c.args.spare.now)) asked
+            (c.in_ok-outcomes.ensures.spare.moments told quiet (λ is. no_refusal _ _ is)));
+        quiet = λ told quiet other. c.in_ok-outcomes.ensures.spare.quiet told quiet (λ is. no_refusal _ _ is);
+        sent = c.ask_group.ensures.spare.sent;
+        ticks = λ told.
+            let e = c.in_ok-outcomes.ensures in
+            let records = records_made c.deref.result.now c.in_ok-outcomes.outcomes.items in
+            let added : drop (length store.history) (g.K.Keeper.store c.ask_group.new.self).history ≡ records =
+            ap (λ (h : List Answered). drop (length store.history) h) e.asks.history ∙ drop-append_seam store.history records in
+            e.spare.ticks told ∙ ap (λ (l : List Answered). g.S.Bench.moment c.args.spare.now + calls_for l) (sym added);
+        no_memory = λ is. no_refusal _ _ is;
+        fault = record {
+          later = c.ask_group.ensures.spare.fault.later;
+          failed = λ is. no_refusal _ _ is;
+          last_call = λ is. no_refusal _ _ is;
+          steady = λ other. c.in_ok-outcomes.ensures.spare.fault.steady (λ is. no_refusal _ _ is);
+        };
       };
-      spare_ticks = λ spared told.
-          let e = c.in_ok-outcomes.ensures in
-          let records = records_made c.deref.result.now c.in_ok-outcomes.outcomes.items in
-          let added : drop (length store.history) (g.K.Keeper.store c.ask_group.new.self).history ≡ records =
-          ap (λ (h : List Answered). drop (length store.history) h) e.history ∙ drop-append_seam store.history records in
-          e.spare_ticks spared told ∙ ap (λ (l : List Answered). g.S.Bench.moment c.args.spare.now + calls_for l) (sym added);
+      both = λ spared told spare_told quiet spare_quiet refused. absurd (false≢true refused);
       spare_first = λ is. no_refusal _ _ is;
       own = λ is. no_refusal _ _ is;
       untouched = c.ask_group.ensures.untouched;

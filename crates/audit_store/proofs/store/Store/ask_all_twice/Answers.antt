@@ -1,168 +1,123 @@
-use Rattle.std.proofs.Common.{◌≡◌, true, false, List, ℕ, Err, refl, ◌+◌, ◌++◌, length, take, sym, ap, subst, ◌∙◌}
-use Rattle.std.specs.Prelude.{IfErr, IsErrOf}
+use Rattle.std.proofs.Common.{◌≡◌, ℕ, true, List, All, refl, length, take, sym, ap, subst, ◌∙◌}
+use Rattle.std.specs.Prelude.{IfErr}
 use Rattle.std.proofs.lemmas.Result.{IfOk-from_err}
 use Rattle.audit_types.specs.declared.records.Answered.{Answered}
-use Rattle.audit_types.specs.History.{Setting}
-use Rattle.journal_form.specs.Journal.{StandsAt}
+use Rattle.audit_types.specs.declared.records.Asked.{Asked}
+use Rattle.audit_types.specs.History.{FitsShape, IsLegal, Setting}
+use Rattle.bench_core.specs.Reports.{failed_call, is_refusal, of_refusal}
+use Rattle.bench_core.specs.Stops.{IsOfBenches}
+use Rattle.bench_core.specs.declared.stops.Stop.TheVariants as stop
 use Rattle.audit_core.specs.Audited.{Audited}
 use Rattle.audit_core.specs.Outcomes.{records_made}
 use Rattle.table_load.specs.Cells.{SecretView}
-use Rattle.audit_store.specs.Stores.{StoreContents, IsStore, IsAuditedBy, HasGroup, calls_for}
-use Rattle.audit_store.specs.StoreLaws.{kept_store, more_released, nothing_appended, refused_history, refused_store, still_released, store_in, table_by}
-use Rattle.audit_store.specs.Refusals.{no_refusal}
-use Rattle.bench_core.specs.Reports.{done_call, failed_call, is_refusal, not_called, of_refusal}
-use Rattle.bench_core.specs.Stops.{IsOfBenches}
+use Rattle.journal_form.specs.Journal.{StandsAt}
+use Rattle.audit_store.specs.Stores.{StoreContents}
+use Rattle.audit_store.specs.StoreLaws.{table_by, core_is_history}
 use Rattle.audit_store.specs.Twice.{group_of}
-use Rattle.bench_core.specs.declared.stops.Stop.TheVariants as stop
-use Rattle.audit_store.proofs.KeptTwice.{decided, has_made, journal_after, keeps_group, kept_ahead, over_other, over_own_shape, stands_after}
+use Rattle.audit_store.proofs.InsideStores.{kept, refused}
+use Rattle.audit_store.proofs.AskedGroups.{WasAppended, asked, asked_in_vain, decided, found, journal_after, over_other, spare_asked, spare_asked_in_vain, spare_is_ahead, spare_unasked, unasked, uncalled}
 use Rattle.audit_store.proofs.store.Store.ask_all_twice.Goals as goal
 
 pub invariant_of-self : goal.invariant_of-self
 invariant_of-self g c =
     let i = c.self.inside in
-    let usable : i.usable ≡ true = ap (λ (s : StoreContents). s.usable) c.self.view_is ∙ c.requires.usable in
     let took = c.decide_all.ensures in
-    let new = c.decide_all.new.sealed.core in
-    let holds = λ (secret : SecretView). IsStore (store_in secret new i.released i.journal false)
-    × IsAuditedBy (table_by secret new) new i.released false in
-    subst holds (sym took.secret) (refused_store i.sealed.secret i.sealed.core new i.released i.journal i.journal i.usable usable
-    c.self.invariant.0 c.self.invariant.1 took.begins took.within took.setting)
+    let is =
+    refused c.self.view_is c.requires.usable c.self.invariant
+    c.decide_all.new.sealed.secret c.decide_all.new.sealed.core took.secret took.setting i.journal took.begins took.within in
+    (is.0.is, is.1)
 
 pub invariant_of-self-in_err-ready : goal.invariant_of-self-in_err-ready
 invariant_of-self-in_err-ready g c =
     let i = c.self.inside in
-    let usable : i.usable ≡ true = ap (λ (s : StoreContents). s.usable) c.self.view_is ∙ c.requires.usable in
     let took = c.decide_all.ensures in
-    let new = c.decide_all.new.sealed.core in
-    let holds = λ (secret : SecretView). IsStore (store_in secret new i.released i.journal false)
-    × IsAuditedBy (table_by secret new) new i.released false in
-    subst holds (sym took.secret) (refused_store i.sealed.secret i.sealed.core new i.released i.journal i.journal i.usable usable
-    c.self.invariant.0 c.self.invariant.1 took.begins took.within took.setting)
+    let is =
+    refused c.self.view_is c.requires.usable c.self.invariant
+    c.decide_all.new.sealed.secret c.decide_all.new.sealed.core took.secret took.setting i.journal took.begins took.within in
+    (is.0.is, is.1)
 
 pub invariant_of-self-in-Err : goal.invariant_of-self-in-Err
 invariant_of-self-in-Err g c =
     let i = c.self.inside in
-    let usable : i.usable ≡ true = ap (λ (s : StoreContents). s.usable) c.self.view_is ∙ c.requires.usable in
     let took = c.decide_all.ensures in
-    let new = c.decide_all.new.sealed.core in
-    let holds = λ (secret : SecretView). IsStore (store_in secret new i.released i.journal false)
-    × IsAuditedBy (table_by secret new) new i.released false in
-    subst holds (sym took.secret) (refused_store i.sealed.secret i.sealed.core new i.released i.journal i.journal i.usable usable
-    c.self.invariant.0 c.self.invariant.1 took.begins took.within took.setting)
+    let is =
+    refused c.self.view_is c.requires.usable c.self.invariant
+    c.decide_all.new.sealed.secret c.decide_all.new.sealed.core took.secret took.setting i.journal took.begins took.within in
+    (is.0.is, is.1)
 
 pub invariant_of-self-in-Err-keep_ready : goal.invariant_of-self-in-Err-keep_ready
 invariant_of-self-in-Err-keep_ready g c =
     let i = c.self.inside in
-    let usable : i.usable ≡ true = ap (λ (s : StoreContents). s.usable) c.self.view_is ∙ c.requires.usable in
     let took = c.decide_all.ensures in
-    let new = c.decide_all.new.sealed.core in
-    let holds = λ (secret : SecretView). IsStore (store_in secret new i.released c.keep_ready-2.new.journal false)
-    × IsAuditedBy (table_by secret new) new i.released false in
-    subst holds (sym took.secret) (refused_store i.sealed.secret i.sealed.core new i.released i.journal c.keep_ready-2.new.journal i.usable usable
-    c.self.invariant.0 c.self.invariant.1 took.begins took.within took.setting)
+    let is =
+    refused c.self.view_is c.requires.usable c.self.invariant
+    c.decide_all.new.sealed.secret c.decide_all.new.sealed.core took.secret took.setting c.keep_ready-2.new.journal took.begins took.within in
+    (is.0.is, is.1)
 
 pub invariant_of-self-2 : goal.invariant_of-self-2
 invariant_of-self-2 g c =
     let i = c.self.inside in
-    let store = c.args.self.now in
-    let usable : i.usable ≡ true = ap (λ (s : StoreContents). s.usable) c.self.view_is ∙ c.requires.usable in
-    let asked = c.args.asked.now in
-    let outcomes = c.in_ok-outcomes.outcomes.items in
-    let made = records_made asked outcomes in
-    let group = group_of c.in_ok-ready.ready in
     let took = c.in_ok-outcomes.ensures in
+    let made = records_made c.args.asked.now c.in_ok-outcomes.outcomes.items in
+    let group = group_of c.in_ok-ready.ready in
+    let decided_is =
+    decided c.decide_all.new.sealed.core c.args.asked.now c.in_ok-outcomes.outcomes.items c.history.result.now group c.self.view_is c.requires.usable
+    c.self.invariant took.outcomes took.history
+    (c.history.ensures.is ∙ ap (λ (a : Audited). a.history) c.core.ensures) c.in_ok-ready.ensures.group in
+    let done = c.in-Ok-keep_ready.ensures in
     let is =
-    decided i.sealed.secret i.sealed.core c.decide_all.new.sealed.core i.released i.journal i.usable store asked outcomes c.history.result.now group
-    c.self.view_is usable
-    c.self.invariant.0 c.self.invariant.1 took.outcomes took.history (c.history.ensures.is ∙ ap (λ (a : Audited). a.history) c.core.ensures)
-    c.in_ok-ready.ensures.group in
-    let kept = c.in-Ok-keep_ready.ensures in
-    let now = length c.history-2.result.now in
-    let holds = λ (secret : SecretView). IsStore (store_in secret c.decide_all.new.sealed.core now c.keep_ready-2.new.journal true)
-    × IsAuditedBy (table_by secret c.decide_all.new.sealed.core) c.decide_all.new.sealed.core now true in
-    subst holds (sym c.decide_all.ensures.secret)
-    (kept_store i.sealed.secret i.sealed.core c.decide_all.new.sealed.core i.released
-    (length c.history-2.result.now) i.journal c.keep_ready-2.new.journal i.usable
-    group made usable c.self.invariant.0 c.self.invariant.1 took.history c.decide_all.ensures.setting
-    took.legal (ap length (c.history-2.ensures.is ∙ ap (λ (a : Audited). a.history) c.core-2.ensures)) is.group_is kept.usable c.keep_ready-2.ensures.shape
-    kept.counted)
+    kept c.self.view_is c.requires.usable c.self.invariant
+    c.decide_all.new.sealed.secret c.decide_all.new.sealed.core c.decide_all.ensures.secret c.decide_all.ensures.setting (length c.history-2.result.now)
+    c.keep_ready-2.new.journal group made took.history took.legal
+    (ap length (c.history-2.ensures.is ∙ ap (λ (a : Audited). a.history) c.core-2.ensures)) decided_is.group_is done.usable c.keep_ready-2.ensures.shape
+    done.counted in
+    (is.0.is, is.1)
+
+pub decide_all-requires-clause-same_shape : goal.decide_all-requires-clause-same_shape
+decide_all-requires-clause-same_shape g c = ap (λ (s : Setting). s.shape) c.self.invariant.1.same_setting
+
+pub decide_all-requires-clause-legal : goal.decide_all-requires-clause-legal
+decide_all-requires-clause-legal g c =
+    let i = c.self.inside in
+    let usable : i.usable ≡ true = ap (λ (s : StoreContents). s.usable) c.self.view_is ∙ c.requires.usable in
+    let all = core_is_history (table_by i.sealed.secret i.sealed.core) i.sealed.core i.released i.usable
+    (take i.released i.sealed.core.history) c.self.invariant.1 usable refl in
+    subst (λ (h : List Answered). IsLegal (table_by i.sealed.secret i.sealed.core) h) (sym all) c.self.invariant.0.legal
+
+pub decide_all-requires-clause-fit : goal.decide_all-requires-clause-fit
+decide_all-requires-clause-fit g c =
+    subst (λ (s : StoreContents). All (λ (a : Asked). FitsShape s.secret.shape a.column a.rows) c.args.asked.now) (sym c.self.view_is) c.requires.fit
 
 -- ---- memory ran out
 
 pub returns-in_err-outcomes : goal.returns-in_err-outcomes
 returns-in_err-outcomes g c =
     let i = c.self.inside in
-    let store = c.args.self.now in
-    let usable : i.usable ≡ true = ap (λ (s : StoreContents). s.usable) c.self.view_is ∙ c.requires.usable in
-    let answer = c.from_residual.result in
-    let same : answer ≡ Err stop.NoMemory = is_refusal answer stop.NoMemory c.from_residual.ensures in
+    let took = c.decide_all.ensures in
+    let is =
+    refused c.self.view_is c.requires.usable c.self.invariant
+    c.decide_all.new.sealed.secret c.decide_all.new.sealed.core took.secret took.setting i.journal took.begins took.within in
+    let same = is_refusal c.from_residual.result stop.NoMemory c.from_residual.ensures in
     record {
-      outcomes = IfOk-from_err _ _ c.from_residual.ensures.0;
-      history = IfOk-from_err _ _ c.from_residual.ensures.0;
-      stands = λ told. IfOk-from_err _ _ c.from_residual.ensures.0;
-      spare_stands = λ told. IfOk-from_err _ _ c.from_residual.ensures.0;
-      usable = IfOk-from_err _ _ c.from_residual.ensures.0;
-      kept =
-          refused_history answer i.sealed.core.history c.decide_all.new.sealed.core.history store.history i.released
-          (c.self.invariant.1.all usable) c.decide_all.ensures.begins (ap (λ (s : StoreContents). s.history) c.self.view_is);
-      no_memory = λ is. (refl, refl);
-      spare_first = λ is. refl;
-      fault = not_called g.B.Bench c.args.bench.now (IsErrOf c.from_residual.result stop.Bench) (λ is. let none : ⊥ = cc in none);
-      spare_fault = not_called g.S.Bench c.args.spare.now (IsErrOf c.from_residual.result stop.Spare) (λ is. let none : ⊥ = cc in none);
-      ends = of_refusal answer stop.NoMemory c.from_residual.ensures (λ r. IfErr r IsOfBenches) tt;
-      secret = c.decide_all.ensures.secret ∙ ap (λ (s : StoreContents). s.secret) c.self.view_is;
-      protected = ap (λ (s : Setting). s.protected) c.decide_all.ensures.setting ∙ ap (λ (s : StoreContents). s.protected) c.self.view_is;
-      is = (invariant_of-self g c).0;
-      any_moment = λ told quiet other. absurd (other same);
-      spare_moments = λ told quiet other. absurd (other same);
-      ahead = λ told spare_told quiet is. let none : ⊥ = cc in absurd none;
-      written = λ told. IfOk-from_err _ _ c.from_residual.ensures.0;
-      spare_written = λ told. IfOk-from_err _ _ c.from_residual.ensures.0;
-      quiet = λ told quiet other. quiet;
-      spare_quiet = λ told quiet other. quiet;
-      sent = refl;
-      spare_sent = refl;
-      ticks = λ told. IfOk-from_err _ _ c.from_residual.ensures.0;
-      spare_ticks = λ told. IfOk-from_err _ _ c.from_residual.ensures.0;
-      unasked = IfOk-from_err _ _ c.from_residual.ensures.0;
+      asks = unasked g.B.Bench c.args.bench.now same is.0;
+      spare = spare_unasked g.B.Bench c.args.bench.now same g.S.Bench g.S.Bench.told c.args.spare.now;
+      other = IfOk-from_err _ _ c.from_residual.ensures.0;
+      ends = of_refusal c.from_residual.result stop.NoMemory c.from_residual.ensures (λ r. IfErr r IsOfBenches) tt;
     }
 
 pub returns-in_err-ready : goal.returns-in_err-ready
 returns-in_err-ready g c =
     let i = c.self.inside in
-    let store = c.args.self.now in
-    let usable : i.usable ≡ true = ap (λ (s : StoreContents). s.usable) c.self.view_is ∙ c.requires.usable in
-    let answer = c.from_residual-in_err-ready.result in
-    let same : answer ≡ Err stop.NoMemory = is_refusal answer stop.NoMemory c.from_residual-in_err-ready.ensures in
+    let took = c.decide_all.ensures in
+    let is =
+    refused c.self.view_is c.requires.usable c.self.invariant
+    c.decide_all.new.sealed.secret c.decide_all.new.sealed.core took.secret took.setting i.journal took.begins took.within in
+    let same = is_refusal c.from_residual-in_err-ready.result stop.NoMemory c.from_residual-in_err-ready.ensures in
     record {
-      outcomes = IfOk-from_err _ _ c.from_residual-in_err-ready.ensures.0;
-      history = IfOk-from_err _ _ c.from_residual-in_err-ready.ensures.0;
-      stands = λ told. IfOk-from_err _ _ c.from_residual-in_err-ready.ensures.0;
-      spare_stands = λ told. IfOk-from_err _ _ c.from_residual-in_err-ready.ensures.0;
-      usable = IfOk-from_err _ _ c.from_residual-in_err-ready.ensures.0;
-      kept =
-          refused_history answer i.sealed.core.history c.decide_all.new.sealed.core.history store.history i.released
-          (c.self.invariant.1.all usable) c.decide_all.ensures.begins (ap (λ (s : StoreContents). s.history) c.self.view_is);
-      no_memory = λ is. (refl, refl);
-      spare_first = λ is. refl;
-      fault = not_called g.B.Bench c.args.bench.now (IsErrOf c.from_residual-in_err-ready.result stop.Bench) (λ is. let none : ⊥ = cc in none);
-      spare_fault = not_called g.S.Bench c.args.spare.now (IsErrOf c.from_residual-in_err-ready.result stop.Spare) (λ is. let none : ⊥ = cc in none);
-      ends = of_refusal answer stop.NoMemory c.from_residual-in_err-ready.ensures (λ r. IfErr r IsOfBenches) tt;
-      secret = c.decide_all.ensures.secret ∙ ap (λ (s : StoreContents). s.secret) c.self.view_is;
-      protected = ap (λ (s : Setting). s.protected) c.decide_all.ensures.setting ∙ ap (λ (s : StoreContents). s.protected) c.self.view_is;
-      is = (invariant_of-self-in_err-ready g c).0;
-      any_moment = λ told quiet other. absurd (other same);
-      spare_moments = λ told quiet other. absurd (other same);
-      ahead = λ told spare_told quiet is. let none : ⊥ = cc in absurd none;
-      written = λ told. IfOk-from_err _ _ c.from_residual-in_err-ready.ensures.0;
-      spare_written = λ told. IfOk-from_err _ _ c.from_residual-in_err-ready.ensures.0;
-      quiet = λ told quiet other. quiet;
-      spare_quiet = λ told quiet other. quiet;
-      sent = refl;
-      spare_sent = refl;
-      ticks = λ told. IfOk-from_err _ _ c.from_residual-in_err-ready.ensures.0;
-      spare_ticks = λ told. IfOk-from_err _ _ c.from_residual-in_err-ready.ensures.0;
-      unasked = IfOk-from_err _ _ c.from_residual-in_err-ready.ensures.0;
+      asks = unasked g.B.Bench c.args.bench.now same is.0;
+      spare = spare_unasked g.B.Bench c.args.bench.now same g.S.Bench g.S.Bench.told c.args.spare.now;
+      other = IfOk-from_err _ _ c.from_residual-in_err-ready.ensures.0;
+      ends = of_refusal c.from_residual-in_err-ready.result stop.NoMemory c.from_residual-in_err-ready.ensures (λ r. IfErr r IsOfBenches) tt;
     }
 
 -- ---- a call of the spare failed
@@ -170,65 +125,31 @@ returns-in_err-ready g c =
 pub returns-in-Err : goal.returns-in-Err
 returns-in-Err g c =
     let i = c.self.inside in
-    let store = c.args.self.now in
-    let usable : i.usable ≡ true = ap (λ (s : StoreContents). s.usable) c.self.view_is ∙ c.requires.usable in
-    let asked = c.args.asked.now in
-    let outcomes = c.in_ok-outcomes.outcomes.items in
-    let made = records_made asked outcomes in
-    let group = group_of c.in_ok-ready.ready in
     let took = c.in_ok-outcomes.ensures in
+    let group = group_of c.in_ok-ready.ready in
+    let decided_is =
+    decided c.decide_all.new.sealed.core c.args.asked.now c.in_ok-outcomes.outcomes.items c.history.result.now group c.self.view_is c.requires.usable
+    c.self.invariant took.outcomes took.history
+    (c.history.ensures.is ∙ ap (λ (a : Audited). a.history) c.core.ensures) c.in_ok-ready.ensures.group in
+    let own = ap (λ (s : StoreContents). s.journal.gate) c.self.view_is in
+    let of_other = over_other decided_is c.args.other.now c.requires.other in
     let is =
-    decided i.sealed.secret i.sealed.core c.decide_all.new.sealed.core i.released i.journal i.usable store asked outcomes c.history.result.now group
-    c.self.view_is usable
-    c.self.invariant.0 c.self.invariant.1 took.outcomes took.history (c.history.ensures.is ∙ ap (λ (a : Audited). a.history) c.core.ensures)
-    c.in_ok-ready.ensures.group in
-    let file = g.B.Bench.file c.args.bench.now in
-    let here : g.B.Bench.told → StandsAt file i.journal.shape store.history i.journal.gate = λ told.
-    over_own_shape store asked outcomes i.journal group is file
-    (subst (λ (n : ℕ). StandsAt file store.secret.shape store.history n) (ap (λ (s : StoreContents). s.journal.gate) (sym c.self.view_is))
-    (c.requires.stands told)) in
-    let other = c.args.other.now in
-    let of_other = over_other store asked outcomes i.journal group is other c.requires.other in
-    let spare_file = g.S.Bench.file c.args.spare.now in
-    let there : g.S.Bench.told → StandsAt spare_file other.shape store.history other.gate = λ told.
-    over_own_shape store asked outcomes other group of_other spare_file (c.requires.spare_stands told) in
+    refused c.self.view_is c.requires.usable c.self.invariant
+    c.decide_all.new.sealed.secret c.decide_all.new.sealed.core c.decide_all.ensures.secret c.decide_all.ensures.setting i.journal
+    c.decide_all.ensures.begins c.decide_all.ensures.within in
+    let failed = c.in-Err.ensures in
     record {
-      outcomes = tt;
-      history = tt;
-      stands = λ told. tt;
-      spare_stands = λ told. tt;
-      usable = tt;
-      kept = (
-        still_released i.sealed.core.history c.decide_all.new.sealed.core.history store.history i.released (c.self.invariant.1.all usable)
-            c.decide_all.ensures.begins (ap (λ (s : StoreContents). s.history) c.self.view_is),
-        refl,
-      );
-      no_memory = λ is. let none : ⊥ = cc in absurd none;
-      spare_first = λ is. refl;
-      fault = not_called g.B.Bench c.args.bench.now _ (λ is. let none : ⊥ = cc in none);
-      spare_fault =
-          failed_call g.S.Bench c.args.spare.now c.keep_ready.new.bench _ _ c.in-Err.ensures.cause c.in-Err.ensures.last_call refl;
+      asks =
+          uncalled c.in_ok-outcomes.outcomes decided_is own g.B.Bench c.args.bench.now c.requires.stands
+          (λ image sent was. g.met.B.Bench.only_now c.args.bench.now image sent was) is.0;
+      spare =
+          spare_asked_in_vain c.in_ok-outcomes.outcomes of_other g.B.Bench g.S.Bench
+          c.args.bench.now c.args.bench.now c.args.spare.now c.keep_ready.new.bench c.requires.spare_stands c.keep_ready.ensures.any_moment
+          c.keep_ready.ensures.sent c.keep_ready.new.journal
+          (λ (Told : Type 0) (told : Told). failed_call g.S.Bench c.args.spare.now c.keep_ready.new.bench _ Told failed.cause failed.last_call told)
+          refl;
+      other = tt;
       ends = tt;
-      secret = c.decide_all.ensures.secret ∙ ap (λ (s : StoreContents). s.secret) c.self.view_is;
-      protected = ap (λ (s : Setting). s.protected) c.decide_all.ensures.setting ∙ ap (λ (s : StoreContents). s.protected) c.self.view_is;
-      is = (invariant_of-self-in-Err g c).0;
-      any_moment = λ told quiet no_memory.
-          keeps_group store asked outcomes i.journal group is g.B.Bench c.args.bench.now c.args.bench.now
-          (nothing_appended g.B.Bench c.args.bench.now i.journal.shape store.history group i.journal.gate
-          (λ image sent was. g.met.B.Bench.only_now c.args.bench.now image sent was) quiet (here told));
-      spare_moments = λ told quiet no_memory.
-          keeps_group store asked outcomes other group of_other g.S.Bench c.args.spare.now c.keep_ready.new.bench
-          (c.keep_ready.ensures.any_moment store.history told (there told) (sym c.requires.other.counted) quiet);
-      ahead = λ told spare_told quiet is. let none : ⊥ = cc in absurd none;
-      written = λ told. tt;
-      spare_written = λ told. tt;
-      quiet = λ told quiet other. quiet;
-      spare_quiet = λ told quiet other. absurd (other refl);
-      sent = refl;
-      spare_sent = c.keep_ready.ensures.sent;
-      ticks = λ told. tt;
-      spare_ticks = λ told. tt;
-      unasked = tt;
     }
 
 -- ---- a call of the bench failed
@@ -236,159 +157,106 @@ returns-in-Err g c =
 pub returns-in-Err-keep_ready : goal.returns-in-Err-keep_ready
 returns-in-Err-keep_ready g c =
     let i = c.self.inside in
-    let store = c.args.self.now in
-    let usable : i.usable ≡ true = ap (λ (s : StoreContents). s.usable) c.self.view_is ∙ c.requires.usable in
-    let asked = c.args.asked.now in
-    let outcomes = c.in_ok-outcomes.outcomes.items in
-    let made = records_made asked outcomes in
-    let group = group_of c.in_ok-ready.ready in
     let took = c.in_ok-outcomes.ensures in
+    let group = group_of c.in_ok-ready.ready in
+    let decided_is =
+    decided c.decide_all.new.sealed.core c.args.asked.now c.in_ok-outcomes.outcomes.items c.history.result.now group c.self.view_is c.requires.usable
+    c.self.invariant took.outcomes took.history
+    (c.history.ensures.is ∙ ap (λ (a : Audited). a.history) c.core.ensures) c.in_ok-ready.ensures.group in
+    let own = ap (λ (s : StoreContents). s.journal.gate) c.self.view_is in
+    let of_other = over_other decided_is c.args.other.now c.requires.other in
     let is =
-    decided i.sealed.secret i.sealed.core c.decide_all.new.sealed.core i.released i.journal i.usable store asked outcomes c.history.result.now group
-    c.self.view_is usable
-    c.self.invariant.0 c.self.invariant.1 took.outcomes took.history (c.history.ensures.is ∙ ap (λ (a : Audited). a.history) c.core.ensures)
-    c.in_ok-ready.ensures.group in
-    let file = g.B.Bench.file c.args.bench.now in
-    let here : g.B.Bench.told → StandsAt file i.journal.shape store.history i.journal.gate = λ told.
-    over_own_shape store asked outcomes i.journal group is file
-    (subst (λ (n : ℕ). StandsAt file store.secret.shape store.history n) (ap (λ (s : StoreContents). s.journal.gate) (sym c.self.view_is))
-    (c.requires.stands told)) in
-    let other = c.args.other.now in
-    let of_other = over_other store asked outcomes i.journal group is other c.requires.other in
-    let spare_file = g.S.Bench.file c.args.spare.now in
-    let there : g.S.Bench.told → StandsAt spare_file other.shape store.history other.gate = λ told.
-    over_own_shape store asked outcomes other group of_other spare_file (c.requires.spare_stands told) in
+    refused c.self.view_is c.requires.usable c.self.invariant
+    c.decide_all.new.sealed.secret c.decide_all.new.sealed.core c.decide_all.ensures.secret c.decide_all.ensures.setting c.keep_ready-2.new.journal
+    c.decide_all.ensures.begins c.decide_all.ensures.within in
+    let first = c.in-Ok.ensures in
+    let on_spare : WasAppended g.S.Bench c.args.other.now c.keep_ready.new.journal group c.args.spare.now c.keep_ready.new.bench =
     record {
-      outcomes = tt;
-      history = tt;
-      stands = λ told. tt;
-      spare_stands = λ told. tt;
-      usable = tt;
-      kept = (
-        still_released i.sealed.core.history c.decide_all.new.sealed.core.history store.history i.released (c.self.invariant.1.all usable)
-            c.decide_all.ensures.begins (ap (λ (s : StoreContents). s.history) c.self.view_is),
-        refl,
-      );
-      no_memory = λ is. let none : ⊥ = cc in absurd none;
-      spare_first = λ is. let none : ⊥ = cc in absurd none;
-      fault =
-          failed_call g.B.Bench c.args.bench.now c.keep_ready-2.new.bench _ _ c.in-Err-keep_ready.ensures.cause
-          c.in-Err-keep_ready.ensures.last_call refl;
-      spare_fault = done_call g.S.Bench c.args.spare.now c.keep_ready.new.bench _ _ c.in-Ok.ensures.cause (λ is. let none : ⊥ = cc in none);
+      done = first.done;
+      written = first.written;
+      quiet = first.quiet;
+      ticks = first.ticks;
+      unasked = first.unasked;
+      steady = first.cause.steady;
+      shape = first.shape;
+      usable = first.usable;
+      counted = first.counted;
+    } in
+    let failed = c.in-Err-keep_ready.ensures in
+    record {
+      asks =
+          asked_in_vain c.in_ok-outcomes.outcomes decided_is own g.B.Bench c.args.bench.now
+          c.requires.stands c.keep_ready-2.new.bench c.keep_ready-2.ensures.any_moment c.keep_ready-2.ensures.sent refl is.0
+          (λ (Told : Type 0) (told : Told). failed_call g.B.Bench c.args.bench.now c.keep_ready-2.new.bench _ Told failed.cause failed.last_call told);
+      spare =
+          spare_is_ahead c.in_ok-outcomes.outcomes of_other g.B.Bench g.S.Bench
+          c.args.bench.now c.keep_ready-2.new.bench c.args.spare.now c.keep_ready.new.bench c.requires.spare_stands c.keep_ready.ensures.any_moment
+          c.keep_ready.ensures.sent c.keep_ready.new.journal on_spare
+          (λ image later left. g.met.B.Bench.counts_now c.keep_ready-2.new.bench (g.B.Bench.moment c.args.bench.now) image later left)
+          (found decided_is g.B.Bench c.args.bench.now
+          c.keep_ready-2.new.bench
+          (λ told. subst (λ (n : ℕ). StandsAt (g.B.Bench.file c.args.bench.now) c.args.self.now.secret.shape c.args.self.now.history n) (sym own)
+          (c.requires.stands told)) c.keep_ready-2.ensures.any_moment);
+      other = tt;
       ends = tt;
-      secret = c.decide_all.ensures.secret ∙ ap (λ (s : StoreContents). s.secret) c.self.view_is;
-      protected = ap (λ (s : Setting). s.protected) c.decide_all.ensures.setting ∙ ap (λ (s : StoreContents). s.protected) c.self.view_is;
-      is = (invariant_of-self-in-Err-keep_ready g c).0;
-      any_moment = λ told quiet no_memory.
-          keeps_group store asked outcomes i.journal group is g.B.Bench c.args.bench.now c.keep_ready-2.new.bench
-          (c.keep_ready-2.ensures.any_moment store.history told (here told) is.counted quiet);
-      spare_moments = λ told quiet no_memory.
-          keeps_group store asked outcomes other group of_other g.S.Bench c.args.spare.now c.keep_ready.new.bench
-          (c.keep_ready.ensures.any_moment store.history told (there told) (sym c.requires.other.counted) quiet);
-      ahead = λ told spare_told quiet failed image left.
-          let found = c.keep_ready-2.ensures.any_moment store.history told (here told) is.counted quiet in
-          let file = g.S.Bench.file c.keep_ready.new.bench in
-          let stands =
-          stands_after store asked outcomes other group of_other file c.keep_ready.new.journal.shape store.secret.shape c.keep_ready.new.journal.gate
-          (store.history ++ made) c.keep_ready.ensures.shape refl refl
-          (c.in-Ok.ensures.done store.history spare_told (there spare_told) (sym c.requires.other.counted)) in
-          kept_ahead store asked outcomes i.journal group is g.B.Bench c.args.bench.now c.keep_ready-2.new.bench found file image
-          (c.keep_ready.new.journal.gate, stands)
-          (g.met.B.Bench.counts_now c.keep_ready-2.new.bench (g.B.Bench.moment c.args.bench.now) image found.later left);
-      written = λ told. tt;
-      spare_written = λ told. tt;
-      quiet = λ told quiet other. absurd (other refl);
-      spare_quiet = λ told quiet other. c.in-Ok.ensures.quiet told quiet;
-      sent = c.keep_ready-2.ensures.sent;
-      spare_sent = c.keep_ready.ensures.sent;
-      ticks = λ told. tt;
-      spare_ticks = λ told. tt;
-      unasked = tt;
     }
 
--- ---- both were appended to
+-- ---- none did
 
 pub returns : goal.returns
 returns g c =
     let i = c.self.inside in
-    let store = c.args.self.now in
-    let usable : i.usable ≡ true = ap (λ (s : StoreContents). s.usable) c.self.view_is ∙ c.requires.usable in
-    let asked = c.args.asked.now in
-    let outcomes = c.in_ok-outcomes.outcomes.items in
-    let made = records_made asked outcomes in
-    let group = group_of c.in_ok-ready.ready in
     let took = c.in_ok-outcomes.ensures in
-    let is =
-    decided i.sealed.secret i.sealed.core c.decide_all.new.sealed.core i.released i.journal i.usable store asked outcomes c.history.result.now group
-    c.self.view_is usable
-    c.self.invariant.0 c.self.invariant.1 took.outcomes took.history (c.history.ensures.is ∙ ap (λ (a : Audited). a.history) c.core.ensures)
-    c.in_ok-ready.ensures.group in
-    let file = g.B.Bench.file c.args.bench.now in
-    let here : g.B.Bench.told → StandsAt file i.journal.shape store.history i.journal.gate = λ told.
-    over_own_shape store asked outcomes i.journal group is file
-    (subst (λ (n : ℕ). StandsAt file store.secret.shape store.history n) (ap (λ (s : StoreContents). s.journal.gate) (sym c.self.view_is))
-    (c.requires.stands told)) in
-    let other = c.args.other.now in
-    let of_other = over_other store asked outcomes i.journal group is other c.requires.other in
-    let spare_file = g.S.Bench.file c.args.spare.now in
-    let there : g.S.Bench.told → StandsAt spare_file other.shape store.history other.gate = λ told.
-    over_own_shape store asked outcomes other group of_other spare_file (c.requires.spare_stands told) in
-    let now = take (length c.history-2.result.now) c.decide_all.new.sealed.core.history in
-    let now_is : now ≡ store.history ++ made =
-    more_released i.sealed.core.history c.decide_all.new.sealed.core.history store.history made i.released (length c.history-2.result.now)
-    (c.self.invariant.1.all usable) took.history
-    (ap (λ (l : List Answered). length l) (c.history-2.ensures.is ∙ ap (λ (a : Audited). a.history) c.core-2.ensures))
-    (ap (λ (s : StoreContents). s.history) c.self.view_is) in
-    let secret = c.decide_all.new.sealed.secret in
-    let over : secret.shape ≡ store.secret.shape =
-    ap (λ (s : SecretView). s.shape) c.decide_all.ensures.secret ∙ ap (λ (s : StoreContents). s.secret.shape) c.self.view_is in
-    let kept = c.in-Ok.ensures in
+    let group = group_of c.in_ok-ready.ready in
+    let decided_is =
+    decided c.decide_all.new.sealed.core c.args.asked.now c.in_ok-outcomes.outcomes.items c.history.result.now group c.self.view_is c.requires.usable
+    c.self.invariant took.outcomes took.history
+    (c.history.ensures.is ∙ ap (λ (a : Audited). a.history) c.core.ensures) c.in_ok-ready.ensures.group in
+    let made = records_made c.args.asked.now c.in_ok-outcomes.outcomes.items in
+    let own = ap (λ (s : StoreContents). s.journal.gate) c.self.view_is in
+    let of_other = over_other decided_is c.args.other.now c.requires.other in
+    let first = c.in-Ok.ensures in
+    let on_spare : WasAppended g.S.Bench c.args.other.now c.keep_ready.new.journal group c.args.spare.now c.keep_ready.new.bench =
     record {
-      outcomes = is.due;
-      history = now_is;
-      stands = λ told.
-          stands_after store asked outcomes i.journal group is (g.B.Bench.file c.keep_ready-2.new.bench) c.keep_ready-2.new.journal.shape secret.shape
-          c.keep_ready-2.new.journal.gate now c.keep_ready-2.ensures.shape over now_is
-          (c.in-Ok-keep_ready.ensures.done store.history told (here told) is.counted);
-      spare_stands = λ told.
-          stands_after store asked outcomes other group of_other (g.S.Bench.file c.keep_ready.new.bench) c.keep_ready.new.journal.shape secret.shape
-          c.keep_ready.new.journal.gate now c.keep_ready.ensures.shape over now_is
-          (kept.done store.history told (there told) (sym c.requires.other.counted));
-      usable = (
-        refl,
-        journal_after store asked outcomes other group of_other c.keep_ready.new.journal secret.shape now over now_is kept.usable
-            c.keep_ready.ensures.shape kept.counted,
-      );
-      kept = tt;
-      no_memory = λ is. no_refusal _ _ is;
-      spare_first = λ is. no_refusal _ _ is;
-      fault = done_call g.B.Bench c.args.bench.now c.keep_ready-2.new.bench _ _ c.in-Ok-keep_ready.ensures.cause (λ is. no_refusal _ _ is);
-      spare_fault = done_call g.S.Bench c.args.spare.now c.keep_ready.new.bench _ _ kept.cause (λ is. no_refusal _ _ is);
+      done = first.done;
+      written = first.written;
+      quiet = first.quiet;
+      ticks = first.ticks;
+      unasked = first.unasked;
+      steady = first.cause.steady;
+      shape = first.shape;
+      usable = first.usable;
+      counted = first.counted;
+    } in
+    let done = c.in-Ok-keep_ready.ensures in
+    let appended : WasAppended g.B.Bench i.journal c.keep_ready-2.new.journal group c.args.bench.now c.keep_ready-2.new.bench =
+    record {
+      done = done.done;
+      written = done.written;
+      quiet = done.quiet;
+      ticks = done.ticks;
+      unasked = done.unasked;
+      steady = done.cause.steady;
+      shape = done.shape;
+      usable = done.usable;
+      counted = done.counted;
+    } in
+    let is =
+    kept c.self.view_is c.requires.usable c.self.invariant
+    c.decide_all.new.sealed.secret c.decide_all.new.sealed.core c.decide_all.ensures.secret c.decide_all.ensures.setting (length c.history-2.result.now)
+    c.keep_ready-2.new.journal group made took.history took.legal
+    (ap length (c.history-2.ensures.is ∙ ap (λ (a : Audited). a.history) c.core-2.ensures)) decided_is.group_is done.usable done.shape
+    done.counted in
+    record {
+      asks =
+          asked c.in_ok-outcomes.outcomes decided_is own g.B.Bench c.args.bench.now c.requires.stands
+          c.keep_ready-2.new.bench c.keep_ready-2.ensures.any_moment c.keep_ready-2.ensures.sent c.keep_ready-2.new.journal appended is.0;
+      spare =
+          spare_asked c.in_ok-outcomes.outcomes of_other g.B.Bench g.S.Bench
+          c.args.bench.now c.keep_ready-2.new.bench c.args.spare.now c.keep_ready.new.bench c.requires.spare_stands c.keep_ready.ensures.any_moment
+          c.keep_ready.ensures.sent c.keep_ready.new.journal on_spare is.0;
+      other =
+          journal_after of_other c.keep_ready.new.journal
+          (ap (λ (s : SecretView). s.shape) is.0.table.0) is.0.history first.usable first.shape first.counted;
       ends = tt;
-      secret = c.decide_all.ensures.secret ∙ ap (λ (s : StoreContents). s.secret) c.self.view_is;
-      protected = ap (λ (s : Setting). s.protected) c.decide_all.ensures.setting ∙ ap (λ (s : StoreContents). s.protected) c.self.view_is;
-      is = (invariant_of-self-2 g c).0;
-      any_moment = λ told quiet no_memory.
-          keeps_group store asked outcomes i.journal group is g.B.Bench c.args.bench.now c.keep_ready-2.new.bench
-          (c.keep_ready-2.ensures.any_moment store.history told (here told) is.counted quiet);
-      spare_moments = λ told quiet no_memory.
-          keeps_group store asked outcomes other group of_other g.S.Bench c.args.spare.now c.keep_ready.new.bench
-          (c.keep_ready.ensures.any_moment store.history told (there told) (sym c.requires.other.counted) quiet);
-      ahead = λ told spare_told quiet is. no_refusal _ _ is;
-      written = λ told.
-          let old = g.B.Bench.file c.args.bench.now in
-          let new = g.B.Bench.file c.keep_ready-2.new.bench in
-          subst (λ (s : StoreContents). HasGroup store.secret.shape made s.journal.gate old new) c.self.view_is
-          (has_made store asked outcomes i.journal group is i.journal.gate old new (c.in-Ok-keep_ready.ensures.written told));
-      spare_written = λ told.
-          has_made store asked outcomes other group of_other other.gate (g.S.Bench.file c.args.spare.now) (g.S.Bench.file c.keep_ready.new.bench)
-          (kept.written told);
-      quiet = λ told quiet other. c.in-Ok-keep_ready.ensures.quiet told quiet;
-      spare_quiet = λ told quiet other. kept.quiet told quiet;
-      sent = c.keep_ready-2.ensures.sent;
-      spare_sent = c.keep_ready.ensures.sent;
-      ticks = λ told.
-          c.in-Ok-keep_ready.ensures.ticks told ∙ ap (λ (l : List Answered). g.B.Bench.moment c.args.bench.now + calls_for l) is.group_is;
-      spare_ticks = λ told. kept.ticks told ∙ ap (λ (l : List Answered). g.S.Bench.moment c.args.spare.now + calls_for l) is.group_is;
-      unasked = λ none. (c.in-Ok-keep_ready.ensures.unasked (is.group_is ∙ none), kept.unasked (is.group_is ∙ none));
     }

@@ -49,7 +49,8 @@ served_faults g c =
     faults_so c.ended.result _ (faults_of g.P.Source g.I.Source g.B.Bench
     (objects c.args.schema.now c.args.table.now c.args.input.now c.args.bench.now c.args.spare.now)) _
     _ c.ended.ensures c.in-Ok-Serve.ensures.steady
-    (stop_faults c.serve.result _ _ _ _ c.serve.ensures.input c.serve.ensures.steady c.serve.ensures.fault.failed c.serve.ensures.fault.steady
+    (stop_faults c.serve.result _ _ _ _ c.serve.ensures.session.input c.serve.ensures.session.steady c.serve.ensures.session.fault.failed
+    c.serve.ensures.session.fault.steady
     (λ is. absurd (c.serve.ensures.alone is)) (λ other. refl))
 
 serving : (g : Over) (c : goal.After-drop-schema-inside-in-Ok-Serve-2 g) →
@@ -78,27 +79,27 @@ serving g c =
           (ended_status c.serve.result) after
           (session_ends c.serve.result (seen g c) n kept c.serve.new.store.history
           (record { input = text; sent = g.B.Bench.sent c.open.new.bench; file = g.B.Bench.file at }) after
-          (c.serve.ensures.done itold told) (c.serve.ensures.input_end itold told) (c.serve.ensures.limit_end itold told)
-          (c.serve.ensures.memory_end itold told)
-          (λ fine. subst (λ (s : SecretView). StandsFor after.file s.shape c.serve.new.store.history) c.serve.ensures.table.0
-          (c.serve.ensures.stands told fine)) c.serve.ensures.alone);
+          (c.serve.ensures.session.done itold told) (c.serve.ensures.session.input_end itold told) (c.serve.ensures.session.limit_end itold told)
+          (c.serve.ensures.session.memory_end itold told)
+          (λ fine. subst (λ (s : SecretView). StandsFor after.file s.shape c.serve.new.store.history) c.serve.ensures.session.table.0
+          (c.serve.ensures.session.stands told fine)) c.serve.ensures.alone);
       any_moment = λ ptold itold told quiet base history over.
           stops_so g.B.Bench at c.open.new.bench later reads (seen g c) base kept history (given ptold told base history over) n text over.stands
           (reads.untouched quiet)
-          (c.serve.ensures.any_moment itold told (as_quiet g.B.Bench at c.open.new.bench reads quiet));
+          (c.serve.ensures.session.any_moment itold told (as_quiet g.B.Bench at c.open.new.bench reads quiet));
       undisclosed = λ ptold told quiet base history over.
           harmless_so g.B.Bench at c.open.new.bench later reads (seen g c) base kept history
           (given ptold told base history over) n text c.stops_are_legal.ensures _ _ over
           (reads.untouched quiet)
-          (c.serve.ensures.legal told (as_quiet g.B.Bench at c.open.new.bench reads quiet));
+          (c.serve.ensures.session.legal told (as_quiet g.B.Bench at c.open.new.bench reads quiet));
       serve_calls = λ ptold itold told done base history over.
           calls_so g.B.Bench at c.open.new.bench later reads (seen g c) base kept history (given ptold told base history over) n text
-          (c.in-Ok-Serve.ensures.ticks told (ap opens_store same)) ((stop_says c.serve.result).done _ done (c.serve.ensures.calls itold told));
+          (c.in-Ok-Serve.ensures.ticks told (ap opens_store same)) ((stop_says c.serve.result).done _ done (c.serve.ensures.session.calls itold told));
       complete = λ ptold itold told base history over within none.
           stop_wants c.serve.result (faults_of g.P.Source g.I.Source g.B.Bench old) (faults_of g.P.Source g.I.Source g.B.Bench new)
           (subst (λ (s : Status). FaultCause s (faults_of g.P.Source g.I.Source g.B.Bench old)
           (faults_of g.P.Source g.I.Source g.B.Bench new)) c.ended.ensures (served_faults g c)) none
-          (λ is. omega (arith, c.serve.ensures.limit itold is, within)) c.serve.ensures.alone;
+          (λ is. omega (arith, c.serve.ensures.session.limit itold is, within)) c.serve.ensures.alone;
     })
 
 served_input : (g : Over) (c : goal.After-drop-schema-inside-in-Ok-Serve-2 g) → g.I.Source.told →
@@ -107,8 +108,9 @@ served_input g c = λ itold.
     let text = g.I.Source.left c.args.input.now in
     let left = g.I.Source.left c.serve.new.source in
     subst (λ (s : Status). InputCause s text left) (sym c.ended.ensures)
-    (stop_reads c.serve.result text left (c.serve.ensures.read itold) (c.serve.ensures.within itold) (c.serve.ensures.input_within itold)
-    (c.serve.ensures.limit itold))
+    (stop_reads c.serve.result text left (c.serve.ensures.session.read itold) (c.serve.ensures.session.within itold)
+    (c.serve.ensures.session.input_within itold)
+    (c.serve.ensures.session.limit itold))
 
 pub serve_ends : goal.returns-in-Ok-Serve
 serve_ends g c =
@@ -137,11 +139,11 @@ serve_ends g c =
       faults = served_faults g c;
       schema_last = schema_was_read status last;
       table_last = table_was_read status last;
-      input_last = λ is. c.serve.ensures.last_read ((stop_says c.serve.result).input (sym c.ended.ensures ∙ is));
-      bench_last = λ is. c.serve.ensures.fault.last_call ((stop_says c.serve.result).bench (sym c.ended.ensures ∙ is));
+      input_last = λ is. c.serve.ensures.session.last_read ((stop_says c.serve.result).input (sym c.ended.ensures ∙ is));
+      bench_last = λ is. c.serve.ensures.session.fault.last_call ((stop_says c.serve.result).bench (sym c.ended.ensures ∙ is));
       spare_last = spare_called _ _ status is_named refl words;
       spare_file = λ told command asked calls. lacks_step calls_spare _ _ command is_named asked refl calls;
-      later = later_so _ _ _ c.open.ensures.later c.serve.ensures.later c.serve.ensures.fault.later (stays _);
+      later = later_so _ _ _ c.open.ensures.later c.serve.ensures.session.later c.serve.ensures.session.fault.later (stays _);
       schema_within = λ ptold. schema_was_read status last;
       table_within = λ ptold. table_was_read status last;
       lives = λ ptold told command asked itold quiet. goes_on g.P.Source g.I.Source g.B.Bench status _ _ c.lives.ensures.longer c.one_reading.ensures command
@@ -152,7 +154,7 @@ serve_ends g c =
       nothing_began = λ ptold told command asked opens quiet none.
           absurd (none _ (are g c ptold) (subst (λ (k : Command). IsReadyFor k file (table_in (seen g c))) (one_command _ _ command is_named asked)
           (holds g c told)));
-      quiet = λ told quiet fine. c.serve.ensures.quiet told (as_quiet g.B.Bench _ _ reads quiet) (λ is. fine (c.ended.ensures ∙ ap ended_status is));
+      quiet = λ told quiet fine. c.serve.ensures.session.quiet told (as_quiet g.B.Bench _ _ reads quiet) (λ is. fine (c.ended.ensures ∙ ap ended_status is));
       before_table = past_table _ status last;
       before_bench = past_journal _ status last;
       before_spare = λ other. always_before opening_spare status refl;

@@ -29,7 +29,7 @@ twin_faults_so : (g : Over) (c : goal.After-drop-schema-inside-in-Ok-start-3 g) 
     (faults_of g.P.Source g.I.Source g.B.Bench
     (objects c.open.new.schema c.open.new.table c.serve_twin.new.source c.serve_twin.new.bench c.serve_twin.new.spare))
 twin_faults_so g c =
-    let does = c.serve_twin.ensures in
+    let does = c.serve_twin.ensures.session in
     let begun = c.in-Ok-start.ensures in
     let same = begun.fault.steady (not_both _ _) in
     let spare_same = begun.spare_fault.steady (not_both _ _) in
@@ -38,13 +38,13 @@ twin_faults_so g c =
     _ c.ended-in-Ok-start.ensures c.in-Ok-Twin.ensures.steady
     (stop_faults c.serve_twin.result _ _ _ _ does.input does.steady
     (λ is. subst (λ (n : ℕ). Rose n (g.B.Bench.faults c.serve_twin.new.bench)) same (does.fault.failed is)) (λ other. does.fault.steady other ∙ same)
-    (λ is. subst (λ (n : ℕ). Rose n (g.B.Bench.faults c.serve_twin.new.spare)) spare_same (does.spare_fault.failed is))
-    (λ other. does.spare_fault.steady other ∙ spare_same))
+    (λ is. subst (λ (n : ℕ). Rose n (g.B.Bench.faults c.serve_twin.new.spare)) spare_same (c.serve_twin.ensures.spare.fault.failed is))
+    (λ other. c.serve_twin.ensures.spare.fault.steady other ∙ spare_same))
 
 reads_so : (g : Over) (c : goal.After-drop-schema-inside-in-Ok-start-3 g) → g.I.Source.told →
     InputCause (ended_status c.serve_twin.result) (g.I.Source.left c.args.input.now) (g.I.Source.left c.serve_twin.new.source)
 reads_so g c itold =
-    let does = c.serve_twin.ensures in
+    let does = c.serve_twin.ensures.session in
     stop_reads c.serve_twin.result _ _ (does.read itold) (does.within itold) (does.input_within itold) (does.limit itold)
 
 is_named : (g : Over) (c : goal.After-drop-schema-inside-in-Ok-start-3 g) → command_of (map string_bytes c.args.words.now.items)
@@ -82,8 +82,8 @@ answering g c =
           subst (λ (b : Database). BothCause (ended_status ended) (command.Serve n true) (g.B.Bench.file old.bench) (g.B.Bench.file old.spare)
           (table_in b))
           (is_seen g c ptold base sound) (twins_cause ended n _ _ _ c.in-Ok-start.twin.store.history (together g c told));
-      spare_quiet = λ told quiet fine. c.serve_twin.ensures.spare_quiet told (spare_quiet_started g c told quiet) (λ is. fine (ap ended_status is));
-      spare_unsent = c.serve_twin.ensures.spare_sent ∙ c.in-Ok-start.ensures.spare_sent;
+      spare_quiet = λ told quiet fine. c.serve_twin.ensures.spare.quiet told (spare_quiet_started g c told quiet) (λ is. fine (ap ended_status is));
+      spare_unsent = c.serve_twin.ensures.spare.sent ∙ c.in-Ok-start.ensures.spare_sent;
       spare_unwritten = (stop_says ended).at_lines _;
       twin_calls = takes_calls g c;
       spare_calls = spare_takes_calls g c;
@@ -91,8 +91,8 @@ answering g c =
           stop_wants ended (faults_of g.P.Source g.I.Source g.B.Bench old) (faults_of g.P.Source g.I.Source g.B.Bench new)
           (subst (λ (s : Status). FaultCause s (faults_of g.P.Source g.I.Source g.B.Bench old) (faults_of g.P.Source g.I.Source g.B.Bench new))
           c.ended-in-Ok-start.ensures
-          (twin_faults_so g c)) none (λ is. omega (arith, c.serve_twin.ensures.limit itold is, within))
-          (λ is. fine (c.serve_twin.ensures.spare_fault.failed is ∙ ap next_count (c.in-Ok-start.ensures.spare_fault.steady (not_both _ _))));
+          (twin_faults_so g c)) none (λ is. omega (arith, c.serve_twin.ensures.session.limit itold is, within))
+          (λ is. fine (c.serve_twin.ensures.spare.fault.failed is ∙ ap next_count (c.in-Ok-start.ensures.spare_fault.steady (not_both _ _))));
     })
 
 pub twin_ends : goal.returns-in-Ok-start
@@ -100,7 +100,7 @@ twin_ends g c =
     let status = c.ended-in-Ok-start.result in
     let ended = c.serve_twin.result in
     let begun = c.in-Ok-start.ensures in
-    let does = c.serve_twin.ensures in
+    let does = c.serve_twin.ensures.session in
     let one = command.Serve c.in-Ok-Twin.batch true in
     let file = g.B.Bench.file c.args.bench.now in
     let spare = g.B.Bench.file c.args.spare.now in
@@ -125,11 +125,11 @@ twin_ends g c =
       table_last = table_was_read status last;
       input_last = λ is. does.last_read ((stop_says ended).input (sym c.ended-in-Ok-start.ensures ∙ is));
       bench_last = λ is. does.fault.last_call ((stop_says ended).bench (sym c.ended-in-Ok-start.ensures ∙ is));
-      spare_last = λ is. does.spare_fault.last_call ((stop_says ended).spare (sym c.ended-in-Ok-start.ensures ∙ is));
+      spare_last = λ is. c.serve_twin.ensures.spare.fault.last_call ((stop_says ended).spare (sym c.ended-in-Ok-start.ensures ∙ is));
       spare_file = λ told command asked calls. named_so _ one status _ named c.ended-in-Ok-start.ensures (λ (s : Status) (k : Command). SpareCause s k spare)
           ((stop_says ended).spare_file one spare tt) command asked;
       later = later_so _ _ _ c.open.ensures.later does.later (later_still _ _ _ begun.fault.later does.fault.later)
-          (later_still _ _ _ begun.spare_fault.later does.spare_fault.later);
+          (later_still _ _ _ begun.spare_fault.later c.serve_twin.ensures.spare.fault.later);
       schema_within = λ ptold. schema_was_read status last;
       table_within = λ ptold. table_was_read status last;
       lives = λ ptold told command asked itold quiet. goes_on g.P.Source g.I.Source g.B.Bench status _ _ c.lives.ensures.longer c.one_reading.ensures command

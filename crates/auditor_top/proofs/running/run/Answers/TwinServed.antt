@@ -33,7 +33,7 @@ served g c ptold itold told base main other whole over =
     let before : Outside = outside g.I.Source g.B.Bench c.args.input.now c.args.bench.now in
     let after : Outside = outside g.I.Source g.B.Bench c.serve_twin.new.source c.serve_twin.new.bench in
     let spare = g.B.Bench.file c.serve_twin.new.spare in
-    let does = c.serve_twin.ensures in
+    let does = c.serve_twin.ensures.session in
     let now = c.serve_twin.new.twin.store.history in
     said g c (λ (b : Database) (h : List Answered). TwinEnds n (ended_status ended) b main other h before after spare) ptold told base main other whole
     over
@@ -43,7 +43,8 @@ served g c ptold itold told base main other whole over =
     (twins_end ended (asked g c) n main other c.in-Ok-start.twin.store.history now (record before { sent = g.B.Bench.sent c.start.new.bench }) after spare
     (does.done itold told) (does.input_end itold told) (does.limit_end itold told) (does.memory_end itold told) (does.spare_end itold told)
     (λ bench_fine. subst (λ (s : SecretView). StandsFor after.file s.shape now) does.table.0 (does.stands told bench_fine))
-    (λ bench_fine spare_fine. subst (λ (s : SecretView). StandsFor spare s.shape now) does.table.0 (does.spare_stands told bench_fine spare_fine))))
+    (λ bench_fine spare_fine. subst (λ (s : SecretView). StandsFor spare s.shape now) does.table.0
+    (c.serve_twin.ensures.spare.stands told bench_fine spare_fine))))
 
 pub moments_so : (g : Over) (c : goal.After-drop-schema-inside-in-Ok-start-3 g) → g.P.Source.told → g.I.Source.told → g.B.Bench.told →
     IsQuiet g.B.Bench c.args.bench.now →
@@ -58,7 +59,7 @@ moments_so g c ptold itold told quiet base main other whole over =
     then_stops g.B.Bench c.args.bench.now started later base main whole (catching g c ptold told quiet base main other whole over) n lines
     (said g c (λ (b : Database) (h : List Answered). LeavesOnly g.B.Bench started later (StopsOver b n h lines sent)) ptold told base main other whole over
     (subst (λ (bytes : List ℕ). LeavesOnly g.B.Bench started later (StopsOver (asked g c) n c.in-Ok-start.twin.store.history lines bytes)) (sent_same g c)
-    (c.serve_twin.ensures.any_moment itold told (quiet_started g c told quiet))))
+    (c.serve_twin.ensures.session.any_moment itold told (quiet_started g c told quiet))))
 
 pub spare_moments_so : (g : Over) (c : goal.After-drop-schema-inside-in-Ok-start-3 g) → g.P.Source.told → g.I.Source.told → g.B.Bench.told →
     IsQuiet g.B.Bench c.args.spare.now →
@@ -74,7 +75,7 @@ spare_moments_so g c ptold itold told quiet base main other whole over =
     (said g c (λ (b : Database) (h : List Answered). LeavesOnly g.B.Bench started later (SpareStops b n h lines sent)) ptold told base main other whole over
     (subst (λ (bytes : List ℕ). LeavesOnly g.B.Bench started later (SpareStops (asked g c) n c.in-Ok-start.twin.store.history lines bytes))
     c.in-Ok-start.ensures.spare_sent
-    (c.serve_twin.ensures.spare_moments itold told (spare_quiet_started g c told quiet))))
+    (c.serve_twin.ensures.spare.moments itold told (spare_quiet_started g c told quiet))))
 
 pub both_left : (g : Over) (c : goal.After-drop-schema-inside-in-Ok-start-3 g) → g.P.Source.told → g.I.Source.told → g.B.Bench.told →
     IsQuiet g.B.Bench c.args.bench.now → IsQuiet g.B.Bench c.args.spare.now →
@@ -89,7 +90,7 @@ both_left g c ptold itold told quiet spare_quiet base main other whole over imag
     let later = g.B.Bench.sent c.serve_twin.new.bench in
     inr (said g c (λ (b : Database) (h : List Answered). LeavesBoth b n h lines sent later image spare) ptold told base main other whole over
     (subst (λ (bytes : List ℕ). LeavesBoth (asked g c) n c.in-Ok-start.twin.store.history lines bytes later image spare) (sent_same g c)
-    (c.serve_twin.ensures.both itold told told (quiet_started g c told quiet) (spare_quiet_started g c told spare_quiet) image spare left spare_left)))
+    (c.serve_twin.ensures.spare.both itold told told (quiet_started g c told quiet) (spare_quiet_started g c told spare_quiet) image spare left spare_left)))
 
 -- what is harmless for the table that was read is so for every one that the files mean
 pub harmless_for : (g : Over) (c : goal.After-drop-schema-inside-in-Ok-start-3 g) → g.P.Source.told → (base : Database) →
@@ -112,7 +113,7 @@ discloses_nothing g c ptold told quiet base main other whole over =
     always_harmless g.B.Bench c.args.bench.now c.start.new.bench c.serve_twin.new.bench base main whole
     (catching g c ptold told quiet base main other whole over)
     c.stops_are_legal.ensures _ _ over.files over.together.legal
-    (harmless_for g c ptold base over.files c.start.new.bench c.serve_twin.new.bench (c.serve_twin.ensures.legal told (quiet_started g c told quiet)))
+    (harmless_for g c ptold base over.files c.start.new.bench c.serve_twin.new.bench (c.serve_twin.ensures.session.legal told (quiet_started g c told quiet)))
 
 pub spare_discloses_nothing : (g : Over) (c : goal.After-drop-schema-inside-in-Ok-start-3 g) → g.P.Source.told → g.B.Bench.told →
     IsQuiet g.B.Bench c.args.spare.now →
@@ -124,7 +125,7 @@ spare_discloses_nothing g c ptold told quiet base main other whole over =
     (spare_catching g c ptold told quiet base main other whole over)
     c.stops_are_legal.ensures _ _ over.files over.together.legal
     (harmless_for g c ptold base over.files c.start.new.spare c.serve_twin.new.spare
-    (c.serve_twin.ensures.spare_legal told (spare_quiet_started g c told quiet)))
+    (c.serve_twin.ensures.spare.legal told (spare_quiet_started g c told quiet)))
 
 pub takes_calls : (g : Over) (c : goal.After-drop-schema-inside-in-Ok-start-3 g) → g.P.Source.told → g.I.Source.told → g.B.Bench.told →
     ended_status c.serve_twin.result ≡ Done →
@@ -141,7 +142,7 @@ takes_calls g c ptold itold told done base main other whole over =
     main other
     whole over
     (subst (λ (m : ℕ). TakesCalls (asked g c) c.in-Ok-start.twin.store.history n lines m later) ticks
-    ((stop_says c.serve_twin.result).done _ done (c.serve_twin.ensures.calls itold told)))
+    ((stop_says c.serve_twin.result).done _ done (c.serve_twin.ensures.session.calls itold told)))
 
 pub spare_takes_calls : (g : Over) (c : goal.After-drop-schema-inside-in-Ok-start-3 g) → g.P.Source.told → g.I.Source.told → g.B.Bench.told →
     ended_status c.serve_twin.result ≡ Done →
@@ -157,4 +158,4 @@ spare_takes_calls g c ptold itold told done base main other whole over =
     other whole over
     (subst (λ (m : ℕ). KeepsCalls (asked g c) c.in-Ok-start.twin.store.history n lines m later)
     (c.in-Ok-start.ensures.spare_ticks main other whole told told (keep g c ptold base main other whole over))
-    ((stop_says c.serve_twin.result).done _ done (c.serve_twin.ensures.spare_calls itold told)))
+    ((stop_says c.serve_twin.result).done _ done (c.serve_twin.ensures.spare.calls itold told)))

@@ -2,7 +2,7 @@ use Rattle.std.proofs.Common.{◌≡◌, ◌+◌, ◌-◌, length}
 use Rattle.std.specs.Vec.{vec_capacity}
 use Rattle.line_wire.specs.Lines.{most_input}
 use Rattle.audit_session.proofs.Served.{Served, SpareServed}
-use Rattle.audit_session.proofs.session.answer_groups.Given as goal
+use Rattle.audit_session.proofs.session.serve_with.Given as goal
 
 abbrev pub invariant-loop-more : goal.invariant-loop-more
 invariant-loop-more g l = record {
