@@ -15,3 +15,4 @@ pub mod BenchLaws
 pub mod BenchTies
 pub mod Stops
 pub mod Ends
+pub mod EndLaws

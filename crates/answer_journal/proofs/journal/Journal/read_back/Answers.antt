@@ -3,7 +3,8 @@ use Rattle.std.proofs.lemmas.Result.{IfErr-at_err}
 use Rattle.audit_types.specs.declared.shapes.Shape.{Shape}
 use Rattle.audit_types.specs.declared.records.Answered.{Answered}
 use Rattle.audit_types.specs.History.{FitsShape}
-use Rattle.bench_core.specs.Ends.{EndsBy, due_of_one, stopped_of_none}
+use Rattle.bench_core.specs.Ends.{EndsBy}
+use Rattle.bench_core.specs.EndLaws.{due_of_one, stopped_of_none}
 use Rattle.bench_core.specs.Stops.{IsOfBench}
 use Rattle.journal_form.specs.Journal.{StandsAt}
 use Rattle.answer_journal.specs.Refusals.{ReadCause}
