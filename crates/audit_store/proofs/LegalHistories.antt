@@ -13,8 +13,8 @@ use Rattle.audit_types.specs.History.{Protection, Table, FitsShape, IsLegal, IsL
 use Rattle.audit_types.specs.Laws.{LegalIsPossible}
 use Rattle.audit_core.specs.Laws.{LegalGrows}
 use Rattle.table_load.specs.Cells.{SecretView, IsSecret}
-use Rattle.audit_store.specs.declared.starting.StartFault.{StartFault}
-use Rattle.audit_store.specs.declared.starting.StartFault.TheVariants.{NotMade, Damaged, OtherShape, Untrue, Illegal, Failed, NoMemory}
+use Rattle.answer_journal.specs.declared.refusals.JournalRefusal.{JournalRefusal}
+use Rattle.answer_journal.specs.declared.refusals.JournalRefusal.TheVariants.{NotMade, Damaged, OtherShape, Untrue, Illegal}
 use Rattle.audit_store.specs.Starting.{AreTrue, HistoryCause, IsFirstIllegal, IsTrue, IsReleasedAfter, TellsIllegal}
 use Rattle.table_load.specs.Database.{secret_table}
 use Rattle.table_load.specs.SecretLists.{are_secrets}
@@ -78,8 +78,8 @@ legal_fits_after table history list legal k d lt =
 -- what is told of the first record that wasn't to be released is the cause in the history
 pub cause_of_illegal : (table : Table) (list : List Answered) (place : ℕ) (r : Answered) → AreTrue table list → slice_get list place ≡ Some r →
     (IsReleasedAfter table (take place list) r → ⊥) → ((i : ℕ) (s : Answered) → i < place → slice_get list i ≡ Some s → IsReleasedAfter table (take i list) s) →
-    (fault : StartFault) → TellsIllegal (record { setting = table.setting; history = take place list }) place r fault →
-    HistoryCause fault table.setting.shape list table
+    (refusal : JournalRefusal) → TellsIllegal (record { setting = table.setting; history = take place list }) place r refusal →
+    HistoryCause refusal table.setting.shape list table
 cause_of_illegal table list place r all_true stands denied before (Illegal at group) tells = (
   refl,
   subst (λ k. IsFirstIllegal table list k group) (sym tells.0) (record {
@@ -91,9 +91,7 @@ cause_of_illegal table list place r all_true stands denied before (Illegal at gr
     before = before;
   }),
 )
-cause_of_illegal table list place r all_true stands denied before NoMemory tells = tt
 cause_of_illegal table list place r all_true stands denied before NotMade tells = absurd tells
 cause_of_illegal table list place r all_true stands denied before (Damaged at) tells = absurd tells
 cause_of_illegal table list place r all_true stands denied before (OtherShape kept now) tells = absurd tells
 cause_of_illegal table list place r all_true stands denied before (Untrue at kept now) tells = absurd tells
-cause_of_illegal table list place r all_true stands denied before Failed tells = absurd tells

@@ -1,16 +1,15 @@
--- What a journal is found to be when it is to grow to the rows of a table: each answer has its cause in the file and the
+-- What a journal is found to be when it is to grow to the rows of a table: each refusal has its cause in the file and the
 -- table.
-use Rattle.std.specs.Prelude.{◌≡◌, ◌≢◌, ◌⊎◌, ℕ, ◌<◌, List, Result, Ok, Err}
+use Rattle.std.specs.Prelude.{◌≡◌, ◌≢◌, ◌⊎◌, ℕ, ◌<◌, List}
 use Rattle.audit_types.specs.declared.shapes.Shape.{Shape}
 use Rattle.audit_types.specs.declared.records.Answered.{Answered}
 use Rattle.audit_types.specs.Widening.{over, widened}
 use Rattle.audit_types.specs.History.{Table, IsLegal}
 use Rattle.journal_form.specs.Journal.{StandsFor, BreaksAt}
 use Rattle.answer_journal.specs.Moments.{IsMade}
-use Rattle.audit_store.specs.declared.growing.GrowFault.{GrowFault}
-use Rattle.audit_store.specs.declared.growing.GrowFault.TheVariants.{NotMade, Damaged, OtherShape, NothingNew, Untrue, Illegal, Failed, NoMemory}
-use Rattle.audit_store.specs.declared.starting.StartFault.{StartFault}
-use Rattle.audit_store.specs.declared.starting.StartFault.TheVariants as start
+use Rattle.answer_journal.specs.declared.refusals.JournalRefusal.TheVariants.{NotMade, Damaged, OtherShape, Untrue, Illegal}
+use Rattle.audit_store.specs.declared.growing.GrowRefusal.{GrowRefusal}
+use Rattle.audit_store.specs.declared.growing.GrowRefusal.TheVariants.{Journal, NothingNew}
 use Rattle.audit_store.specs.Starting.{IsFirstUntrue, IsFirstIllegal, StandsForOne}
 
 -- a journal of this shape can't grow to a table of that one: its columns are others, or it has more rows
@@ -30,15 +29,13 @@ abbrev pub CanGrow : List ℕ → Table → Type 0
 CanGrow file table = StandsForFewer file table (IsLegal table)
 
 -- why a journal has not grown, by the file
-abbrev pub GrowCause : GrowFault → List ℕ → Table → Type 0
-GrowCause NotMade file table = ¬ (IsMade file)
-GrowCause (Damaged at) file table = IsMade file × BreaksAt file at
-GrowCause (OtherShape kept now) file table = StandsForOne file kept (λ _. (now ≡ table.setting.shape) × CantGrow kept now)
+abbrev pub GrowCause : GrowRefusal → List ℕ → Table → Type 0
+GrowCause (Journal NotMade) file table = ¬ (IsMade file)
+GrowCause (Journal (Damaged at)) file table = IsMade file × BreaksAt file at
+GrowCause (Journal (OtherShape kept now)) file table = StandsForOne file kept (λ _. (now ≡ table.setting.shape) × CantGrow kept now)
 GrowCause (NothingNew rows) file table = StandsForOne file table.setting.shape (λ _. rows ≡ table.setting.shape.rows)
-GrowCause (Untrue place kept now) file table = StandsForFewer file table (λ history. IsFirstUntrue table history place kept now)
-GrowCause (Illegal place group) file table = StandsForFewer file table (λ history. IsFirstIllegal table history place group)
-GrowCause Failed file table = Unit {0}
-GrowCause NoMemory file table = Unit {0}
+GrowCause (Journal (Untrue place kept now)) file table = StandsForFewer file table (λ history. IsFirstUntrue table history place kept now)
+GrowCause (Journal (Illegal place group)) file table = StandsForFewer file table (λ history. IsFirstIllegal table history place group)
 
 -- the same columns over fewer rows
 pub record IsFewer (shape : Shape) (table : Table) : Type 0 where
@@ -51,38 +48,9 @@ pub record GrowsFrom (shape : Shape) (history : List Answered) (table : Table) :
   pub legal : IsLegal table (widened table.setting.shape.rows history)
 
 -- why it doesn't
-abbrev pub GrowHistoryCause : GrowFault → Shape → List Answered → Table → Type 0
-GrowHistoryCause NotMade shape history table = ⊥
-GrowHistoryCause (Damaged at) shape history table = ⊥
-GrowHistoryCause (OtherShape kept now) shape history table = (kept ≡ shape) × (now ≡ table.setting.shape) × CantGrow kept now
+abbrev pub GrowHistoryCause : GrowRefusal → Shape → List Answered → Table → Type 0
+GrowHistoryCause (Journal (OtherShape kept now)) shape history table = (kept ≡ shape) × (now ≡ table.setting.shape) × CantGrow kept now
 GrowHistoryCause (NothingNew rows) shape history table = (shape ≡ table.setting.shape) × (rows ≡ table.setting.shape.rows)
-GrowHistoryCause (Untrue place kept now) shape history table = IsFewer shape table × IsFirstUntrue table (widened table.setting.shape.rows history) place kept now
-GrowHistoryCause (Illegal place group) shape history table = IsFewer shape table × IsFirstIllegal table (widened table.setting.shape.rows history) place group
-GrowHistoryCause Failed shape history table = ⊥
-GrowHistoryCause NoMemory shape history table = Unit {0}
-
--- the fault that opening the journal found
-abbrev pub grow_fault : StartFault → GrowFault
-grow_fault start.NotMade = NotMade
-grow_fault (start.Damaged at) = Damaged at
-grow_fault (start.OtherShape kept now) = OtherShape kept now
-grow_fault (start.Untrue place kept now) = Untrue place kept now
-grow_fault (start.Illegal place group) = Illegal place group
-grow_fault start.Failed = Failed
-grow_fault start.NoMemory = NoMemory
-
--- a call of the bench failed, or memory ran out: that may come whatever the file is
-abbrev pub GivesUpGrowing : GrowFault → Type 0
-GivesUpGrowing Failed = Unit {0}
-GivesUpGrowing NoMemory = Unit {0}
-GivesUpGrowing fault = ⊥
-
--- it has grown, or a call of the bench failed, or memory ran out
-abbrev pub GrowsUnlessFailed : Result (Unit {0}) GrowFault → Type 0
-GrowsUnlessFailed (Ok done) = Unit {0}
-GrowsUnlessFailed (Err fault) = GivesUpGrowing fault
-
--- it has not grown, for this cause unless a call of the bench failed or memory ran out
-abbrev pub NotGrownUnlessFailed : GrowFault → Result (Unit {0}) GrowFault → Type 0
-NotGrownUnlessFailed due (Ok done) = ⊥
-NotGrownUnlessFailed due (Err fault) = (fault ≡ due) ⊎ GivesUpGrowing fault
+GrowHistoryCause (Journal (Untrue place kept now)) shape history table = IsFewer shape table × IsFirstUntrue table (widened table.setting.shape.rows history) place kept now
+GrowHistoryCause (Journal (Illegal place group)) shape history table = IsFewer shape table × IsFirstIllegal table (widened table.setting.shape.rows history) place group
+GrowHistoryCause refusal shape history table = ⊥

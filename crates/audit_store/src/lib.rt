@@ -18,7 +18,6 @@ mod store;
 pub use agreeing::agreement;
 pub use audit_core::Outcome;
 pub use bringing::bring_up;
-pub use growing::GrowFault;
+pub use growing::GrowRefusal;
 pub use keeper::Keeper;
-pub use starting::StartFault;
 pub use store::Store;

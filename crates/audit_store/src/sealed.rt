@@ -1,24 +1,26 @@
 //! What is guarded, behind the audit that decides what may be told of it.
-ghost use Rattle.std.specs.Prelude.{◌≡◌, ◌+◌, ◌++◌, [], ◌∷◌, List, OnOk, OnErr, IfOk, Err, IsErrOf};
+ghost use Rattle.std.specs.Prelude.{◌≡◌, ◌+◌, ◌++◌, [], ◌∷◌, ⊤, List, OnOk, OnErr, IfOk, IfErr, Err, IsErrOf};
 ghost use Rattle.audit_types.specs.declared.records.Answered.{Answered};
 ghost use Rattle.audit_types.specs.declared.records.Verdict.TheVariants.{Released};
 ghost use Rattle.audit_types.specs.Judgement.{IsWithinWidth};
 ghost use Rattle.audit_types.specs.History.{FitsShape, IsLegal, IsPossibleHistory, IsDecisionAfter, known_of, setting_of, list_of};
 ghost use Rattle.audit_types.specs.Shapes.{kind_at};
 ghost use Rattle.audit_types.specs.Truth.{truth};
+ghost use Rattle.answer_journal.specs.declared.refusals.JournalRefusal.{JournalRefusal};
 ghost use Rattle.bench_core.specs.Calls.{OnlyReads, TellsFault};
+ghost use Rattle.bench_core.specs.Ends.{DoneUnlessStopped, EndsBy, RefusedUnlessStopped};
+ghost use Rattle.bench_core.specs.Stops.{IsOfBench};
 ghost use Rattle.journal_form.specs.Journal.{StandsAt, StandsFor};
 ghost use Rattle.table_load.specs.Cells.{IsSecret};
 ghost use Rattle.table_load.specs.Database.{secret_table};
-ghost use Rattle.audit_store.specs.Starting.{StartCause, GivesUp, StartsUnlessFailed, RefusedUnlessFailed};
+ghost use Rattle.audit_store.specs.Starting.{StartCause};
 ghost use Rattle.audit_store.specs.Twice.{IsJournalOf};
-ghost use Rattle.audit_store.specs.declared.starting.StartFault.{StartFault};
 
-use crate::starting::{StartFault, recover_other};
-use answer_journal::Journal;
+use crate::starting::recover_other;
+use answer_journal::{Journal, JournalRefusal};
 use audit_core::Core;
 use audit_types::{Answered, Asked, NoMemory, Shape, Verdict};
-use bench_core::Bench;
+use bench_core::{Bench, End, Stop};
 use std::alloc::Global;
 use table_load::Secret;
 
@@ -90,7 +92,7 @@ impl Sealed<Secret> {
         &self,
         alloc: Global,
         spare: &mut B,
-    ) -> Result<(Journal, Vec<Answered>), StartFault>
+    ) -> Result<(Journal, Vec<Answered>), End<JournalRefusal>>
         requires setting { self.now.core.setting ≡ setting_of self.now.secret.shape self.now.core.setting.protected }
         requires legal { IsLegal (secret_table self.now.secret self.now.core.setting.protected) self.now.core.history }
 
@@ -100,14 +102,15 @@ impl Sealed<Secret> {
         ensures stands { B.told → IfOk result (λ found. StandsAt (B.file spare.old) self.now.secret.shape found.1.items found.0.gate) }
 
         // Each refusal has its cause in the file, and each cause has its refusal; a legal history is never refused.
-        ensures cause { (fault : StartFault) → B.told → result ≡ Err fault → StartCause fault (B.file spare.old) (secret_table self.now.secret self.now.core.setting.protected) }
-        ensures due { (fault : StartFault) → B.told → (GivesUp fault → ⊥) → StartCause fault (B.file spare.old) (secret_table self.now.secret self.now.core.setting.protected) → RefusedUnlessFailed fault result }
-        ensures opens { (history : List Answered) → B.told → StandsFor (B.file spare.old) self.now.secret.shape history → IsLegal (secret_table self.now.secret self.now.core.setting.protected) history → StartsUnlessFailed result }
+        ensures cause { (refusal : JournalRefusal) → B.told → result ≡ Err (End.Refused refusal) → StartCause refusal (B.file spare.old) (secret_table self.now.secret self.now.core.setting.protected) }
+        ensures due { (refusal : JournalRefusal) → B.told → StartCause refusal (B.file spare.old) (secret_table self.now.secret self.now.core.setting.protected) → RefusedUnlessStopped refusal result }
+        ensures opens { (history : List Answered) → B.told → StandsFor (B.file spare.old) self.now.secret.shape history → IsLegal (secret_table self.now.secret self.now.core.setting.protected) history → DoneUnlessStopped result }
 
         // Nothing is written and nothing sent.
         ensures reads { OnlyReads B.Bench spare.old spare.new }
         ensures ticks { B.told → OnOk result (B.moment spare.new ≡ B.moment spare.old + 2) }
-        ensures fault { TellsFault B.Bench spare.old spare.new (IsErrOf result StartFault.Failed) }
+        ensures fault { TellsFault B.Bench spare.old spare.new (IsErrOf result (End.Stopped Stop.Bench)) }
+        ensures ends { IfErr result (EndsBy IsOfBench (λ _. ⊤)) }
     {
         recover_other(alloc, &self.secret, &self.core, spare)
     }

@@ -1,5 +1,5 @@
 //! Opening the journal of a table.
-ghost use Rattle.std.specs.Prelude.{◌≡◌, ◌<◌, ◌≤◌, ◌+◌, true, false, Ok, Err, List, length, All, IfOk, IfErr, OnOk, IsErrOf};
+ghost use Rattle.std.specs.Prelude.{◌≡◌, ◌<◌, ◌≤◌, ◌+◌, ⊤, true, false, Ok, List, length, All, IfOk, IfErr, OnOk, IsErrOf};
 ghost use Rattle.audit_types.specs.Limits.{most_records};
 ghost use Rattle.audit_types.specs.History.{Protection, FitsShape, AreProtected, IsLegal, IsPossibleHistory, IsDecisionAfter, IsJudgementAfter, setting_of};
 ghost use Rattle.audit_types.specs.declared.records.Answered.{Answered};
@@ -7,55 +7,25 @@ ghost use Rattle.audit_types.specs.declared.records.Verdict.TheVariants.{Release
 ghost use Rattle.audit_types.specs.Minima.{as_it_stands};
 ghost use Rattle.audit_types.specs.Shapes.{columns, is_least};
 ghost use Rattle.bench_core.specs.Calls.{OnlyReads, TellsFault};
+ghost use Rattle.bench_core.specs.Ends.{DoneUnlessStopped, EndsBy, RefusedUnlessStopped};
+ghost use Rattle.bench_core.specs.Stops.{IsOfBench, IsOfMemory};
 ghost use Rattle.journal_form.specs.Journal.{StandsAt, StandsFor};
-ghost use Rattle.audit_store.specs.declared.starting.StartFault.{StartFault};
-ghost use Rattle.audit_store.specs.Starting.{AreTrue, GivesUp, HistoryCause, Recovers, RefusedUnlessFailed, StartCause, StartsUnlessFailed, TellsIllegal, start_fault};
+ghost use Rattle.answer_journal.specs.declared.refusals.JournalRefusal.{JournalRefusal};
+ghost use Rattle.audit_store.specs.Starting.{AreTrue, HistoryCause, Recovers, StartCause, TellsIllegal};
 ghost use Rattle.audit_store.specs.Twice.{IsJournalOf};
 ghost use Rattle.table_load.specs.Cells.{IsSecret};
 ghost use Rattle.table_load.specs.Database.{secret_table};
 
 use crate::agreeing::agreement;
-use answer_journal::{BackFault, Journal};
+use answer_journal::{Journal, JournalRefusal};
 use audit_core::Core;
 use audit_core::laws::released_records;
 use audit_types::laws::true_answers;
 use audit_types::{Answered, Asked, Guard, NoMemory, Shape, Verdict};
-use bench_core::Bench;
+use bench_core::{Bench, End, Stop};
 use std::alloc::Global;
 use sum_basis::laws::sets_have_one_form;
 use table_load::Secret;
-
-/// Why a store was not started.
-#[derive(Clone, Copy, PartialEq, Eq)]
-pub enum StartFault {
-    /// The file is shorter than a journal, or its header gate isn't open.
-    NotMade,
-    /// The place of the first byte that breaks the journal's grammar.
-    Damaged { at: u64 },
-    /// The journal is that of a table of another shape.
-    OtherShape { kept: Shape, now: Shape },
-    /// The first record, from 0, whose answer isn't the true one, and both as the table has them.
-    Untrue { place: u32, kept: i128, now: i128 },
-    /// All answers are true. The first record, from 0, whose question was not to be released, and the place in the schema of the first
-    /// protected group that alone keeps it from being, if it would be released with no group protected.
-    Illegal { place: u32, group: Option<u8> },
-    /// A call of the bench failed.
-    Failed,
-    NoMemory,
-}
-
-impl From<BackFault> for StartFault {
-    ghost from_gives = { λ back e. e ≡ start_fault back };
-
-    fn from(back: BackFault) -> StartFault {
-        match back {
-            BackFault::NotMade => StartFault::NotMade,
-            BackFault::Damaged { at } => StartFault::Damaged { at },
-            BackFault::Failed => StartFault::Failed,
-            BackFault::NoMemory => StartFault::NoMemory,
-        }
-    }
-}
 
 // A number that was kept as the table has it.
 fn as_it_stands(least: bool, number: i64) -> i128
@@ -69,13 +39,13 @@ fn as_it_stands(least: bool, number: i64) -> i128
 }
 
 // What is told of a record for which the table gives another answer.
-fn untrue(secret: &Secret, place: u32, answered: &Answered, now: i64) -> StartFault
+fn untrue(secret: &Secret, place: u32, answered: &Answered, now: i64) -> JournalRefusal
     requires { answered.now.column < columns secret.now.shape }
-    ensures { result ≡ StartFault.Untrue place (as_it_stands (is_least secret.now.shape answered.now.column) answered.now.answer)
+    ensures { result ≡ JournalRefusal.Untrue place (as_it_stands (is_least secret.now.shape answered.now.column) answered.now.answer)
         (as_it_stands (is_least secret.now.shape answered.now.column) now) }
 {
     let least = secret.shape().is_least(answered.column);
-    StartFault::Untrue {
+    JournalRefusal::Untrue {
         place,
         kept: as_it_stands(least, answered.answer),
         now: as_it_stands(least, now),
@@ -83,11 +53,11 @@ fn untrue(secret: &Secret, place: u32, answered: &Answered, now: i64) -> StartFa
 }
 
 // Looks for the first record whose answer isn't the true one.
-fn test_truth(secret: &Secret, list: &[Answered]) -> Result<(), StartFault>
+fn test_truth(secret: &Secret, list: &[Answered]) -> Result<(), JournalRefusal>
     requires fit { All (λ r. FitsShape secret.now.shape r.column r.rows) list.now }
     requires few { length list.now ≤ most_records }
     ensures ok { (protected : Protection) → OnOk result (AreTrue (secret_table secret.now protected) list.now) }
-    ensures err { (protected : Protection) → IfErr result (λ fault. HistoryCause fault secret.now.shape list.now (secret_table secret.now protected)) }
+    ensures err { (protected : Protection) → IfErr result (λ refusal. HistoryCause refusal secret.now.shape list.now (secret_table secret.now protected)) }
 {
     for (place, answered) in list.iter().enumerate() {
         let now = secret.truth(answered.column, &answered.rows);
@@ -120,20 +90,18 @@ fn is_released(core: &mut Core, answered: &Answered) -> Result<bool, NoMemory>
 }
 
 // What is told of a record whose question isn't released after the records of the core.
-fn illegal(core: &Core, place: u32, answered: &Answered) -> StartFault
+fn illegal(core: &Core, place: u32, answered: &Answered) -> Result<JournalRefusal, NoMemory>
     requires fits { FitsShape core.now.setting.shape answered.now.column answered.now.rows }
     requires possible { IsPossibleHistory core.now.setting core.now.history }
     requires denied { ¬ (IsJudgementAfter core.now.setting core.now.history answered.now.column answered.now.rows.list Released) }
-    ensures { TellsIllegal core.now place answered.now result }
+    ensures { IfOk result (TellsIllegal core.now place answered.now) }
 {
     let asked = Asked {
         column: answered.column,
         rows: answered.rows,
     };
-    match core.blame(&asked) {
-        Ok(group) => StartFault::Illegal { place, group },
-        Err(NoMemory) => StartFault::NoMemory,
-    }
+    let group = core.blame(&asked)?;
+    Ok(JournalRefusal::Illegal { place, group })
 }
 
 // Decides each record's question after the records before it, as it was decided when it was answered.
@@ -142,30 +110,24 @@ fn replay(
     secret: &Secret,
     protected: Guard,
     list: &[Answered],
-) -> Result<Core, StartFault>
+) -> Result<Core, End<JournalRefusal>>
     requires groups { AreProtected secret.now.shape protected }
     requires fit { All (λ r. FitsShape secret.now.shape r.column r.rows) list.now }
     requires few { length list.now ≤ most_records }
     requires are_true { AreTrue (secret_table secret.now protected) list.now }
     ensures ok { IfOk result (λ core. (core ≡ record { setting = setting_of secret.now.shape protected; history = list.now }) × IsLegal (secret_table secret.now protected) list.now) }
-    ensures err { IfErr result (λ fault. HistoryCause fault secret.now.shape list.now (secret_table secret.now protected)) }
+    ensures err { IfErr result (EndsBy IsOfMemory (λ refusal. HistoryCause refusal secret.now.shape list.now (secret_table secret.now protected))) }
 {
     true_answers();
     released_records();
-    let mut core = match Core::new(alloc, secret.shape(), protected) {
-        Ok(core) => core,
-        Err(NoMemory) => return Err(StartFault::NoMemory),
-    };
+    let mut core = Core::new(alloc, secret.shape(), protected)?;
     for (place, answered) in list.iter().enumerate() {
-        match is_released(&mut core, answered) {
-            Ok(true) => {}
-            Ok(false) => return Err(illegal(&core, place as u32, answered)),
-            Err(NoMemory) => return Err(StartFault::NoMemory),
+        let released = is_released(&mut core, answered)?;
+        if !released {
+            let refusal = illegal(&core, place as u32, answered)?;
+            return Err(End::Refused(refusal));
         }
-        match core.take(answered) {
-            Ok(()) => {}
-            Err(NoMemory) => return Err(StartFault::NoMemory),
-        }
+        core.take(answered)?;
     }
     Ok(core)
 }
@@ -176,16 +138,16 @@ pub fn audited(
     secret: &Secret,
     protected: Guard,
     list: &[Answered],
-) -> Result<Core, StartFault>
+) -> Result<Core, End<JournalRefusal>>
     requires groups { AreProtected secret.now.shape protected }
     requires fit { All (λ r. FitsShape secret.now.shape r.column r.rows) list.now }
     requires few { length list.now ≤ most_records }
     ensures ok { IfOk result (λ core. (core ≡ record { setting = setting_of secret.now.shape protected; history = list.now }) × IsLegal (secret_table secret.now protected) list.now) }
-    ensures err { IfErr result (λ fault. HistoryCause fault secret.now.shape list.now (secret_table secret.now protected)) }
+    ensures err { IfErr result (EndsBy IsOfMemory (λ refusal. HistoryCause refusal secret.now.shape list.now (secret_table secret.now protected))) }
 {
     match test_truth(secret, list) {
         Ok(()) => replay(alloc, secret, protected, list),
-        Err(fault) => Err(fault),
+        Err(refusal) => Err(End::Refused(refusal)),
     }
 }
 
@@ -196,31 +158,31 @@ fn opened(
     protected: Guard,
     kept: &Shape,
     list: &[Answered],
-) -> Result<Core, StartFault>
+) -> Result<Core, End<JournalRefusal>>
     requires groups { AreProtected secret.now.shape protected }
     requires few { length list.now ≤ most_records }
     requires fit { All (λ r. FitsShape kept.now r.column r.rows) list.now }
     ensures ok { IfOk result (λ core. (core ≡ record { setting = setting_of secret.now.shape protected; history = list.now }) × IsLegal (secret_table secret.now protected) list.now) }
     ensures same { OnOk result ((kept.now ≡ secret.now.shape) × IsSecret secret.now) }
-    ensures err { IfErr result (λ fault. HistoryCause fault kept.now list.now (secret_table secret.now protected)) }
-    ensures due { (fault : StartFault) → (GivesUp fault → ⊥) → HistoryCause fault kept.now list.now (secret_table secret.now protected) → RefusedUnlessFailed fault result }
-    ensures opens { kept.now ≡ secret.now.shape → IsLegal (secret_table secret.now protected) list.now → StartsUnlessFailed result }
+    ensures err { IfErr result (EndsBy IsOfMemory (λ refusal. HistoryCause refusal kept.now list.now (secret_table secret.now protected))) }
+    ensures due { (refusal : JournalRefusal) → HistoryCause refusal kept.now list.now (secret_table secret.now protected) → RefusedUnlessStopped refusal result }
+    ensures opens { kept.now ≡ secret.now.shape → IsLegal (secret_table secret.now protected) list.now → DoneUnlessStopped result }
 {
     let now = secret.shape();
     if *kept != now {
-        return Err(StartFault::OtherShape { kept: *kept, now });
+        return Err(End::Refused(JournalRefusal::OtherShape { kept: *kept, now }));
     }
     audited(alloc, secret, protected, list)
 }
 
-/// Reads the journal of a table back, and tests that it is that of the table: a store of it goes on from what is answered. The faults
-/// come in the order of `StartFault`. The groups are dropped with a refusal. The file isn't written.
+/// Reads the journal of a table back, and tests that it is that of the table: a store of it goes on from what is answered. The refusals
+/// come in the order of `JournalRefusal`. The groups are dropped with a refusal. The file isn't written.
 pub fn recover<B: Bench>(
     alloc: Global,
     secret: &Secret,
     protected: Guard,
     bench: &mut B,
-) -> Result<(Journal, Core), StartFault>
+) -> Result<(Journal, Core), End<JournalRefusal>>
     requires fit { AreProtected secret.now.shape protected }
 
     // The core's history is that of the file, and it is legal.
@@ -228,14 +190,15 @@ pub fn recover<B: Bench>(
     ensures stands { B.told → IfOk result (λ found. StandsAt (B.file bench.old) secret.now.shape found.1.history found.0.gate) }
 
     // Each refusal has its cause in the file, and each cause has its refusal; a legal history is never refused.
-    ensures cause { (fault : StartFault) → B.told → result ≡ Err fault → StartCause fault (B.file bench.old) (secret_table secret.now protected) }
-    ensures due { (fault : StartFault) → B.told → (GivesUp fault → ⊥) → StartCause fault (B.file bench.old) (secret_table secret.now protected) → RefusedUnlessFailed fault result }
-    ensures opens { (history : List Answered) → B.told → StandsFor (B.file bench.old) secret.now.shape history → IsLegal (secret_table secret.now protected) history → StartsUnlessFailed result }
+    ensures cause { (refusal : JournalRefusal) → B.told → result ≡ Err (End.Refused refusal) → StartCause refusal (B.file bench.old) (secret_table secret.now protected) }
+    ensures due { (refusal : JournalRefusal) → B.told → StartCause refusal (B.file bench.old) (secret_table secret.now protected) → RefusedUnlessStopped refusal result }
+    ensures opens { (history : List Answered) → B.told → StandsFor (B.file bench.old) secret.now.shape history → IsLegal (secret_table secret.now protected) history → DoneUnlessStopped result }
 
     // Nothing is written and nothing sent.
     ensures reads { OnlyReads B.Bench bench.old bench.new }
     ensures ticks { B.told → OnOk result (B.moment bench.new ≡ B.moment bench.old + 2) }
-    ensures fault { TellsFault B.Bench bench.old bench.new (IsErrOf result StartFault.Failed) }
+    ensures fault { TellsFault B.Bench bench.old bench.new (IsErrOf result (End.Stopped Stop.Bench)) }
+    ensures ends { IfErr result (EndsBy IsOfBench (λ _. ⊤)) }
 {
     let (journal, list) = Journal::read_back(alloc, bench)?;
     let core = opened(alloc, secret, protected, &journal.shape(), &list)?;
@@ -250,25 +213,25 @@ pub fn test_other(
     core: &Core,
     kept: &Shape,
     list: &[Answered],
-) -> Result<(), StartFault>
+) -> Result<(), End<JournalRefusal>>
     requires setting { core.now.setting ≡ setting_of secret.now.shape core.now.setting.protected }
     requires legal { IsLegal (secret_table secret.now core.now.setting.protected) core.now.history }
     requires few { length list.now ≤ most_records }
     requires fit { All (λ r. FitsShape kept.now r.column r.rows) list.now }
     ensures ok { OnOk result ((kept.now ≡ secret.now.shape) × IsLegal (secret_table secret.now core.now.setting.protected) list.now) }
-    ensures err { IfErr result (λ fault. HistoryCause fault kept.now list.now (secret_table secret.now core.now.setting.protected)) }
-    ensures due { (fault : StartFault) → (GivesUp fault → ⊥) → HistoryCause fault kept.now list.now (secret_table secret.now core.now.setting.protected) → RefusedUnlessFailed fault result }
-    ensures opens { kept.now ≡ secret.now.shape → IsLegal (secret_table secret.now core.now.setting.protected) list.now → StartsUnlessFailed result }
+    ensures err { IfErr result (EndsBy IsOfMemory (λ refusal. HistoryCause refusal kept.now list.now (secret_table secret.now core.now.setting.protected))) }
+    ensures due { (refusal : JournalRefusal) → HistoryCause refusal kept.now list.now (secret_table secret.now core.now.setting.protected) → RefusedUnlessStopped refusal result }
+    ensures opens { kept.now ≡ secret.now.shape → IsLegal (secret_table secret.now core.now.setting.protected) list.now → DoneUnlessStopped result }
 {
     let now = secret.shape();
     if *kept != now {
-        return Err(StartFault::OtherShape { kept: *kept, now });
+        return Err(End::Refused(JournalRefusal::OtherShape { kept: *kept, now }));
     }
     if agreement(core.history(), list) == list.len() {
         return Ok(());
     }
     let Ok(protected) = core.protected().copy(alloc) else {
-        return Err(StartFault::NoMemory);
+        return Err(End::Stopped(Stop::NoMemory));
     };
     audited(alloc, secret, protected, list)?;
     Ok(())
@@ -281,7 +244,7 @@ pub fn recover_other<B: Bench>(
     secret: &Secret,
     core: &Core,
     bench: &mut B,
-) -> Result<(Journal, Vec<Answered>), StartFault>
+) -> Result<(Journal, Vec<Answered>), End<JournalRefusal>>
     requires setting { core.now.setting ≡ setting_of secret.now.shape core.now.setting.protected }
     requires legal { IsLegal (secret_table secret.now core.now.setting.protected) core.now.history }
 
@@ -291,14 +254,15 @@ pub fn recover_other<B: Bench>(
     ensures stands { B.told → IfOk result (λ found. StandsAt (B.file bench.old) secret.now.shape found.1.items found.0.gate) }
 
     // Each refusal has its cause in the file, and each cause has its refusal; a legal history is never refused.
-    ensures cause { (fault : StartFault) → B.told → result ≡ Err fault → StartCause fault (B.file bench.old) (secret_table secret.now core.now.setting.protected) }
-    ensures due { (fault : StartFault) → B.told → (GivesUp fault → ⊥) → StartCause fault (B.file bench.old) (secret_table secret.now core.now.setting.protected) → RefusedUnlessFailed fault result }
-    ensures opens { (history : List Answered) → B.told → StandsFor (B.file bench.old) secret.now.shape history → IsLegal (secret_table secret.now core.now.setting.protected) history → StartsUnlessFailed result }
+    ensures cause { (refusal : JournalRefusal) → B.told → result ≡ Err (End.Refused refusal) → StartCause refusal (B.file bench.old) (secret_table secret.now core.now.setting.protected) }
+    ensures due { (refusal : JournalRefusal) → B.told → StartCause refusal (B.file bench.old) (secret_table secret.now core.now.setting.protected) → RefusedUnlessStopped refusal result }
+    ensures opens { (history : List Answered) → B.told → StandsFor (B.file bench.old) secret.now.shape history → IsLegal (secret_table secret.now core.now.setting.protected) history → DoneUnlessStopped result }
 
     // Nothing is written and nothing sent.
     ensures reads { OnlyReads B.Bench bench.old bench.new }
     ensures ticks { B.told → OnOk result (B.moment bench.new ≡ B.moment bench.old + 2) }
-    ensures fault { TellsFault B.Bench bench.old bench.new (IsErrOf result StartFault.Failed) }
+    ensures fault { TellsFault B.Bench bench.old bench.new (IsErrOf result (End.Stopped Stop.Bench)) }
+    ensures ends { IfErr result (EndsBy IsOfBench (λ _. ⊤)) }
 {
     let (journal, list) = Journal::read_back(alloc, bench)?;
     test_other(alloc, secret, core, &journal.shape(), &list)?;

@@ -1,31 +1,32 @@
 //! The store.
-ghost use Rattle.std.specs.Prelude.{◌≡◌, ◌≢◌, ◌≤◌, ◌+◌, ◌++◌, [], ℕ, List, true, false, length, take, All, IfOk, IfErr, OnOk, OnErr, IsErrOf, Err};
+ghost use Rattle.std.specs.Prelude.{◌≡◌, ◌≢◌, ◌≤◌, ◌+◌, ◌++◌, [], ⊤, ℕ, List, true, false, length, take, All, IfOk, IfErr, OnOk, OnErr, IsErrOf, Err};
 ghost use Rattle.audit_types.specs.declared.records.Answered.{Answered};
 ghost use Rattle.audit_types.specs.History.{FitsShape, AreProtected, IsLegal, setting_of};
 ghost use Rattle.bench_core.specs.Calls.{IsQuiet, LeavesOnly, IsUntouched, OnlyReads, TellsFault};
+ghost use Rattle.bench_core.specs.Ends.{DoneUnlessStopped, EndsBy, RefusedUnlessStopped};
 ghost use Rattle.bench_core.specs.Stops.{IsOfBench, IsOfBenches};
 ghost use Rattle.journal_form.specs.Journal.{StandsAt, StandsFor};
 ghost use Rattle.answer_journal.specs.Moments.{IsBeforeOrGrown};
 ghost use Rattle.audit_types.specs.Widening.{over, widened};
-ghost use Rattle.audit_store.specs.Growing.{GrowCause, CanGrow, GivesUpGrowing, GrowsUnlessFailed, NotGrownUnlessFailed};
-ghost use Rattle.audit_store.specs.declared.growing.GrowFault.{GrowFault};
 ghost use Rattle.audit_store.specs.Asks.{AsksOn, SpareAsksOn};
+ghost use Rattle.audit_store.specs.Growing.{GrowCause, CanGrow};
+ghost use Rattle.audit_store.specs.declared.growing.GrowRefusal.{GrowRefusal};
 ghost use Rattle.audit_store.specs.Stores.{IsAsLeft, IsStore, table_of};
 ghost use Rattle.audit_store.specs.Twice.{IsBroughtUp, IsJournalOf, StandsWithSome, calls_to_bring_up};
 ghost use Rattle.table_load.specs.Cells.{IsSecret};
 ghost use Rattle.table_load.specs.Database.{secret_table};
-ghost use Rattle.audit_store.specs.Starting.{StartCause, GivesUp, StartsUnlessFailed, RefusedUnlessFailed};
-ghost use Rattle.audit_store.specs.declared.starting.StartFault.{StartFault};
+ghost use Rattle.audit_store.specs.Starting.{StartCause};
+ghost use Rattle.answer_journal.specs.declared.refusals.JournalRefusal.{JournalRefusal};
 
 use crate::asking::{decide_all, keep_ready, made_ready};
 use crate::bringing::{bring_up, take_all};
-use crate::growing::{GrowFault, may_grow};
+use crate::growing::{GrowRefusal, may_grow, of_journal};
 use crate::sealed::Sealed;
-use crate::starting::{StartFault, recover};
-use answer_journal::Journal;
+use crate::starting::recover;
+use answer_journal::{Journal, JournalRefusal};
 use audit_core::{Core, Outcome};
 use audit_types::{Answered, Asked, Guard, Shape};
-use bench_core::{Bench, Failed, Stop};
+use bench_core::{Bench, End, Failed, Stop};
 use std::alloc::Global;
 use std::marker::Model;
 use table_load::Secret;
@@ -54,14 +55,14 @@ impl Model for Store {
 }
 
 impl Store {
-    /// Opens the journal of a table, and tests that it is that of the table. The faults come in the order of `StartFault`.
-    /// The secrets and the groups are dropped with a refusal. The file isn't written.
+    /// Opens the journal of a table, and tests that it is that of the table. The refusals come in the order of
+    /// `JournalRefusal`. The secrets and the groups are dropped with a refusal. The file isn't written.
     pub fn start<B: Bench>(
         alloc: Global,
         secret: Secret,
         protected: Guard,
         bench: &mut B,
-    ) -> Result<Store, StartFault>
+    ) -> Result<Store, End<JournalRefusal>>
         requires fit { AreProtected secret.shape protected }
 
         // The store is that of the file's history, which is legal.
@@ -69,14 +70,15 @@ impl Store {
         ensures stands { B.told → IfOk result (λ store. IsAsLeft (B.file bench.old) store) }
 
         // Each refusal has its cause in the file, and each cause has its refusal; a legal history is never refused.
-        ensures cause { (fault : StartFault) → B.told → result ≡ Err fault → StartCause fault (B.file bench.old) (secret_table secret protected) }
-        ensures due { (fault : StartFault) → B.told → (GivesUp fault → ⊥) → StartCause fault (B.file bench.old) (secret_table secret protected) → RefusedUnlessFailed fault result }
-        ensures opens { (history : List Answered) → B.told → StandsFor (B.file bench.old) secret.shape history → IsLegal (secret_table secret protected) history → StartsUnlessFailed result }
+        ensures cause { (refusal : JournalRefusal) → B.told → result ≡ Err (End.Refused refusal) → StartCause refusal (B.file bench.old) (secret_table secret protected) }
+        ensures due { (refusal : JournalRefusal) → B.told → StartCause refusal (B.file bench.old) (secret_table secret protected) → RefusedUnlessStopped refusal result }
+        ensures opens { (history : List Answered) → B.told → StandsFor (B.file bench.old) secret.shape history → IsLegal (secret_table secret protected) history → DoneUnlessStopped result }
 
         // Nothing is written and nothing sent.
         ensures reads { OnlyReads B.Bench bench.old bench.new }
         ensures ticks { B.told → OnOk result (B.moment bench.new ≡ B.moment bench.old + 2) }
-        ensures fault { TellsFault B.Bench bench.old bench.new (IsErrOf result StartFault.Failed) }
+        ensures fault { TellsFault B.Bench bench.old bench.new (IsErrOf result (End.Stopped Stop.Bench)) }
+        ensures ends { IfErr result (EndsBy IsOfBench (λ _. ⊤)) }
     {
         let (journal, core) = recover(alloc, &secret, protected, bench)?;
         Ok(Store {
@@ -88,21 +90,21 @@ impl Store {
         })
     }
 
-    /// Grows the journal of a table to rows that came at its end, if its history is legal over all of them. The faults come in the
-    /// order of `GrowFault`. All memory is taken before the first write. The secrets and the groups are dropped in every case.
+    /// Grows the journal of a table to rows that came at its end, if its history is legal over all of them. The refusals come in
+    /// the order of `GrowRefusal`, and of `JournalRefusal`. All memory is taken before the first write. The secrets and the groups are dropped in every case.
     pub fn grow<B: Bench>(
         alloc: Global,
         secret: Secret,
         protected: Guard,
         bench: &mut B,
-    ) -> Result<(), GrowFault>
+    ) -> Result<(), End<GrowRefusal>>
         requires fit { AreProtected secret.shape protected }
 
         // Each refusal has its cause in the file, and each cause has its refusal; a history that is legal over all rows is never
         // refused.
-        ensures cause { (fault : GrowFault) → B.told → result ≡ Err fault → GrowCause fault (B.file bench.old) (secret_table secret protected) }
-        ensures due { (fault : GrowFault) → B.told → (GivesUpGrowing fault → ⊥) → GrowCause fault (B.file bench.old) (secret_table secret protected) → NotGrownUnlessFailed fault result }
-        ensures grows { B.told → CanGrow (B.file bench.old) (secret_table secret protected) → GrowsUnlessFailed result }
+        ensures cause { (refusal : GrowRefusal) → B.told → result ≡ Err (End.Refused refusal) → GrowCause refusal (B.file bench.old) (secret_table secret protected) }
+        ensures due { (refusal : GrowRefusal) → B.told → GrowCause refusal (B.file bench.old) (secret_table secret protected) → RefusedUnlessStopped refusal result }
+        ensures grows { B.told → CanGrow (B.file bench.old) (secret_table secret protected) → DoneUnlessStopped result }
 
         // The file then stands for the history over all rows. A crash at any moment leaves it over the old rows, or over all.
         ensures done { B.told → OnOk result ((grown : CanGrow (B.file bench.old) (secret_table secret protected)) × StandsFor (B.file bench.new) secret.shape (widened secret.shape.rows grown.history)) }
@@ -112,12 +114,13 @@ impl Store {
         // If it can't grow, nothing is written, at any moment; nor if memory runs out.
         ensures untouched { B.told → IsQuiet B.Bench bench.old → (CanGrow (B.file bench.old) (secret_table secret protected) → ⊥)
             → LeavesOnly B.Bench bench.old bench.new (IsUntouched (B.file bench.old) (B.sent bench.old)) }
-        ensures kept { OnErr result (result ≢ Err GrowFault.Failed → B.file bench.new ≡ B.file bench.old) }
-        ensures quiet { B.told → IsQuiet B.Bench bench.old → result ≢ Err GrowFault.Failed → IsQuiet B.Bench bench.new }
+        ensures kept { OnErr result (result ≢ Err (End.Stopped Stop.Bench) → B.file bench.new ≡ B.file bench.old) }
+        ensures quiet { B.told → IsQuiet B.Bench bench.old → result ≢ Err (End.Stopped Stop.Bench) → IsQuiet B.Bench bench.new }
 
         ensures sent { B.sent bench.new ≡ B.sent bench.old }
         ensures ticks { B.told → OnOk result (B.moment bench.new ≡ B.moment bench.old + 6) }
-        ensures fault { TellsFault B.Bench bench.old bench.new (IsErrOf result GrowFault.Failed) }
+        ensures fault { TellsFault B.Bench bench.old bench.new (IsErrOf result (End.Stopped Stop.Bench)) }
+        ensures ends { IfErr result (EndsBy IsOfBench (λ _. ⊤)) }
     {
         match Journal::read_back(alloc, bench) {
             Ok((mut journal, mut list)) => {
@@ -127,7 +130,7 @@ impl Store {
                 journal.append_growth(bench, rows)?;
                 Ok(())
             }
-            Err(fault) => Err(GrowFault::from(fault)),
+            Err(end) => Err(of_journal(end)),
         }
     }
 
@@ -199,12 +202,12 @@ impl Store {
         Ok(outcomes)
     }
 
-    /// Opens another journal of the store's table, and tests it as `start` does: the faults come in the same order. Records with which
+    /// Opens another journal of the store's table, and tests it as `start` does: the refusals come in the same order. Records with which
     /// the store's history begins are legal, and not tested again.
     pub fn open_other<S: Bench>(
         &self,
         spare: &mut S,
-    ) -> Result<(Journal, Vec<Answered>), StartFault>
+    ) -> Result<(Journal, Vec<Answered>), End<JournalRefusal>>
         requires usable { self.now.usable ≡ true }
 
         // It is that of the file's history, which is legal.
@@ -213,14 +216,15 @@ impl Store {
         ensures stands { S.told → IfOk result (λ r. StandsAt (S.file spare.old) self.now.secret.shape r.1.items r.0.gate) }
 
         // Each refusal has its cause in the file, and each cause has its refusal; a legal history is never refused.
-        ensures cause { (fault : StartFault) → S.told → result ≡ Err fault → StartCause fault (S.file spare.old) (table_of self.now) }
-        ensures due { (fault : StartFault) → S.told → (GivesUp fault → ⊥) → StartCause fault (S.file spare.old) (table_of self.now) → RefusedUnlessFailed fault result }
-        ensures opens { (history : List Answered) → S.told → StandsFor (S.file spare.old) self.now.secret.shape history → IsLegal (table_of self.now) history → StartsUnlessFailed result }
+        ensures cause { (refusal : JournalRefusal) → S.told → result ≡ Err (End.Refused refusal) → StartCause refusal (S.file spare.old) (table_of self.now) }
+        ensures due { (refusal : JournalRefusal) → S.told → StartCause refusal (S.file spare.old) (table_of self.now) → RefusedUnlessStopped refusal result }
+        ensures opens { (history : List Answered) → S.told → StandsFor (S.file spare.old) self.now.secret.shape history → IsLegal (table_of self.now) history → DoneUnlessStopped result }
 
         // Nothing is written and nothing sent.
         ensures reads { OnlyReads S.Bench spare.old spare.new }
         ensures ticks { S.told → OnOk result (S.moment spare.new ≡ S.moment spare.old + 2) }
-        ensures fault { TellsFault S.Bench spare.old spare.new (IsErrOf result StartFault.Failed) }
+        ensures fault { TellsFault S.Bench spare.old spare.new (IsErrOf result (End.Stopped Stop.Bench)) }
+        ensures ends { IfErr result (EndsBy IsOfBench (λ _. ⊤)) }
     {
         self.sealed.open_other(self.alloc, spare)
     }

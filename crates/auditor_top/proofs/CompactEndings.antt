@@ -1,5 +1,6 @@
 -- What the end of the last step of `compact` comes to, by cases on it.
-use Rattle.std.proofs.Common.{rules, ◌≡◌, ◌≢◌, ℕ, List, Some, Result, Ok, Err, IsErr, IsErrOf, OnOk, OnErr, refl, ◌∙◌, ap, inl, inr}
+use Rattle.std.proofs.Common.{rules, ◌≡◌, ◌≢◌, ℕ, List, Some, Result, Ok, Err, IsErr, IsErrOf, OnOk, OnErr, refl, inl, inr}
+use Rattle.std.specs.Prelude.{⊤, IfErr}
 use Rattle.std.proofs.lemmas.Bool.{false≢true}
 use Rattle.audit_types.specs.declared.records.Answered.{Answered}
 use Rattle.audit_types.specs.History.{Table as Guarded}
@@ -7,77 +8,91 @@ use Rattle.bench_core.specs.Causes.{Rose}
 use Rattle.audit_types.specs.declared.shapes.Shape.{Shape}
 use Rattle.answer_journal.specs.Moments.{IsMade}
 use Rattle.journal_compact.specs.Compactions.{Compacts, CompactsFront}
-use Rattle.journal_compact.specs.declared.compacting.CompactFault.{CompactFault}
-use Rattle.journal_compact.specs.declared.compacting.CompactFault.TheVariants as compact
+use Rattle.answer_journal.specs.declared.refusals.AlreadyThere.{AlreadyThere as There}
+use Rattle.bench_core.specs.Ends.{EndsBy, IsRefused}
+use Rattle.bench_core.specs.EndLaws.{EndsBy-weaker, stopped_unless_refused}
+use Rattle.bench_core.specs.Stops.{IsOfBenches}
+use Rattle.bench_core.specs.declared.stops.End.{End}
+use Rattle.bench_core.specs.declared.stops.End.TheVariants.{Stopped, Refused}
+use Rattle.bench_core.specs.declared.stops.Stop.TheVariants as stop
 use Rattle.auditor_top.specs.declared.words.Command.TheVariants.{Compact}
 use Rattle.auditor_top.specs.declared.status.Which.TheVariants.{Input}
-use Rattle.auditor_top.specs.declared.status.Status.TheVariants.{Done, SourceFault, BenchFault, SpareFault, NoMemory}
+use Rattle.auditor_top.specs.declared.status.Status.TheVariants.{Done, SourceFault, BenchFault, SpareFault, SpareThere, NoMemory}
 use Rattle.auditor_top.specs.Causes.{FaultCounts, FaultCause, WordCause, FileCause, SpareCause, HoldsLegal, NothingFailed, IsDoneOrWants}
 use Rattle.auditor_top.specs.Compactions.{CompactEnds}
 use Rattle.auditor_top.specs.Stages.{Before, opening_spare, reading_lines}
 use Rattle.auditor_top.specs.Faults.{compacting_status}
-use Rattle.auditor_top.proofs.StepFaults.{both_same}
+use Rattle.auditor_top.proofs.StepFaults.{both_same, end_faults, end_wants}
 use Rattle.auditor_top.proofs.StepStatuses.{EndsLastStep}
 
+-- a call of the bench or of the spare ends it early, or that memory ran out
+abbrev pub CompactStops : {X : Type 0} → Result X (End There) → Type 0
+CompactStops ended = IfErr ended (EndsBy IsOfBenches (λ _. ⊤))
+
 -- what its status says by itself
-pub record CompactSays {X : Type 0} (ended : Result X CompactFault) : Type 1 where
+pub record CompactSays {X : Type 0} (ended : Result X (End There)) : Type 1 where
   pub last : EndsLastStep (compacting_status ended)
   pub words : WordCause (compacting_status ended) (Some Compact)
   pub file : (file : List ℕ) (table : Guarded) → HoldsLegal file table → FileCause (compacting_status ended) Compact file table
-  pub bench : compacting_status ended ≡ BenchFault → IsErrOf ended compact.Bench
-  pub spare : compacting_status ended ≡ SpareFault → IsErrOf ended compact.Spare
-  pub memory : compacting_status ended ≡ NoMemory → IsErrOf ended compact.NoMemory
+  pub bench : compacting_status ended ≡ BenchFault → IsErrOf ended (Stopped stop.Bench)
+  pub spare : compacting_status ended ≡ SpareFault → IsErrOf ended (Stopped stop.Spare)
+  pub memory : compacting_status ended ≡ NoMemory → IsErrOf ended (Stopped stop.NoMemory)
   pub no_input : compacting_status ended ≢ SourceFault Input
   pub done : (P : Type 0) → compacting_status ended ≡ Done → OnOk ended P → P
   -- it comes to the spare, and nothing was sent before the lines, nor if the spare failed
   pub at_spare : (P : Type 0) → Before opening_spare (compacting_status ended) P
-  pub at_lines : (P : Type 0) → OnErr ended (ended ≢ Err compact.Bench → P) → Before reading_lines (compacting_status ended) P
-  pub unsent : (P : Type 0) → compacting_status ended ≡ SpareFault → OnErr ended (ended ≢ Err compact.Bench → P) → P
+  pub at_lines : (P : Type 0) → OnErr ended (ended ≢ Err (Stopped stop.Bench) → P) → Before reading_lines (compacting_status ended) P
+  pub unsent : (P : Type 0) → compacting_status ended ≡ SpareFault → OnErr ended (ended ≢ Err (Stopped stop.Bench) → P) → P
 
-pub compact_says : {X : Type 0} (ended : Result X CompactFault) → CompactSays ended
-compact_says (Err compact.AlreadyThere) = search rules
-compact_says ended = search rules
+pub compact_says : {X : Type 0} (ended : Result X (End There)) → CompactStops ended → CompactSays ended
+compact_says (Err (Stopped stop.Input)) stops = absurd stops
+compact_says (Err (Stopped stop.Limit)) stops = absurd stops
+compact_says (Err (Refused there)) stops = search rules
+compact_says ended stops = search rules
 
 -- it is refused if a journal is made on the spare, and done if none is
-pub compact_spare : {X : Type 0} (ended : Result X CompactFault) (file : List ℕ) → (IsErrOf ended compact.AlreadyThere → IsMade file) →
+pub compact_spare : {X : Type 0} (ended : Result X (End There)) (file : List ℕ) → CompactStops ended → (IsRefused ended → IsMade file) →
     (IsMade file → IsErr ended) → SpareCause (compacting_status ended) Compact file
-compact_spare (Ok done) file already refused = λ made. absurd (false≢true (refused made))
-compact_spare (Err compact.AlreadyThere) file already refused = already refl
-compact_spare ended file already refused = tt
+compact_spare (Ok done) file stops already refused = λ made. absurd (false≢true (refused made))
+compact_spare (Err (Stopped stop.Input)) file stops already refused = absurd stops
+compact_spare (Err (Stopped stop.Limit)) file stops already refused = absurd stops
+compact_spare (Err (Stopped why)) file stops already refused = tt
+compact_spare (Err (Refused there)) file stops already refused = already tt
 
 -- the count of the object that failed rose, and no other count changed
-pub compact_faults : {X : Type 0} (ended : Result X CompactFault) (before : FaultCounts) (bench spare : ℕ) →
-    (IsErrOf ended compact.Bench → Rose before.bench bench) → ((IsErrOf ended compact.Bench → ⊥) → bench ≡ before.bench) →
-    (IsErrOf ended compact.Spare → Rose before.spare spare) → ((IsErrOf ended compact.Spare → ⊥) → spare ≡ before.spare) →
+pub compact_faults : {X : Type 0} (ended : Result X (End There)) (before : FaultCounts) (bench spare : ℕ) → CompactStops ended →
+    (IsErrOf ended (Stopped stop.Bench) → Rose before.bench bench) → ((IsErrOf ended (Stopped stop.Bench) → ⊥) → bench ≡ before.bench) →
+    (IsErrOf ended (Stopped stop.Spare) → Rose before.spare spare) → ((IsErrOf ended (Stopped stop.Spare) → ⊥) → spare ≡ before.spare) →
     FaultCause (compacting_status ended) before (record before { bench = bench; spare = spare })
-compact_faults (Err compact.Spare) before bench spare rose same spare_rose spare_same =
-    (spare_rose refl, ap (λ (n : ℕ). record before { bench = n; spare = spare }) (same (search rules)))
-compact_faults (Err compact.Bench) before bench spare rose same spare_rose spare_same =
-    (rose refl, ap (λ (n : ℕ). record before { bench = bench; spare = n }) (spare_same (search rules)))
-compact_faults ended before bench spare rose same spare_rose spare_same =
-    both_same before bench spare (same (search rules)) (spare_same (search rules))
+compact_faults (Ok done) before bench spare stops rose same spare_rose spare_same =
+    both_same before bench spare (same (λ is. cc)) (spare_same (λ is. cc))
+compact_faults (Err end) before bench spare stops rose same spare_rose spare_same =
+    end_faults (λ there. SpareThere) end before bench spare (EndsBy-weaker end IsOfBenches IsOfBenches _ _ (λ why is. is) (λ there is. refl) stops)
+    rose same spare_rose spare_same
 
 -- over a legal history: what the spare holds, and what was sent
-pub compact_ends : (ended : Result (Unit {0}) CompactFault) (shape : Shape) (history : List Answered) (spare new_spare before after : List ℕ) →
-    OnOk ended (Compacts shape history spare new_spare before after) →
-    (IsErrOf ended compact.Bench → CompactsFront shape history spare new_spare before after) →
-    OnErr ended (ended ≢ Err compact.Bench → after ≡ before) → CompactEnds (compacting_status ended) shape history spare new_spare before after
-compact_ends (Ok done) shape history spare new_spare before after all part unsent = all
-compact_ends (Err compact.Bench) shape history spare new_spare before after all part unsent = inr (part refl)
-compact_ends ended shape history spare new_spare before after all part unsent = unsent (λ is. cc)
+pub compact_ends : (ended : Result (Unit {0}) (End There)) (shape : Shape) (history : List Answered) (spare new_spare before after : List ℕ) →
+    CompactStops ended → OnOk ended (Compacts shape history spare new_spare before after) →
+    (IsErrOf ended (Stopped stop.Bench) → CompactsFront shape history spare new_spare before after) →
+    OnErr ended (ended ≢ Err (Stopped stop.Bench) → after ≡ before) → CompactEnds (compacting_status ended) shape history spare new_spare before after
+compact_ends (Ok done) shape history spare new_spare before after stops all part unsent = all
+compact_ends (Err (Stopped stop.Input)) shape history spare new_spare before after stops all part unsent = absurd stops
+compact_ends (Err (Stopped stop.Limit)) shape history spare new_spare before after stops all part unsent = absurd stops
+compact_ends (Err (Stopped stop.Bench)) shape history spare new_spare before after stops all part unsent = inr (part refl)
+compact_ends (Err (Stopped stop.Spare)) shape history spare new_spare before after stops all part unsent = unsent (λ is. cc)
+compact_ends (Err (Stopped stop.NoMemory)) shape history spare new_spare before after stops all part unsent = unsent (λ is. cc)
+compact_ends (Err (Refused there)) shape history spare new_spare before after stops all part unsent = unsent (λ is. cc)
 
 -- if no journal is made there and nothing failed, it is done, or there was no memory
-pub compact_wants : {X : Type 0} (ended : Result X CompactFault) (before after : FaultCounts) → (IsErrOf ended compact.AlreadyThere → ⊥) →
+pub compact_wants : {X : Type 0} (ended : Result X (End There)) (before after : FaultCounts) → CompactStops ended → (IsRefused ended → ⊥) →
     FaultCause (compacting_status ended) before after → NothingFailed before after → (Rose before.spare after.spare → ⊥) →
     IsDoneOrWants (compacting_status ended)
-compact_wants (Ok done) before after absent rose none fine = inl refl
-compact_wants (Err compact.AlreadyThere) before after absent rose none fine = absurd (absent refl)
-compact_wants (Err compact.Spare) before after absent rose none fine = absurd (fine rose.0)
-compact_wants (Err compact.Bench) before after absent rose none fine = absurd (none.bench rose.0)
-compact_wants (Err compact.NoMemory) before after absent rose none fine = inr refl
+compact_wants (Ok done) before after stops absent rose none fine = inl refl
+compact_wants (Err end) before after stops absent rose none fine =
+    end_wants (λ there. SpareThere) end before after stops (stopped_unless_refused end absent) rose none fine
 
 -- what follows holds of the same refusals
-pub unsent_so : {X P Q : Type 0} (ended : Result X CompactFault) → (P → Q) → OnErr ended (ended ≢ Err compact.Bench → P) →
-    OnErr ended (ended ≢ Err compact.Bench → Q)
+pub unsent_so : {X P Q : Type 0} (ended : Result X (End There)) → (P → Q) → OnErr ended (ended ≢ Err (Stopped stop.Bench) → P) →
+    OnErr ended (ended ≢ Err (Stopped stop.Bench) → Q)
 unsent_so (Ok done) follows unsent = tt
-unsent_so (Err fault) follows unsent = λ other. follows (unsent other)
+unsent_so (Err end) follows unsent = λ other. follows (unsent other)

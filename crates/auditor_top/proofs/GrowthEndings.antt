@@ -1,74 +1,106 @@
 -- What the end of the last step of `grow` comes to, by cases on it.
-use Rattle.std.proofs.Common.{rules, ◌≡◌, ◌≢◌, ℕ, List, Some, Result, Ok, Err, IsErrOf, OnOk, OnErr, refl, sym, subst, inl, inr}
+use Rattle.std.proofs.Common.{rules, ◌≡◌, ◌≢◌, ℕ, List, Some, Result, Ok, Err, IsErrOf, OnOk, OnErr, ap, refl, inl, inr}
+use Rattle.std.specs.Prelude.{⊤, IfErr}
 use Rattle.audit_types.specs.declared.records.Answered.{Answered}
 use Rattle.audit_types.specs.History.{Table as Guarded}
 use Rattle.audit_types.specs.Widening.{widened}
 use Rattle.bench_core.specs.Causes.{Rose}
 use Rattle.table_load.specs.Database.{Database}
 use Rattle.journal_form.specs.Journal.{StandsFor}
-use Rattle.audit_store.specs.Growing.{CanGrow, GrowCause, GrowsUnlessFailed}
-use Rattle.audit_store.specs.declared.growing.GrowFault.{GrowFault}
-use Rattle.audit_store.specs.declared.growing.GrowFault.TheVariants as grow
+use Rattle.bench_core.specs.Ends.{DoneUnlessStopped, EndsBy}
+use Rattle.bench_core.specs.EndLaws.{EndsBy-weaker}
+use Rattle.bench_core.specs.Stops.{IsOfBench}
+use Rattle.bench_core.specs.declared.stops.End.{End}
+use Rattle.bench_core.specs.declared.stops.End.TheVariants.{Stopped, Refused}
+use Rattle.bench_core.specs.declared.stops.Stop.TheVariants as stop
+use Rattle.answer_journal.specs.declared.refusals.JournalRefusal.{JournalRefusal}
+use Rattle.answer_journal.specs.declared.refusals.JournalRefusal.TheVariants as journal
+use Rattle.audit_store.specs.Growing.{CanGrow, GrowCause}
+use Rattle.audit_store.specs.declared.growing.GrowRefusal.{GrowRefusal}
+use Rattle.audit_store.specs.declared.growing.GrowRefusal.TheVariants as grow
 use Rattle.auditor_top.specs.declared.words.Command.TheVariants.{Grow}
 use Rattle.auditor_top.specs.declared.status.Which.TheVariants.{Input}
 use Rattle.auditor_top.specs.declared.status.Status.TheVariants.{Done, SourceFault, BenchFault}
 use Rattle.auditor_top.specs.Causes.{FaultCounts, FaultCause, WordCause, FileCause, NothingFailed, IsDoneOrWants}
 use Rattle.auditor_top.specs.Ends.{GrowEnds}
 use Rattle.auditor_top.specs.Stages.{Before, reading_lines}
-use Rattle.auditor_top.specs.Faults.{growing_status}
-use Rattle.auditor_top.proofs.StepFaults.{same_counts}
+use Rattle.auditor_top.specs.Faults.{grow_status, growing_status}
+use Rattle.auditor_top.proofs.StartEndings.{refusal_says}
+use Rattle.auditor_top.proofs.StepFaults.{bench_faults, same_counts}
 use Rattle.auditor_top.proofs.StepStatuses.{EndsLastStep}
 
+-- a call of the bench ends it early, or that memory ran out
+abbrev pub GrowthStops : {X : Type 0} → Result X (End GrowRefusal) → Type 0
+GrowthStops ended = IfErr ended (EndsBy IsOfBench (λ _. ⊤))
+
 -- what its status says by itself
-pub record GrowthSays {X : Type 0} (ended : Result X GrowFault) : Type 1 where
+pub record GrowthSays {X : Type 0} (ended : Result X (End GrowRefusal)) : Type 1 where
   pub last : EndsLastStep (growing_status ended)
   pub words : WordCause (growing_status ended) (Some Grow)
-  pub bench : growing_status ended ≡ BenchFault → IsErrOf ended grow.Failed
+  pub bench : growing_status ended ≡ BenchFault → IsErrOf ended (Stopped stop.Bench)
   pub no_input : growing_status ended ≢ SourceFault Input
   pub done : (P : Type 0) → growing_status ended ≡ Done → OnOk ended P → P
-  pub at_lines : (P Q : Type 0) → (Q → P) → OnErr ended (ended ≢ Err grow.Failed → Q) → Before reading_lines (growing_status ended) P
+  pub at_lines : (P Q : Type 0) → (Q → P) → OnErr ended (ended ≢ Err (Stopped stop.Bench) → Q) → Before reading_lines (growing_status ended) P
 
-pub growth_says : {X : Type 0} (ended : Result X GrowFault) → GrowthSays ended
-growth_says (Err grow.NotMade) = search rules
-growth_says ended = search rules
+pub growth_says : {X : Type 0} (ended : Result X (End GrowRefusal)) → GrowthStops ended → GrowthSays ended
+growth_says (Err (Stopped stop.Input)) stops = absurd stops
+growth_says (Err (Stopped stop.Limit)) stops = absurd stops
+growth_says (Err (Stopped stop.Spare)) stops = absurd stops
+growth_says (Err (Refused (grow.Journal journal.NotMade))) stops = search rules
+growth_says ended stops = search rules
 
 -- the file is the cause of a refusal, and can grow if it is done
-pub growth_file : {X : Type 0} (ended : Result X GrowFault) (file : List ℕ) (table : Guarded) → OnOk ended (CanGrow file table) →
-    ((fault : GrowFault) → ended ≡ Err fault → GrowCause fault file table) → FileCause (growing_status ended) Grow file table
-growth_file (Ok done) file table can cause = can
-growth_file (Err grow.Failed) file table can cause = tt
-growth_file (Err grow.NoMemory) file table can cause = tt
-growth_file (Err fault) file table can cause = cause fault refl
+pub growth_file : {X : Type 0} (ended : Result X (End GrowRefusal)) (file : List ℕ) (table : Guarded) → GrowthStops ended → OnOk ended (CanGrow file table) →
+    ((refusal : GrowRefusal) → ended ≡ Err (Refused refusal) → GrowCause refusal file table) → FileCause (growing_status ended) Grow file table
+growth_file (Ok done) file table stops can cause = can
+growth_file (Err (Stopped stop.Input)) file table stops can cause = absurd stops
+growth_file (Err (Stopped stop.Limit)) file table stops can cause = absurd stops
+growth_file (Err (Stopped stop.Bench)) file table stops can cause = tt
+growth_file (Err (Stopped stop.Spare)) file table stops can cause = absurd stops
+growth_file (Err (Stopped stop.NoMemory)) file table stops can cause = tt
+growth_file (Err (Refused (grow.Journal refusal))) file table stops can cause = (refusal_says refusal).file Grow file table (cause (grow.Journal refusal) refl)
+growth_file (Err (Refused (grow.NothingNew rows))) file table stops can cause = cause (grow.NothingNew rows) refl
 
 -- the count of the bench rose if a call of it failed, and no other count changed
-pub growth_faults : {X : Type 0} (ended : Result X GrowFault) (before : FaultCounts) (bench : ℕ) → (IsErrOf ended grow.Failed → Rose before.bench bench) →
-    ((IsErrOf ended grow.Failed → ⊥) → bench ≡ before.bench) → FaultCause (growing_status ended) before (record before { bench = bench })
-growth_faults (Err grow.Failed) before bench rose same = (rose refl, refl)
-growth_faults ended before bench rose same = same_counts before before.input bench refl (same (search rules))
+pub growth_faults : {X : Type 0} (ended : Result X (End GrowRefusal)) (before : FaultCounts) (bench : ℕ) → GrowthStops ended →
+    (IsErrOf ended (Stopped stop.Bench) → Rose before.bench bench) → ((IsErrOf ended (Stopped stop.Bench) → ⊥) → bench ≡ before.bench) →
+    FaultCause (growing_status ended) before (record before { bench = bench })
+growth_faults (Ok done) before bench stops rose same = same_counts before before.input bench refl (same (λ is. cc))
+growth_faults (Err end) before bench stops rose same =
+    bench_faults grow_status end before bench (EndsBy-weaker end IsOfBench IsOfBench _ _ (λ why is. is) (λ refusal is. steady refusal) stops) rose same
+  where
+    steady : (refusal : GrowRefusal) → FaultCause (grow_status refusal) before before
+    steady (grow.Journal refusal) = (refusal_says refusal).steady before
+    steady (grow.NothingNew rows) = refl
 
 -- over a journal that can grow: what the file stands for
-pub growth_ends : (ended : Result (Unit {0}) GrowFault) (base : Database) (history : List Answered) (before after : List ℕ) →
-    OnOk ended (StandsFor after base.secret.shape (widened base.secret.shape.rows history)) → GrowsUnlessFailed ended →
-    OnErr ended (ended ≢ Err grow.Failed → after ≡ before) → GrowEnds (growing_status ended) base history before after
-growth_ends (Ok done) base history before after stands gave_up kept = stands
-growth_ends (Err grow.Failed) base history before after stands gave_up kept = tt
-growth_ends (Err grow.NoMemory) base history before after stands gave_up kept = kept (λ is. cc)
-growth_ends ended base history before after stands gave_up kept = absurd gave_up
+pub growth_ends : (ended : Result (Unit {0}) (End GrowRefusal)) (base : Database) (history : List Answered) (before after : List ℕ) → GrowthStops ended →
+    OnOk ended (StandsFor after base.secret.shape (widened base.secret.shape.rows history)) → DoneUnlessStopped ended →
+    OnErr ended (ended ≢ Err (Stopped stop.Bench) → after ≡ before) → GrowEnds (growing_status ended) base history before after
+growth_ends (Ok done) base history before after stops stands gave_up kept = stands
+growth_ends (Err (Stopped stop.Input)) base history before after stops stands gave_up kept = absurd stops
+growth_ends (Err (Stopped stop.Limit)) base history before after stops stands gave_up kept = absurd stops
+growth_ends (Err (Stopped stop.Bench)) base history before after stops stands gave_up kept = tt
+growth_ends (Err (Stopped stop.Spare)) base history before after stops stands gave_up kept = absurd stops
+growth_ends (Err (Stopped stop.NoMemory)) base history before after stops stands gave_up kept = kept (λ is. cc)
+growth_ends (Err (Refused refusal)) base history before after stops stands gave_up kept = absurd gave_up
 
-pub growth_wants : (ended : Result (Unit {0}) GrowFault) (before after : FaultCounts) → GrowsUnlessFailed ended →
+pub growth_wants : (ended : Result (Unit {0}) (End GrowRefusal)) (before after : FaultCounts) → GrowthStops ended → DoneUnlessStopped ended →
     FaultCause (growing_status ended) before after → NothingFailed before after → IsDoneOrWants (growing_status ended)
-growth_wants (Ok done) before after gave_up rose none = inl refl
-growth_wants (Err grow.Failed) before after gave_up rose none = absurd (none.bench rose.0)
-growth_wants (Err grow.NoMemory) before after gave_up rose none = inr refl
-growth_wants ended before after gave_up rose none = absurd gave_up
+growth_wants (Ok done) before after stops gave_up rose none = inl refl
+growth_wants (Err (Stopped stop.Input)) before after stops gave_up rose none = absurd stops
+growth_wants (Err (Stopped stop.Limit)) before after stops gave_up rose none = absurd stops
+growth_wants (Err (Stopped stop.Bench)) before after stops gave_up rose none = absurd (none.bench rose.0)
+growth_wants (Err (Stopped stop.Spare)) before after stops gave_up rose none = absurd stops
+growth_wants (Err (Stopped stop.NoMemory)) before after stops gave_up rose none = inr refl
+growth_wants (Err (Refused refusal)) before after stops gave_up rose none = absurd gave_up
 
 -- what holds unless the bench failed holds of each refusal
-pub growth_kept : {X P : Type 0} (ended : Result X GrowFault) → growing_status ended ≢ Done → growing_status ended ≢ BenchFault →
-    OnErr ended (ended ≢ Err grow.Failed → P) → P
+pub growth_kept : {X P : Type 0} (ended : Result X (End GrowRefusal)) → growing_status ended ≢ Done → growing_status ended ≢ BenchFault →
+    OnErr ended (ended ≢ Err (Stopped stop.Bench) → P) → P
 growth_kept (Ok done) undone fine kept = absurd (undone refl)
-growth_kept {X} (Err fault) undone fine kept =
-    kept (λ is. fine (subst (λ (r : Result X GrowFault). growing_status r ≡ BenchFault) (sym is) refl))
+growth_kept (Err end) undone fine kept = kept (λ is. fine (ap growing_status is))
 
-pub done_so : {X P Q : Type 0} (ended : Result X GrowFault) → (P → Q) → OnOk ended P → OnOk ended Q
+pub done_so : {X P Q : Type 0} (ended : Result X (End GrowRefusal)) → (P → Q) → OnOk ended P → OnOk ended Q
 done_so (Ok done) follows holds = follows holds
-done_so (Err fault) follows holds = tt
+done_so (Err end) follows holds = tt

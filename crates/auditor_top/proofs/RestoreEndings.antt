@@ -1,112 +1,117 @@
 -- What the end of the last step of `restore` comes to, by cases on it.
-use Rattle.std.proofs.Common.{rules, ◌≡◌, ◌≢◌, ℕ, List, Some, Result, Ok, Err, IsErrOf, OnOk, ap, refl, sym, subst, inl, inr}
+use Rattle.std.proofs.Common.{rules, ◌≡◌, ◌≢◌, ℕ, List, Some, Result, Ok, Err, IsErrOf, OnOk, refl, inl}
+use Rattle.std.specs.Prelude.{⊤, IfErr}
 use Rattle.audit_types.specs.History.{Table as Guarded}
 use Rattle.bench_core.specs.Causes.{Rose}
-use Rattle.audit_store.specs.Starting.{GivesUp}
-use Rattle.audit_store.specs.declared.starting.StartFault.{StartFault}
-use Rattle.audit_store.specs.declared.starting.StartFault.TheVariants as start
-use Rattle.twin_journal.specs.Restoring.{GivesUpRestoring, RestoreCause, RestoredUnlessGivenUp}
-use Rattle.twin_journal.specs.declared.restoring.RestoreFault.{RestoreFault}
-use Rattle.twin_journal.specs.declared.restoring.RestoreFault.TheVariants as restore
+use Rattle.bench_core.specs.Ends.{DoneUnlessStopped, EndsBy, IsRefused}
+use Rattle.bench_core.specs.EndLaws.{EndsBy-weaker}
+use Rattle.bench_core.specs.Stops.{IsOfBenches}
+use Rattle.bench_core.specs.declared.stops.End.{End}
+use Rattle.bench_core.specs.declared.stops.End.TheVariants.{Stopped, Refused}
+use Rattle.bench_core.specs.declared.stops.Stop.TheVariants as stop
+use Rattle.answer_journal.specs.declared.refusals.JournalRefusal.{JournalRefusal}
+use Rattle.answer_journal.specs.declared.refusals.JournalRefusal.TheVariants as journal
+use Rattle.twin_journal.specs.Restoring.{RestoreCause}
+use Rattle.twin_journal.specs.declared.restoring.RestoreRefusal.{RestoreRefusal}
+use Rattle.twin_journal.specs.declared.restoring.RestoreRefusal.TheVariants as restore
 use Rattle.auditor_top.specs.declared.words.Command.TheVariants.{Restore}
 use Rattle.auditor_top.specs.declared.status.Which.TheVariants.{Input}
 use Rattle.auditor_top.specs.declared.status.Status.TheVariants.{Done, SourceFault, BenchFault, SpareFault, NoMemory}
 use Rattle.auditor_top.specs.Causes.{BothCause, FaultCounts, FaultCause, WordCause, FileCause, SpareCause, NothingFailed, IsDoneOrWants}
 use Rattle.auditor_top.specs.Stages.{Before, opening_journal, reading_lines}
-use Rattle.auditor_top.specs.Faults.{restoring_status, start_status}
-use Rattle.auditor_top.proofs.StartEndings.{start_says, start_steady}
-use Rattle.auditor_top.proofs.StepFaults.{both_same}
+use Rattle.auditor_top.specs.Faults.{journal_status, restore_status, restoring_status}
+use Rattle.auditor_top.proofs.StartEndings.{refusal_says}
+use Rattle.auditor_top.proofs.StepFaults.{both_same, end_faults, end_wants}
 use Rattle.auditor_top.proofs.StepStatuses.{EndsLastStep}
 
--- a fault of the journal is its own
-abbrev pub IsOwn : {X : Type 0} → Result X RestoreFault → Type 0
-IsOwn ended = (fault : StartFault) → GivesUp fault → (ended ≢ Err (restore.Main fault)) × (ended ≢ Err (restore.Spare fault))
-
-pub own_fault : {X : Type 0} (fault : StartFault) → IsOwn {X = X} (Err (restore.Main fault)) → fault ≢ start.Failed
-own_fault fault own is = (own fault (subst GivesUp (sym is) tt)).0 refl
-
-pub own_memory : {X : Type 0} (fault : StartFault) → IsOwn {X = X} (Err (restore.Main fault)) → fault ≢ start.NoMemory
-own_memory fault own is = (own fault (subst GivesUp (sym is) tt)).0 refl
+-- a call of one of the benches ends it early, or that memory ran out
+abbrev pub RestoreStops : {X : Type 0} → Result X (End RestoreRefusal) → Type 0
+RestoreStops ended = IfErr ended (EndsBy IsOfBenches (λ _. ⊤))
 
 -- what its status says by itself
-pub record RestoreSays {X : Type 0} (ended : Result X RestoreFault) : Type 1 where
+pub record RestoreSays {X : Type 0} (ended : Result X (End RestoreRefusal)) : Type 1 where
   pub last : EndsLastStep (restoring_status ended)
   pub words : WordCause (restoring_status ended) (Some Restore)
   pub spare_file : (file : List ℕ) → SpareCause (restoring_status ended) Restore file
-  pub bench : IsOwn ended → restoring_status ended ≡ BenchFault → IsErrOf ended restore.MainFailed
-  pub spare : restoring_status ended ≡ SpareFault → IsErrOf ended restore.SpareFailed
-  pub memory : IsOwn ended → restoring_status ended ≡ NoMemory → IsErrOf ended restore.NoMemory
+  pub bench : restoring_status ended ≡ BenchFault → IsErrOf ended (Stopped stop.Bench)
+  pub spare : restoring_status ended ≡ SpareFault → IsErrOf ended (Stopped stop.Spare)
+  pub memory : restoring_status ended ≡ NoMemory → IsErrOf ended (Stopped stop.NoMemory)
   pub no_input : restoring_status ended ≢ SourceFault Input
   pub done : (P : Type 0) → restoring_status ended ≡ Done → OnOk ended P → P
   pub at_journal : (P : Type 0) → Before opening_journal (restoring_status ended) P
 
-pub restore_says : {X : Type 0} (ended : Result X RestoreFault) → RestoreSays ended
-restore_says (Err (restore.Main fault)) = let says = start_says fault in record {
+pub restore_says : {X : Type 0} (ended : Result X (End RestoreRefusal)) → RestoreStops ended → RestoreSays ended
+restore_says (Err (Stopped stop.Input)) stops = absurd stops
+restore_says (Err (Stopped stop.Limit)) stops = absurd stops
+restore_says (Err (Refused (restore.Main refusal))) stops = let says = refusal_says refusal in record {
   last = says.last;
   words = says.words Restore refl;
   spare_file = says.spare Restore;
-  bench = λ own is. absurd (own_fault fault own (says.bench is));
+  bench = λ is. absurd (says.no_bench is);
   spare = λ is. absurd (says.no_spare is);
-  memory = λ own is. absurd (own_memory fault own (says.memory is));
+  memory = λ is. absurd (says.no_memory is);
   no_input = says.no_input;
   done = λ P is holds. absurd (says.undone is);
   at_journal = says.at_journal;
 }
-restore_says ended = search rules
+restore_says ended stops = search rules
 
 -- each refusal has its cause in the journal's file, and in both
-pub restore_file : {X : Type 0} (ended : Result X RestoreFault) (file spare : List ℕ) (table : Guarded) →
-    ((fault : RestoreFault) → ended ≡ Err fault → RestoreCause fault file spare table) → FileCause (restoring_status ended) Restore file table
-restore_file (Ok done) file spare table cause = tt
-restore_file (Err restore.BothLost) file spare table cause = (cause restore.BothLost refl).0
-restore_file (Err (restore.Main fault)) file spare table cause = (start_says fault).file Restore file table (cause (restore.Main fault) refl).3
-restore_file (Err fault) file spare table cause = tt
+pub restore_file : {X : Type 0} (ended : Result X (End RestoreRefusal)) (file spare : List ℕ) (table : Guarded) → RestoreStops ended →
+    ((refusal : RestoreRefusal) → ended ≡ Err (Refused refusal) → RestoreCause refusal file spare table) → FileCause (restoring_status ended) Restore file table
+restore_file (Ok done) file spare table stops cause = tt
+restore_file (Err (Stopped stop.Input)) file spare table stops cause = absurd stops
+restore_file (Err (Stopped stop.Limit)) file spare table stops cause = absurd stops
+restore_file (Err (Stopped why)) file spare table stops cause = tt
+restore_file (Err (Refused restore.BothLost)) file spare table stops cause = (cause restore.BothLost refl).0
+restore_file (Err (Refused (restore.Main refusal))) file spare table stops cause =
+    (refusal_says refusal).file Restore file table (cause (restore.Main refusal) refl).2
+restore_file (Err (Refused refusal)) file spare table stops cause = tt
 
-pub restore_cause : {X : Type 0} (ended : Result X RestoreFault) (file spare : List ℕ) (table : Guarded) → IsOwn ended →
-    ((fault : RestoreFault) → ended ≡ Err fault → RestoreCause fault file spare table) → BothCause (restoring_status ended) Restore file spare table
-restore_cause (Ok done) file spare table own cause = tt
-restore_cause (Err restore.NothingLost) file spare table own cause = cause restore.NothingLost refl
-restore_cause (Err restore.BothLost) file spare table own cause = cause restore.BothLost refl
-restore_cause (Err (restore.Main fault)) file spare table own cause = of_main fault (cause (restore.Main fault) refl)
+pub restore_cause : {X : Type 0} (ended : Result X (End RestoreRefusal)) (file spare : List ℕ) (table : Guarded) → RestoreStops ended →
+    ((refusal : RestoreRefusal) → ended ≡ Err (Refused refusal) → RestoreCause refusal file spare table) →
+    BothCause (restoring_status ended) Restore file spare table
+restore_cause (Ok done) file spare table stops cause = tt
+restore_cause (Err (Stopped stop.Input)) file spare table stops cause = absurd stops
+restore_cause (Err (Stopped stop.Limit)) file spare table stops cause = absurd stops
+restore_cause (Err (Stopped why)) file spare table stops cause = tt
+restore_cause (Err (Refused restore.NothingLost)) file spare table stops cause = cause restore.NothingLost refl
+restore_cause (Err (Refused restore.BothLost)) file spare table stops cause = cause restore.BothLost refl
+restore_cause (Err (Refused (restore.Main refusal))) file spare table stops cause = of_main refusal (cause (restore.Main refusal) refl)
   where
-    of_main : (fault : StartFault) → RestoreCause (restore.Main fault) file spare table → BothCause (start_status fault) Restore file spare table
-    of_main start.NotMade main = absurd (main.3 main.1)
-    of_main start.Failed main = tt
-    of_main start.NoMemory main = tt
-    of_main fault main = main
-restore_cause (Err (restore.Spare fault)) file spare table own cause = cause (restore.Spare fault) refl
-restore_cause (Err fault) file spare table own cause = tt
+    of_main : (refusal : JournalRefusal) → RestoreCause (restore.Main refusal) file spare table → BothCause (journal_status refusal) Restore file spare table
+    of_main journal.NotMade main = absurd (main.2 main.1)
+    of_main refusal main = main
+restore_cause (Err (Refused (restore.Spare refusal))) file spare table stops cause = cause (restore.Spare refusal) refl
 
 -- the count of the object that failed rose, and no other count changed
-pub restore_faults : {X : Type 0} (ended : Result X RestoreFault) (before : FaultCounts) (bench spare : ℕ) → IsOwn ended →
-    (IsErrOf ended restore.MainFailed → Rose before.bench bench) → ((IsErrOf ended restore.MainFailed → ⊥) → bench ≡ before.bench) →
-    (IsErrOf ended restore.SpareFailed → Rose before.spare spare) → ((IsErrOf ended restore.SpareFailed → ⊥) → spare ≡ before.spare) →
+pub restore_faults : {X : Type 0} (ended : Result X (End RestoreRefusal)) (before : FaultCounts) (bench spare : ℕ) → RestoreStops ended →
+    (IsErrOf ended (Stopped stop.Bench) → Rose before.bench bench) → ((IsErrOf ended (Stopped stop.Bench) → ⊥) → bench ≡ before.bench) →
+    (IsErrOf ended (Stopped stop.Spare) → Rose before.spare spare) → ((IsErrOf ended (Stopped stop.Spare) → ⊥) → spare ≡ before.spare) →
     FaultCause (restoring_status ended) before (record before { bench = bench; spare = spare })
-restore_faults (Err restore.MainFailed) before bench spare own rose same spare_rose spare_same =
-    (rose refl, ap (λ (n : ℕ). record before { bench = bench; spare = n }) (spare_same (search rules)))
-restore_faults (Err restore.SpareFailed) before bench spare own rose same spare_rose spare_same =
-    (spare_rose refl, ap (λ (n : ℕ). record before { bench = n; spare = spare }) (same (search rules)))
-restore_faults (Err (restore.Main fault)) before bench spare own rose same spare_rose spare_same =
-    subst (λ (after : FaultCounts). FaultCause (start_status fault) before after)
-    (sym (both_same before bench spare (same (search rules)) (spare_same (search rules))))
-    (start_steady fault before (own_fault fault own))
-restore_faults ended before bench spare own rose same spare_rose spare_same = both_same before bench spare (same (search rules)) (spare_same (search rules))
+restore_faults (Ok done) before bench spare stops rose same spare_rose spare_same =
+    both_same before bench spare (same (λ is. cc)) (spare_same (λ is. cc))
+restore_faults (Err end) before bench spare stops rose same spare_rose spare_same =
+    end_faults restore_status end before bench spare
+    (EndsBy-weaker end IsOfBenches IsOfBenches _ _ (λ why is. is) (λ refusal is. steady refusal) stops) rose same spare_rose spare_same
+  where
+    steady : (refusal : RestoreRefusal) → FaultCause (restore_status refusal) before before
+    steady (restore.Main refusal) = (refusal_says refusal).steady before
+    steady refusal = refl
 
 -- if one can be restored and nothing failed, it is done, or there was no memory
-pub restore_wants : {X : Type 0} (ended : Result X RestoreFault) (before after : FaultCounts) →
-    ((fault : RestoreFault) → ended ≡ Err fault → RestoredUnlessGivenUp (Err fault)) → FaultCause (restoring_status ended) before after →
-    NothingFailed before after → (Rose before.spare after.spare → ⊥) → IsDoneOrWants (restoring_status ended)
-restore_wants (Ok done) before after gave rose none fine = inl refl
-restore_wants (Err restore.MainFailed) before after gave rose none fine = absurd (none.bench rose.0)
-restore_wants (Err restore.SpareFailed) before after gave rose none fine = absurd (fine rose.0)
-restore_wants (Err restore.NoMemory) before after gave rose none fine = inr refl
-restore_wants (Err fault) before after gave rose none fine = absurd (gave fault refl)
+pub restore_wants : {X : Type 0} (ended : Result X (End RestoreRefusal)) (before after : FaultCounts) → RestoreStops ended → DoneUnlessStopped ended →
+    FaultCause (restoring_status ended) before after → NothingFailed before after → (Rose before.spare after.spare → ⊥) →
+    IsDoneOrWants (restoring_status ended)
+restore_wants (Ok done) before after stops gave rose none fine = inl refl
+restore_wants (Err end) before after stops gave rose none fine = end_wants restore_status end before after stops gave rose none fine
 
 -- before the lines what was only read is as it was
-pub restore_at_lines : {X : Type 0} (P : Type 0) (ended : Result X RestoreFault) →
-    ((fault : RestoreFault) → ended ≡ Err fault → (GivesUpRestoring fault → ⊥) → P) → Before reading_lines (restoring_status ended) P
-restore_at_lines P (Err restore.NothingLost) holds = holds restore.NothingLost refl (λ gave. gave)
-restore_at_lines P (Err restore.BothLost) holds = holds restore.BothLost refl (λ gave. gave)
-restore_at_lines P (Err (restore.Main fault)) holds = (start_says fault).at_lines P (holds (restore.Main fault) refl (λ gave. gave))
-restore_at_lines P (Err (restore.Spare fault)) holds = holds (restore.Spare fault) refl (λ gave. gave)
-restore_at_lines P ended holds = tt
+pub restore_at_lines : {X : Type 0} (P : Type 0) (ended : Result X (End RestoreRefusal)) → RestoreStops ended → (IsRefused ended → P) →
+    Before reading_lines (restoring_status ended) P
+restore_at_lines P (Ok done) stops holds = tt
+restore_at_lines P (Err (Stopped stop.Input)) stops holds = absurd stops
+restore_at_lines P (Err (Stopped stop.Limit)) stops holds = absurd stops
+restore_at_lines P (Err (Stopped why)) stops holds = tt
+restore_at_lines P (Err (Refused (restore.Main refusal))) stops holds = (refusal_says refusal).at_lines P (holds tt)
+restore_at_lines P (Err (Refused refusal)) stops holds = holds tt

@@ -1,24 +1,28 @@
 -- What the end of the last step of `init` and of `serve` comes to, by cases on it.
 use Rattle.std.proofs.Common.{rules, ◌≡◌, ◌≢◌, ℕ, ◌+◌, ◌<◌, ◌≤◌, List, true, [], Result, Ok, Err, IfErr, IsErr, IsErrOf, OnOk, length, refl, sym, ◌∙◌, ap, inl, inr, arith, subst, Some}
+use Rattle.std.specs.Prelude.{⊤}
 use Rattle.std.proofs.lemmas.Bool.{false≢true}
 use Rattle.audit_types.specs.declared.records.Answered.{Answered}
 use Rattle.bench_core.specs.Causes.{Rose}
-use Rattle.bench_core.specs.Stops.{IsOfBench}
+use Rattle.bench_core.specs.Ends.{EndsBy, IsRefused, IsStopped}
+use Rattle.bench_core.specs.EndLaws.{EndsBy-weaker, not_stopped_by}
+use Rattle.bench_core.specs.Stops.{IsOfBench, IsOfBenches, of_benches}
+use Rattle.bench_core.specs.declared.stops.End.{End}
+use Rattle.bench_core.specs.declared.stops.End.TheVariants.{Stopped, Refused}
 use Rattle.bench_core.specs.declared.stops.Stop.{Stop}
 use Rattle.bench_core.specs.declared.stops.Stop.TheVariants as stop
 use Rattle.audit_types.specs.History.{Table as Guarded}
 use Rattle.table_load.specs.Database.{Database}
 use Rattle.journal_form.specs.Journal.{StandsFor}
 use Rattle.answer_journal.specs.Moments.{IsAlready, IsMade}
-use Rattle.answer_journal.specs.declared.make.MakeFault.{MakeFault}
-use Rattle.answer_journal.specs.declared.make.MakeFault.TheVariants as make
+use Rattle.answer_journal.specs.declared.refusals.AlreadyThere.{AlreadyThere as There}
 use Rattle.line_wire.specs.Lines.{counted_lines, most_input}
 use Rattle.audit_session.specs.Ends.{Serves, ServesWhole, ServesSome, limited}
 use Rattle.auditor_top.specs.declared.words.Command.{Command}
 use Rattle.auditor_top.specs.declared.words.Command.TheVariants.{Init}
 use Rattle.auditor_top.specs.declared.status.Status.{Status}
-use Rattle.auditor_top.specs.declared.status.Status.TheVariants.{Done, BenchFault, SourceFault, SpareFault, NoMemory}
-use Rattle.auditor_top.specs.Faults.{ended_status, making_status}
+use Rattle.auditor_top.specs.declared.status.Status.TheVariants.{Done, AlreadyThere, BenchFault, SourceFault, SpareFault, NoMemory}
+use Rattle.auditor_top.specs.Faults.{end_status, ended_status, making_status, stop_status}
 use Rattle.auditor_top.specs.Ends.{Outside, ServeEnds}
 use Rattle.auditor_top.specs.Causes.{FaultCounts, counts, FaultCause, FileCause, IsReadyFor, IsSpareFor, InputCause, NothingFailed, IsDoneOrWants, SpareCause, WordCause}
 use Rattle.auditor_top.specs.declared.status.Which.TheVariants.{Input}
@@ -53,20 +57,28 @@ not_made file absent made = grind arith
 
 -- ---- what a status says by itself
 
--- of making a journal
-pub record MakingSays {X : Type 0} (ended : Result X MakeFault) : Type 1 where
+-- of making a journal, which only a call of the bench ends early
+abbrev pub MakingStops : {X : Type 0} → Result X (End There) → Type 0
+MakingStops ended = IfErr ended (EndsBy (λ why. why ≡ stop.Bench) (λ _. ⊤))
+
+pub record MakingSays {X : Type 0} (ended : Result X (End There)) : Type 1 where
   pub last : EndsLastStep (making_status ended)
   pub words : WordCause (making_status ended) (Some Init)
-  pub bench : making_status ended ≡ BenchFault → IsErrOf ended make.Failed
+  pub bench : making_status ended ≡ BenchFault → IsErrOf ended (Stopped stop.Bench)
   pub no_input : making_status ended ≢ SourceFault Input
   pub no_memory : making_status ended ≢ NoMemory
   pub done : (P : Type 0) → making_status ended ≡ Done → OnOk ended P → P
   -- before the lines it ends only if a journal or another file was there
-  pub at_lines : (P : Type 0) → (IsErrOf ended make.AlreadyThere → P) → Before reading_lines (making_status ended) P
+  pub at_lines : (P : Type 0) → (IsRefused ended → P) → Before reading_lines (making_status ended) P
 
-pub making_says : {X : Type 0} (ended : Result X MakeFault) → MakingSays ended
-making_says (Err make.AlreadyThere) = search rules
-making_says ended = search rules
+pub making_says : {X : Type 0} (ended : Result X (End There)) → MakingStops ended → MakingSays ended
+making_says (Ok done) stops = search rules
+making_says (Err (Stopped stop.Input)) stops = let none : ⊥ = cc in absurd none
+making_says (Err (Stopped stop.Limit)) stops = let none : ⊥ = cc in absurd none
+making_says (Err (Stopped stop.Bench)) stops = search rules
+making_says (Err (Stopped stop.Spare)) stops = let none : ⊥ = cc in absurd none
+making_says (Err (Stopped stop.NoMemory)) stops = let none : ⊥ = cc in absurd none
+making_says (Err (Refused there)) stops = search rules
 
 -- and of a step that only a call of the outside ends early
 pub record StopSays {X : Type 0} (ended : Result X Stop) : Type 1 where
@@ -86,41 +98,85 @@ pub stop_says : {X : Type 0} (ended : Result X Stop) → StopSays ended
 stop_says (Err stop.Input) = search rules
 stop_says ended = search rules
 
+-- ---- the end of a step that may be refused
+
+-- the count of what failed rose, and no other changed
+pub end_faults : {X R : Type 0} (name : R → Status) (end : End R) (before : FaultCounts) (bench spare : ℕ) →
+    EndsBy IsOfBenches (λ refusal. FaultCause (name refusal) before before) end →
+    (IsErrOf {T = X} (Err end) (Stopped stop.Bench) → Rose before.bench bench) → ((IsErrOf {T = X} (Err end) (Stopped stop.Bench) → ⊥) → bench ≡ before.bench) →
+    (IsErrOf {T = X} (Err end) (Stopped stop.Spare) → Rose before.spare spare) → ((IsErrOf {T = X} (Err end) (Stopped stop.Spare) → ⊥) → spare ≡ before.spare) →
+    FaultCause (end_status name end) before (record before { bench = bench; spare = spare })
+end_faults name (Stopped stop.Input) before bench spare by rose same spare_rose spare_same = absurd by
+end_faults name (Stopped stop.Limit) before bench spare by rose same spare_rose spare_same = absurd by
+end_faults name (Stopped stop.Bench) before bench spare by rose same spare_rose spare_same =
+    (rose refl, ap (λ (n : ℕ). record before { bench = bench; spare = n }) (spare_same (λ is. cc)))
+end_faults name (Stopped stop.Spare) before bench spare by rose same spare_rose spare_same =
+    (spare_rose refl, ap (λ (n : ℕ). record before { bench = n; spare = spare }) (same (λ is. cc)))
+end_faults name (Stopped stop.NoMemory) before bench spare by rose same spare_rose spare_same =
+    both_same before bench spare (same (λ is. cc)) (spare_same (λ is. cc))
+end_faults name (Refused refusal) before bench spare by rose same spare_rose spare_same =
+    subst (λ (after : FaultCounts). FaultCause (name refusal) before after)
+    (sym (both_same before bench spare (same (λ is. cc)) (spare_same (λ is. cc)))) by
+
+-- the same of one bench
+pub bench_faults : {X R : Type 0} (name : R → Status) (end : End R) (before : FaultCounts) (bench : ℕ) →
+    EndsBy IsOfBench (λ refusal. FaultCause (name refusal) before before) end →
+    (IsErrOf {T = X} (Err end) (Stopped stop.Bench) → Rose before.bench bench) → ((IsErrOf {T = X} (Err end) (Stopped stop.Bench) → ⊥) → bench ≡ before.bench) →
+    FaultCause (end_status name end) before (record before { bench = bench })
+bench_faults {X} name end before bench by rose same =
+    end_faults {X = X} name end before bench before.spare (EndsBy-weaker end IsOfBench IsOfBenches _ _ of_benches (λ refusal is. is) by) rose same
+    (λ is. absurd (not_stopped_by end IsOfBench _ stop.Spare (λ no. no) by is)) (λ other. refl)
+
+-- if what isn't refused can't be stopped, memory ran out
+pub end_wants : {R : Type 0} (name : R → Status) (end : End R) (before after : FaultCounts) → EndsBy IsOfBenches (λ _. ⊤) end → IsStopped end →
+    FaultCause (end_status name end) before after → NothingFailed before after → (Rose before.spare after.spare → ⊥) →
+    IsDoneOrWants (end_status name end)
+end_wants name (Stopped stop.Input) before after by stopped rose none fine = absurd by
+end_wants name (Stopped stop.Limit) before after by stopped rose none fine = absurd by
+end_wants name (Stopped stop.Bench) before after by stopped rose none fine = absurd (none.bench rose.0)
+end_wants name (Stopped stop.Spare) before after by stopped rose none fine = absurd (fine rose.0)
+end_wants name (Stopped stop.NoMemory) before after by stopped rose none fine = inr refl
+end_wants name (Refused refusal) before after by stopped rose none fine = absurd stopped
+
 -- ---- making a journal
 
 -- the count of the bench rose if a call of it failed, and no other count changed
-pub making_faults : (making : Result (Unit {0}) MakeFault) (before : FaultCounts) (bench : ℕ) → (IsErrOf making make.Failed → Rose before.bench bench)
-    → ((IsErrOf making make.Failed → ⊥) → bench ≡ before.bench)
+pub making_faults : (making : Result (Unit {0}) (End There)) (before : FaultCounts) (bench : ℕ) → MakingStops making →
+    (IsErrOf making (Stopped stop.Bench) → Rose before.bench bench) → ((IsErrOf making (Stopped stop.Bench) → ⊥) → bench ≡ before.bench)
     → FaultCause (making_status making) before (record before { bench = bench })
-making_faults (Err make.Failed) before bench rose same = (rose refl, refl)
-making_faults making before bench rose same = same_counts before before.input bench refl (same (search rules))
+making_faults (Ok done) before bench stops rose same = same_counts before before.input bench refl (same (λ is. cc))
+making_faults (Err end) before bench stops rose same =
+    bench_faults (λ there. AlreadyThere) end before bench
+    (EndsBy-weaker end (λ why. why ≡ stop.Bench) IsOfBench _ _ (λ why is. subst IsOfBench (sym is) tt) (λ there is. refl) stops) rose same
 
 -- a journal was made where none was there
-pub making_cause : (making : Result (Unit {0}) MakeFault) (file : List ℕ) (table : Guarded) → (IsAlready file → IsErr making)
-    → (IsErrOf making make.AlreadyThere → IsAlready file) → FileCause (making_status making) Init file table
-making_cause (Ok done) file table refused already = λ there. absurd (false≢true (refused there))
-making_cause (Err make.AlreadyThere) file table refused already = already refl
-making_cause (Err make.Failed) file table refused already = tt
+pub making_cause : (making : Result (Unit {0}) (End There)) (file : List ℕ) (table : Guarded) → MakingStops making → (IsAlready file → IsErr making)
+    → (IsRefused making → IsAlready file) → FileCause (making_status making) Init file table
+making_cause (Ok done) file table stops refused already = λ there. absurd (false≢true (refused there))
+making_cause (Err (Stopped why)) file table stops refused already =
+    subst (λ (s : Stop). FileCause (stop_status s) Init file table) (sym stops) tt
+making_cause (Err (Refused there)) file table stops refused already = already tt
 
 -- if nothing was there and the bench didn't fail, it is done
-pub making_wants : (making : Result (Unit {0}) MakeFault) (before after : FaultCounts) → (IsErrOf making make.AlreadyThere → ⊥)
+pub making_wants : (making : Result (Unit {0}) (End There)) (before after : FaultCounts) → MakingStops making → (IsRefused making → ⊥)
     → FaultCause (making_status making) before after → NothingFailed before after → IsDoneOrWants (making_status making)
-making_wants (Ok done) before after absent rose none = inl refl
-making_wants (Err make.AlreadyThere) before after absent rose none = absurd (absent refl)
-making_wants (Err make.Failed) before after absent rose none = absurd (none.bench rose.0)
+making_wants (Ok done) before after stops absent rose none = inl refl
+making_wants (Err (Stopped why)) before after stops absent rose none =
+    let failed = subst (λ (s : Stop). FaultCause (stop_status s) before after) stops rose in absurd (none.bench failed.0)
+making_wants (Err (Refused there)) before after stops absent rose none = absurd (absent tt)
 
 -- if the bench didn't fail, a journal was made, or one or another file was there
-pub made_or_there : {P : Type 0} (making : Result (Unit {0}) MakeFault) → making_status making ≢ BenchFault → OnOk making P →
-    (IsErrOf making make.AlreadyThere → P) → P
-made_or_there (Ok done) fine made there = made
-made_or_there (Err make.AlreadyThere) fine made there = there refl
-made_or_there (Err make.Failed) fine made there = absurd (fine refl)
+pub made_or_there : {P : Type 0} (making : Result (Unit {0}) (End There)) → MakingStops making → making_status making ≢ BenchFault → OnOk making P →
+    (IsRefused making → P) → P
+made_or_there (Ok done) stops fine made there = made
+made_or_there (Err (Stopped why)) stops fine made there = absurd (fine (ap stop_status stops))
+made_or_there (Err (Refused is)) stops fine made there = there tt
 
 -- if the bench didn't fail and it isn't done, one or another file was there
-pub there_is : (making : Result (Unit {0}) MakeFault) → making_status making ≢ Done → making_status making ≢ BenchFault → IsErrOf making make.AlreadyThere
-there_is (Ok done) undone fine = absurd (undone refl)
-there_is (Err make.AlreadyThere) undone fine = refl
-there_is (Err make.Failed) undone fine = absurd (fine refl)
+pub there_is : (making : Result (Unit {0}) (End There)) → MakingStops making → making_status making ≢ Done → making_status making ≢ BenchFault → IsRefused making
+there_is (Ok done) stops undone fine = absurd (undone refl)
+there_is (Err (Stopped why)) stops undone fine = absurd (fine (ap stop_status stops))
+there_is (Err (Refused is)) stops undone fine = tt
 
 -- ---- a step that only a call of the outside ends early
 

@@ -1,5 +1,6 @@
 -- What a refusal says if the journal wasn't opened, or there was no memory to open it.
 use Rattle.std.proofs.Common.{rules, ◌≡◌, ℕ, Bool, true, false, List, Result, Ok, Err, IsErrOf, refl, sym, ap, subst}
+use Rattle.std.specs.Prelude.{⊤}
 use Rattle.std.proofs.lemmas.Bool.{false≢true, true≢false}
 use Rattle.audit_types.specs.declared.records.Answered.{Answered}
 use Rattle.audit_types.specs.History.{Protection, IsLegal, Table as Guarded}
@@ -21,23 +22,27 @@ use Rattle.set_index.specs.declared.index.IndexFault.{IndexFault}
 use Rattle.set_index.specs.declared.index.IndexFault.TheVariants as index
 use Rattle.set_index.specs.declared.index.GuardPart.{GuardPart}
 use Rattle.journal_form.specs.Journal.{StandsFor}
+use Rattle.bench_core.specs.Ends.{EndsBy, IsStopped}
+use Rattle.bench_core.specs.EndLaws.{EndsBy-weaker}
+use Rattle.bench_core.specs.Stops.{IsOfBench}
+use Rattle.bench_core.specs.declared.stops.End.{End}
+use Rattle.bench_core.specs.declared.stops.End.TheVariants.{Stopped}
+use Rattle.bench_core.specs.declared.stops.Stop.TheVariants as stop
+use Rattle.answer_journal.specs.declared.refusals.JournalRefusal.{JournalRefusal}
 use Rattle.audit_store.specs.Starting.{StartCause}
-use Rattle.audit_store.specs.Starting as starting
-use Rattle.audit_store.specs.declared.starting.StartFault.{StartFault}
-use Rattle.audit_store.specs.declared.starting.StartFault.TheVariants as start
 use Rattle.auditor_top.specs.declared.starting.NotStarted.{NotStarted}
 use Rattle.auditor_top.specs.declared.starting.NotStarted.TheVariants as began
 use Rattle.auditor_top.specs.declared.words.Command.{Command}
 use Rattle.auditor_top.specs.declared.words.Command.TheVariants.{Init, Serve, Audit, Simulate, Drill, Grow, Explain, Compact, Restore}
-use Rattle.auditor_top.specs.Faults.{index_status, start_status, started_status}
+use Rattle.auditor_top.specs.Faults.{index_status, journal_status, start_status, started_status}
 use Rattle.auditor_top.specs.Causes.{FaultCounts, FaultCause, FileCause, OpeningCause, counts}
 use Rattle.auditor_top.specs.Commands.{AreSoundFilesOf, ServesOver, comes_to_journal, opens_journal, opens_store, reads_files, reads_groups}
 use Rattle.auditor_top.specs.Ready.{IsGiven, Refuses}
 use Rattle.auditor_top.proofs.GroupRefusals.{groups_refused, group_gives_up}
 use Rattle.auditor_top.proofs.OneTable.{same_ok, one_base, table_is_ok}
 use Rattle.auditor_top.proofs.LastSteps.{groups_so, schema_so, table_so}
-use Rattle.auditor_top.proofs.StartEndings.{start_says}
-use Rattle.auditor_top.proofs.StepFaults.{moved, same_counts}
+use Rattle.auditor_top.proofs.StartEndings.{refusal_says, start_says}
+use Rattle.auditor_top.proofs.StepFaults.{bench_faults, moved}
 use Rattle.auditor_top.proofs.StepStatuses.{no_schema_fault, no_table_fault, past_journal, past_table, schema_was_read, table_was_read}
 
 -- a command that opens a store opens the journal, and refuses it as a start does
@@ -54,18 +59,13 @@ comes_too Simulate opens = refl
 comes_too (Drill number) opens = opens
 comes_too asked opens = refl
 
-refused_so : (fault : StartFault) (asked : Command) (file : List ℕ) (table : Guarded) → opens_store asked ≡ true → StartCause fault file table →
-    OpeningCause fault asked file table
-refused_so fault Init file table opens cause = absurd (false≢true opens)
-refused_so fault Simulate file table opens cause = absurd (false≢true opens)
-refused_so fault (Drill number) file table opens cause = absurd (false≢true opens)
-refused_so fault Grow file table opens cause = absurd (false≢true opens)
-refused_so fault asked file table opens cause = cause
-
-start_faults : {X : Type 0} (fault : StartFault) (before : FaultCounts) (bench : ℕ) → (IsErrOf {T = X} (Err fault) start.Failed → Rose before.bench bench) →
-    ((IsErrOf {T = X} (Err fault) start.Failed → ⊥) → bench ≡ before.bench) → FaultCause (start_status fault) before (record before { bench = bench })
-start_faults start.Failed before bench rose same = (rose refl, refl)
-start_faults fault before bench rose same = same_counts before before.input bench refl (same (search rules))
+refused_so : (refusal : JournalRefusal) (asked : Command) (file : List ℕ) (table : Guarded) → opens_store asked ≡ true → StartCause refusal file table →
+    OpeningCause refusal asked file table
+refused_so refusal Init file table opens cause = absurd (false≢true opens)
+refused_so refusal Simulate file table opens cause = absurd (false≢true opens)
+refused_so refusal (Drill number) file table opens cause = absurd (false≢true opens)
+refused_so refusal Grow file table opens cause = absurd (false≢true opens)
+refused_so refusal asked file table opens cause = cause
 
 -- what is given to a command that opens a store
 pub given_history : (asked : Command) (schema table file : List ℕ) → opens_store asked ≡ true → IsGiven asked schema table file →
@@ -124,15 +124,15 @@ module _ {P B : Type 0} (files : source.Ghosts P) (bench : Ghosts B) (law : OneL
     entries = entries;
   }
 
-  pub store_refused : {X : Type 0} (fault : StartFault) (public : PublicView) (protected : Protection) → whole public ≡ meant.public →
+  pub store_refused : {X : Type 0} (end : End JournalRefusal) (public : PublicView) (protected : Protection) → whole public ≡ meant.public →
       Protects read.columns public read.guards protected →
-      (bench.told → StartCause fault (bench.file at) (secret_table meant.secret protected) × ((history : List Answered) →
-      StandsFor (bench.file at) meant.secret.shape history → IsLegal (secret_table meant.secret protected) history → starting.GivesUp fault)) →
-      TellsFault bench at later (IsErrOf {T = X} (Err fault) start.Failed) →
-      Refuses files bench asked (start_status fault) schema later_schema table later_table at later
-  store_refused fault public protected all entries cause tells =
-      let status = start_status fault in
-      let says = start_says fault in
+      (bench.told → EndsBy IsOfBench (λ refusal. StartCause refusal (bench.file at) (secret_table meant.secret protected)) end ×
+      ((history : List Answered) → StandsFor (bench.file at) meant.secret.shape history → IsLegal (secret_table meant.secret protected) history →
+      IsStopped end)) → EndsBy IsOfBench (λ _. ⊤) end → TellsFault bench at later (IsErrOf {T = X} (Err end) (Stopped stop.Bench)) →
+      Refuses files bench asked (start_status end) schema later_schema table later_table at later
+  store_refused {X} end public protected all entries cause by tells =
+      let status = start_status end in
+      let says = start_says end by in
       let last = says.last in
       let are = λ (ptold : files.told). sound_files ptold public protected all entries in
       record {
@@ -147,7 +147,8 @@ module _ {P B : Type 0} (files : source.Ghosts P) (bench : Ghosts B) (law : OneL
               entries = subst (λ (b : Bool). OnTrue b (Protects base.columns base.public given.guards base.protected)) grouped sound;
             }) in
             subst (λ (b : Database). FileCause status asked (bench.file at) (table_in b)) one
-            (says.file asked (bench.file at) (table_in (seen public protected)) (refused_so fault asked _ _ opens (cause told).0));
+            (says.file asked (bench.file at) (table_in (seen public protected))
+            (EndsBy-weaker end IsOfBench IsOfBench _ _ (λ why is. is) (λ refusal. refused_so refusal asked _ _ opens) (cause told).0));
         own_schema_fault = no_schema_fault status last;
         own_table_fault = no_table_fault status last;
         schema_within = λ ptold. schema_was_read status last;
@@ -160,37 +161,39 @@ module _ {P B : Type 0} (files : source.Ghosts P) (bench : Ghosts B) (law : OneL
             (subst (λ (b : Database). IsLegal (table_in b) all.1) one all.2.legal));
         faults = λ input spare.
             moved status (counts (files.faults schema) (files.faults table) input (bench.faults at) spare) _ _ _ _ input (bench.faults later) spare
-            same_schema same_table (start_faults fault _ (bench.faults later) tells.failed tells.steady);
+            same_schema same_table (bench_faults {X = X} journal_status end _ (bench.faults later)
+            (EndsBy-weaker end IsOfBench IsOfBench _ _ (λ why is. is) (λ refusal is. (refusal_says refusal).steady _) by) tells.failed tells.steady);
         schema_last = schema_was_read status last;
         table_last = table_was_read status last;
-        bench_last = λ is. tells.last_call (ap (λ (f : StartFault). Err f) (says.bench is));
+        bench_last = λ is. tells.last_call (ap (λ (e : End JournalRefusal). Err e) (says.bench is));
         before_table = past_table _ status last;
         before_bench = past_journal _ status last;
       }
 
 -- ---- both in one
 
-pub same_journal : {X Y : Type 0} (a b : StartFault) → ◌≡◌ {A = Result X NotStarted} (Err (began.Journal a)) (Err (began.Journal b)) → IsErrOf {T = Y} (Err a) b
+pub same_journal : {X Y : Type 0} (a b : End JournalRefusal) → ◌≡◌ {A = Result X NotStarted} (Err (began.Journal a)) (Err (began.Journal b)) → IsErrOf {T = Y} (Err a) b
 same_journal a b is = cc
 
-pub same_start : {X Y : Type 0} (a : StartFault) → IsErrOf {T = X} (Err a) start.Failed →
-    ◌≡◌ {A = Result Y NotStarted} (Err (began.Journal a)) (Err (began.Journal start.Failed))
-same_start a is = cc
+pub same_start : {X Y : Type 0} (a b : End JournalRefusal) → IsErrOf {T = X} (Err a) b →
+    ◌≡◌ {A = Result Y NotStarted} (Err (began.Journal a)) (Err (began.Journal b))
+same_start a b is = cc
 
 pub not_started : {P B X : Type 0} (files : source.Ghosts P) (bench : Ghosts B) (law : OneListOfEntries) (asked : Command)
     (schema later_schema table later_table : P) (at later : B) (opens : opens_store asked ≡ true) (read : SchemaView) (meant : TableView)
     (schema_is : files.told → schema_of (files.left schema) ≡ Ok read) (table_is : files.told → table_of read.columns (files.left table) ≡ Ok meant)
     (same_schema : files.faults later_schema ≡ files.faults schema) (same_table : files.faults later_table ≡ files.faults table) (fault : NotStarted) →
     ((found : GuardPart) → ◌≡◌ {A = Result X NotStarted} (Err fault) (Err (began.Groups (index.Bad found))) → IsFirstBad read.columns read.guards found) →
-    ((f : StartFault) → ◌≡◌ {A = Result X NotStarted} (Err fault) (Err (began.Journal f)) → (public : PublicView) × (protected : Protection) ×
+    ((end : End JournalRefusal) → ◌≡◌ {A = Result X NotStarted} (Err fault) (Err (began.Journal end)) → (public : PublicView) × (protected : Protection) ×
     (whole public ≡ meant.public) × Protects read.columns public read.guards protected ×
-    (bench.told → StartCause f (bench.file at) (secret_table meant.secret protected) ×
+    (bench.told → EndsBy IsOfBench (λ refusal. StartCause refusal (bench.file at) (secret_table meant.secret protected)) end ×
     ((history : List Answered) → StandsFor (bench.file at) meant.secret.shape history → IsLegal (secret_table meant.secret protected) history →
-    starting.GivesUp f))) → TellsFault bench at later (IsErrOf {T = X} (Err fault) (began.Journal start.Failed)) →
+    IsStopped end))) → ((end : End JournalRefusal) → ◌≡◌ {A = Result X NotStarted} (Err fault) (Err (began.Journal end)) → EndsBy IsOfBench (λ _. ⊤) end) →
+    TellsFault bench at later (IsErrOf {T = X} (Err fault) (began.Journal (Stopped stop.Bench))) →
     ((f : IndexFault) → ◌≡◌ {A = Result X NotStarted} (Err fault) (Err (began.Groups f)) → later ≡ at) →
     Refuses files bench asked (started_status fault) schema later_schema table later_table at later
 not_started {P} {B} {X} files bench law asked schema later_schema table later_table at later opens read meant schema_is table_is same_schema same_table
-    (began.Groups f) bad cause tells uncalled =
+    (began.Groups f) bad cause by tells uncalled =
     let first = λ (found : GuardPart) (is : f ≡ index.Bad found). bad found (ap (λ (g : IndexFault). Err (began.Groups g)) is) in
     subst (λ b. Refuses files bench asked (index_status f) schema later_schema table later_table at b) (sym (uncalled f refl))
     (groups_refused files bench asked schema later_schema table later_table at
@@ -205,13 +208,13 @@ not_started {P} {B} {X} files bench law asked schema later_schema table later_ta
     (subst (λ (v : SchemaView). (found : GuardPart) → f ≡ index.Bad found → IsFirstBad v.columns v.guards found)
     (same_ok (schema_of (files.left schema)) read view (schema_is ptold) all.2.files.files.schema_is) first)))
 not_started {P} {B} {X} files bench law asked schema later_schema table later_table at later opens read meant schema_is table_is same_schema same_table
-    (began.Journal f) bad cause tells uncalled =
-    let all = cause f refl in
-    store_refused files bench law asked schema later_schema table later_table at later opens read meant schema_is table_is same_schema same_table {X = X} f
+    (began.Journal end) bad cause by tells uncalled =
+    let all = cause end refl in
+    store_refused files bench law asked schema later_schema table later_table at later opens read meant schema_is table_is same_schema same_table {X = X} end
     all.0
-    all.1 all.2 all.3 all.4 (record {
+    all.1 all.2 all.3 all.4 (by end refl) (record {
       later = tells.later;
-      failed = λ is. tells.failed (same_start f is);
-      last_call = λ is. tells.last_call (same_start f is);
-      steady = λ other. tells.steady (λ is. other (same_journal f start.Failed is));
+      failed = λ is. tells.failed (same_start end (Stopped stop.Bench) is);
+      last_call = λ is. tells.last_call (same_start end (Stopped stop.Bench) is);
+      steady = λ other. tells.steady (λ is. other (same_journal end (Stopped stop.Bench) is));
     })

@@ -1,5 +1,6 @@
 -- What it comes to that two journals weren't opened, and how a session over them ended, by cases on each.
 use Rattle.std.proofs.Common.{rules, ◌≡◌, ◌≢◌, ◌+◌, ◌<◌, ◌≤◌, ℕ, List, [], length, take, true, Some, Result, Ok, Err, IsErrOf, OnOk, ap, refl, sym, ◌∙◌, subst, inl, inr, arith}
+use Rattle.std.specs.Prelude.{⊤}
 use Rattle.std.proofs.lemmas.List.{take_all, take-append-le}
 use Rattle.audit_types.specs.declared.records.Answered.{Answered}
 use Rattle.audit_types.specs.History.{Table as Guarded, IsLegal}
@@ -8,134 +9,131 @@ use Rattle.bench_core.specs.declared.stops.Stop.{Stop}
 use Rattle.bench_core.specs.declared.stops.Stop.TheVariants as stop
 use Rattle.table_load.specs.Database.{Database}
 use Rattle.audit_core.specs.LegalFronts.{legal_front}
-use Rattle.audit_store.specs.Starting.{GivesUp}
-use Rattle.audit_store.specs.declared.starting.StartFault.{StartFault}
-use Rattle.audit_store.specs.declared.starting.StartFault.TheVariants as start
+use Rattle.bench_core.specs.Ends.{EndsBy, IsRefusal, IsStopped}
+use Rattle.bench_core.specs.EndLaws.{EndsBy-weaker}
+use Rattle.bench_core.specs.Stops.{IsOfBenches}
+use Rattle.bench_core.specs.declared.stops.End.{End}
+use Rattle.bench_core.specs.declared.stops.End.TheVariants.{Stopped, Refused}
+use Rattle.answer_journal.specs.declared.refusals.JournalRefusal.{JournalRefusal}
+use Rattle.answer_journal.specs.declared.refusals.JournalRefusal.TheVariants as journal
 use Rattle.line_wire.specs.Lines.{counted_lines}
 use Rattle.audit_session.specs.Ends.{Serves, ServesWhole, ServesSome, limited}
 use Rattle.audit_session.specs.Stops.{stands_over}
-use Rattle.twin_journal.specs.Twins.{KeepWhole, TwinCause, TwinGivesUp}
-use Rattle.twin_journal.specs.declared.starting.TwinFault.{TwinFault}
-use Rattle.twin_journal.specs.declared.starting.TwinFault.TheVariants as twin
+use Rattle.twin_journal.specs.Twins.{KeepWhole, TwinCause}
+use Rattle.twin_journal.specs.declared.starting.TwinRefusal.{TwinRefusal}
+use Rattle.twin_journal.specs.declared.starting.TwinRefusal.TheVariants as twin
 use Rattle.auditor_top.specs.declared.words.Command.TheVariants.{Serve}
 use Rattle.auditor_top.specs.declared.status.Which.TheVariants.{Input}
 use Rattle.auditor_top.specs.declared.status.Status.{Status}
 use Rattle.auditor_top.specs.declared.status.Status.TheVariants.{Done, SourceFault, BenchFault, SpareFault}
-use Rattle.auditor_top.specs.Causes.{BothCause, FaultCounts, FaultCause, WordCause, FileCause, HoldsLegal, InputCause, SpareCause, NothingFailed, IsDoneOrWants}
+use Rattle.auditor_top.specs.Causes.{BothCause, FaultCounts, FaultCause, WordCause, FileCause, HoldsLegal, InputCause, SpareCause}
 use Rattle.auditor_top.specs.Ends.{Outside}
 use Rattle.auditor_top.specs.Stages.{Before, opening_spare, reading_lines}
-use Rattle.auditor_top.specs.Faults.{ended_status, start_status, twin_status}
+use Rattle.auditor_top.specs.Faults.{end_status, ended_status, journal_status, twin_status}
 use Rattle.auditor_top.specs.Twins.{BothCatchUp, TwinEnds}
-use Rattle.auditor_top.proofs.StartEndings.{start_says, start_steady}
-use Rattle.auditor_top.proofs.StepFaults.{both_same, not_both}
+use Rattle.auditor_top.proofs.StartEndings.{refusal_says}
+use Rattle.auditor_top.proofs.StepFaults.{end_faults, not_both}
 use Rattle.auditor_top.proofs.StepStatuses.{EndsLastStep}
 
 -- ---- they weren't opened
 
--- a fault of the journal or of the spare's is its own
-abbrev pub IsOwn : TwinFault → Type 0
-IsOwn (twin.Main fault) = fault ≢ start.Failed
-IsOwn fault = Unit {0}
-
-abbrev pub refusal : {X : Type 0} → TwinFault → Result X TwinFault
-refusal fault = Err fault
-
-pub own_fault : {X : Type 0} (fault : TwinFault) → ((f : StartFault) → GivesUp f → ◌≢◌ {A = Result X TwinFault} (Err fault) (Err (twin.Main f)) ×
-    ◌≢◌ {A = Result X TwinFault} (Err fault) (Err (twin.Spare f))) → IsOwn fault
-own_fault (twin.Main fault) own = λ is. (own fault (subst GivesUp (sym is) tt)).0 refl
-own_fault fault own = tt
-
 -- the status that a refusal to open them makes
-abbrev pub refused_status : {X : Type 0} → Result X TwinFault → Status
+abbrev pub refused_status : {X : Type 0} → Result X (End TwinRefusal) → Status
 refused_status (Ok done) = Done
-refused_status (Err fault) = twin_status fault
+refused_status (Err end) = end_status twin_status end
+
+abbrev pub refusal : {X : Type 0} → End TwinRefusal → Result X (End TwinRefusal)
+refusal end = Err end
+
+-- a call of one of the benches ends the opening early, or that memory ran out
+abbrev pub TwinStops : End TwinRefusal → Type 0
+TwinStops end = EndsBy IsOfBenches (λ _. ⊤) end
 
 -- what its status says by itself
-pub record TwinSays (fault : TwinFault) : Type 1 where
-  pub last : EndsLastStep (twin_status fault)
-  pub spare_file : (batch : ℕ) (file : List ℕ) → SpareCause (twin_status fault) (Serve batch true) file
-  pub input : (bytes : List ℕ) → InputCause (twin_status fault) bytes bytes
-  pub bench : IsOwn fault → twin_status fault ≡ BenchFault → fault ≡ twin.MainFailed
-  pub spare : twin_status fault ≡ SpareFault → fault ≡ twin.SpareFailed
-  pub no_input : twin_status fault ≢ SourceFault Input
-  pub undone : twin_status fault ≢ Done
+pub record TwinSays (end : End TwinRefusal) : Type 1 where
+  pub last : EndsLastStep (end_status twin_status end)
+  pub spare_file : (batch : ℕ) (file : List ℕ) → SpareCause (end_status twin_status end) (Serve batch true) file
+  pub input : (bytes : List ℕ) → InputCause (end_status twin_status end) bytes bytes
+  pub bench : end_status twin_status end ≡ BenchFault → end ≡ Stopped stop.Bench
+  pub spare : end_status twin_status end ≡ SpareFault → end ≡ Stopped stop.Spare
+  pub no_input : end_status twin_status end ≢ SourceFault Input
+  pub undone : end_status twin_status end ≢ Done
   -- before the lines what was only read is as it was, and the spare isn't called before the journal was found sound
-  pub at_lines : (P : Type 0) → ((TwinGivesUp fault → ⊥) → P) → Before reading_lines (twin_status fault) P
-  pub at_spare : (P : Type 0) → ((f : StartFault) → fault ≡ twin.Main f → P) → Before opening_spare (twin_status fault) P
+  pub at_lines : (P : Type 0) → (IsRefusal end → P) → Before reading_lines (end_status twin_status end) P
+  pub at_spare : (P : Type 0) → ((kept : JournalRefusal) → end ≡ Refused (twin.Main kept) → P) → Before opening_spare (end_status twin_status end) P
 
-pub twin_says : (fault : TwinFault) → TwinSays fault
-twin_says (twin.Main fault) = let says = start_says fault in record {
+pub twin_says : (end : End TwinRefusal) → TwinStops end → TwinSays end
+twin_says (Stopped stop.Input) stops = absurd stops
+twin_says (Stopped stop.Limit) stops = absurd stops
+twin_says (Refused (twin.Main kept)) stops = let says = refusal_says kept in record {
   last = says.last;
   spare_file = λ batch file. says.spare (Serve batch true) file;
   input = says.input;
-  bench = λ own is. absurd (own (says.bench is));
+  bench = λ is. absurd (says.no_bench is);
   spare = λ is. absurd (says.no_spare is);
   no_input = says.no_input;
   undone = says.undone;
-  at_lines = λ P holds. says.at_lines P (holds (λ gave. gave));
-  at_spare = λ P first. says.at_spare P (first fault refl);
+  at_lines = λ P holds. says.at_lines P (holds tt);
+  at_spare = λ P first. says.at_spare P (first kept refl);
 }
-twin_says fault = search rules
+twin_says end stops = search rules
 
-pub twin_words : (fault : TwinFault) (batch : ℕ) → WordCause (twin_status fault) (Some (Serve batch true))
-twin_words (twin.Main fault) batch = (start_says fault).words (Serve batch true) refl
-twin_words (twin.Differ place) batch = (batch, refl)
-twin_words fault batch = search rules
+pub twin_words : (end : End TwinRefusal) (batch : ℕ) → TwinStops end → WordCause (end_status twin_status end) (Some (Serve batch true))
+twin_words (Stopped stop.Input) batch stops = absurd stops
+twin_words (Stopped stop.Limit) batch stops = absurd stops
+twin_words (Refused (twin.Main kept)) batch stops = (refusal_says kept).words (Serve batch true) refl
+twin_words (Refused (twin.Differ place)) batch stops = (batch, refl)
+twin_words end batch stops = search rules
 
 -- the cause of each stands in the journal's file, and in both
-pub twin_file : (fault : TwinFault) (batch : ℕ) (file spare : List ℕ) (table : Guarded) → TwinCause fault file spare table →
-    FileCause (twin_status fault) (Serve batch true) file table
-twin_file (twin.Main fault) batch file spare table cause = (start_says fault).file (Serve batch true) file table cause.1
-twin_file (twin.Spare fault) batch file spare table cause = cause.0
-twin_file (twin.Differ place) batch file spare table cause = (cause.0, cause.1, cause.2.0)
-twin_file twin.MainFailed batch file spare table cause = tt
-twin_file twin.SpareFailed batch file spare table cause = cause
-twin_file twin.NoMemory batch file spare table cause = tt
+pub twin_file : (end : End TwinRefusal) (batch : ℕ) (file spare : List ℕ) (table : Guarded) →
+    EndsBy IsOfBenches (λ refused. TwinCause refused file spare table) end → (end ≡ Stopped stop.Spare → HoldsLegal file table) →
+    FileCause (end_status twin_status end) (Serve batch true) file table
+twin_file (Stopped stop.Input) batch file spare table cause second = absurd cause
+twin_file (Stopped stop.Limit) batch file spare table cause second = absurd cause
+twin_file (Stopped stop.Bench) batch file spare table cause second = tt
+twin_file (Stopped stop.Spare) batch file spare table cause second = second refl
+twin_file (Stopped stop.NoMemory) batch file spare table cause second = tt
+twin_file (Refused (twin.Main kept)) batch file spare table cause second = (refusal_says kept).file (Serve batch true) file table cause
+twin_file (Refused (twin.Spare kept)) batch file spare table cause second = cause.0
+twin_file (Refused (twin.Differ place)) batch file spare table cause second = (cause.0, cause.1, cause.2.0)
 
-pub twin_cause : (fault : TwinFault) (batch : ℕ) (file spare : List ℕ) (table : Guarded) → TwinCause fault file spare table →
-    BothCause (twin_status fault) (Serve batch true) file spare table
-twin_cause (twin.Main fault) batch file spare table cause = of_main fault
+pub twin_cause : (end : End TwinRefusal) (batch : ℕ) (file spare : List ℕ) (table : Guarded) →
+    EndsBy IsOfBenches (λ refused. TwinCause refused file spare table) end → BothCause (end_status twin_status end) (Serve batch true) file spare table
+twin_cause (Stopped stop.Input) batch file spare table cause = absurd cause
+twin_cause (Stopped stop.Limit) batch file spare table cause = absurd cause
+twin_cause (Stopped why) batch file spare table cause = tt
+twin_cause (Refused (twin.Main kept)) batch file spare table cause = of_main kept
   where
-    of_main : (fault : StartFault) → BothCause (start_status fault) (Serve batch true) file spare table
-    of_main start.NotMade = tt
-    of_main fault = tt
-twin_cause (twin.Spare fault) batch file spare table cause = cause
-twin_cause (twin.Differ place) batch file spare table cause = cause
-twin_cause fault batch file spare table cause = tt
+    of_main : (kept : JournalRefusal) → BothCause (journal_status kept) (Serve batch true) file spare table
+    of_main journal.NotMade = tt
+    of_main kept = tt
+twin_cause (Refused (twin.Spare kept)) batch file spare table cause = cause
+twin_cause (Refused (twin.Differ place)) batch file spare table cause = cause
 
 -- the count of the object that failed rose, and no other count changed
-pub twin_faults : {X : Type 0} (fault : TwinFault) (before : FaultCounts) (bench spare : ℕ) → IsOwn fault →
-    (IsErrOf {T = X} (Err fault) twin.MainFailed → Rose before.bench bench) → ((IsErrOf {T = X} (Err fault) twin.MainFailed → ⊥) → bench ≡ before.bench) →
-    (IsErrOf {T = X} (Err fault) twin.SpareFailed → Rose before.spare spare) → ((IsErrOf {T = X} (Err fault) twin.SpareFailed → ⊥) → spare ≡ before.spare) →
-    FaultCause (twin_status fault) before (record before { bench = bench; spare = spare })
-twin_faults twin.MainFailed before bench spare own rose same spare_rose spare_same =
-    (rose refl, ap (λ (n : ℕ). record before { bench = bench; spare = n }) (spare_same (λ is. cc)))
-twin_faults twin.SpareFailed before bench spare own rose same spare_rose spare_same =
-    (spare_rose refl, ap (λ (n : ℕ). record before { bench = n; spare = spare }) (same (λ is. cc)))
-twin_faults (twin.Main fault) before bench spare own rose same spare_rose spare_same =
-    subst (λ (after : FaultCounts). FaultCause (start_status fault) before after) (sym (both_same before bench spare (same (λ is. cc)) (spare_same (λ is. cc))))
-    (start_steady fault before own)
-twin_faults fault before bench spare own rose same spare_rose spare_same = both_same before bench spare (same (λ is. cc)) (spare_same (λ is. cc))
+pub twin_faults : {X : Type 0} (end : End TwinRefusal) (before : FaultCounts) (bench spare : ℕ) → TwinStops end →
+    (IsErrOf {T = X} (Err end) (Stopped stop.Bench) → Rose before.bench bench) → ((IsErrOf {T = X} (Err end) (Stopped stop.Bench) → ⊥) → bench ≡ before.bench) →
+    (IsErrOf {T = X} (Err end) (Stopped stop.Spare) → Rose before.spare spare) → ((IsErrOf {T = X} (Err end) (Stopped stop.Spare) → ⊥) → spare ≡ before.spare) →
+    FaultCause (end_status twin_status end) before (record before { bench = bench; spare = spare })
+twin_faults {X} end before bench spare stops rose same spare_rose spare_same =
+    end_faults {X = X} twin_status end before bench spare
+    (EndsBy-weaker end IsOfBenches IsOfBenches _ _ (λ why is. is) (λ refused is. steady refused) stops) rose same spare_rose spare_same
+  where
+    steady : (refused : TwinRefusal) → FaultCause (twin_status refused) before before
+    steady (twin.Main kept) = (refusal_says kept).steady before
+    steady refused = refl
 
 -- if the files keep together, a call failed or memory ran out, no line was read and nothing was sent
-pub twin_gave_up : (fault : TwinFault) (batch : ℕ) (base : Database) (main other whole : List Answered) (before after : Outside) (spare : List ℕ) →
-    TwinGivesUp fault →
-    (fault ≡ twin.NoMemory → BothCatchUp base main other whole before after after.file spare) →
-    (fault ≡ twin.SpareFailed → after ≡ before) → TwinEnds batch (twin_status fault) base main other whole before after spare
-twin_gave_up (twin.Main fault) batch base main other whole before after spare gave catch same = absurd gave
-twin_gave_up (twin.Spare fault) batch base main other whole before after spare gave catch same = absurd gave
-twin_gave_up (twin.Differ place) batch base main other whole before after spare gave catch same = absurd gave
-twin_gave_up twin.MainFailed batch base main other whole before after spare gave catch same = tt
-twin_gave_up twin.SpareFailed batch base main other whole before after spare gave catch same = inl (same refl)
-twin_gave_up twin.NoMemory batch base main other whole before after spare gave catch same = inl (catch refl)
-
-pub twin_wants : (fault : TwinFault) (before after : FaultCounts) → TwinGivesUp fault → FaultCause (twin_status fault) before after →
-    NothingFailed before after →
-    (Rose before.spare after.spare → ⊥) → IsDoneOrWants (twin_status fault)
-twin_wants twin.MainFailed before after gave rose none fine = absurd (none.bench rose.0)
-twin_wants twin.SpareFailed before after gave rose none fine = absurd (fine rose.0)
-twin_wants twin.NoMemory before after gave rose none fine = inr refl
-twin_wants fault before after gave rose none fine = absurd gave
+pub twin_gave_up : (end : End TwinRefusal) (batch : ℕ) (base : Database) (main other whole : List Answered) (before after : Outside) (spare : List ℕ) →
+    TwinStops end → IsStopped end → (end ≡ Stopped stop.NoMemory → BothCatchUp base main other whole before after after.file spare) →
+    (end ≡ Stopped stop.Spare → after ≡ before) → TwinEnds batch (end_status twin_status end) base main other whole before after spare
+twin_gave_up (Stopped stop.Input) batch base main other whole before after spare stops gave catch same = absurd stops
+twin_gave_up (Stopped stop.Limit) batch base main other whole before after spare stops gave catch same = absurd stops
+twin_gave_up (Stopped stop.Bench) batch base main other whole before after spare stops gave catch same = tt
+twin_gave_up (Stopped stop.Spare) batch base main other whole before after spare stops gave catch same = inl (same refl)
+twin_gave_up (Stopped stop.NoMemory) batch base main other whole before after spare stops gave catch same = inl (catch refl)
+twin_gave_up (Refused refused) batch base main other whole before after spare stops gave catch same = absurd gave
 
 -- ---- the lines were answered
 

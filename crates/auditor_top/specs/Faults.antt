@@ -1,24 +1,23 @@
 -- The status that a fault of a step comes to, and the one that a last step comes to by how it ended.
 use Rattle.std.specs.Prelude.{Result, Ok, Err}
-use Rattle.answer_journal.specs.declared.make.MakeFault.{MakeFault}
-use Rattle.answer_journal.specs.declared.make.MakeFault.TheVariants as make
+use Rattle.answer_journal.specs.declared.refusals.AlreadyThere.{AlreadyThere as There}
+use Rattle.answer_journal.specs.declared.refusals.JournalRefusal.{JournalRefusal}
+use Rattle.answer_journal.specs.declared.refusals.JournalRefusal.TheVariants as journal
+use Rattle.bench_core.specs.declared.stops.End.{End}
+use Rattle.bench_core.specs.declared.stops.End.TheVariants.{Stopped, Refused}
 use Rattle.bench_core.specs.declared.stops.Stop.{Stop}
 use Rattle.bench_core.specs.declared.stops.Stop.TheVariants as stop
-use Rattle.twin_journal.specs.declared.starting.TwinFault.{TwinFault}
-use Rattle.twin_journal.specs.declared.starting.TwinFault.TheVariants as twin
-use Rattle.twin_journal.specs.declared.restoring.RestoreFault.{RestoreFault}
-use Rattle.twin_journal.specs.declared.restoring.RestoreFault.TheVariants as restore
-use Rattle.audit_store.specs.declared.growing.GrowFault.{GrowFault}
-use Rattle.audit_store.specs.declared.growing.GrowFault.TheVariants as grow
-use Rattle.audit_store.specs.declared.starting.StartFault.{StartFault}
-use Rattle.audit_store.specs.declared.starting.StartFault.TheVariants as start
+use Rattle.twin_journal.specs.declared.starting.TwinRefusal.{TwinRefusal}
+use Rattle.twin_journal.specs.declared.starting.TwinRefusal.TheVariants as twin
+use Rattle.twin_journal.specs.declared.restoring.RestoreRefusal.{RestoreRefusal}
+use Rattle.twin_journal.specs.declared.restoring.RestoreRefusal.TheVariants as restore
+use Rattle.audit_store.specs.declared.growing.GrowRefusal.{GrowRefusal}
+use Rattle.audit_store.specs.declared.growing.GrowRefusal.TheVariants as grow
 use Rattle.set_index.specs.declared.index.IndexFault.{IndexFault}
 use Rattle.set_index.specs.declared.index.IndexFault.TheVariants as index
 use Rattle.set_index.specs.declared.index.GuardPart.TheVariants as part
 use Rattle.transcript_sim.specs.declared.simulating.SimulationFault.{SimulationFault}
 use Rattle.transcript_sim.specs.declared.simulating.SimulationFault.TheVariants as verdict
-use Rattle.journal_compact.specs.declared.compacting.CompactFault.{CompactFault}
-use Rattle.journal_compact.specs.declared.compacting.CompactFault.TheVariants as compact
 use Rattle.auditor_top.specs.declared.files.FileFault.TheVariants as file
 use Rattle.auditor_top.specs.declared.opening.OpenFault.{OpenFault}
 use Rattle.auditor_top.specs.declared.opening.OpenFault.TheVariants as opening
@@ -51,62 +50,45 @@ index_status (index.Bad part.Only) = BadOnly
 index_status (index.Bad (part.Group place)) = BadGroup place
 index_status index.NoMemory = NoMemory
 
--- of making a journal
-abbrev pub make_status : MakeFault → Status
-make_status make.AlreadyThere = AlreadyThere
-make_status make.Failed = BenchFault
+-- of how a step ended that isn't done: of what of the outside ended it, or of what it was refused for
+abbrev pub end_status : {R : Type 0} → (R → Status) → End R → Status
+end_status name (Stopped why) = stop_status why
+end_status name (Refused refusal) = name refusal
+
+-- of a journal that isn't gone on from
+abbrev pub journal_status : JournalRefusal → Status
+journal_status journal.NotMade = NotMade
+journal_status (journal.Damaged at) = Damaged at
+journal_status (journal.OtherShape kept now) = OtherShape kept now
+journal_status (journal.Untrue place kept now) = Untrue place kept now
+journal_status (journal.Illegal place group) = Illegal place group
 
 -- of starting a store
-abbrev pub start_status : StartFault → Status
-start_status start.NotMade = NotMade
-start_status (start.Damaged at) = Damaged at
-start_status (start.OtherShape kept now) = OtherShape kept now
-start_status (start.Untrue place kept now) = Untrue place kept now
-start_status (start.Illegal place group) = Illegal place group
-start_status start.Failed = BenchFault
-start_status start.NoMemory = NoMemory
+abbrev pub start_status : End JournalRefusal → Status
+start_status end = end_status journal_status end
 
 -- of growing a journal
-abbrev pub grow_status : GrowFault → Status
-grow_status grow.NotMade = NotMade
-grow_status (grow.Damaged at) = Damaged at
-grow_status (grow.OtherShape kept now) = OtherShape kept now
+abbrev pub grow_status : GrowRefusal → Status
+grow_status (grow.Journal refusal) = journal_status refusal
 grow_status (grow.NothingNew rows) = NothingNew rows
-grow_status (grow.Untrue place kept now) = Untrue place kept now
-grow_status (grow.Illegal place group) = Illegal place group
-grow_status grow.Failed = BenchFault
-grow_status grow.NoMemory = NoMemory
 
 -- of making the groups ready and starting the store
 abbrev pub started_status : NotStarted → Status
 started_status (starting.Groups fault) = index_status fault
-started_status (starting.Journal fault) = start_status fault
-
--- of a compaction
-abbrev pub compact_status : CompactFault → Status
-compact_status compact.AlreadyThere = SpareThere
-compact_status compact.Spare = SpareFault
-compact_status compact.Bench = BenchFault
-compact_status compact.NoMemory = NoMemory
+started_status (starting.Journal end) = start_status end
 
 -- of opening two journals
-abbrev pub twin_status : TwinFault → Status
-twin_status (twin.Main fault) = start_status fault
-twin_status (twin.Spare fault) = BadSpare fault
+abbrev pub twin_status : TwinRefusal → Status
+twin_status (twin.Main refusal) = journal_status refusal
+twin_status (twin.Spare refusal) = BadSpare refusal
 twin_status (twin.Differ place) = TwinsDiffer place
-twin_status twin.MainFailed = BenchFault
-twin_status twin.SpareFailed = SpareFault
-twin_status twin.NoMemory = NoMemory
 
 -- of restoring one
-abbrev pub restore_status : RestoreFault → Status
+abbrev pub restore_status : RestoreRefusal → Status
 restore_status restore.NothingLost = NothingLost
 restore_status restore.BothLost = NotMade
-restore_status (restore.Main fault) = start_status fault
-restore_status (restore.Spare fault) = BadSpare fault
-restore_status restore.MainFailed = BenchFault
-restore_status restore.SpareFailed = SpareFault
-restore_status restore.NoMemory = NoMemory
+restore_status (restore.Main refusal) = journal_status refusal
+restore_status (restore.Spare refusal) = BadSpare refusal
 
 -- of beginning with a journal, and reading a transcript
 abbrev pub verdict_status : SimulationFault → Status
@@ -123,14 +105,14 @@ ended_status (Ok done) = Done
 ended_status (Err why) = stop_status why
 
 -- of making a journal, by how it ended
-abbrev pub making_status : {X : Type 0} → Result X MakeFault → Status
+abbrev pub making_status : {X : Type 0} → Result X (End There) → Status
 making_status (Ok done) = Done
-making_status (Err fault) = make_status fault
+making_status (Err end) = end_status (λ there. AlreadyThere) end
 
 -- of growing a journal, by how it ended
-abbrev pub growing_status : {X : Type 0} → Result X GrowFault → Status
+abbrev pub growing_status : {X : Type 0} → Result X (End GrowRefusal) → Status
 growing_status (Ok done) = Done
-growing_status (Err fault) = grow_status fault
+growing_status (Err end) = end_status grow_status end
 
 -- of a simulation, by how it ended
 abbrev pub simulation_status : {X : Type 0} → Result X SimulationFault → Status
@@ -138,11 +120,11 @@ simulation_status (Ok done) = Done
 simulation_status (Err fault) = verdict_status fault
 
 -- of a compaction, by how it ended
-abbrev pub compacting_status : {X : Type 0} → Result X CompactFault → Status
+abbrev pub compacting_status : {X : Type 0} → Result X (End There) → Status
 compacting_status (Ok done) = Done
-compacting_status (Err fault) = compact_status fault
+compacting_status (Err end) = end_status (λ there. SpareThere) end
 
 -- of restoring one of two journals, by how it ended
-abbrev pub restoring_status : {X : Type 0} → Result X RestoreFault → Status
+abbrev pub restoring_status : {X : Type 0} → Result X (End RestoreRefusal) → Status
 restoring_status (Ok done) = Done
-restoring_status (Err fault) = restore_status fault
+restoring_status (Err end) = end_status restore_status end

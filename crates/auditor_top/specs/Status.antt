@@ -9,7 +9,7 @@ use Rattle.question_plan.specs.Dues.{word_of}
 use Rattle.auditor_top.specs.declared.status.Which.TheVariants.{Schema, Table, Input}
 use Rattle.auditor_top.specs.declared.status.Status.{Status}
 use Rattle.auditor_top.specs.declared.status.Status.TheVariants.{Done, BadWords, BadSchema, BadTable, SourceFault, BenchFault, NotMade, AlreadyThere, Damaged, OtherShape, NothingNew, Untrue, Illegal, InputLimit, Disagrees, BadOnly, BadGroup, SpareThere, SpareFault, BadSpare, TwinsDiffer, NothingLost, NoMemory}
-use Rattle.auditor_top.specs.Faults.{start_status}
+use Rattle.auditor_top.specs.Faults.{journal_status}
 
 -- the exit status of the program
 abbrev pub status_code : Status → ℕ
@@ -107,5 +107,5 @@ plain_text other = words_of other
 
 -- what the program tells of a status: of a spare's fault what it tells of the same fault of the journal
 abbrev pub status_text : Status → List ℕ
-status_text (BadSpare fault) = codes "spare: " ++ plain_text (start_status fault)
+status_text (BadSpare refusal) = codes "spare: " ++ plain_text (journal_status refusal)
 status_text other = plain_text other

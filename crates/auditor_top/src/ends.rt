@@ -3,12 +3,11 @@ ghost use Rattle.std.specs.Prelude.{◌≡◌};
 ghost use Rattle.auditor_top.specs.Faults.{ended_status, making_status, simulation_status, growing_status, compacting_status, restoring_status};
 
 use crate::status::Status;
-use answer_journal::MakeFault;
-use audit_store::GrowFault;
-use bench_core::Stop;
-use journal_compact::CompactFault;
+use answer_journal::AlreadyThere;
+use audit_store::GrowRefusal;
+use bench_core::{End, Stop};
 use transcript_sim::SimulationFault;
-use twin_journal::RestoreFault;
+use twin_journal::RestoreRefusal;
 
 /// The status of a last step that ended so: answering lines over one journal or two, explaining them, a report, or a drill.
 pub fn ended(step: Result<(), Stop>) -> Status
@@ -21,12 +20,13 @@ pub fn ended(step: Result<(), Stop>) -> Status
 }
 
 /// The status of a making that ended so.
-pub fn made(making: Result<(), MakeFault>) -> Status
+pub fn made(making: Result<(), End<AlreadyThere>>) -> Status
     ensures { result ≡ making_status making }
 {
     match making {
         Ok(()) => Status::Done,
-        Err(fault) => Status::from(fault),
+        Err(End::Stopped(stop)) => Status::from(stop),
+        Err(End::Refused(AlreadyThere)) => Status::AlreadyThere,
     }
 }
 
@@ -41,31 +41,34 @@ pub fn judged(simulation: Result<(), SimulationFault>) -> Status
 }
 
 /// The status of a growth that ended so.
-pub fn grown(growth: Result<(), GrowFault>) -> Status
+pub fn grown(growth: Result<(), End<GrowRefusal>>) -> Status
     ensures { result ≡ growing_status growth }
 {
     match growth {
         Ok(()) => Status::Done,
-        Err(fault) => Status::from(fault),
+        Err(End::Stopped(stop)) => Status::from(stop),
+        Err(End::Refused(refusal)) => Status::from(refusal),
     }
 }
 
 /// The status of a compaction that ended so.
-pub fn compacted(compaction: Result<(), CompactFault>) -> Status
+pub fn compacted(compaction: Result<(), End<AlreadyThere>>) -> Status
     ensures { result ≡ compacting_status compaction }
 {
     match compaction {
         Ok(()) => Status::Done,
-        Err(fault) => Status::from(fault),
+        Err(End::Stopped(stop)) => Status::from(stop),
+        Err(End::Refused(AlreadyThere)) => Status::SpareThere,
     }
 }
 
 /// The status of a journal's restoring that ended so.
-pub fn restored(restoring: Result<(), RestoreFault>) -> Status
+pub fn restored(restoring: Result<(), End<RestoreRefusal>>) -> Status
     ensures { result ≡ restoring_status restoring }
 {
     match restoring {
         Ok(()) => Status::Done,
-        Err(fault) => Status::from(fault),
+        Err(End::Stopped(stop)) => Status::from(stop),
+        Err(End::Refused(refusal)) => Status::from(refusal),
     }
 }

@@ -1,15 +1,14 @@
-//! The status that the fault of each step comes to.
+//! The status that the end of each step comes to.
 use crate::files::FileFault;
 use crate::opening::OpenFault;
 use crate::starting::NotStarted;
 use crate::status::{Status, Which};
-use answer_journal::MakeFault;
-use audit_store::{GrowFault, StartFault};
-use bench_core::Stop;
-use journal_compact::CompactFault;
+use answer_journal::JournalRefusal;
+use audit_store::GrowRefusal;
+use bench_core::{End, Stop};
 use set_index::{GuardPart, IndexFault};
 use transcript_sim::SimulationFault;
-use twin_journal::{RestoreFault, TwinFault};
+use twin_journal::{RestoreRefusal, TwinRefusal};
 
 impl From<Stop> for Status {
     ghost use Rattle.std.specs.Prelude.{◌≡◌};
@@ -64,20 +63,6 @@ impl From<IndexFault> for Status {
     }
 }
 
-impl From<MakeFault> for Status {
-    ghost use Rattle.std.specs.Prelude.{◌≡◌};
-    ghost use Rattle.auditor_top.specs.Faults.{make_status};
-
-    ghost from_gives = { λ fault status. status ≡ make_status fault };
-
-    fn from(fault: MakeFault) -> Status {
-        match fault {
-            MakeFault::AlreadyThere => Status::AlreadyThere,
-            MakeFault::Failed => Status::BenchFault,
-        }
-    }
-}
-
 impl From<NotStarted> for Status {
     ghost use Rattle.std.specs.Prelude.{◌≡◌};
     ghost use Rattle.auditor_top.specs.Faults.{started_status};
@@ -87,99 +72,71 @@ impl From<NotStarted> for Status {
     fn from(fault: NotStarted) -> Status {
         match fault {
             NotStarted::Groups(fault) => Status::from(fault),
-            NotStarted::Journal(fault) => Status::from(fault),
+            NotStarted::Journal(End::Stopped(stop)) => Status::from(stop),
+            NotStarted::Journal(End::Refused(refusal)) => Status::from(refusal),
         }
     }
 }
 
-impl From<StartFault> for Status {
+impl From<JournalRefusal> for Status {
     ghost use Rattle.std.specs.Prelude.{◌≡◌};
-    ghost use Rattle.auditor_top.specs.Faults.{start_status};
+    ghost use Rattle.auditor_top.specs.Faults.{journal_status};
 
-    ghost from_gives = { λ fault status. status ≡ start_status fault };
+    ghost from_gives = { λ refusal status. status ≡ journal_status refusal };
 
-    fn from(fault: StartFault) -> Status {
-        match fault {
-            StartFault::NotMade => Status::NotMade,
-            StartFault::Damaged { at } => Status::Damaged { at },
-            StartFault::OtherShape { kept, now } => Status::OtherShape { kept, now },
-            StartFault::Untrue { place, kept, now } => Status::Untrue { place, kept, now },
-            StartFault::Illegal { place, group } => Status::Illegal { place, group },
-            StartFault::Failed => Status::BenchFault,
-            StartFault::NoMemory => Status::NoMemory,
+    fn from(refusal: JournalRefusal) -> Status {
+        match refusal {
+            JournalRefusal::NotMade => Status::NotMade,
+            JournalRefusal::Damaged { at } => Status::Damaged { at },
+            JournalRefusal::OtherShape { kept, now } => Status::OtherShape { kept, now },
+            JournalRefusal::Untrue { place, kept, now } => Status::Untrue { place, kept, now },
+            JournalRefusal::Illegal { place, group } => Status::Illegal { place, group },
         }
     }
 }
 
-impl From<GrowFault> for Status {
+impl From<GrowRefusal> for Status {
     ghost use Rattle.std.specs.Prelude.{◌≡◌};
     ghost use Rattle.auditor_top.specs.Faults.{grow_status};
 
-    ghost from_gives = { λ fault status. status ≡ grow_status fault };
+    ghost from_gives = { λ refusal status. status ≡ grow_status refusal };
 
-    fn from(fault: GrowFault) -> Status {
-        match fault {
-            GrowFault::NotMade => Status::NotMade,
-            GrowFault::Damaged { at } => Status::Damaged { at },
-            GrowFault::OtherShape { kept, now } => Status::OtherShape { kept, now },
-            GrowFault::NothingNew { rows } => Status::NothingNew { rows },
-            GrowFault::Untrue { place, kept, now } => Status::Untrue { place, kept, now },
-            GrowFault::Illegal { place, group } => Status::Illegal { place, group },
-            GrowFault::Failed => Status::BenchFault,
-            GrowFault::NoMemory => Status::NoMemory,
+    fn from(refusal: GrowRefusal) -> Status {
+        match refusal {
+            GrowRefusal::Journal(refusal) => Status::from(refusal),
+            GrowRefusal::NothingNew { rows } => Status::NothingNew { rows },
         }
     }
 }
 
-impl From<CompactFault> for Status {
+impl From<End<TwinRefusal>> for Status {
     ghost use Rattle.std.specs.Prelude.{◌≡◌};
-    ghost use Rattle.auditor_top.specs.Faults.{compact_status};
+    ghost use Rattle.auditor_top.specs.Faults.{end_status, twin_status};
 
-    ghost from_gives = { λ fault status. status ≡ compact_status fault };
+    ghost from_gives = { λ end status. status ≡ end_status twin_status end };
 
-    fn from(fault: CompactFault) -> Status {
-        match fault {
-            CompactFault::AlreadyThere => Status::SpareThere,
-            CompactFault::Spare => Status::SpareFault,
-            CompactFault::Bench => Status::BenchFault,
-            CompactFault::NoMemory => Status::NoMemory,
+    fn from(end: End<TwinRefusal>) -> Status {
+        match end {
+            End::Stopped(stop) => Status::from(stop),
+            End::Refused(TwinRefusal::Main(refusal)) => Status::from(refusal),
+            End::Refused(TwinRefusal::Spare(refusal)) => Status::BadSpare(refusal),
+            End::Refused(TwinRefusal::Differ { place }) => Status::TwinsDiffer { place },
         }
     }
 }
 
-impl From<TwinFault> for Status {
-    ghost use Rattle.std.specs.Prelude.{◌≡◌};
-    ghost use Rattle.auditor_top.specs.Faults.{twin_status};
-
-    ghost from_gives = { λ fault status. status ≡ twin_status fault };
-
-    fn from(fault: TwinFault) -> Status {
-        match fault {
-            TwinFault::Main(fault) => Status::from(fault),
-            TwinFault::Spare(fault) => Status::BadSpare(fault),
-            TwinFault::Differ { place } => Status::TwinsDiffer { place },
-            TwinFault::MainFailed => Status::BenchFault,
-            TwinFault::SpareFailed => Status::SpareFault,
-            TwinFault::NoMemory => Status::NoMemory,
-        }
-    }
-}
-
-impl From<RestoreFault> for Status {
+impl From<RestoreRefusal> for Status {
     ghost use Rattle.std.specs.Prelude.{◌≡◌};
     ghost use Rattle.auditor_top.specs.Faults.{restore_status};
 
-    ghost from_gives = { λ fault status. status ≡ restore_status fault };
+    ghost from_gives = { λ refusal status. status ≡ restore_status refusal };
 
-    fn from(fault: RestoreFault) -> Status {
-        match fault {
-            RestoreFault::NothingLost => Status::NothingLost,
-            RestoreFault::BothLost => Status::NotMade,
-            RestoreFault::Main(fault) => Status::from(fault),
-            RestoreFault::Spare(fault) => Status::BadSpare(fault),
-            RestoreFault::MainFailed => Status::BenchFault,
-            RestoreFault::SpareFailed => Status::SpareFault,
-            RestoreFault::NoMemory => Status::NoMemory,
+    fn from(refusal: RestoreRefusal) -> Status {
+        match refusal {
+            RestoreRefusal::NothingLost => Status::NothingLost,
+            RestoreRefusal::BothLost => Status::NotMade,
+            RestoreRefusal::Main(refusal) => Status::from(refusal),
+            RestoreRefusal::Spare(refusal) => Status::BadSpare(refusal),
         }
     }
 }

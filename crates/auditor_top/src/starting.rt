@@ -1,5 +1,5 @@
 //! What every command over a journal stands on, besides the files: the schema's groups are ready, and the journal is open.
-ghost use Rattle.std.specs.Prelude.{◌≡◌, ◌+◌, ℕ, List, true, IfOk, OnOk, IsErrOf, Err};
+ghost use Rattle.std.specs.Prelude.{◌≡◌, ◌+◌, ⊤, ℕ, List, true, IfOk, OnOk, IsErrOf, Err};
 ghost use Rattle.audit_types.specs.declared.records.Answered.{Answered};
 ghost use Rattle.audit_types.specs.History.{Protection, IsLegal, AreProtected};
 ghost use Rattle.bench_core.specs.Calls.{OnlyReads, TellsFault};
@@ -7,18 +7,22 @@ ghost use Rattle.schema_json.specs.SecretShape.{shape_of};
 ghost use Rattle.table_load.specs.Cells.{FitsSchema, PublicView, whole};
 ghost use Rattle.table_load.specs.Database.{secret_table};
 ghost use Rattle.journal_form.specs.Journal.{StandsFor};
-ghost use Rattle.audit_store.specs.Starting.{StartCause, GivesUp};
+ghost use Rattle.audit_store.specs.Starting.{StartCause};
 ghost use Rattle.audit_store.specs.Stores.{IsStore, IsAsLeft};
 ghost use Rattle.set_index.specs.Groups.{Protects, IsFirstBad};
 ghost use Rattle.set_index.specs.Indexed.{public_shape};
 ghost use Rattle.set_index.specs.declared.index.GuardPart.{GuardPart};
 ghost use Rattle.set_index.specs.declared.index.IndexFault.{IndexFault};
-ghost use Rattle.audit_store.specs.declared.starting.StartFault.{StartFault};
+ghost use Rattle.answer_journal.specs.declared.refusals.JournalRefusal.{JournalRefusal};
+ghost use Rattle.bench_core.specs.Ends.{EndsBy, IsStopped};
+ghost use Rattle.bench_core.specs.Stops.{IsOfBench};
+ghost use Rattle.bench_core.specs.declared.stops.End.{End};
 
 use crate::opening::Opened;
-use audit_store::{StartFault, Store};
+use answer_journal::JournalRefusal;
+use audit_store::Store;
 use audit_types::Guard;
-use bench_core::Bench;
+use bench_core::{Bench, End, Stop};
 use set_index::{Index, IndexFault, groups_of_a_schema};
 use std::alloc::Global;
 use table_load::{Secret, Table};
@@ -44,7 +48,7 @@ pub enum NotStarted {
     /// A group of the schema has a fault, or there was no memory for the groups.
     Groups(IndexFault),
     /// The journal wasn't opened.
-    Journal(StartFault),
+    Journal(End<JournalRefusal>),
 }
 
 /// Makes the groups of a table's schema ready.
@@ -85,16 +89,17 @@ pub fn start<B: Bench>(alloc: Global, opened: Opened, bench: &mut B) -> Result<S
 
     // A refusal has its cause in what the schema says is guarded, or over that without fault in the file; a legal history isn't refused.
     ensures bad { (part : GuardPart) → result ≡ Err (NotStarted.Groups (IndexFault.Bad part)) → IsFirstBad opened.schema.columns opened.schema.guards part }
-    ensures cause { (fault : StartFault) → result ≡ Err (NotStarted.Journal fault) → (public : PublicView) × (protected : Protection)
+    ensures cause { (end : End JournalRefusal) → result ≡ Err (NotStarted.Journal end) → (public : PublicView) × (protected : Protection)
         × (whole public ≡ opened.table.public) × Protects opened.schema.columns public opened.schema.guards protected
-        × (B.told → StartCause fault (B.file bench.old) (secret_table opened.table.secret protected)
-        × ((history : List Answered) → StandsFor (B.file bench.old) opened.table.secret.shape history → IsLegal (secret_table opened.table.secret protected) history → GivesUp fault)) }
+        × (B.told → EndsBy IsOfBench (λ refusal. StartCause refusal (B.file bench.old) (secret_table opened.table.secret protected)) end
+        × ((history : List Answered) → StandsFor (B.file bench.old) opened.table.secret.shape history → IsLegal (secret_table opened.table.secret protected) history → IsStopped end)) }
+    ensures ends { (end : End JournalRefusal) → result ≡ Err (NotStarted.Journal end) → EndsBy IsOfBench (λ _. ⊤) end }
 
     // The journal is only read, in two calls. One that failed is reported.
     ensures reads { OnlyReads B.Bench bench.old bench.new }
     ensures uncalled { (fault : IndexFault) → result ≡ Err (NotStarted.Groups fault) → bench.new ≡ bench.old }
     ensures ticks { B.told → OnOk result (B.moment bench.new ≡ B.moment bench.old + 2) }
-    ensures fault { TellsFault B.Bench bench.old bench.new (IsErrOf result (NotStarted.Journal StartFault.Failed)) }
+    ensures fault { TellsFault B.Bench bench.old bench.new (IsErrOf result (NotStarted.Journal (End.Stopped Stop.Bench))) }
 {
     groups_of_a_schema();
     let ReadyTable {
@@ -107,6 +112,6 @@ pub fn start<B: Bench>(alloc: Global, opened: Opened, bench: &mut B) -> Result<S
     };
     match Store::start(alloc, secret, protected, bench) {
         Ok(store) => Ok(Started { index, store }),
-        Err(fault) => Err(NotStarted::Journal(fault)),
+        Err(end) => Err(NotStarted::Journal(end)),
     }
 }

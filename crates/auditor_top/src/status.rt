@@ -2,7 +2,7 @@
 ghost use Rattle.std.specs.Prelude.{◌≡◌, IfOk, string_bytes};
 ghost use Rattle.auditor_top.specs.Status as spec;
 
-use audit_store::StartFault;
+use answer_journal::JournalRefusal;
 use audit_types::{NoMemory, Shape};
 use question_plan::Due;
 use schema_json::SchemaFault;
@@ -59,8 +59,8 @@ pub enum Status {
     SpareThere,
     /// A call on the spare failed.
     SpareFault,
-    /// The journal on the spare has this fault, one that a journal may have. It is never a failed call or that memory ran out.
-    BadSpare(StartFault),
+    /// The journal on the spare isn't gone on from.
+    BadSpare(JournalRefusal),
     /// The journal and the one on the spare hold other records from this place on, from 0.
     TwinsDiffer { place: u32 },
     /// Both journals are made, so none is to be restored.
@@ -198,7 +198,7 @@ impl fmt::Display for Status {
 
     fn fmt<W: fmt::Write>(&self, f: &mut fmt::Formatter<W>) -> fmt::Result {
         match self {
-            Status::BadSpare(fault) => write!(f, "spare: {}", Plain(Status::from(*fault))),
+            Status::BadSpare(refusal) => write!(f, "spare: {}", Plain(Status::from(*refusal))),
             plain => Plain(*plain).fmt(f),
         }
     }

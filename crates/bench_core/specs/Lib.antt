@@ -14,3 +14,5 @@ pub mod LogContents
 pub mod BenchLaws
 pub mod BenchTies
 pub mod Stops
+pub mod Ends
+pub mod EndLaws

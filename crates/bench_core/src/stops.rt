@@ -1,6 +1,8 @@
 //! What ends a call of the outside before its work is done.
 ghost use Rattle.std.specs.Prelude.{◌≡◌};
 ghost use Rattle.bench_core.specs.declared.stops.Stop.{Stop};
+ghost use Rattle.bench_core.specs.Ends.{turned_end};
+ghost use Rattle.bench_core.specs.Stops.{turned};
 
 use crate::source::Failed;
 use audit_types::NoMemory;
@@ -18,6 +20,19 @@ pub enum Stop {
     /// A call of the spare failed.
     Spare,
     NoMemory,
+}
+
+impl Stop {
+    /// The same stop, of a caller that lent its spare for the bench, and its bench for the spare.
+    pub fn turned(self) -> Stop
+        ensures { result ≡ turned self }
+    {
+        match self {
+            Stop::Bench => Stop::Spare,
+            Stop::Spare => Stop::Bench,
+            other => other,
+        }
+    }
 }
 
 impl From<NoMemory> for Stop {
@@ -55,6 +70,18 @@ impl From<Failed> for Stop {
 pub enum End<R> {
     Stopped(Stop),
     Refused(R),
+}
+
+impl<R> End<R> {
+    /// The same end, of a caller that lent its spare for the bench, and its bench for the spare.
+    pub fn turned(self) -> End<R>
+        ensures { result ≡ turned_end self }
+    {
+        match self {
+            End::Stopped(stop) => End::Stopped(stop.turned()),
+            End::Refused(refusal) => End::Refused(refusal),
+        }
+    }
 }
 
 impl<R> From<Stop> for End<R> {

@@ -22,10 +22,10 @@ use crate::laws::lines_of_replies;
 use crate::lines::drill_lines;
 use crate::summaries::summary;
 use crate::tables::{drill_schema, drill_table};
-use answer_journal::{Journal, MakeFault};
-use audit_store::{StartFault, Store};
+use answer_journal::{AlreadyThere, Journal};
+use audit_store::Store;
 use audit_types::{NoMemory, Shape};
-use bench_core::{Bench, MemoryBench, Room, SteadySource, Stop};
+use bench_core::{Bench, End, MemoryBench, Room, SteadySource, Stop};
 use schema_json::Schema;
 use set_index::{Index, IndexFault};
 use std::alloc::Global;
@@ -48,10 +48,8 @@ fn make(bench: &mut MemoryBench, shape: &Shape) -> Result<(), NoMemory>
 {
     match Journal::make(bench, shape) {
         Ok(()) => Ok(()),
-        Err(fault) => match fault {
-            MakeFault::AlreadyThere => unreachable!(),
-            MakeFault::Failed => Err(NoMemory),
-        },
+        Err(End::Stopped(_)) => Err(NoMemory),
+        Err(End::Refused(AlreadyThere)) => unreachable!(),
     }
 }
 
@@ -97,10 +95,8 @@ fn answer(
     let protected = index.protected().copy(alloc)?;
     match Store::start(alloc, secret, protected, bench) {
         Ok(mut store) => answer_over(alloc, index, &mut store, lines, bench),
-        Err(fault) => match fault {
-            StartFault::Failed | StartFault::NoMemory => Err(NoMemory),
-            _ => unreachable!(),
-        },
+        Err(End::Stopped(_)) => Err(NoMemory),
+        Err(End::Refused(_)) => unreachable!(),
     }
 }
 

@@ -6,11 +6,7 @@ use Rattle.bench_core.specs.Bench.{AppendsFront}
 use Rattle.journal_form.specs.Journal.{StandsFor}
 use Rattle.answer_journal.specs.Moments.{IsMade}
 use Rattle.answer_journal.specs.Whole.{HoldsWhole}
-use Rattle.answer_journal.specs.declared.whole.WholeFault.{WholeFault}
-use Rattle.answer_journal.specs.declared.whole.WholeFault.TheVariants as whole
 use Rattle.implied_records.specs.Kept.{IsKeptOf}
-use Rattle.journal_compact.specs.declared.compacting.CompactFault.{CompactFault}
-use Rattle.journal_compact.specs.declared.compacting.CompactFault.TheVariants as compact
 
 -- the line that tells how many records a history has, and how many of them are kept
 abbrev pub compact_line : ℕ → ℕ → List ℕ
@@ -45,9 +41,3 @@ IsUnmadeOrKept shape history before image sent = (sent ≡ before) × ((IsMade i
 abbrev pub SendsCounts : Shape → List Answered → List ℕ → List ℕ → List ℕ → List ℕ → Type 0
 SendsCounts shape history file before image sent = (image ≡ file) × ((sent ≡ before) ⊎ ((kept : List Answered) × IsKeptOf shape history kept ×
     AppendsFront before (compact_line (length history) (length kept)) sent))
-
--- the fault that a refusal to write the journal comes to
-abbrev pub whole_fault : WholeFault → CompactFault
-whole_fault whole.AlreadyThere = compact.AlreadyThere
-whole_fault whole.Failed = compact.Spare
-whole_fault whole.NoMemory = compact.NoMemory

@@ -6,4 +6,4 @@
 
 mod compacting;
 
-pub use compacting::{CompactFault, compact};
+pub use compacting::compact;

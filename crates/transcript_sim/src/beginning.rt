@@ -9,10 +9,10 @@ ghost use Rattle.bench_core.specs.declared.stops.Stop.{Stop};
 ghost use Rattle.transcript_sim.specs.Beginning.{BeginsWith, EndBegins, HistoryCause, IsUnbegun};
 
 use crate::simulating::SimulationFault;
-use answer_journal::{BackFault, Journal};
+use answer_journal::{Journal, JournalRefusal};
 use audit_core::{Core, replay};
 use audit_types::{Answered, Guard, Shape};
-use bench_core::{Bench, Stop};
+use bench_core::{Bench, End, Stop};
 use std::alloc::Global;
 
 // The audit of the history of a journal of this shape.
@@ -60,9 +60,11 @@ pub(crate) fn begin<B: Bench>(
     let protected = protected.copy(alloc)?;
     match Journal::read_back(alloc, bench) {
         Ok((journal, list)) => audited(alloc, shape, protected, journal.shape(), &list),
-        Err(BackFault::NotMade) => Ok(Core::new(alloc, shape, protected)?),
-        Err(BackFault::Damaged { at }) => Err(SimulationFault::Damaged { at }),
-        Err(BackFault::Failed) => Err(SimulationFault::Stopped(Stop::Bench)),
-        Err(BackFault::NoMemory) => Err(SimulationFault::Stopped(Stop::NoMemory)),
+        Err(End::Stopped(stop)) => Err(SimulationFault::Stopped(stop)),
+        Err(End::Refused(refusal)) => match refusal {
+            JournalRefusal::NotMade => Ok(Core::new(alloc, shape, protected)?),
+            JournalRefusal::Damaged { at } => Err(SimulationFault::Damaged { at }),
+            _ => unreachable!(),
+        },
     }
 }

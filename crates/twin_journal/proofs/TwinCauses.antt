@@ -1,210 +1,76 @@
 -- Why two journals aren't opened: one cause at most holds, and none of files that keep together.
-use Rattle.std.proofs.Common.{rules, ◌≡◌, ◌≢◌, ℕ, ◌<◌, inl, inr, ◌⊎◌, List, Result, Err, refl, sym, ap, subst, ◌∙◌, arith}
+use Rattle.std.proofs.Common.{◌≡◌, ℕ, ◌<◌, inl, inr, List, refl, sym, ap, subst, ◌∙◌, arith}
 use Rattle.std.proofs.lemmas.Bool.{cases_lt}
 use Rattle.std.proofs.lemmas.Option.{same_Some}
 use Rattle.audit_types.specs.declared.records.Answered.{Answered}
 use Rattle.audit_types.specs.declared.shapes.Shape.{Shape}
 use Rattle.audit_types.specs.History.{Table, IsLegal}
 use Rattle.journal_form.specs.Journal.{StandsAt, StandsFor}
-use Rattle.audit_store.specs.Starting.{StartCause, GivesUp}
-use Rattle.audit_store.specs.declared.starting.StartFault.{StartFault}
-use Rattle.audit_store.specs.declared.starting.StartFault.TheVariants as start
+use Rattle.bench_core.specs.Ends.{EndsBy, IsDueUnlessStopped, IsRefusal, IsStopped, refused_as, turned_end}
+use Rattle.bench_core.specs.EndLaws.{renamed_due, renamed_stopped, stopped_is_due, turned_due, turned_stopped}
+use Rattle.bench_core.specs.Stops.{IsOfBenches}
+use Rattle.bench_core.specs.declared.stops.End.{End}
+use Rattle.bench_core.specs.declared.stops.End.TheVariants.{Stopped, Refused}
+use Rattle.answer_journal.specs.declared.refusals.JournalRefusal.{JournalRefusal}
+use Rattle.audit_store.specs.Starting.{StartCause}
 use Rattle.audit_session.specs.Stops.{IsFront}
-use Rattle.twin_journal.specs.declared.starting.TwinFault.{TwinFault}
-use Rattle.twin_journal.specs.declared.starting.TwinFault.TheVariants.{Main, Spare, Differ, MainFailed, SpareFailed, NoMemory}
-use Rattle.twin_journal.specs.Twins.{DifferFirst, HoldApart, HoldsLegal, KeepTogether, Meet, TwinCause, TwinGivesUp, fault_of_main, fault_of_spare}
+use Rattle.twin_journal.specs.declared.starting.TwinRefusal.{TwinRefusal}
+use Rattle.twin_journal.specs.declared.starting.TwinRefusal.TheVariants.{Main, Spare, Differ}
+use Rattle.twin_journal.specs.Twins.{DifferFirst, HoldApart, IsDiffer, KeepTogether, Meet, TwinCause}
 use Rattle.twin_journal.proofs.CatchingUp.{get_in_whole}
 
--- what the file of the journal, or the spare's, gives up with
-pub main_gives_up : (fault : StartFault) → GivesUp fault → TwinGivesUp (fault_of_main fault)
-main_gives_up start.NotMade gives = absurd gives
-main_gives_up (start.Damaged at) gives = absurd gives
-main_gives_up (start.OtherShape kept now) gives = absurd gives
-main_gives_up (start.Untrue place kept now) gives = absurd gives
-main_gives_up (start.Illegal place group) gives = absurd gives
-main_gives_up start.Failed gives = tt
-main_gives_up start.NoMemory gives = tt
+-- the journal isn't refused
+abbrev pub IsNotMain : TwinRefusal → Type 0
+IsNotMain (Main refusal) = ⊥
+IsNotMain refusal = Unit {0}
 
-pub spare_gives_up : (fault : StartFault) → GivesUp fault → TwinGivesUp (fault_of_spare fault)
-spare_gives_up start.NotMade gives = absurd gives
-spare_gives_up (start.Damaged at) gives = absurd gives
-spare_gives_up (start.OtherShape kept now) gives = absurd gives
-spare_gives_up (start.Untrue place kept now) gives = absurd gives
-spare_gives_up (start.Illegal place group) gives = absurd gives
-spare_gives_up start.Failed gives = tt
-spare_gives_up start.NoMemory gives = tt
+-- the journals, if they differ, aren't refused for what one of them is
+pub refused_differ : {P : Type 0} (refusal : TwinRefusal) → IsDiffer refusal → ((place : ℕ) → refusal ≡ Differ place → P) → P
+refused_differ (Main refusal) is differ = absurd is
+refused_differ (Spare refusal) is differ = absurd is
+refused_differ (Differ place) is differ = differ place refl
 
--- a fault that isn't given up with is one of the journal, or of the spare
-fault_stays : (fault : StartFault) → (GivesUp fault → ⊥) → fault_of_main fault ≡ Main fault
-fault_stays start.NotMade some = refl
-fault_stays (start.Damaged at) some = refl
-fault_stays (start.OtherShape kept now) some = refl
-fault_stays (start.Untrue place kept now) some = refl
-fault_stays (start.Illegal place group) some = refl
-fault_stays start.Failed some = absurd (some tt)
-fault_stays start.NoMemory some = absurd (some tt)
-
-spare_fault_stays : (fault : StartFault) → (GivesUp fault → ⊥) → fault_of_spare fault ≡ Spare fault
-spare_fault_stays start.NotMade some = refl
-spare_fault_stays (start.Damaged at) some = refl
-spare_fault_stays (start.OtherShape kept now) some = refl
-spare_fault_stays (start.Untrue place kept now) some = refl
-spare_fault_stays (start.Illegal place group) some = refl
-spare_fault_stays start.Failed some = absurd (some tt)
-spare_fault_stays start.NoMemory some = absurd (some tt)
-
--- a fault of a file isn't one that may come whatever the file is
-abbrev pub IsOwn : TwinFault → Type 0
-IsOwn (Main fault) = GivesUp fault → ⊥
-IsOwn (Spare fault) = GivesUp fault → ⊥
-IsOwn (Differ place) = Unit {0}
-IsOwn MainFailed = Unit {0}
-IsOwn SpareFailed = Unit {0}
-IsOwn NoMemory = Unit {0}
-
-pub own_of_main : (fault : StartFault) → IsOwn (fault_of_main fault)
-own_of_main start.NotMade = λ gives. gives
-own_of_main (start.Damaged at) = λ gives. gives
-own_of_main (start.OtherShape kept now) = λ gives. gives
-own_of_main (start.Untrue place kept now) = λ gives. gives
-own_of_main (start.Illegal place group) = λ gives. gives
-own_of_main start.Failed = tt
-own_of_main start.NoMemory = tt
-
-pub own_of_spare : (fault : StartFault) → IsOwn (fault_of_spare fault)
-own_of_spare start.NotMade = λ gives. gives
-own_of_spare (start.Damaged at) = λ gives. gives
-own_of_spare (start.OtherShape kept now) = λ gives. gives
-own_of_spare (start.Untrue place kept now) = λ gives. gives
-own_of_spare (start.Illegal place group) = λ gives. gives
-own_of_spare start.Failed = tt
-own_of_spare start.NoMemory = tt
-
-pub own_of_refused : (fault : TwinFault) → TwinGivesUp fault ⊎ ((place : ℕ) × (fault ≡ Differ place)) → IsOwn fault
-own_of_refused fault (inl gives) = given_up fault gives
-  where
-    given_up : (fault : TwinFault) → TwinGivesUp fault → IsOwn fault
-    given_up (Main fault) gives = absurd gives
-    given_up (Spare fault) gives = absurd gives
-    given_up (Differ place) gives = absurd gives
-    given_up MainFailed gives = tt
-    given_up SpareFailed gives = tt
-    given_up NoMemory gives = tt
-own_of_refused fault (inr (place, is)) = subst (λ (f : TwinFault). IsOwn f) (sym is) tt
-
--- what a fault of the journal says by itself, and one of the spare
-pub record MainSays (given : StartFault) : Type 1 where
-  pub failed : given ≡ start.Failed → fault_of_main given ≡ MainFailed
-  pub of_failed : fault_of_main given ≡ MainFailed → given ≡ start.Failed
-  pub other : fault_of_main given ≢ SpareFailed
-
-pub main_says : (given : StartFault) → MainSays given
-main_says start.NoMemory = search rules
-main_says given = search rules
-
-pub record SpareSays (given : StartFault) : Type 1 where
-  pub failed : given ≡ start.Failed → fault_of_spare given ≡ SpareFailed
-  pub of_failed : fault_of_spare given ≡ SpareFailed → given ≡ start.Failed
-  pub other : fault_of_spare given ≢ MainFailed
-  pub not_main : (fault : StartFault) → fault_of_spare given ≢ Main fault
-
-pub spare_says : (given : StartFault) → SpareSays given
-spare_says start.NoMemory = search rules
-spare_says given = search rules
-
--- a refusal to open one
-abbrev pub not_started : {X : Type 0} → StartFault → Result X StartFault
-not_started fault = Err fault
-
--- the catching up isn't refused for a fault of the journal
-pub never_main : (given : TwinFault) → TwinGivesUp given ⊎ ((place : ℕ) × (given ≡ Differ place)) → (fault : StartFault) → given ≡ Main fault → ⊥
-never_main given (inl gives) fault same = let none : TwinGivesUp (Main fault) = subst (λ (f : TwinFault). TwinGivesUp f) same gives in none
-never_main given (inr (place, is)) fault same = let none : ⊥ = cc in none
-
--- if it is refused and didn't give up, they differ
-pub only_read : (given : TwinFault) → TwinGivesUp given ⊎ ((place : ℕ) × (given ≡ Differ place)) → (TwinGivesUp given → ⊥) → (P : Type 0) →
-    ((place : ℕ) → given ≡ Differ place → P) → P
-only_read given (inl gives) some P differ = absurd (some gives)
-only_read given (inr (place, is)) some P differ = differ place is
-
--- a refusal with this fault
-abbrev pub refused : {X : Type 0} → TwinFault → Result X TwinFault
-refused fault = Err fault
-
-pub never_given_up : {X : Type 0} (answer : TwinFault) → IsOwn answer → (fault : StartFault) → GivesUp fault →
-    (refused {X = X} answer ≡ refused (Main fault) → ⊥) × (refused {X = X} answer ≡ refused (Spare fault) → ⊥)
-never_given_up answer own fault gives = (
-  λ is. let same : answer ≡ Main fault = cc in
-      let at : IsOwn (Main fault) = subst (λ (f : TwinFault). IsOwn f) same own in
-      at gives,
-  λ is. let same : answer ≡ Spare fault = cc in
-      let at : IsOwn (Spare fault) = subst (λ (f : TwinFault). IsOwn f) same own in
-      at gives,
-)
+-- if the catching up is refused, they differ
+pub only_read : (end : End TwinRefusal) (P : Type 0) → EndsBy IsOfBenches IsDiffer end → IsRefusal end → ((place : ℕ) → end ≡ Refused (Differ place) → P) → P
+only_read (Stopped stop) P by refused differ = absurd refused
+only_read (Refused refusal) P by refused differ = refused_differ refusal by (λ place is. differ place (ap (λ (r : TwinRefusal). Refused r) is))
 
 module _ (file spare : List ℕ) (table : Table) where
-  -- ---- the journal has a fault
+  -- ---- the journal wasn't opened
 
-  pub main_cause : (fault : StartFault) → StartCause fault file table → TwinCause (fault_of_main fault) file spare table
-  main_cause start.NotMade cause = (λ gives. gives, cause)
-  main_cause (start.Damaged at) cause = (λ gives. gives, cause)
-  main_cause (start.OtherShape kept now) cause = (λ gives. gives, cause)
-  main_cause (start.Untrue place kept now) cause = (λ gives. gives, cause)
-  main_cause (start.Illegal place group) cause = (λ gives. gives, cause)
-  main_cause start.Failed cause = tt
-  main_cause start.NoMemory cause = tt
+  module _ (end : End JournalRefusal) where
+    main_stopped : (due : TwinRefusal) → IsStopped end → IsDueUnlessStopped due (refused_as Main end)
+    main_stopped due stopped = stopped_is_due (refused_as Main end) due (renamed_stopped Main end stopped)
 
-  pub main_due : (fault : StartFault) (due : TwinFault) → ((d : StartFault) → (GivesUp d → ⊥) → StartCause d file table → (fault ≡ d) ⊎ GivesUp fault)
-      → ((history : List Answered) → StandsFor file table.setting.shape history → IsLegal table history → GivesUp fault)
-      → (TwinGivesUp due → ⊥) → TwinCause due file spare table → (fault_of_main fault ≡ due) ⊎ TwinGivesUp (fault_of_main fault)
-  main_due fault (Main d) due opens some cause = elim (due d cause.0 cause.1) [
-    | inl is ↦ inl (ap fault_of_main is ∙ fault_stays d cause.0)
-    | inr gives ↦ inr (main_gives_up fault gives)
-  ]
-  main_due fault (Spare d) due opens some cause = inr (main_gives_up fault (opens cause.0.0 cause.0.1 cause.0.2))
-  main_due fault (Differ place) due opens some cause = inr (main_gives_up fault (opens cause.0 cause.1 cause.2.0))
-  main_due fault MainFailed due opens some cause = absurd (some tt)
-  main_due fault SpareFailed due opens some cause = absurd (some tt)
-  main_due fault NoMemory due opens some cause = absurd (some tt)
+    pub main_due : (due : TwinRefusal) → ((d : JournalRefusal) → StartCause d file table → IsDueUnlessStopped d end)
+        → ((history : List Answered) → StandsFor file table.setting.shape history → IsLegal table history → IsStopped end)
+        → TwinCause due file spare table → IsDueUnlessStopped due (refused_as Main end)
+    main_due (Main d) due opens cause = renamed_due Main end d (due d cause)
+    main_due (Spare d) due opens cause = main_stopped (Spare d) (opens cause.0.0 cause.0.1 cause.0.2)
+    main_due (Differ place) due opens cause = main_stopped (Differ place) (opens cause.0 cause.1 cause.2.0)
 
-  -- ---- it has none
+  -- ---- it was
 
-  module _ (none : (d : StartFault) → (GivesUp d → ⊥) → StartCause d file table → ⊥) where
-    -- the spare has a fault
-    pub spare_cause : (fault : StartFault) → HoldsLegal file table → StartCause fault spare table → TwinCause (fault_of_spare fault) file spare table
-    spare_cause start.NotMade holds cause = (holds, λ gives. gives, cause)
-    spare_cause (start.Damaged at) holds cause = (holds, λ gives. gives, cause)
-    spare_cause (start.OtherShape kept now) holds cause = (holds, λ gives. gives, cause)
-    spare_cause (start.Untrue place kept now) holds cause = (holds, λ gives. gives, cause)
-    spare_cause (start.Illegal place group) holds cause = (holds, λ gives. gives, cause)
-    spare_cause start.Failed holds cause = holds
-    spare_cause start.NoMemory holds cause = tt
+  module _ (none : (d : JournalRefusal) → StartCause d file table → ⊥) where
+    -- the spare wasn't
+    module _ (end : End JournalRefusal) where
+      spare_stopped : (due : TwinRefusal) → IsStopped end → IsDueUnlessStopped due (refused_as Spare (turned_end end))
+      spare_stopped due stopped =
+          stopped_is_due (refused_as Spare (turned_end end)) due (renamed_stopped Spare (turned_end end) (turned_stopped end stopped))
 
-    pub spare_due : (fault : StartFault) (due : TwinFault) → ((d : StartFault) → (GivesUp d → ⊥) → StartCause d spare table → (fault ≡ d) ⊎ GivesUp fault)
-        → ((history : List Answered) → StandsFor spare table.setting.shape history → IsLegal table history → GivesUp fault)
-        → (TwinGivesUp due → ⊥) → TwinCause due file spare table → (fault_of_spare fault ≡ due) ⊎ TwinGivesUp (fault_of_spare fault)
-    spare_due fault (Main d) due opens some cause = absurd (none d cause.0 cause.1)
-    spare_due fault (Spare d) due opens some cause = elim (due d cause.1 cause.2) [
-      | inl is ↦ inl (ap fault_of_spare is ∙ spare_fault_stays d cause.1)
-      | inr gives ↦ inr (spare_gives_up fault gives)
-    ]
-    spare_due fault (Differ place) due opens some cause = let other = cause.2.1 in inr (spare_gives_up fault (opens other.0 other.1 other.2.0))
-    spare_due fault MainFailed due opens some cause = absurd (some tt)
-    spare_due fault SpareFailed due opens some cause = absurd (some tt)
-    spare_due fault NoMemory due opens some cause = absurd (some tt)
+      pub spare_due : (due : TwinRefusal) → ((d : JournalRefusal) → StartCause d spare table → IsDueUnlessStopped d end)
+          → ((history : List Answered) → StandsFor spare table.setting.shape history → IsLegal table history → IsStopped end)
+          → TwinCause due file spare table → IsDueUnlessStopped due (refused_as Spare (turned_end end))
+      spare_due (Main d) due opens cause = absurd (none d cause)
+      spare_due (Spare d) due opens cause = renamed_due Spare (turned_end end) d (turned_due end d (due d cause.1))
+      spare_due (Differ place) due opens cause = let other = cause.2.1 in spare_stopped (Differ place) (opens other.0 other.1 other.2.0)
 
-    -- ---- the spare has none either
-
-    module _ (spare_none : (d : StartFault) → (GivesUp d → ⊥) → StartCause d spare table → ⊥) where
-      -- what is left is that they differ
-      pub left_due : (due : TwinFault) → (TwinGivesUp due → ⊥) → TwinCause due file spare table → (place : ℕ) × (due ≡ Differ place) ×
-          HoldApart file spare table place
-      left_due (Main d) some cause = absurd (none d cause.0 cause.1)
-      left_due (Spare d) some cause = absurd (spare_none d cause.1 cause.2)
-      left_due (Differ place) some cause = (place, refl, cause)
-      left_due MainFailed some cause = absurd (some tt)
-      left_due SpareFailed some cause = absurd (some tt)
-      left_due NoMemory some cause = absurd (some tt)
+    -- it was, too: what is left is that they differ
+    pub left_due : ((d : JournalRefusal) → StartCause d spare table → ⊥) → (due : TwinRefusal) → TwinCause due file spare table →
+        (place : ℕ) × (due ≡ Differ place) × HoldApart file spare table place
+    left_due spare_none (Main d) cause = absurd (none d cause)
+    left_due spare_none (Spare d) cause = absurd (spare_none d cause.1)
+    left_due spare_none (Differ place) cause = (place, refl, cause)
 
 -- ---- differences
 

@@ -1,5 +1,5 @@
 -- Two journals that were read back, and what a crash leaves of each while one of them is brought up.
-use Rattle.std.proofs.Common.{◌≡◌, inl, inr, ◌⊎◌, ℕ, ◌+◌, List, sym, ap, subst, ◌∙◌, arith}
+use Rattle.std.proofs.Common.{◌≡◌, inl, inr, ℕ, ◌+◌, List, refl, sym, ap, subst, ◌∙◌, arith}
 use Rattle.audit_types.specs.declared.records.Answered.{Answered}
 use Rattle.audit_types.specs.declared.shapes.Shape.{Shape}
 use Rattle.audit_types.specs.History.{Table, IsLegal}
@@ -7,16 +7,20 @@ use Rattle.bench_core.specs.declared.bench.Bench.{Ghosts}
 use Rattle.bench_core.specs.Calls.{IsQuiet, IsUntouched, LeavesOnly, OnlyReads}
 use Rattle.bench_core.specs.Moments.{joins, still_quiet, weakens}
 use Rattle.journal_form.specs.Journal.{StandsAt, StandsFor}
-use Rattle.audit_store.specs.Starting.{StartCause, GivesUp}
+use Rattle.bench_core.specs.Ends.{EndsBy, IsDueUnlessStopped, IsStopped}
+use Rattle.bench_core.specs.Stops.{IsOfBenches}
+use Rattle.bench_core.specs.declared.stops.End.{End}
+use Rattle.bench_core.specs.declared.stops.End.TheVariants.{Stopped, Refused}
+use Rattle.answer_journal.specs.declared.refusals.JournalRefusal.{JournalRefusal}
+use Rattle.audit_store.specs.Starting.{StartCause}
 use Rattle.audit_store.specs.Twice.{calls_to_bring_up}
-use Rattle.audit_store.specs.declared.starting.StartFault.{StartFault}
 use Rattle.audit_session.specs.Stops.{IsFront}
-use Rattle.twin_journal.specs.declared.starting.TwinFault.{TwinFault}
-use Rattle.twin_journal.specs.declared.starting.TwinFault.TheVariants.{Main, Spare, Differ, MainFailed, SpareFailed, NoMemory}
-use Rattle.twin_journal.specs.Twins.{CatchesUp, DifferFirst, HoldApart, KeepApart, KeepTogether, KeepWhole, Meet, StandsBetween, TwinCause, TwinGivesUp, calls_to_open, missing}
+use Rattle.twin_journal.specs.declared.starting.TwinRefusal.{TwinRefusal}
+use Rattle.twin_journal.specs.declared.starting.TwinRefusal.TheVariants.{Main, Spare, Differ}
+use Rattle.twin_journal.specs.Twins.{CatchesUp, DifferFirst, IsDiffer, KeepApart, KeepTogether, KeepWhole, Meet, StandsBetween, TwinCause, calls_to_open, missing}
 use Rattle.audit_session.specs.HistoryFacts.{fronts_meet}
 use Rattle.twin_journal.proofs.CatchingUp.{own_front, still_between}
-use Rattle.twin_journal.proofs.TwinCauses.{OneHistory, differ_once, left_due, meet_or_differ, meet_together, same_main, same_other, same_place, together_meet}
+use Rattle.twin_journal.proofs.TwinCauses.{OneHistory, differ_once, left_due, meet_or_differ, meet_together, refused_differ, same_main, same_other, same_place, together_meet}
 
 -- while a file is only read it stands for its own history
 pub while_read : {D : Type 0} (bench : Ghosts D) (old new : D) (shape : Shape) (history whole : List Answered) → OnlyReads bench old new → IsQuiet bench old
@@ -114,45 +118,31 @@ module _ (once : OneHistory) (table : Table) (file spare : List ℕ) (main other
 
   -- ---- the end that is due
 
-  -- if the catching up is refused, it gave up, or they differ
-  pub refused_cause : (fault : TwinFault) → TwinGivesUp fault ⊎ ((place : ℕ) × (fault ≡ Differ place)) →
-      ((place : ℕ) → fault ≡ Differ place → DifferFirst main other place)
-      → TwinCause fault file spare table
-  refused_cause fault why differ = elim why [
-    | inl gives ↦ given_up fault gives
-    | inr (place, is) ↦ subst (λ (f : TwinFault). TwinCause f file spare table) (sym is)
-        (let apart : HoldApart file spare table place = (main, stands, (legal, (other, spare_stands, (other_legal, differ place is)))) in apart)
-  ]
-    where
-      given_up : (fault : TwinFault) → TwinGivesUp fault → TwinCause fault file spare table
-      given_up (Main fault) gives = absurd gives
-      given_up (Spare fault) gives = absurd gives
-      given_up (Differ place) gives = absurd gives
-      given_up MainFailed gives = tt
-      given_up SpareFailed gives = (main, stands, legal)
-      given_up NoMemory gives = tt
+  -- if the catching up is refused, they differ
+  pub refused_cause : (refusal : TwinRefusal) → IsDiffer refusal → ((place : ℕ) → refusal ≡ Differ place → DifferFirst main other place) →
+      TwinCause refusal file spare table
+  refused_cause (Main refusal) is differ = absurd is
+  refused_cause (Spare refusal) is differ = absurd is
+  refused_cause (Differ place) is differ = (main, stands, (legal, (other, spare_stands, (other_legal, differ place refl))))
 
-  pub refused_due : (fault due : TwinFault) → TwinGivesUp fault ⊎ ((place : ℕ) × (fault ≡ Differ place)) →
-      ((place : ℕ) → fault ≡ Differ place → DifferFirst main other place)
-      → ((d : StartFault) → (GivesUp d → ⊥) → StartCause d file table → ⊥) → ((d : StartFault) → (GivesUp d → ⊥) → StartCause d spare table → ⊥)
-      → (TwinGivesUp due → ⊥) → TwinCause due file spare table → (fault ≡ due) ⊎ TwinGivesUp fault
-  refused_due fault due why differ none spare_none some cause = elim why [
-    | inl gives ↦ inr gives
-    | inr (place, is) ↦
-        let left = left_due file spare table none spare_none due some cause in
-        let same : place ≡ left.0 = differ_once main other place left.0 (differ place is)
-        (same_place once table file spare main other stands spare_stands left.0 left.2) in
-        inl (is ∙ ap (λ (n : ℕ). Differ n) same ∙ sym left.1)
-  ]
+  pub refused_due : (end : End TwinRefusal) (due : TwinRefusal) → EndsBy IsOfBenches IsDiffer end
+      → ((place : ℕ) → end ≡ Refused (Differ place) → DifferFirst main other place)
+      → ((d : JournalRefusal) → StartCause d file table → ⊥) → ((d : JournalRefusal) → StartCause d spare table → ⊥)
+      → TwinCause due file spare table → IsDueUnlessStopped due end
+  refused_due (Stopped stop) due by differ none spare_none cause = tt
+  refused_due (Refused refusal) due by differ none spare_none cause = refused_differ refusal by (λ place is.
+      let left = left_due file spare table none spare_none due cause in
+      let same : place ≡ left.0 = differ_once main other place left.0 (differ place (ap (λ (r : TwinRefusal). Refused r) is))
+      (same_place once table file spare main other stands spare_stands left.0 left.2) in
+      is ∙ ap (λ (n : ℕ). Differ n) same ∙ sym left.1)
 
-  pub refused_opens : (fault : TwinFault) → TwinGivesUp fault ⊎ ((place : ℕ) × (fault ≡ Differ place)) →
-      ((place : ℕ) → fault ≡ Differ place → DifferFirst main other place)
-      → (m o whole : List Answered) → KeepTogether table file spare m o whole → TwinGivesUp fault
-  refused_opens fault why differ m o whole keep = elim why [
-    | inl gives ↦ gives
-    | inr (place, is) ↦
-        absurd (meet_or_differ main other whole place (together_meet once table file spare main other stands spare_stands m o whole keep) (differ place is))
-  ]
+  pub refused_opens : (end : End TwinRefusal) → EndsBy IsOfBenches IsDiffer end
+      → ((place : ℕ) → end ≡ Refused (Differ place) → DifferFirst main other place)
+      → (m o whole : List Answered) → KeepTogether table file spare m o whole → IsStopped end
+  refused_opens (Stopped stop) by differ m o whole keep = tt
+  refused_opens (Refused refusal) by differ m o whole keep = refused_differ refusal by (λ place is.
+      meet_or_differ main other whole place (together_meet once table file spare main other stands spare_stands m o whole keep)
+      (differ place (ap (λ (r : TwinRefusal). Refused r) is)))
 
   module _ (now : List Answered) (meet : Meet main other now) where
     -- if it isn't, the files keep together, with the history that both then stand for
@@ -162,10 +152,10 @@ module _ (once : OneHistory) (table : Table) (file spare : List ℕ) (main other
     pub caught_longer : (m o whole : List Answered) → KeepTogether table file spare m o whole → now ≡ whole
     caught_longer m o whole keep = meet_once main other now whole meet (together_meet once table file spare main other stands spare_stands m o whole keep)
 
-    pub caught_due : ((d : StartFault) → (GivesUp d → ⊥) → StartCause d file table → ⊥) → ((d : StartFault) → (GivesUp d → ⊥) → StartCause d spare table → ⊥)
-        → (due : TwinFault) → (TwinGivesUp due → ⊥) → TwinCause due file spare table → ⊥
-    caught_due none spare_none due some cause =
-        let left = left_due file spare table none spare_none due some cause in
+    pub caught_due : ((d : JournalRefusal) → StartCause d file table → ⊥) → ((d : JournalRefusal) → StartCause d spare table → ⊥)
+        → (due : TwinRefusal) → TwinCause due file spare table → ⊥
+    caught_due none spare_none due cause =
+        let left = left_due file spare table none spare_none due cause in
         meet_or_differ main other now left.0 meet (same_place once table file spare main other stands spare_stands left.0 left.2)
 
     -- and so many calls were made

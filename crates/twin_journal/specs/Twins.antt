@@ -1,5 +1,5 @@
 -- Two journals of one table, on a bench and on a spare, of which one history begins the other.
-use Rattle.std.specs.Prelude.{◌≡◌, ◌≢◌, ◌⊎◌, ℕ, ◌+◌, ◌<◌, true, List, length, drop, slice_get, Some, Result, Ok, Err}
+use Rattle.std.specs.Prelude.{◌≡◌, ◌≢◌, ◌⊎◌, ℕ, ◌+◌, ◌<◌, true, List, length, drop, slice_get, Some}
 use Rattle.audit_types.specs.declared.records.Answered.{Answered}
 use Rattle.audit_types.specs.declared.shapes.Shape.{Shape}
 use Rattle.audit_types.specs.History.{Table, IsLegal}
@@ -7,14 +7,12 @@ use Rattle.table_load.specs.Database.{Database}
 use Rattle.journal_form.specs.Journal.{StandsAt, StandsFor}
 use Rattle.answer_journal.specs.Contents.{JournalContents}
 use Rattle.audit_store.specs.Stores.{StoreContents}
-use Rattle.audit_store.specs.Starting.{StartCause, StandsForOne, GivesUp}
-use Rattle.audit_store.specs.declared.starting.StartFault.{StartFault}
-use Rattle.audit_store.specs.declared.starting.StartFault.TheVariants as start
+use Rattle.audit_store.specs.Starting.{StartCause, StandsForOne}
 use Rattle.audit_store.specs.Twice.{calls_to_bring_up}
 use Rattle.line_wire.specs.Lines.{CountedLine}
 use Rattle.audit_session.specs.Stops.{IsFront, SpareStops, StopsOver}
-use Rattle.twin_journal.specs.declared.starting.TwinFault.{TwinFault}
-use Rattle.twin_journal.specs.declared.starting.TwinFault.TheVariants.{Main, Spare, Differ, MainFailed, SpareFailed, NoMemory}
+use Rattle.twin_journal.specs.declared.starting.TwinRefusal.{TwinRefusal}
+use Rattle.twin_journal.specs.declared.starting.TwinRefusal.TheVariants.{Main, Spare, Differ}
 
 -- a twin store as contracts see it: the store of the journal on the bench, and the journal on the spare
 pub record TwinContents : Type 0 where
@@ -74,52 +72,16 @@ abbrev pub HoldApart : List ℕ → List ℕ → Table → ℕ → Type 0
 HoldApart file spare table place =
     StandsForOne file table.setting.shape (λ main. IsLegal table main × StandsForOne spare table.setting.shape (λ other. IsLegal table other × DifferFirst main other place))
 
--- why no twin store was started. The spare is looked at only if the journal has no fault
-abbrev pub TwinCause : TwinFault → List ℕ → List ℕ → Table → Type 0
-TwinCause (Main fault) file spare table = (GivesUp fault → ⊥) × StartCause fault file table
-TwinCause (Spare fault) file spare table = HoldsLegal file table × (GivesUp fault → ⊥) × StartCause fault spare table
+-- why no twin store was started. The spare is looked at only if the journal isn't refused
+abbrev pub TwinCause : TwinRefusal → List ℕ → List ℕ → Table → Type 0
+TwinCause (Main refusal) file spare table = StartCause refusal file table
+TwinCause (Spare refusal) file spare table = HoldsLegal file table × StartCause refusal spare table
 TwinCause (Differ place) file spare table = HoldApart file spare table place
-TwinCause MainFailed file spare table = Unit {0}
-TwinCause SpareFailed file spare table = HoldsLegal file table
-TwinCause NoMemory file spare table = Unit {0}
 
--- the fault of the journal, or of the spare, that opening it found
-abbrev pub fault_of_main : StartFault → TwinFault
-fault_of_main start.NotMade = Main start.NotMade
-fault_of_main (start.Damaged at) = Main (start.Damaged at)
-fault_of_main (start.OtherShape kept now) = Main (start.OtherShape kept now)
-fault_of_main (start.Untrue place kept now) = Main (start.Untrue place kept now)
-fault_of_main (start.Illegal place group) = Main (start.Illegal place group)
-fault_of_main start.Failed = MainFailed
-fault_of_main start.NoMemory = NoMemory
-
-abbrev pub fault_of_spare : StartFault → TwinFault
-fault_of_spare start.NotMade = Spare start.NotMade
-fault_of_spare (start.Damaged at) = Spare (start.Damaged at)
-fault_of_spare (start.OtherShape kept now) = Spare (start.OtherShape kept now)
-fault_of_spare (start.Untrue place kept now) = Spare (start.Untrue place kept now)
-fault_of_spare (start.Illegal place group) = Spare (start.Illegal place group)
-fault_of_spare start.Failed = SpareFailed
-fault_of_spare start.NoMemory = NoMemory
-
--- a call failed, or memory ran out: that may come whatever the files are
-abbrev pub TwinGivesUp : TwinFault → Type 0
-TwinGivesUp (Main fault) = ⊥
-TwinGivesUp (Spare fault) = ⊥
-TwinGivesUp (Differ place) = ⊥
-TwinGivesUp MainFailed = Unit {0}
-TwinGivesUp SpareFailed = Unit {0}
-TwinGivesUp NoMemory = Unit {0}
-
--- no twin store was started, for this cause unless it gave up
-abbrev pub RefusedUnlessGivenUp : TwinFault → Result TwinContents TwinFault → Type 0
-RefusedUnlessGivenUp due (Ok twin) = ⊥
-RefusedUnlessGivenUp due (Err fault) = (fault ≡ due) ⊎ TwinGivesUp fault
-
--- a twin store was started, or it gave up
-abbrev pub StartsUnlessGivenUp : Result TwinContents TwinFault → Type 0
-StartsUnlessGivenUp (Ok twin) = Unit {0}
-StartsUnlessGivenUp (Err fault) = TwinGivesUp fault
+-- the journals differ
+abbrev pub IsDiffer : TwinRefusal → Type 0
+IsDiffer (Differ place) = Unit {0}
+IsDiffer refusal = ⊥
 
 -- the image stands for a history that begins with the first and is a front of the whole
 pub record StandsBetween (shape : Shape) (first whole : List Answered) (image : List ℕ) : Type 0 where

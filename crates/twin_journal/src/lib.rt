@@ -12,6 +12,6 @@ mod restoring;
 mod serving;
 mod starting;
 
-pub use restoring::{RestoreFault, restore};
+pub use restoring::{RestoreRefusal, restore};
 pub use serving::serve_twin;
-pub use starting::{TwinFault, TwinStore};
+pub use starting::{TwinRefusal, TwinStore};

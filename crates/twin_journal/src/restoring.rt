@@ -1,5 +1,5 @@
 //! Writing a lost journal anew.
-ghost use Rattle.std.specs.Prelude.{◌≡◌, ◌≢◌, ◌⊎◌, ◌↔◌, ◌+◌, List, ℕ, true, Err, IfOk, OnOk, OnErr, IsErrOf, IsTrue};
+ghost use Rattle.std.specs.Prelude.{◌≡◌, ◌≢◌, ◌⊎◌, ◌↔◌, ◌+◌, ⊤, List, ℕ, true, Err, IfErr, IfOk, OnOk, OnErr, IsErrOf, IsTrue};
 ghost use Rattle.audit_types.specs.declared.records.Answered.{Answered};
 ghost use Rattle.audit_types.specs.History.{AreProtected};
 ghost use Rattle.bench_core.specs.Causes.{HasCause};
@@ -7,61 +7,43 @@ ghost use Rattle.bench_core.specs.Calls.{IsQuiet, IsUntouched, LeavesOnly, OnlyR
 ghost use Rattle.answer_journal.specs.Make.{calls_to_look};
 ghost use Rattle.answer_journal.specs.Moments.{IsMade, IsUnmadeOrWhole};
 ghost use Rattle.table_load.specs.Database.{secret_table};
-ghost use Rattle.audit_store.specs.Starting.{GivesUp};
-ghost use Rattle.audit_store.specs.declared.starting.StartFault.{StartFault};
-ghost use Rattle.twin_journal.specs.declared.restoring.RestoreFault.{RestoreFault};
-ghost use Rattle.twin_journal.specs.Restoring.{CanRestore, GivesUpRestoring, IsLost, IsLostOf, NotRestoredUnlessGivenUp, RestoreCause, Restored, RestoredUnlessGivenUp, StandForTheSame, TakeCalls, fault_from_main, fault_from_spare};
+ghost use Rattle.bench_core.specs.Ends.{DoneUnlessStopped, EndsBy, IsRefused, RefusedUnlessStopped, refused_as, turned_end};
+ghost use Rattle.bench_core.specs.Stops.{IsOfBenches};
+ghost use Rattle.twin_journal.specs.declared.restoring.RestoreRefusal.{RestoreRefusal};
+ghost use Rattle.twin_journal.specs.Restoring.{CanRestore, IsLost, IsLostOf, RestoreCause, Restored, StandForTheSame, TakeCalls, turned_refusal};
 
-use crate::copying::{CopyFault, copy_journal};
-use answer_journal::look;
-use audit_store::StartFault;
+use crate::copying::copy_journal;
+use answer_journal::{JournalRefusal, look};
 use audit_types::Guard;
-use bench_core::{Bench, Failed};
+use bench_core::{Bench, End, Failed, Stop};
 use journal_form::laws::one_reading;
 use std::alloc::Global;
 use table_load::Secret;
 
 /// Why nothing was restored.
-#[derive(Clone, Copy)]
-pub enum RestoreFault {
+#[derive(Clone, Copy, PartialEq, Eq)]
+pub enum RestoreRefusal {
     /// Both files are made journals.
     NothingLost,
     /// Neither is.
     BothLost,
-    /// The spare is lost, and the journal has this fault, one of Damaged to Illegal.
-    Main(StartFault),
-    /// The journal is lost, and the spare has this one.
-    Spare(StartFault),
-    /// A call of the bench failed.
-    MainFailed,
-    /// A call of the spare failed.
-    SpareFailed,
-    NoMemory,
+    /// The spare is lost, and the journal isn't gone on from, though one is made there.
+    Main(JournalRefusal),
+    /// The journal is lost, and the spare isn't.
+    Spare(JournalRefusal),
 }
 
-// What a fault is if the spare was to be written from the journal.
-fn from_main(fault: CopyFault) -> RestoreFault
-    ensures { result ≡ fault_from_main fault }
+// The end of a restoring that ends as a copy from the spare did: it was lent the spare for the journal.
+fn turned(end: End<RestoreRefusal>) -> End<RestoreRefusal>
+    ensures { result ≡ refused_as turned_refusal (turned_end end) }
 {
-    match fault {
-        CopyFault::Kept(fault) => RestoreFault::Main(fault),
-        CopyFault::AlreadyThere => RestoreFault::NothingLost,
-        CopyFault::KeptFailed => RestoreFault::MainFailed,
-        CopyFault::LostFailed => RestoreFault::SpareFailed,
-        CopyFault::NoMemory => RestoreFault::NoMemory,
-    }
-}
-
-// What it is if the journal was to be written from the spare.
-fn from_spare(fault: CopyFault) -> RestoreFault
-    ensures { result ≡ fault_from_spare fault }
-{
-    match fault {
-        CopyFault::Kept(fault) => RestoreFault::Spare(fault),
-        CopyFault::AlreadyThere => RestoreFault::NothingLost,
-        CopyFault::KeptFailed => RestoreFault::SpareFailed,
-        CopyFault::LostFailed => RestoreFault::MainFailed,
-        CopyFault::NoMemory => RestoreFault::NoMemory,
+    match end {
+        End::Stopped(stop) => End::Stopped(stop.turned()),
+        End::Refused(refusal) => End::Refused(match refusal {
+            RestoreRefusal::Main(refusal) => RestoreRefusal::Spare(refusal),
+            RestoreRefusal::Spare(refusal) => RestoreRefusal::Main(refusal),
+            other => other,
+        }),
     }
 }
 
@@ -79,15 +61,15 @@ fn is_made<B: Bench>(bench: &mut B) -> Result<bool, Failed>
     }
 }
 
-/// Writes the one journal that is lost from the other, if that is a journal of the table with a legal history. After a failed
-/// call or `NoMemory` it may be called again.
+/// Writes the one journal that is lost from the other, if that is a journal of the table with a legal history. If the outside
+/// stopped it, it may be called again.
 pub fn restore<B: Bench, S: Bench>(
     alloc: Global,
     secret: Secret,
     protected: Guard,
     bench: &mut B,
     spare: &mut S,
-) -> Result<(), RestoreFault>
+) -> Result<(), End<RestoreRefusal>>
     requires fit { AreProtected secret.shape protected }
 
     // Both files then stand for the history of the one that wasn't lost, and for nothing that the other doesn't.
@@ -97,11 +79,9 @@ pub fn restore<B: Bench, S: Bench>(
     ensures alike { B.told → S.told → OnOk result (StandForTheSame (B.file bench.new) (S.file spare.new)) }
 
     // Each refusal has its cause in the files, and each cause has its refusal; if one can be restored it is never refused.
-    ensures cause { (fault : RestoreFault) → B.told → S.told → result ≡ Err fault → RestoreCause fault (B.file bench.old) (S.file spare.old) (secret_table secret protected) }
-    ensures due { (fault : RestoreFault) → B.told → S.told → (GivesUpRestoring fault → ⊥) → RestoreCause fault (B.file bench.old) (S.file spare.old) (secret_table secret protected) → NotRestoredUnlessGivenUp fault result }
-    ensures restores { B.told → S.told → CanRestore (secret_table secret protected) (B.file bench.old) (S.file spare.old) → RestoredUnlessGivenUp result }
-
-    ensures own { (fault : StartFault) → GivesUp fault → (result ≢ Err (RestoreFault.Main fault)) × (result ≢ Err (RestoreFault.Spare fault)) }
+    ensures cause { (refusal : RestoreRefusal) → B.told → S.told → result ≡ Err (End.Refused refusal) → RestoreCause refusal (B.file bench.old) (S.file spare.old) (secret_table secret protected) }
+    ensures due { (refusal : RestoreRefusal) → B.told → S.told → RestoreCause refusal (B.file bench.old) (S.file spare.old) (secret_table secret protected) → RefusedUnlessStopped refusal result }
+    ensures restores { B.told → S.told → CanRestore (secret_table secret protected) (B.file bench.old) (S.file spare.old) → DoneUnlessStopped result }
 
     // At every moment the lost file isn't made, or stands for the kept history. A made one stays, and so do both if none can be
     // restored.
@@ -115,41 +95,36 @@ pub fn restore<B: Bench, S: Bench>(
         → LeavesOnly B.Bench bench.old bench.new (IsUntouched (B.file bench.old) (B.sent bench.old)) }
     ensures spare_untouched { B.told → S.told → IsQuiet S.Bench spare.old → (CanRestore (secret_table secret protected) (B.file bench.old) (S.file spare.old) → ⊥)
         → LeavesOnly S.Bench spare.old spare.new (IsUntouched (S.file spare.old) (S.sent spare.old)) }
-    ensures reads { (fault : RestoreFault) → result ≡ Err fault → (GivesUpRestoring fault → ⊥) → OnlyReads B.Bench bench.old bench.new × OnlyReads S.Bench spare.old spare.new }
-    ensures no_memory { IsErrOf result RestoreFault.NoMemory → OnlyReads B.Bench bench.old bench.new × OnlyReads S.Bench spare.old spare.new }
-    ensures quiet { B.told → IsQuiet B.Bench bench.old → result ≢ Err RestoreFault.MainFailed → IsQuiet B.Bench bench.new }
-    ensures spare_quiet { S.told → IsQuiet S.Bench spare.old → result ≢ Err RestoreFault.SpareFailed → IsQuiet S.Bench spare.new }
+    ensures reads { IsRefused result → OnlyReads B.Bench bench.old bench.new × OnlyReads S.Bench spare.old spare.new }
+    ensures no_memory { IsErrOf result (End.Stopped Stop.NoMemory) → OnlyReads B.Bench bench.old bench.new × OnlyReads S.Bench spare.old spare.new }
+    ensures quiet { B.told → IsQuiet B.Bench bench.old → result ≢ Err (End.Stopped Stop.Bench) → IsQuiet B.Bench bench.new }
+    ensures spare_quiet { S.told → IsQuiet S.Bench spare.old → result ≢ Err (End.Stopped Stop.Spare) → IsQuiet S.Bench spare.new }
     ensures sent { B.sent bench.new ≡ B.sent bench.old }
     ensures spare_sent { S.sent spare.new ≡ S.sent spare.old }
 
     ensures ticks { B.told → S.told → OnOk result ((IsLost (S.file spare.old) × TakeCalls (S.moment spare.old) (S.moment spare.new) (B.moment bench.old) (B.moment bench.new))
         ⊎ (IsLost (B.file bench.old) × TakeCalls (B.moment bench.old) (B.moment bench.new) (S.moment spare.old) (S.moment spare.new))) }
-    ensures fault { TellsFault B.Bench bench.old bench.new (IsErrOf result RestoreFault.MainFailed) }
-    ensures spare_fault { TellsFault S.Bench spare.old spare.new (IsErrOf result RestoreFault.SpareFailed) }
+    ensures fault { TellsFault B.Bench bench.old bench.new (IsErrOf result (End.Stopped Stop.Bench)) }
+    ensures spare_fault { TellsFault S.Bench spare.old spare.new (IsErrOf result (End.Stopped Stop.Spare)) }
+    ensures ends { IfErr result (EndsBy IsOfBenches (λ _. ⊤)) }
 {
     one_reading();
-    let main_is_made = match is_made(bench) {
-        Ok(made) => made,
-        Err(Failed) => return Err(RestoreFault::MainFailed),
-    };
+    let main_is_made = is_made(bench)?;
     let spare_is_made = match is_made(spare) {
         Ok(made) => made,
-        Err(Failed) => return Err(RestoreFault::SpareFailed),
+        Err(Failed) => return Err(End::Stopped(Stop::Spare)),
     };
     if main_is_made {
         if spare_is_made {
-            return Err(RestoreFault::NothingLost);
+            return Err(End::Refused(RestoreRefusal::NothingLost));
         }
-        return match copy_journal(alloc, secret, protected, bench, spare) {
-            Ok(()) => Ok(()),
-            Err(fault) => Err(from_main(fault)),
-        };
+        return copy_journal(alloc, secret, protected, bench, spare);
     }
     if !spare_is_made {
-        return Err(RestoreFault::BothLost);
+        return Err(End::Refused(RestoreRefusal::BothLost));
     }
     match copy_journal(alloc, secret, protected, spare, bench) {
         Ok(()) => Ok(()),
-        Err(fault) => Err(from_spare(fault)),
+        Err(end) => Err(turned(end)),
     }
 }

@@ -1,41 +1,36 @@
 //! Opening two journals of one table, and asking over both.
-ghost use Rattle.std.specs.Prelude.{◌≡◌, ◌≢◌, ◌≤◌, ◌+◌, ◌++◌, [], List, ℕ, true, false, length, All, Err, IfOk, IfErr, OnOk, OnErr, IsErrOf};
+ghost use Rattle.std.specs.Prelude.{◌≡◌, ◌≢◌, ◌≤◌, ◌+◌, ◌++◌, [], ⊤, List, ℕ, true, false, length, All, Err, IfOk, IfErr, OnOk, OnErr, IsErrOf};
 ghost use Rattle.audit_types.specs.declared.records.Answered.{Answered};
 ghost use Rattle.audit_types.specs.History.{AreProtected, FitsShape};
 ghost use Rattle.bench_core.specs.Calls.{IsQuiet, IsUntouched, LeavesOnly, OnlyReads, TellsFault};
+ghost use Rattle.bench_core.specs.Ends.{DoneUnlessStopped, EndsBy, IsRefused, RefusedUnlessStopped, refused_as, turned_end};
 ghost use Rattle.bench_core.specs.Stops.{IsOfBenches};
 ghost use Rattle.table_load.specs.Database.{secret_table};
 ghost use Rattle.audit_store.specs.Asks.{AsksOn, SpareAsksOn};
 ghost use Rattle.audit_store.specs.Stores.{IsAsLeft, IsStore};
-ghost use Rattle.audit_store.specs.Starting.{GivesUp};
-ghost use Rattle.audit_store.specs.declared.starting.StartFault.{StartFault};
-ghost use Rattle.twin_journal.specs.declared.starting.TwinFault.{TwinFault};
-ghost use Rattle.twin_journal.specs.Twins.{CatchesUp, IsSpareAsLeft, IsTwin, KeepApart, KeepTogether, KeepWhole, RefusedUnlessGivenUp, StandsBetween, StartsUnlessGivenUp, TwinCause, TwinGivesUp, calls_to_open, fault_of_main, fault_of_spare};
+ghost use Rattle.answer_journal.specs.declared.refusals.JournalRefusal.{JournalRefusal};
+ghost use Rattle.twin_journal.specs.declared.starting.TwinRefusal.{TwinRefusal};
+ghost use Rattle.twin_journal.specs.Twins.{CatchesUp, HoldsLegal, IsSpareAsLeft, IsTwin, KeepApart, KeepTogether, KeepWhole, StandsBetween, TwinCause, calls_to_open};
 
 use crate::catching::catch_up;
-use answer_journal::Journal;
-use audit_store::{Outcome, StartFault, Store};
+use answer_journal::{Journal, JournalRefusal};
+use audit_store::{Outcome, Store};
 use audit_types::{Answered, Asked, Guard};
-use bench_core::{Bench, Stop};
+use bench_core::{Bench, End, Stop};
 use journal_form::laws::one_reading;
 use std::alloc::Global;
 use std::marker::Model;
 use table_load::Secret;
 
 /// Why two journals were not opened.
-#[derive(Clone, Copy)]
-pub enum TwinFault {
-    /// The journal has this fault, one of NotMade to Illegal.
-    Main(StartFault),
-    /// The journal has none, and the spare has this one.
-    Spare(StartFault),
+#[derive(Clone, Copy, PartialEq, Eq)]
+pub enum TwinRefusal {
+    /// The journal isn't gone on from.
+    Main(JournalRefusal),
+    /// It is, and the spare isn't.
+    Spare(JournalRefusal),
     /// Both are journals of the table, and differ first at the record of this place, from 0.
     Differ { place: u32 },
-    /// A call of the bench failed.
-    MainFailed,
-    /// A call of the spare failed.
-    SpareFailed,
-    NoMemory,
 }
 
 /// A store over the journal on the bench, and a journal of the same answers on a spare.
@@ -55,39 +50,37 @@ impl Model for TwinStore {
     ghost invariant = { λ t. IsTwin (record { store = t.store; spare = t.spare }) };
 }
 
-// What a fault of the journal is here.
-fn main_fault(fault: StartFault) -> TwinFault
-    ensures { result ≡ fault_of_main fault }
+// The end of a start that ends as opening the journal did.
+fn of_main(end: End<JournalRefusal>) -> End<TwinRefusal>
+    ensures { result ≡ refused_as TwinRefusal.Main end }
 {
-    match fault {
-        StartFault::Failed => TwinFault::MainFailed,
-        StartFault::NoMemory => TwinFault::NoMemory,
-        fault => TwinFault::Main(fault),
+    match end {
+        End::Stopped(stop) => End::Stopped(stop),
+        End::Refused(refusal) => End::Refused(TwinRefusal::Main(refusal)),
     }
 }
 
-// What a fault of the spare is here.
-fn spare_fault(fault: StartFault) -> TwinFault
-    ensures { result ≡ fault_of_spare fault }
+// The end of one that ends as opening the spare did.
+fn of_spare(end: End<JournalRefusal>) -> End<TwinRefusal>
+    ensures { result ≡ refused_as TwinRefusal.Spare (turned_end end) }
 {
-    match fault {
-        StartFault::Failed => TwinFault::SpareFailed,
-        StartFault::NoMemory => TwinFault::NoMemory,
-        fault => TwinFault::Spare(fault),
+    match end {
+        End::Stopped(stop) => End::Stopped(stop.turned()),
+        End::Refused(refusal) => End::Refused(TwinRefusal::Spare(refusal)),
     }
 }
 
 impl TwinStore {
     /// Opens the journal of a table and then the spare, and tests both as `Store::start` does. If one history begins the other the
     /// missing records are appended to the shorter journal, in groups of up to 64; the secrets and the groups are dropped with a
-    /// refusal. After `NoMemory` some of the missing records may have been appended.
+    /// refusal. If memory ran out, some of the missing records may have been appended.
     pub fn start<B: Bench, S: Bench>(
         alloc: Global,
         secret: Secret,
         protected: Guard,
         bench: &mut B,
         spare: &mut S,
-    ) -> Result<TwinStore, TwinFault>
+    ) -> Result<TwinStore, End<TwinRefusal>>
         requires fit { AreProtected secret.shape protected }
 
         // The store is that of the longer history, and both files are as it left them.
@@ -99,10 +92,9 @@ impl TwinStore {
             → IfOk result (λ twin. twin.store.history ≡ whole) }
 
         // Each refusal has its cause in the files, and each cause has its refusal; files that keep together are never refused.
-        ensures cause { (fault : TwinFault) → B.told → S.told → result ≡ Err fault → TwinCause fault (B.file bench.old) (S.file spare.old) (secret_table secret protected) }
-        ensures due { (fault : TwinFault) → B.told → S.told → (TwinGivesUp fault → ⊥) → TwinCause fault (B.file bench.old) (S.file spare.old) (secret_table secret protected) → RefusedUnlessGivenUp fault result }
-        ensures own { (fault : StartFault) → GivesUp fault → (result ≢ Err (TwinFault.Main fault)) × (result ≢ Err (TwinFault.Spare fault)) }
-        ensures opens { (main other whole : List Answered) → B.told → S.told → KeepTogether (secret_table secret protected) (B.file bench.old) (S.file spare.old) main other whole → StartsUnlessGivenUp result }
+        ensures cause { (refusal : TwinRefusal) → B.told → S.told → result ≡ Err (End.Refused refusal) → TwinCause refusal (B.file bench.old) (S.file spare.old) (secret_table secret protected) }
+        ensures due { (refusal : TwinRefusal) → B.told → S.told → TwinCause refusal (B.file bench.old) (S.file spare.old) (secret_table secret protected) → RefusedUnlessStopped refusal result }
+        ensures opens { (main other whole : List Answered) → B.told → S.told → KeepTogether (secret_table secret protected) (B.file bench.old) (S.file spare.old) main other whole → DoneUnlessStopped result }
 
         // At every moment each file stands for a history between its own and the whole, and at the end, too, if memory ran out. Files that
         // don't keep together are only read.
@@ -111,45 +103,45 @@ impl TwinStore {
         ensures spare_moments { (main other whole : List Answered) → B.told → S.told → IsQuiet S.Bench spare.old → KeepTogether (secret_table secret protected) (B.file bench.old) (S.file spare.old) main other whole
             → LeavesOnly S.Bench spare.old spare.new (CatchesUp secret.shape other whole (S.sent spare.old)) }
         ensures no_memory { (main other whole : List Answered) → B.told → S.told → KeepTogether (secret_table secret protected) (B.file bench.old) (S.file spare.old) main other whole
-            → IsErrOf result TwinFault.NoMemory → StandsBetween secret.shape main whole (B.file bench.new) × StandsBetween secret.shape other whole (S.file spare.new) }
+            → IsErrOf result (End.Stopped Stop.NoMemory) → StandsBetween secret.shape main whole (B.file bench.new) × StandsBetween secret.shape other whole (S.file spare.new) }
         ensures untouched { B.told → S.told → IsQuiet B.Bench bench.old → KeepApart (secret_table secret protected) (B.file bench.old) (S.file spare.old)
             → LeavesOnly B.Bench bench.old bench.new (IsUntouched (B.file bench.old) (B.sent bench.old)) }
         ensures spare_untouched { B.told → S.told → IsQuiet S.Bench spare.old → KeepApart (secret_table secret protected) (B.file bench.old) (S.file spare.old)
             → LeavesOnly S.Bench spare.old spare.new (IsUntouched (S.file spare.old) (S.sent spare.old)) }
-        ensures quiet { B.told → IsQuiet B.Bench bench.old → result ≢ Err TwinFault.MainFailed → IsQuiet B.Bench bench.new }
-        ensures spare_quiet { S.told → IsQuiet S.Bench spare.old → result ≢ Err TwinFault.SpareFailed → IsQuiet S.Bench spare.new }
+        ensures quiet { B.told → IsQuiet B.Bench bench.old → result ≢ Err (End.Stopped Stop.Bench) → IsQuiet B.Bench bench.new }
+        ensures spare_quiet { S.told → IsQuiet S.Bench spare.old → result ≢ Err (End.Stopped Stop.Spare) → IsQuiet S.Bench spare.new }
         ensures sent { B.sent bench.new ≡ B.sent bench.old }
         ensures spare_sent { S.sent spare.new ≡ S.sent spare.old }
 
-        // If the files are refused, both were only read; if the journal is, the spare wasn't called; if a call of one failed, the other was
-        // only read.
-        ensures reads { (fault : TwinFault) → result ≡ Err fault → (TwinGivesUp fault → ⊥) → OnlyReads B.Bench bench.old bench.new × OnlyReads S.Bench spare.old spare.new }
-        ensures main_failed { IsErrOf result TwinFault.MainFailed → OnlyReads S.Bench spare.old spare.new }
-        ensures spare_failed { IsErrOf result TwinFault.SpareFailed → OnlyReads B.Bench bench.old bench.new }
-        ensures main_first { (fault : StartFault) → result ≡ Err (TwinFault.Main fault) → spare.new ≡ spare.old }
+        // If the files are refused, both were only read; if the journal is, the spare wasn't called. If a call of one failed, the other was
+        // only read; the spare's come after the journal was opened.
+        ensures reads { IsRefused result → OnlyReads B.Bench bench.old bench.new × OnlyReads S.Bench spare.old spare.new }
+        ensures main_failed { IsErrOf result (End.Stopped Stop.Bench) → OnlyReads S.Bench spare.old spare.new }
+        ensures spare_failed { IsErrOf result (End.Stopped Stop.Spare) → OnlyReads B.Bench bench.old bench.new }
+        ensures spare_second { B.told → IsErrOf result (End.Stopped Stop.Spare) → HoldsLegal (B.file bench.old) (secret_table secret protected) }
+        ensures main_first { (refusal : JournalRefusal) → result ≡ Err (End.Refused (TwinRefusal.Main refusal)) → spare.new ≡ spare.old }
         ensures ticks { (main other whole : List Answered) → B.told → S.told → KeepTogether (secret_table secret protected) (B.file bench.old) (S.file spare.old) main other whole
             → OnOk result (B.moment bench.new ≡ B.moment bench.old + calls_to_open main whole) }
         ensures spare_ticks { (main other whole : List Answered) → B.told → S.told → KeepTogether (secret_table secret protected) (B.file bench.old) (S.file spare.old) main other whole
             → OnOk result (S.moment spare.new ≡ S.moment spare.old + calls_to_open other whole) }
-        ensures fault { TellsFault B.Bench bench.old bench.new (IsErrOf result TwinFault.MainFailed) }
-        ensures spare_fault { TellsFault S.Bench spare.old spare.new (IsErrOf result TwinFault.SpareFailed) }
+        ensures fault { TellsFault B.Bench bench.old bench.new (IsErrOf result (End.Stopped Stop.Bench)) }
+        ensures spare_fault { TellsFault S.Bench spare.old spare.new (IsErrOf result (End.Stopped Stop.Spare)) }
+        ensures ends { IfErr result (EndsBy IsOfBenches (λ _. ⊤)) }
     {
         one_reading();
         let mut store = match Store::start(alloc, secret, protected, bench) {
             Ok(store) => store,
-            Err(fault) => return Err(main_fault(fault)),
+            Err(end) => return Err(of_main(end)),
         };
         let (mut journal, list) = match store.open_other(spare) {
             Ok(found) => found,
-            Err(fault) => return Err(spare_fault(fault)),
+            Err(end) => return Err(of_spare(end)),
         };
-        match catch_up(&mut store, bench, &mut journal, spare, &list) {
-            Ok(()) => Ok(TwinStore {
-                store,
-                spare: journal,
-            }),
-            Err(fault) => Err(fault),
-        }
+        catch_up(&mut store, bench, &mut journal, spare, &list)?;
+        Ok(TwinStore {
+            store,
+            spare: journal,
+        })
     }
 
     /// Decides up to 64 questions in order, as `Store::ask_all` does, and keeps the records of the answers as one group on the spare

@@ -6,10 +6,10 @@ use Rattle.audit_store.proofs.Causes.{due_answer, opens_answer}
 use Rattle.audit_store.proofs.starting.opened.Goals as goal
 
 pub returns-clause-due : goal.returns-clause-due
-returns-clause-due c = λ due some cause.
+returns-clause-due c = λ due cause.
     let table = secret_table c.args.secret.now c.args.protected in
     let shape : c.args.kept.now ≡ c.args.secret.now.shape = search rules in
-    due_answer c.args.secret.now.shape c.args.list.now table c.audited.result refl (search rules) c.audited.ensures.err due some
+    due_answer c.args.secret.now.shape c.args.list.now table c.audited.result refl (search rules) c.audited.ensures.err due
     (subst (λ (s : Shape). HistoryCause due s c.args.list.now table) shape cause)
 
 pub returns-clause-opens : goal.returns-clause-opens

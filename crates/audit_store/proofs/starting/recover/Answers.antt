@@ -1,19 +1,20 @@
-use Rattle.std.proofs.Common.{◌≡◌, Err, List, length, refl, sym, ap, subst, ◌∙◌}
-use Rattle.std.specs.Prelude.{IfErr, IsErrOf}
+use Rattle.std.proofs.Common.{◌≡◌, Err, List, length, sym, ap, subst, ◌∙◌}
+use Rattle.std.specs.Prelude.{⊤, IfErr, IsErrOf}
 use Rattle.std.proofs.lemmas.Result.{IfErr-at_err, IfOk-from_err}
 use Rattle.audit_types.specs.declared.records.Answered.{Answered}
 use Rattle.audit_types.specs.declared.shapes.Shape.{Shape}
 use Rattle.audit_types.specs.History.{IsLegal}
-use Rattle.bench_core.specs.Reports.{of_refusal, told_as}
+use Rattle.bench_core.specs.Reports.{is_refusal, of_refusal, passed_on, told_as}
 use Rattle.journal_form.specs.Journal.{StandsAt}
-use Rattle.answer_journal.specs.declared.journal.BackFault.TheVariants as back
-use Rattle.audit_store.specs.declared.starting.StartFault.{StartFault}
-use Rattle.audit_store.specs.declared.starting.StartFault.TheVariants as start
-use Rattle.audit_store.specs.Refusals.{no_refusal}
-use Rattle.audit_store.specs.Starting.{HistoryCause, RefusedUnlessFailed, StartCause, StartsUnlessFailed, start_fault}
+use Rattle.bench_core.specs.Ends.{DoneUnlessStopped, EndsBy, RefusedUnlessStopped}
+use Rattle.bench_core.specs.EndLaws.{EndsBy-weaker}
+use Rattle.bench_core.specs.Stops.{IsOfBench, IsOfMemory, of_bench}
+use Rattle.bench_core.specs.declared.stops.End.TheVariants.{Stopped, Refused}
+use Rattle.bench_core.specs.declared.stops.Stop.TheVariants.{Bench}
+use Rattle.audit_store.specs.Refusals.{no_refusal, same_fault}
+use Rattle.audit_store.specs.Starting.{HistoryCause}
 use Rattle.table_load.specs.Database.{secret_table}
-use Rattle.audit_store.proofs.Causes.{gave_up, cause_in_file, cause_of_reading, due_of_reading, due_of_history}
-use Rattle.audit_store.proofs.StoreFaults.{read_failed, start_failed}
+use Rattle.audit_store.proofs.Causes.{cause_in_file, cause_of_reading, due_of_reading, due_of_history}
 use Rattle.audit_core.specs.Audited.{Audited}
 use Rattle.audit_store.proofs.starting.recover.Goals as goal
 
@@ -23,32 +24,25 @@ pub returns-in_err-journal : goal.returns-in_err-journal
 returns-in_err-journal g c =
     let file = g.B.Bench.file c.args.bench.now in
     let table = secret_table c.args.secret.now c.args.protected in
-    let given = c.in_err-journal.field-0.0 in
+    let end = c.in_err-journal.field-0.0 in
     let read = c.in_err-journal.ensures in
     let answer = c.from_residual.result in
     let refuses = c.from_residual.ensures in
+    let same : answer ≡ Err end = is_refusal answer end refuses in
     record {
       recovers = IfOk-from_err _ _ refuses.0;
       stands = λ told. IfOk-from_err _ _ refuses.0;
-      cause = λ fault told is.
-          let found = of_refusal answer (start_fault given) refuses (λ r. IfErr r (λ (f : StartFault). StartCause f file table))
-          (cause_of_reading file table given (read.not_made told) (λ at. read.damaged at told)) in
-          IfErr-at_err (λ (f : StartFault). StartCause f file table) is found;
-      due = λ fault told some cause.
-          of_refusal answer (start_fault given) refuses (RefusedUnlessFailed fault)
-          (due_of_reading file table given fault (read.made told) (λ at. read.damaged_only at told)
-          (λ shape history gate. read.whole shape history gate told) some cause);
+      cause = λ refusal told is. cause_of_reading file table refusal (read.cause refusal told (same_fault end (Refused refusal) (sym same ∙ is)));
+      due = λ refusal told cause.
+          of_refusal answer end refuses (RefusedUnlessStopped refusal)
+          (due_of_reading file table end refusal (λ r. read.due r told) (λ shape history gate. read.whole shape history gate told) cause);
       opens = λ history told stands legal.
-          of_refusal answer (start_fault given) refuses StartsUnlessFailed
-          (gave_up given (read.whole c.args.secret.now.shape history stands.0 told stands.1));
+          of_refusal answer end refuses DoneUnlessStopped (read.whole c.args.secret.now.shape history stands.0 told stands.1);
       reads = read.reads;
       ticks = λ told. IfOk-from_err _ _ refuses.0;
-      fault =
-          told_as g.B.Bench c.args.bench.now c.read_back.new.bench _ (IsErrOf c.from_residual.result start.Failed)
-          (λ is. of_refusal answer (start_fault given) refuses (λ r. IsErrOf r start.Failed) (start_failed given (start_fault given) refl is))
-          (λ is. of_refusal answer (start_fault given) refuses (λ r. IsErrOf r start.Failed → IsErrOf (Err given) back.Failed)
-          (read_failed given (start_fault given) refl) is)
-          read.fault;
+      fault = passed_on g.B.Bench c.args.bench.now c.read_back.new.bench end (Stopped Bench) answer same read.fault;
+      ends = of_refusal answer end refuses (λ r. IfErr r (EndsBy IsOfBench (λ _. ⊤)))
+          (EndsBy-weaker end IsOfBench IsOfBench _ _ (λ stop is. is) (λ refusal is. tt) read.ends);
     }
 
 -- ---- its history isn't that of the table
@@ -63,34 +57,36 @@ returns-in_err-core g c =
     let given = c.in_err-core.field-0.0 in
     let answer = c.from_residual-in_err-core.result in
     let refuses = c.from_residual-in_err-core.ensures in
-    let why = of_refusal answer given refuses (λ r. IfErr r (λ (f : StartFault). HistoryCause f c.shape.result shown table)) c.in_err-core.ensures.err in
+    let why = of_refusal answer given refuses (λ r. IfErr r (EndsBy IsOfMemory (λ f. HistoryCause f c.shape.result shown table))) c.in_err-core.ensures.err in
     record {
       recovers = IfOk-from_err _ _ refuses.0;
       stands = λ told. IfOk-from_err _ _ refuses.0;
-      cause = λ fault told is.
-          let cause = IfErr-at_err (λ (f : StartFault). HistoryCause f c.shape.result shown table) is why in
-          cause_in_file file c.in_ok-journal.journal.shape list c.in_ok-journal.journal.gate table fault (read.stands told)
-          (subst (λ (s : Shape). HistoryCause fault s list table) c.shape.ensures.shape
-          (subst (λ (h : List Answered). HistoryCause fault c.shape.result h table) c.deref.ensures.value cause));
-      due = λ fault told some cause.
+      cause = λ refusal told is.
+          let cause = IfErr-at_err (EndsBy IsOfMemory (λ f. HistoryCause f c.shape.result shown table)) is why in
+          cause_in_file file c.in_ok-journal.journal.shape list c.in_ok-journal.journal.gate table refusal (read.stands told)
+          (subst (λ (s : Shape). HistoryCause refusal s list table) c.shape.ensures.shape
+          (subst (λ (h : List Answered). HistoryCause refusal c.shape.result h table) c.deref.ensures.value cause));
+      due = λ refusal told cause.
           let found =
-          due_of_history file table c.in_ok-journal.journal.shape list fault (read.made told) (λ at. read.damaged_only at told)
-          (λ other others gate stands. let same = read.whole other others gate told stands in (same.0, same.1)) some cause in
-          let here : HistoryCause fault c.shape.result shown table =
-          subst (λ (s : Shape). HistoryCause fault s shown table) (sym c.shape.ensures.shape)
-          (subst (λ (h : List Answered). HistoryCause fault c.in_ok-journal.journal.shape h table) (sym c.deref.ensures.value) found) in
-          of_refusal answer given refuses (RefusedUnlessFailed fault) (c.in_err-core.ensures.due fault some here);
+          due_of_history file table c.in_ok-journal.journal.shape list refusal (λ r. read.due r told)
+          (λ other others gate stands. let same = read.whole other others gate told stands in (same.0, same.1)) cause in
+          let here : HistoryCause refusal c.shape.result shown table =
+          subst (λ (s : Shape). HistoryCause refusal s shown table) (sym c.shape.ensures.shape)
+          (subst (λ (h : List Answered). HistoryCause refusal c.in_ok-journal.journal.shape h table) (sym c.deref.ensures.value) found) in
+          of_refusal answer given refuses (RefusedUnlessStopped refusal) (c.in_err-core.ensures.due refusal here);
       opens = λ history told stands legal.
           let same = read.whole c.args.secret.now.shape history stands.0 told stands.1 in
-          of_refusal answer given refuses StartsUnlessFailed
+          of_refusal answer given refuses DoneUnlessStopped
           (c.in_err-core.ensures.opens (c.shape.ensures.shape ∙ same.0)
           (subst (λ (h : List Answered). IsLegal table h) (sym (c.deref.ensures.value ∙ same.1)) legal));
       reads = read.reads;
       ticks = λ told. IfOk-from_err _ _ refuses.0;
       fault =
-          told_as g.B.Bench c.args.bench.now c.read_back.new.bench _ (IsErrOf c.from_residual-in_err-core.result start.Failed)
+          told_as g.B.Bench c.args.bench.now c.read_back.new.bench _ (IsErrOf answer (Stopped Bench))
           (λ is. no_refusal _ _ is)
-          (λ is. absurd (IfErr-at_err (λ (f : StartFault). HistoryCause f c.shape.result shown table) is why)) read.fault;
+          (λ is. absurd (IfErr-at_err (EndsBy IsOfMemory (λ f. HistoryCause f c.shape.result shown table)) is why)) read.fault;
+      ends = of_refusal answer given refuses (λ r. IfErr r (EndsBy IsOfBench (λ _. ⊤)))
+          (EndsBy-weaker given IsOfMemory IsOfBench _ _ of_bench (λ refusal is. tt) c.in_err-core.ensures.err);
     }
 
 -- ---- it is
@@ -118,18 +114,19 @@ returns g c =
       stands = λ told.
           subst (λ (s : Shape). StandsAt file s c.in_ok-core.core.history journal.gate) shape
           (subst (λ (h : List Answered). StandsAt file journal.shape h journal.gate) (sym history) (read.stands told));
-      cause = λ fault told is. let none : ⊥ = cc in absurd none;
-      due = λ fault told some cause.
+      cause = λ refusal told is. let none : ⊥ = cc in absurd none;
+      due = λ refusal told cause.
           let found =
-          due_of_history file table c.in_ok-journal.journal.shape list fault (read.made told) (λ at. read.damaged_only at told)
-          (λ other others gate stands. let same = read.whole other others gate told stands in (same.0, same.1)) some cause in
-          let here : HistoryCause fault c.shape.result shown table =
-          subst (λ (s : Shape). HistoryCause fault s shown table) (sym c.shape.ensures.shape)
-          (subst (λ (h : List Answered). HistoryCause fault c.in_ok-journal.journal.shape h table) (sym c.deref.ensures.value) found) in
-          c.in_ok-core.ensures.due fault some here;
+          due_of_history file table c.in_ok-journal.journal.shape list refusal (λ r. read.due r told)
+          (λ other others gate stands. let same = read.whole other others gate told stands in (same.0, same.1)) cause in
+          let here : HistoryCause refusal c.shape.result shown table =
+          subst (λ (s : Shape). HistoryCause refusal s shown table) (sym c.shape.ensures.shape)
+          (subst (λ (h : List Answered). HistoryCause refusal c.in_ok-journal.journal.shape h table) (sym c.deref.ensures.value) found) in
+          c.in_ok-core.ensures.due refusal here;
       opens = λ history told stands legal. tt;
       reads = read.reads;
       ticks = λ told. read.ticks told;
       fault =
           told_as g.B.Bench c.args.bench.now c.read_back.new.bench _ _ (λ is. no_refusal _ _ is) (λ is. no_refusal _ _ is) read.fault;
+      ends = tt;
     }

@@ -4,7 +4,10 @@ use Rattle.audit_types.specs.declared.records.Answered.{Answered}
 use Rattle.audit_types.specs.declared.shapes.Shape.{Shape}
 use Rattle.audit_types.specs.History.{Protection, IsLegal}
 use Rattle.bench_core.specs.Reports.{of_refusal}
-use Rattle.audit_store.specs.Starting.{HistoryCause, RefusedUnlessFailed, StartsUnlessFailed}
+use Rattle.bench_core.specs.Ends.{DoneUnlessStopped, EndsBy, RefusedUnlessStopped}
+use Rattle.bench_core.specs.EndLaws.{due_of_one, stopped_of_none}
+use Rattle.bench_core.specs.Stops.{IsOfMemory}
+use Rattle.audit_store.specs.Starting.{HistoryCause}
 use Rattle.table_load.specs.Database.{secret_table}
 use Rattle.audit_store.proofs.Causes.{legal_has_no_cause, one_cause}
 use Rattle.audit_core.specs.LegalFronts.{legal_front}
@@ -22,38 +25,41 @@ returns-then-agreement-list-clause-ok c =
     (search rules, subst (λ (h : List Answered). IsLegal table h) whole (legal_front table known c.agreement.result c.requires.legal))
 
 pub returns-then-agreement-list-clause-due : goal.returns-then-agreement-list-clause-due
-returns-then-agreement-list-clause-due c = λ due some cause.
+returns-then-agreement-list-clause-due c = λ due cause.
     let is = returns-then-agreement-list-clause-ok c in
-    some (legal_has_no_cause c.args.kept.now c.args.list.now (secret_table c.args.secret.now c.args.core.now.setting.protected) due is.0 is.1 cause)
+    legal_has_no_cause c.args.kept.now c.args.list.now (secret_table c.args.secret.now c.args.core.now.setting.protected) due is.0 is.1 cause
 
 -- ---- it was tested
 
 pub returns-in_err-audited-clause-opens : goal.returns-in_err-audited-clause-opens
 returns-in_err-audited-clause-opens c = λ same legal.
-    let fault = c.in_err-audited.field-0.0 in
+    let end = c.in_err-audited.field-0.0 in
     let list = c.args.list.now in
+    let table = secret_table c.args.secret.now c.args.core.now.setting.protected in
     let groups : c.in-Ok.protected ≡ c.args.core.now.setting.protected = search rules in
-    let cause : HistoryCause fault c.args.kept.now list (secret_table c.args.secret.now c.args.core.now.setting.protected) =
-    subst (λ (s : Shape). HistoryCause fault s list (secret_table c.args.secret.now c.args.core.now.setting.protected)) (sym same)
-    (subst (λ (p : Protection). HistoryCause fault c.args.secret.now.shape list (secret_table c.args.secret.now p)) groups c.in_err-audited.ensures.err) in
-    of_refusal c.from_residual.result fault c.from_residual.ensures StartsUnlessFailed
-    (legal_has_no_cause c.args.kept.now list (secret_table c.args.secret.now c.args.core.now.setting.protected) fault same legal cause)
+    let found = subst (λ (s : Shape). EndsBy IsOfMemory (λ refusal. HistoryCause refusal s list table) end) (sym same)
+    (subst (λ (p : Protection). EndsBy IsOfMemory (λ refusal. HistoryCause refusal c.args.secret.now.shape list (secret_table c.args.secret.now p)) end) groups
+    c.in_err-audited.ensures.err) in
+    of_refusal c.from_residual.result end c.from_residual.ensures DoneUnlessStopped
+    (stopped_of_none end IsOfMemory _ (λ refusal cause. legal_has_no_cause c.args.kept.now list table refusal same legal cause) found)
 
 pub returns-in_err-audited-clause-due : goal.returns-in_err-audited-clause-due
-returns-in_err-audited-clause-due c = λ due some cause.
-    let fault = c.in_err-audited.field-0.0 in
+returns-in_err-audited-clause-due c = λ due cause.
+    let end = c.in_err-audited.field-0.0 in
     let list = c.args.list.now in
     let table = secret_table c.args.secret.now c.args.core.now.setting.protected in
     let same : c.args.kept.now ≡ c.args.secret.now.shape = search rules in
     let groups : c.in-Ok.protected ≡ c.args.core.now.setting.protected = search rules in
-    let found : HistoryCause fault c.args.kept.now list table = subst (λ (s : Shape). HistoryCause fault s list table) (sym same)
-    (subst (λ (p : Protection). HistoryCause fault c.args.secret.now.shape list (secret_table c.args.secret.now p)) groups c.in_err-audited.ensures.err) in
-    of_refusal c.from_residual.result fault c.from_residual.ensures (RefusedUnlessFailed due) (one_cause c.args.kept.now list table due fault some cause found)
+    let found = subst (λ (s : Shape). EndsBy IsOfMemory (λ refusal. HistoryCause refusal s list table) end) (sym same)
+    (subst (λ (p : Protection). EndsBy IsOfMemory (λ refusal. HistoryCause refusal c.args.secret.now.shape list (secret_table c.args.secret.now p)) end) groups
+    c.in_err-audited.ensures.err) in
+    of_refusal c.from_residual.result end c.from_residual.ensures (RefusedUnlessStopped due)
+    (due_of_one end IsOfMemory _ due (λ refusal other. one_cause c.args.kept.now list table due refusal cause other) found)
 
 pub returns-clause-due : goal.returns-clause-due
-returns-clause-due c = λ due some cause.
+returns-clause-due c = λ due cause.
     let list = c.args.list.now in
     let same : c.args.kept.now ≡ c.args.secret.now.shape = search rules in
     let groups : c.in-Ok.protected ≡ c.args.core.now.setting.protected = search rules in
-    some (legal_has_no_cause c.args.kept.now list (secret_table c.args.secret.now c.args.core.now.setting.protected) due same
-    (subst (λ (p : Protection). IsLegal (secret_table c.args.secret.now p) list) groups c.in_ok-audited.ensures.ok.1) cause)
+    legal_has_no_cause c.args.kept.now list (secret_table c.args.secret.now c.args.core.now.setting.protected) due same
+    (subst (λ (p : Protection). IsLegal (secret_table c.args.secret.now p) list) groups c.in_ok-audited.ensures.ok.1) cause

@@ -4,7 +4,7 @@ use Rattle.std.proofs.Math.Facts.{to_z-of_z}
 use Rattle.std.proofs.lemmas.Option.{slice_get_read, slice_get_within}
 use Rattle.audit_types.specs.Shapes.{is_least}
 use Rattle.table_load.specs.Database.{secret_table}
-use Rattle.audit_store.specs.declared.starting.StartFault.{StartFault}
+use Rattle.answer_journal.specs.declared.refusals.JournalRefusal.{JournalRefusal}
 use Rattle.audit_store.specs.Starting.{HistoryCause, stated_answer}
 use Rattle.audit_store.proofs.Causes.{same_stated}
 use Rattle.audit_store.proofs.LegalHistories.{next_is_true, plain_table}
@@ -18,7 +18,7 @@ returns-then-now-answered-clause-err c = λ protected.
     let now : FitsSigned w64 c.truth-now.result = search rules in
     let different : to_z w64 (of_z w64 r.answer) ≢ to_z w64 (of_z w64 c.truth-now.result) = search rules in
     let table = secret_table c.args.secret.now protected in
-    subst (λ (f : StartFault). HistoryCause f c.args.secret.now.shape list table) (sym c.untrue.ensures) (
+    subst (λ (f : JournalRefusal). HistoryCause f c.args.secret.now.shape list table) (sym c.untrue.ensures) (
       refl,
       record {
         at = r;

@@ -40,7 +40,8 @@ returns-in_err-start-clause-refusal g c =
     c.args.bench.now c.start.new.bench) c.from_residual-in_err-start.result _ c.from_residual-in_err-start.ensures
     (not_started g.P.Source g.B.Bench c.groups_of_a_schema.ensures.entries c.args.command c.args.schema.now c.open_table.new.schema c.args.table.now
     c.open_table.new.table c.args.bench.now c.start.new.bench c.requires opened.schema (table_view opened.table) e.schema_is e.table_is e.steady.0
-    e.steady.1 c.in_err-start.field-0.0 c.in_err-start.ensures.bad c.in_err-start.ensures.cause c.in_err-start.ensures.fault c.in_err-start.ensures.uncalled)
+    e.steady.1 c.in_err-start.field-0.0 c.in_err-start.ensures.bad c.in_err-start.ensures.cause c.in_err-start.ensures.ends c.in_err-start.ensures.fault
+    c.in_err-start.ensures.uncalled)
 
 -- ---- the store was opened
 

@@ -1,40 +1,46 @@
 use Rattle.std.proofs.Common.{◌≡◌, List, Result, Err, refl, sym, subst}
+use Rattle.std.specs.Prelude.{⊤}
 use Rattle.audit_types.specs.declared.records.Answered.{Answered}
 use Rattle.audit_types.specs.History.{Protection, IsLegal}
 use Rattle.table_load.specs.Cells.{PublicView, SecretView, whole}
 use Rattle.table_load.specs.Database.{secret_table}
 use Rattle.journal_form.specs.Journal.{StandsFor}
-use Rattle.audit_store.specs.Starting.{StartCause, GivesUp}
-use Rattle.audit_store.specs.declared.starting.StartFault.{StartFault}
-use Rattle.audit_store.specs.declared.starting.StartFault.TheVariants as start
+use Rattle.bench_core.specs.Ends.{EndsBy, IsStopped}
+use Rattle.bench_core.specs.EndLaws.{by_cause}
+use Rattle.bench_core.specs.Stops.{IsOfBench}
+use Rattle.bench_core.specs.declared.stops.End.{End}
+use Rattle.bench_core.specs.declared.stops.End.TheVariants.{Stopped}
+use Rattle.bench_core.specs.declared.stops.Stop.TheVariants as stop
+use Rattle.answer_journal.specs.declared.refusals.JournalRefusal.{JournalRefusal}
+use Rattle.audit_store.specs.Starting.{StartCause}
 use Rattle.set_index.specs.Groups.{Protects}
 use Rattle.auditor_top.specs.declared.starting.NotStarted.{NotStarted}
 use Rattle.auditor_top.specs.declared.starting.NotStarted.TheVariants as began
 use Rattle.auditor_top.proofs.StoreRefusals.{same_journal, same_start}
 use Rattle.auditor_top.proofs.starting.start.Goals as goal
 
--- the journal's fault is told as it is
-one_fault : {X : Type 0} (a b : StartFault) → ◌≡◌ {A = Result X NotStarted} (Err (began.Journal a)) (Err (began.Journal b)) → a ≡ b
-one_fault a b is = cc
+-- the end of the opening is told as it is
+one_end : {X : Type 0} (a b : End JournalRefusal) → ◌≡◌ {A = Result X NotStarted} (Err (began.Journal a)) (Err (began.Journal b)) → a ≡ b
+one_end a b is = cc
 
 pub returns-in-Err-start-clause-cause : goal.returns-in-Err-start-clause-cause
-returns-in-Err-start-clause-cause g c = λ fault is.
+returns-in-Err-start-clause-cause g c = λ end is.
     let opened = c.args.opened in
     let made = c.in-Ok.ensures in
     let entries : Protection = c.in-Ok.grouped.protected in
-    let found = c.in-Err-start.fault in
-    subst (λ (f : StartFault). (public : PublicView) × (protected : Protection) × (whole public ≡ opened.table.public) ×
+    let found = c.in-Err-start.end in
+    subst (λ (e : End JournalRefusal). (public : PublicView) × (protected : Protection) × (whole public ≡ opened.table.public) ×
     Protects opened.schema.columns public opened.schema.guards protected ×
-    (g.B.Bench.told → StartCause f (g.B.Bench.file c.args.bench.now) (secret_table opened.table.secret protected) ×
+    (g.B.Bench.told → EndsBy IsOfBench (λ refusal. StartCause refusal (g.B.Bench.file c.args.bench.now) (secret_table opened.table.secret protected)) e ×
     ((history : List Answered) → StandsFor (g.B.Bench.file c.args.bench.now) opened.table.secret.shape history →
-    IsLegal (secret_table opened.table.secret protected) history → GivesUp f))) (one_fault found fault is) (
+    IsLegal (secret_table opened.table.secret protected) history → IsStopped e))) (one_end found end is) (
       c.in-Ok.grouped.index.public,
       entries,
       made.same.1,
       c.in-Ok.ensures.entries,
       λ told. (
-        subst (λ (s : SecretView). StartCause found (g.B.Bench.file c.args.bench.now) (secret_table s entries)) made.same.2
-            (c.in-Err-start.ensures.cause found told refl),
+        subst (λ (s : SecretView). EndsBy IsOfBench (λ refusal. StartCause refusal (g.B.Bench.file c.args.bench.now) (secret_table s entries)) found)
+            made.same.2 (by_cause found IsOfBench _ (λ _. ⊤) c.in-Err-start.ensures.ends (λ refusal given. c.in-Err-start.ensures.cause refusal told given)),
         λ history stands legal. c.in-Err-start.ensures.opens history told
             (subst (λ (s : SecretView). StandsFor (g.B.Bench.file c.args.bench.now) s.shape history) (sym made.same.2) stands)
             (subst (λ (s : SecretView). IsLegal (secret_table s entries) history) (sym made.same.2) legal),
@@ -46,7 +52,11 @@ returns-in-Err-start-clause-fault g c =
     let tells = c.in-Err-start.ensures.fault in
     record {
       later = tells.later;
-      failed = λ is. tells.failed (same_journal c.in-Err-start.fault start.Failed is);
-      last_call = λ is. tells.last_call (same_journal c.in-Err-start.fault start.Failed is);
-      steady = λ other. tells.steady (λ is. other (same_start c.in-Err-start.fault is));
+      failed = λ is. tells.failed (same_journal c.in-Err-start.end (Stopped stop.Bench) is);
+      last_call = λ is. tells.last_call (same_journal c.in-Err-start.end (Stopped stop.Bench) is);
+      steady = λ other. tells.steady (λ is. other (same_start c.in-Err-start.end (Stopped stop.Bench) is));
     }
+
+pub returns-in-Err-start-clause-ends : goal.returns-in-Err-start-clause-ends
+returns-in-Err-start-clause-ends g c = λ end is.
+    subst (λ (e : End JournalRefusal). EndsBy IsOfBench (λ _. ⊤) e) (one_end c.in-Err-start.end end is) c.in-Err-start.ensures.ends

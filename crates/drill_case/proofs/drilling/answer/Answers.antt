@@ -7,9 +7,6 @@ use Rattle.bench_core.specs.BenchContents.{file_of, sent_of}
 use Rattle.audit_store.specs.Stores.{IsAsLeft}
 use Rattle.line_wire.specs.Lines.{counted_lines}
 use Rattle.audit_session.specs.Ends.{Serves}
-use Rattle.audit_store.specs.declared.starting.StartFault.{StartFault}
-use Rattle.audit_store.specs.declared.starting.StartFault.TheVariants.{NotMade, Damaged, OtherShape, Untrue, Illegal, Failed, NoMemory}
-use Rattle.audit_store.specs.Starting.{GivesUp}
 use Rattle.table_load.specs.Database.{base_of, secret_table}
 use Rattle.audit_session.specs.HistoryFacts.{nothing_is_legal}
 use Rattle.drill_case.proofs.drilling.answer.Goals as goal
@@ -56,17 +53,8 @@ returns-in-Ok c =
     (subst (λ (before : List ℕ). OnOk result (Serves (table store.protected store.secret) store.history lines last before after))
     c.start.ensures.reads.sent c.answer_over.ensures))))
 
--- a journal that stands for a legal history is refused only if a call failed, or memory ran out
-gave_up : (fault : StartFault) → (fault ≡ Failed → ⊥) → (fault ≡ NoMemory → ⊥) → GivesUp fault → ⊥
-gave_up NotMade failed memory gives = gives
-gave_up (Damaged at) failed memory gives = gives
-gave_up (OtherShape kept now) failed memory gives = gives
-gave_up (Untrue place kept now) failed memory gives = gives
-gave_up (Illegal place group) failed memory gives = gives
-gave_up Failed failed memory gives = failed refl
-gave_up NoMemory failed memory gives = memory refl
-
+-- a journal that stands for a legal history isn't refused
 pub unreachable-requires : goal.unreachable-requires
 unreachable-requires c =
     let table = secret_table c.args.secret c.in_ok-protected.protected in
-    gave_up c.in-Err.fault c.in_default.not-Failed c.in_default.not-NoMemory (c.in-Err.ensures.opens [] (tt {0}) c.requires.stands (nothing_is_legal table))
+    c.in-Err-Refused.ensures.opens [] (tt {0}) c.requires.stands (nothing_is_legal table)

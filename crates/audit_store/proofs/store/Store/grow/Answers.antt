@@ -1,5 +1,5 @@
-use Rattle.std.proofs.Common.{◌≡◌, ℕ, inl, inr, List, Result, Err, refl, sym, ap, subst, ◌∙◌, arith}
-use Rattle.std.specs.Prelude.{IfErr, IsErrOf}
+use Rattle.std.proofs.Common.{◌≡◌, ℕ, inl, List, Result, Err, refl, sym, ap, subst, ◌∙◌, arith}
+use Rattle.std.specs.Prelude.{⊤, IfErr, IsErrOf}
 use Rattle.std.proofs.lemmas.Result.{IfErr-at_err}
 use Rattle.bench_core.specs.declared.bench.Bench.{Ghosts}
 use Rattle.bench_core.specs.Calls.{LeavesOnly, IsUntouched}
@@ -10,13 +10,20 @@ use Rattle.audit_types.specs.Widening.{over, widened}
 use Rattle.journal_form.specs.Journal.{StandsAt, StandsFor}
 use Rattle.answer_journal.specs.Moments.{IsBeforeOrGrown}
 use Rattle.table_load.specs.Database.{secret_table}
-use Rattle.audit_store.specs.declared.growing.GrowFault.{GrowFault}
-use Rattle.audit_store.specs.declared.growing.GrowFault.TheVariants.{Failed}
-use Rattle.audit_store.specs.Growing.{GivesUpGrowing, GrowCause, GrowHistoryCause, GrowsFrom, NotGrownUnlessFailed, GrowsUnlessFailed}
+use Rattle.bench_core.specs.Ends.{DoneUnlessStopped, EndsBy, IsDueUnlessStopped, IsStopped, RefusedUnlessStopped, refused_as}
+use Rattle.bench_core.specs.EndLaws.{EndsBy-weaker, by_cause, due_of_one, not_stopped_by, renamed_by, renamed_stopped, renamed_tells, stopped_of_none}
+use Rattle.bench_core.specs.Stops.{IsOfBench, IsOfMemory, of_bench}
+use Rattle.bench_core.specs.declared.stops.End.{End}
+use Rattle.bench_core.specs.declared.stops.End.TheVariants.{Stopped}
+use Rattle.bench_core.specs.declared.stops.Stop.TheVariants.{Bench}
+use Rattle.answer_journal.specs.Refusals.{IsOfReading}
+use Rattle.audit_store.specs.declared.growing.GrowRefusal.{GrowRefusal}
+use Rattle.audit_store.specs.declared.growing.GrowRefusal.TheVariants.{Journal}
+use Rattle.audit_store.specs.Growing.{GrowCause, GrowHistoryCause, GrowsFrom}
 use Rattle.audit_store.specs.Refusals.{no_refusal}
 use Rattle.bench_core.specs.Reports.{is_refusal, told_as}
-use Rattle.audit_store.proofs.GrowCauses.{grow_cause_of_reading, grow_due_of_reading, grow_gave_up, grow_cause_in_file, grow_due_of_history, one_grow_cause, grows_has_no_cause, grows_from, can_grow, history_no_call}
-use Rattle.audit_store.proofs.StoreFaults.{grow_read_failed, grow_failed, no_answer, on_refusal}
+use Rattle.audit_store.proofs.GrowCauses.{grow_cause_of_reading, grow_due_of_reading, grow_cause_in_file, grow_due_of_history, one_grow_cause, grows_has_no_cause, grows_from, can_grow}
+use Rattle.audit_store.proofs.StoreFaults.{no_answer, on_refusal}
 use Rattle.audit_store.proofs.store.Store.grow.Goals as goal
 
 module _ {D : Type 0} (bench : Ghosts D) (old : D) (other : Shape) (history : List Answered) (more : ℕ)
@@ -40,6 +47,9 @@ module _ {D : Type 0} (bench : Ghosts D) (old : D) (other : Shape) (history : Li
       (subst (λ (h : List Answered). LeavesOnly bench mid new (IsBeforeOrGrown other h rows (bench.sent mid))) same_list
       (subst (λ (s : Shape). LeavesOnly bench mid new (IsBeforeOrGrown s list rows (bench.sent mid))) same_shape growing))))
 
+abbrev err : End GrowRefusal → Result (Unit {0}) (End GrowRefusal)
+err end = Err end
+
 -- ---- the journal was not read
 
 pub returns : goal.returns
@@ -51,17 +61,21 @@ returns g c =
     let secret = c.args.secret in
     let table = secret_table secret c.args.protected in
     let reads = c.read_back.ensures.reads in
+    let end = c.in-Err.end in
+    let is_as : c.of_journal.result ≡ refused_as Journal end = c.of_journal.ensures in
     record {
-      cause = λ fault told is.
-          let found = grow_cause_of_reading file table c.in-Err.fault (c.in-Err.ensures.not_made told) (λ at. c.in-Err.ensures.damaged at told) in
-          IfErr-at_err (λ (f : GrowFault). GrowCause f file table) is (subst (λ (f : GrowFault). GrowCause f file table) (sym c.from.ensures) found);
-      due = λ fault told some cause.
-          let due = grow_due_of_reading file table c.in-Err.fault fault (c.in-Err.ensures.made told) (λ at. c.in-Err.ensures.damaged_only at told)
-          (λ shape history gate. c.in-Err.ensures.whole shape history gate told) some cause in
-          rw c.from.ensures due;
+      cause = λ refusal told is.
+          let read = by_cause end IsOfBench (λ r. GrowCause (Journal r) file table) IsOfReading c.in-Err.ensures.ends
+          (λ r given. grow_cause_of_reading file table r (c.in-Err.ensures.cause r told given)) in
+          IfErr-at_err (EndsBy IsOfBench (λ r. GrowCause r file table)) is
+          (subst (λ (e : End GrowRefusal). EndsBy IsOfBench (λ r. GrowCause r file table) e) (sym is_as) (renamed_by Journal end IsOfBench _ read));
+      due = λ refusal told cause.
+          subst (λ (e : End GrowRefusal). IsDueUnlessStopped refusal e) (sym is_as)
+          (grow_due_of_reading file table end refusal (λ r. c.in-Err.ensures.due r told) (λ shape history gate. c.in-Err.ensures.whole shape history gate told)
+          cause);
       grows = λ told can.
-          subst (λ (f : GrowFault). GivesUpGrowing f) (sym c.from.ensures)
-          (grow_gave_up c.in-Err.fault (c.in-Err.ensures.whole (over can.rows secret.shape) can.history can.stands.0 told can.stands.1));
+          subst (λ (e : End GrowRefusal). IsStopped e) (sym is_as)
+          (renamed_stopped Journal end (c.in-Err.ensures.whole (over can.rows secret.shape) can.history can.stands.0 told can.stands.1));
       done = λ told. tt;
       any_moment = λ told quiet grown.
           read_alone bench old (over grown.rows secret.shape) grown.history secret.shape.rows grown.stands mid (reads.untouched quiet);
@@ -70,8 +84,10 @@ returns g c =
       quiet = λ told quiet other. still_quiet bench old mid reads quiet;
       sent = reads.sent;
       ticks = λ told. tt;
-      fault = told_as bench old mid _ _ (λ told. grow_failed c.in-Err.fault c.from.result c.from.ensures told)
-          (λ is. grow_read_failed c.in-Err.fault c.from.result c.from.ensures is) c.in-Err.ensures.fault;
+      fault = renamed_tells bench old mid Journal end Bench _ (ap err is_as) c.in-Err.ensures.fault;
+      ends =
+          subst (λ (e : End GrowRefusal). EndsBy IsOfBench (λ _. ⊤) e) (sym is_as)
+          (renamed_by Journal end IsOfBench _ (EndsBy-weaker end IsOfBench IsOfBench _ _ (λ stop is. is) (λ refusal is. tt) c.in-Err.ensures.ends));
     }
 
 -- ---- its history doesn't go on over all rows
@@ -90,23 +106,24 @@ returns-in_err-may_grow-in-Ok g c =
     let e = c.in_err-may_grow-in-Ok.field-0.0 in
     let answer = c.from_residual.result in
     let same : answer ≡ Err e = is_refusal answer e c.from_residual.ensures in
-    let found : GrowHistoryCause e c.shape-kept.result c.deref_mut.result.now table = c.in_err-may_grow-in-Ok.ensures.err in
-    let here = subst (λ (s : Shape). GrowHistoryCause e s list table) c.shape-kept.ensures.shape
-    (subst (λ (l : List Answered). GrowHistoryCause e c.shape-kept.result l table) c.deref_mut.ensures.value found) in
+    let here = subst (λ (s : Shape). EndsBy IsOfMemory (λ r. GrowHistoryCause r s list table) e) c.shape-kept.ensures.shape
+    (subst (λ (l : List Answered). EndsBy IsOfMemory (λ r. GrowHistoryCause r c.shape-kept.result l table) e) c.deref_mut.ensures.value
+    c.in_err-may_grow-in-Ok.ensures.err) in
     record {
-      cause = λ fault told is.
-          IfErr-at_err (λ (f : GrowFault). GrowCause f file table) is
-          (subst (λ (r : Result (Unit {0}) GrowFault). IfErr r (λ (f : GrowFault). GrowCause f file table)) (sym same)
-          (grow_cause_in_file file journal.shape list journal.gate table e (c.in-Ok.ensures.stands told) here));
-      due = λ fault told some cause.
+      cause = λ refusal told is.
+          let given = IfErr-at_err (EndsBy IsOfMemory (λ r. GrowHistoryCause r journal.shape list table)) (sym same ∙ is) here in
+          grow_cause_in_file file journal.shape list journal.gate table refusal (c.in-Ok.ensures.stands told) given;
+      due = λ refusal told cause.
           let due = grow_due_of_history file table journal.shape list
           (λ other others gate stands. let is = c.in-Ok.ensures.whole other others gate told stands in (is.0, is.1))
-          fault (c.in-Ok.ensures.made told) (λ at. c.in-Ok.ensures.damaged_only at told) some cause in
-          subst (λ (r : Result (Unit {0}) GrowFault). NotGrownUnlessFailed fault r) (sym same) (one_grow_cause journal.shape list table fault e some due here);
+          refusal (λ r. c.in-Ok.ensures.due r told) cause in
+          subst (λ (r : Result (Unit {0}) (End GrowRefusal)). RefusedUnlessStopped refusal r) (sym same)
+          (due_of_one e IsOfMemory _ refusal (λ r. one_grow_cause journal.shape list table refusal r due) here);
       grows = λ told can.
           let from = grows_from file table journal.shape list
           (λ other others gate stands. let is = c.in-Ok.ensures.whole other others gate told stands in (is.0, is.1)) can in
-          subst (λ (r : Result (Unit {0}) GrowFault). GrowsUnlessFailed r) (sym same) (grows_has_no_cause journal.shape list table e from here);
+          subst (λ (r : Result (Unit {0}) (End GrowRefusal)). DoneUnlessStopped r) (sym same)
+          (stopped_of_none e IsOfMemory _ (λ r. grows_has_no_cause journal.shape list table r from) here);
       done = λ told. no_answer answer e same _;
       any_moment = λ told quiet grown.
           read_alone bench old (over grown.rows secret.shape) grown.history secret.shape.rows grown.stands mid (reads.untouched quiet);
@@ -116,8 +133,10 @@ returns-in_err-may_grow-in-Ok g c =
       sent = reads.sent;
       ticks = λ told. no_answer answer e same _;
       fault = told_as bench old mid _ _ (λ is. no_refusal _ _ is)
-          (λ is. absurd (history_no_call journal.shape list table e here
-          (subst (λ (r : Result (Unit {0}) GrowFault). IsErrOf r Failed) same is))) c.in-Ok.ensures.fault;
+          (λ is. absurd (not_stopped_by e IsOfMemory _ Bench (λ no. no) here
+          (subst (λ (r : Result (Unit {0}) (End GrowRefusal)). IsErrOf r (Stopped Bench)) same is))) c.in-Ok.ensures.fault;
+      ends = subst (λ (r : Result (Unit {0}) (End GrowRefusal)). IfErr r (EndsBy IsOfBench (λ _. ⊤))) (sym same)
+          (EndsBy-weaker e IsOfMemory IsOfBench _ _ of_bench (λ r is. tt) here);
     }
 
 -- ---- the growth was not appended
@@ -136,17 +155,15 @@ returns-in_err-append_growth-in-Ok g c =
     let reads = c.read_back.ensures.reads in
     let rows = c.shape-rows.result.rows in
     let answer = c.from_residual-in_err-append_growth-in-Ok.result in
-    let same : answer ≡ Err Failed = is_refusal answer Failed c.from_residual-in_err-append_growth-in-Ok.ensures in
+    let same : answer ≡ Err (Stopped Bench) = is_refusal answer (Stopped Bench) c.from_residual-in_err-append_growth-in-Ok.ensures in
     let found : GrowsFrom c.shape-kept.result c.deref_mut.result.now table = c.in_ok-may_grow-in-Ok.ensures.ok in
     let here = subst (λ (s : Shape). GrowsFrom s list table) c.shape-kept.ensures.shape
     (subst (λ (l : List Answered). GrowsFrom c.shape-kept.result l table) c.deref_mut.ensures.value found) in
     record {
-      cause = λ fault told is.
-          IfErr-at_err (λ (f : GrowFault). GrowCause f file table) is
-          (subst (λ (r : Result (Unit {0}) GrowFault). IfErr r (λ (f : GrowFault). GrowCause f file table)) (sym same) tt);
-      due = λ fault told some cause. subst (λ (r : Result (Unit {0}) GrowFault). NotGrownUnlessFailed fault r) (sym same) (inr tt);
-      grows = λ told can. subst (λ (r : Result (Unit {0}) GrowFault). GrowsUnlessFailed r) (sym same) tt;
-      done = λ told. no_answer answer Failed same _;
+      cause = λ refusal told is. IfErr-at_err (EndsBy IsOfBench (λ r. GrowCause r file table)) (sym same ∙ is) tt;
+      due = λ refusal told cause. subst (λ (r : Result (Unit {0}) (End GrowRefusal)). RefusedUnlessStopped refusal r) (sym same) tt;
+      grows = λ told can. subst (λ (r : Result (Unit {0}) (End GrowRefusal)). DoneUnlessStopped r) (sym same) tt;
+      done = λ told. no_answer answer (Stopped Bench) same _;
       any_moment = λ told quiet grown.
           let read = c.in-Ok.ensures.whole (over grown.rows secret.shape) grown.history grown.stands.0 told grown.stands.1 in
           let same_rows : rows ≡ secret.shape.rows = ap (λ (s : Shape). s.rows) c.shape-rows.ensures.shape in
@@ -155,16 +172,17 @@ returns-in_err-append_growth-in-Ok g c =
           read.0 read.1 same_rows reads.sent (reads.untouched quiet)
           (c.append_growth.ensures.any_moment list told stands (still_quiet bench old mid reads quiet));
       untouched = λ told quiet no. absurd (no (can_grow file journal.shape list journal.gate table (c.in-Ok.ensures.stands told) here));
-      kept = on_refusal answer Failed same _ (λ other. absurd (other same));
+      kept = on_refusal answer (Stopped Bench) same _ (λ other. absurd (other same));
       quiet = λ told quiet other. absurd (other same);
       sent = c.append_growth.ensures.sent ∙ reads.sent;
-      ticks = λ told. no_answer answer Failed same _;
+      ticks = λ told. no_answer answer (Stopped Bench) same _;
       fault = then_tells bench old mid new _ _ c.in-Ok.ensures.fault (λ is. no_refusal _ _ is) (record {
         later = c.append_growth.ensures.cause.later;
         failed = λ is. c.in_err-append_growth-in-Ok.ensures.cause.failed;
         last_call = λ is. c.in_err-append_growth-in-Ok.ensures.last_call;
-        steady = λ other. absurd (other (subst (λ (r : Result (Unit {0}) GrowFault). IsErrOf r Failed) (sym same) refl));
+        steady = λ other. absurd (other (subst (λ (r : Result (Unit {0}) (End GrowRefusal)). IsErrOf r (Stopped Bench)) (sym same) refl));
       });
+      ends = subst (λ (r : Result (Unit {0}) (End GrowRefusal)). IfErr r (EndsBy IsOfBench (λ _. ⊤))) (sym same) tt;
     }
 
 -- ---- it was
@@ -187,13 +205,12 @@ returns-in-Ok g c =
     (subst (λ (l : List Answered). GrowsFrom c.shape-kept.result l table) c.deref_mut.ensures.value found) in
     let same_rows : rows ≡ secret.shape.rows = ap (λ (s : Shape). s.rows) c.shape-rows.ensures.shape in
     record {
-      cause = λ fault told is. let none : ⊥ = cc in absurd none;
-      due = λ fault told some cause.
-          some
-          (grows_has_no_cause journal.shape list table fault here
+      cause = λ refusal told is. let none : ⊥ = cc in absurd none;
+      due = λ refusal told cause.
+          grows_has_no_cause journal.shape list table refusal here
           (grow_due_of_history file table journal.shape list
           (λ other others gate stands. let is = c.in-Ok.ensures.whole other others gate told stands in (is.0, is.1))
-          fault (c.in-Ok.ensures.made told) (λ at. c.in-Ok.ensures.damaged_only at told) some cause));
+          refusal (λ r. c.in-Ok.ensures.due r told) cause);
       grows = λ told can. tt;
       done = λ told.
           let stands = subst (λ (f : List ℕ). StandsAt f journal.shape list journal.gate) (sym reads.file) (c.in-Ok.ensures.stands told) in
@@ -224,4 +241,5 @@ returns-in-Ok g c =
         last_call = λ is. no_refusal _ _ is;
         steady = λ other. c.in_ok-append_growth-in-Ok.ensures.cause.steady;
       });
+      ends = tt;
     }

@@ -3,7 +3,7 @@ use Rattle.audit_core.specs.Audited.{Audited}
 use Rattle.table_load.specs.Cells.{SecretView}
 use Rattle.bench_core.specs.Reports.{of_refusal}
 use Rattle.audit_store.specs.Stores.{IsStore, IsAuditedBy}
-use Rattle.audit_store.specs.Starting.{StartsUnlessFailed}
+use Rattle.bench_core.specs.Ends.{DoneUnlessStopped}
 use Rattle.audit_store.specs.StoreLaws.{store_in, table_by, recovered_groups, recovered_store}
 use Rattle.audit_store.proofs.store.Store.start.Goals as goal
 
@@ -29,5 +29,5 @@ returns-clause-store g c =
 
 pub returns-in_err-journal-clause-opens : goal.returns-in_err-journal-clause-opens
 returns-in_err-journal-clause-opens g c = λ history told stands legal.
-    of_refusal c.from_residual.result c.in_err-journal.field-0.0 c.from_residual.ensures StartsUnlessFailed
+    of_refusal c.from_residual.result c.in_err-journal.field-0.0 c.from_residual.ensures DoneUnlessStopped
     (c.in_err-journal.ensures.opens history told stands legal)

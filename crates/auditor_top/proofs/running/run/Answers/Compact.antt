@@ -7,7 +7,8 @@ use Rattle.table_load.specs.Database.{Database, base_of, secret_table, table_in}
 use Rattle.answer_journal.specs.Moments.{IsMade}
 use Rattle.audit_store.specs.Stores.{IsAsLeft}
 use Rattle.journal_compact.specs.Compactions.{Compacts, CompactsFront, IsUnmadeOrKept, SendsCounts}
-use Rattle.journal_compact.specs.declared.compacting.CompactFault.TheVariants as compact
+use Rattle.bench_core.specs.declared.stops.End.TheVariants.{Stopped}
+use Rattle.bench_core.specs.declared.stops.Stop.TheVariants as stop
 use Rattle.auditor_top.specs.declared.words.Command.{Command}
 use Rattle.auditor_top.specs.declared.words.Command.TheVariants as command
 use Rattle.auditor_top.specs.declared.status.Status.{Status}
@@ -73,7 +74,7 @@ compacted_faults g c =
     faults_so c.compacted.result _ (faults_of g.P.Source g.I.Source g.B.Bench
     (objects c.args.schema.now c.args.table.now c.args.input.now c.args.bench.now c.args.spare.now)) _
     _ c.compacted.ensures c.in-Ok-Compact.ensures.steady
-    (compact_faults c.compact.result _ _ _ does.fault.failed does.fault.steady does.spare_fault.failed does.spare_fault.steady)
+    (compact_faults c.compact.result _ _ _ does.ends does.fault.failed does.fault.steady does.spare_fault.failed does.spare_fault.steady)
 
 -- what is found on the journal at every moment: its file, and a front of the line sent
 sends : (g : Over) (c : goal.After-drop-store-inside-in-Ok-Compact-5 g) → g.B.Bench.told → IsQuiet g.B.Bench c.args.bench.now →
@@ -127,16 +128,16 @@ compacting g c =
       compacted = λ ptold told base records over.
           given g c (λ (b : Database) (h : List Answered). CompactEnds (compacting_status c.compact.result) b.secret.shape h spare spare_new sent
           (g.B.Bench.sent later)) ptold told base records over
-          (compact_ends c.compact.result shape history spare spare_new sent (g.B.Bench.sent later)
+          (compact_ends c.compact.result shape history spare spare_new sent (g.B.Bench.sent later) does.ends
           (subst (λ (bytes : List ℕ). OnOk c.compact.result (Compacts shape history spare spare_new bytes (g.B.Bench.sent later))) reads.sent
           (does.done told))
-          (subst (λ (bytes : List ℕ). IsErrOf c.compact.result compact.Bench → CompactsFront shape history spare spare_new bytes
+          (subst (λ (bytes : List ℕ). IsErrOf c.compact.result (Stopped stop.Bench) → CompactsFront shape history spare spare_new bytes
           (g.B.Bench.sent later))
           reads.sent (does.part told))
           (unsent_so c.compact.result (λ is. ap g.B.Bench.sent is ∙ reads.sent) does.unsent));
       compacting = spare_moments g c;
-      stable = λ told done. (compact_says c.compact.result).done _ done (does.quiet told);
-      unsent_yet = λ failed. ap g.B.Bench.sent ((compact_says c.compact.result).unsent _ failed does.unsent) ∙ reads.sent;
+      stable = λ told done. (compact_says c.compact.result c.compact.ensures.ends).done _ done (does.quiet told);
+      unsent_yet = λ failed. ap g.B.Bench.sent ((compact_says c.compact.result c.compact.ensures.ends).unsent _ failed does.unsent) ∙ reads.sent;
       alike = λ ptold told unmade quiet base records over image bytes found was made stands.
           c.compactions.ensures _ _ _ image bytes base records found over.files over.legal
           ((spare_moments g c ptold told unmade quiet base records over).each image bytes was) made stands;
@@ -151,14 +152,14 @@ compacting g c =
           subst (λ b. LeavesOnly g.B.Bench at b (IsUntouched file sent)) (sym (does.refused told made).1) (reads.untouched quiet);
       uncalled = λ ptold told none. absurd (none (seen g c ptold) history
           (record { files = are g c ptold; stands = (c.in-Ok-Compact.store.journal.gate, stands g c told); legal = (opened g c).is.legal }));
-      no_memory = λ is. does.no_memory ((compact_says c.compact.result).memory is);
+      no_memory = λ is. does.no_memory ((compact_says c.compact.result c.compact.ensures.ends).memory is);
       compact_calls = λ told done.
           let opening = c.in-Ok-Compact.ensures.ticks told (ap opens_store same) in
-          let send = (compact_says c.compact.result).done _ done (does.ticks told) in
+          let send = (compact_says c.compact.result c.compact.ensures.ends).done _ done (does.ticks told) in
           omega (arith, opening, send);
-      spare_calls = λ told done. (compact_says c.compact.result).done _ done (does.spare_ticks told);
+      spare_calls = λ told done. (compact_says c.compact.result c.compact.ensures.ends).done _ done (does.spare_ticks told);
       compacts = λ ptold told unmade base records over none fine.
-          compact_wants c.compact.result (faults_of g.P.Source g.I.Source g.B.Bench old) (faults_of g.P.Source g.I.Source g.B.Bench new)
+          compact_wants c.compact.result (faults_of g.P.Source g.I.Source g.B.Bench old) (faults_of g.P.Source g.I.Source g.B.Bench new) does.ends
           (λ is. unmade (does.already told is))
           (subst (λ (s : Status). FaultCause s (faults_of g.P.Source g.I.Source g.B.Bench old) (faults_of g.P.Source g.I.Source g.B.Bench new))
           c.compacted.ensures
@@ -174,9 +175,9 @@ compaction_ends g c =
     let file = g.B.Bench.file c.args.bench.now in
     let is_named : command_of (map string_bytes c.args.words.now.items) ≡ Some command.Compact =
     asked_for _ _ _ _ c.in-Ok.ensures.command c.in-Ok-Compact.field-0-is c.in-Ok-Compact.ensures.asked in
-    let last = subst EndsLastStep (sym c.compacted.ensures) ((compact_says c.compact.result).last) in
+    let last = subst EndsLastStep (sym c.compacted.ensures) ((compact_says c.compact.result c.compact.ensures.ends).last) in
     record {
-      words = words_so _ command.Compact status _ is_named c.compacted.ensures ((compact_says c.compact.result).words);
+      words = words_so _ command.Compact status _ is_named c.compacted.ensures ((compact_says c.compact.result c.compact.ensures.ends).words);
       schema = λ ptold command asked reads. schema_so status _ _ _ last (are g c ptold).files;
       table = λ ptold command asked reads. table_so status _ _ _ last (are g c ptold).files;
       public = λ ptold asked. not_asked _ _ _ is_named asked refl;
@@ -184,18 +185,18 @@ compaction_ends g c =
       own_schema_fault = no_schema_fault status last;
       own_table_fault = no_table_fault status last;
       file = λ ptold told. file_so _ command.Compact status _ is_named c.compacted.ensures refl _ _ file (λ base sound.
-          (compact_says c.compact.result).file file (table_in base)
+          (compact_says c.compact.result c.compact.ensures.ends).file file (table_in base)
           (holds_over c.groups_of_a_schema.ensures.entries _ _ file _ base (are g c ptold) sound (holds g c told)));
       input = λ itold command asked reads. lacks_step reads_lines _ _ command is_named asked refl reads;
       faults = compacted_faults g c;
       schema_last = schema_was_read status last;
       table_last = table_was_read status last;
-      input_last = λ is. absurd ((compact_says c.compact.result).no_input (sym c.compacted.ensures ∙ is));
-      bench_last = λ is. does.fault.last_call ((compact_says c.compact.result).bench (sym c.compacted.ensures ∙ is));
-      spare_last = λ is. does.spare_fault.last_call ((compact_says c.compact.result).spare (sym c.compacted.ensures ∙ is));
+      input_last = λ is. absurd ((compact_says c.compact.result c.compact.ensures.ends).no_input (sym c.compacted.ensures ∙ is));
+      bench_last = λ is. does.fault.last_call ((compact_says c.compact.result c.compact.ensures.ends).bench (sym c.compacted.ensures ∙ is));
+      spare_last = λ is. does.spare_fault.last_call ((compact_says c.compact.result c.compact.ensures.ends).spare (sym c.compacted.ensures ∙ is));
       spare_file = λ told asked is_asked calls. named_so _ command.Compact status _ is_named c.compacted.ensures
           (λ (s : Status) (k : Command). SpareCause s k (g.B.Bench.file c.args.spare.now))
-          (compact_spare c.compact.result (g.B.Bench.file c.args.spare.now) (does.already told) (λ made. (does.refused told made).0)) asked is_asked;
+          (compact_spare c.compact.result (g.B.Bench.file c.args.spare.now) does.ends (does.already told) (λ made. (does.refused told made).0)) asked is_asked;
       later = later_so _ _ _ c.open.ensures.later (stays _) does.fault.later does.spare_fault.later;
       schema_within = λ ptold. schema_was_read status last;
       table_within = λ ptold. table_was_read status last;
@@ -209,10 +210,10 @@ compaction_ends g c =
       before_table = past_table _ status last;
       before_bench = past_journal _ status last;
       before_spare = λ other. subst (λ (s : Status). Before opening_spare s (c.compact.new.spare ≡ c.args.spare.now)) (sym c.compacted.ensures)
-          ((compact_says c.compact.result).at_spare _);
+          ((compact_says c.compact.result c.compact.ensures.ends).at_spare _);
       before_lines = at_lines _ _ _ c.compacted.ensures
           (before_so reading_lines (compacting_status c.compact.result) (λ is. (refl, ap g.B.Bench.sent is ∙ reads.sent))
-          ((compact_says c.compact.result).at_lines _ does.unsent));
+          ((compact_says c.compact.result c.compact.ensures.ends).at_lines _ does.unsent));
       unwritten = λ told. always_before reading_lines status (does.file ∙ reads.file);
       unread = λ none. none_asked _ _ none is_named;
       no_files = λ command asked none. takes_step reads_files _ _ _ is_named asked refl none;

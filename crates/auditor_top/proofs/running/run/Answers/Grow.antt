@@ -6,7 +6,8 @@ use Rattle.table_load.specs.Database.{Database, base_of, table_in, secret_table}
 use Rattle.journal_form.specs.Journal.{StandsFor}
 use Rattle.answer_journal.specs.Moments.{IsBeforeOrGrown}
 use Rattle.audit_store.specs.Growing.{CanGrow}
-use Rattle.audit_store.specs.declared.growing.GrowFault.TheVariants as grow
+use Rattle.bench_core.specs.declared.stops.End.TheVariants.{Stopped}
+use Rattle.bench_core.specs.declared.stops.Stop.TheVariants as stop
 use Rattle.auditor_top.specs.declared.words.Command.{Command}
 use Rattle.auditor_top.specs.declared.words.Command.TheVariants as command
 use Rattle.auditor_top.specs.declared.status.Status.{Status}
@@ -61,7 +62,7 @@ grew_faults : (g : Over) (c : goal.After-grown g) → FaultCause c.grown.result
 grew_faults g c =
     faults_so c.grown.result _ (faults_of g.P.Source g.I.Source g.B.Bench
     (objects c.args.schema.now c.args.table.now c.args.input.now c.args.bench.now c.args.spare.now)) _
-    _ c.grown.ensures c.in-Ok-Grow.ensures.steady (growth_faults c.grow.result _ _ c.grow.ensures.fault.failed c.grow.ensures.fault.steady)
+    _ c.grown.ensures c.in-Ok-Grow.ensures.steady (growth_faults c.grow.result _ _ c.grow.ensures.ends c.grow.ensures.fault.failed c.grow.ensures.fault.steady)
 
 grew : (g : Over) (c : goal.After-grown g) →
     Growing g.P.Source g.I.Source g.B.Bench c.grown.result (objects c.args.schema.now c.args.table.now c.args.input.now c.args.bench.now c.args.spare.now)
@@ -91,11 +92,11 @@ grew g c =
           let over_seen = given ptold base rows history over in
           subst (λ (b : Database). GrowEnds (growing_status c.grow.result) b history (g.B.Bench.file at) (g.B.Bench.file later))
           (is_seen g c ptold base over.files)
-          (growth_ends c.grow.result (seen g c ptold) history (g.B.Bench.file at) (g.B.Bench.file later)
+          (growth_ends c.grow.result (seen g c ptold) history (g.B.Bench.file at) (g.B.Bench.file later) c.grow.ensures.ends
           (done_so c.grow.result (λ grown. subst (λ (h : List Answered). StandsFor (g.B.Bench.file later) secret.shape (widened secret.shape.rows h))
           (c.one_reading.ensures file _ _ _ _ _ _ grown.0.stands.1 over_seen.stands.1).1 grown.1) (c.grow.ensures.done told))
           (c.grow.ensures.grows told (can ptold rows history over_seen))
-          (subst (λ (f : List ℕ). OnErr c.grow.result (c.grow.result ≢ Err grow.Failed → g.B.Bench.file later ≡ f))
+          (subst (λ (f : List ℕ). OnErr c.grow.result (c.grow.result ≢ Err (Stopped stop.Bench) → g.B.Bench.file later ≡ f))
           (ap g.B.Bench.file same) c.grow.ensures.kept));
       growing = λ ptold told quiet base rows history held.
           let over_seen = given ptold base rows history held in
@@ -106,9 +107,9 @@ grew g c =
           (c.grow.ensures.any_moment told (subst (λ b. IsQuiet g.B.Bench b) (sym same) quiet) (can ptold rows history over_seen)));
       unsent = c.grow.ensures.sent ∙ ap g.B.Bench.sent same;
       kept = λ undone fine. growth_kept c.grow.result undone fine c.grow.ensures.kept ∙ ap g.B.Bench.file same;
-      grow_calls = λ told done. (growth_says c.grow.result).done _ done (c.grow.ensures.ticks told) ∙ ap (λ (n : ℕ). n + 6) (ap g.B.Bench.moment same);
+      grow_calls = λ told done. (growth_says c.grow.result c.grow.ensures.ends).done _ done (c.grow.ensures.ticks told) ∙ ap (λ (n : ℕ). n + 6) (ap g.B.Bench.moment same);
       grows = λ ptold told base rows history over none.
-          growth_wants c.grow.result (faults_of g.P.Source g.I.Source g.B.Bench old) (faults_of g.P.Source g.I.Source g.B.Bench new)
+          growth_wants c.grow.result (faults_of g.P.Source g.I.Source g.B.Bench old) (faults_of g.P.Source g.I.Source g.B.Bench new) c.grow.ensures.ends
           (c.grow.ensures.grows told (can ptold rows history (given ptold base rows history over)))
           (subst (λ (s : Status). FaultCause s (faults_of g.P.Source g.I.Source g.B.Bench old) (faults_of g.P.Source g.I.Source g.B.Bench new)) c.grown.ensures
           (grew_faults g c)) none;
@@ -123,8 +124,8 @@ grew_file g c ptold told base sound =
     subst (λ (b : Database). FileCause (growing_status c.grow.result) command.Grow (g.B.Bench.file c.args.bench.now) (table_in b))
     (is_seen g c ptold base sound)
     (subst (λ b. FileCause (growing_status c.grow.result) command.Grow (g.B.Bench.file b) table) (same_bench g c)
-    (growth_file c.grow.result (g.B.Bench.file c.open.new.bench) table (done_so c.grow.result (λ grown. grown.0) (c.grow.ensures.done told))
-    (λ fault is. c.grow.ensures.cause fault told is)))
+    (growth_file c.grow.result (g.B.Bench.file c.open.new.bench) table c.grow.ensures.ends (done_so c.grow.result (λ grown. grown.0) (c.grow.ensures.done told))
+    (λ refusal is. c.grow.ensures.cause refusal told is)))
 
 pub grow_ends : goal.returns-in-Ok-Grow
 grow_ends g c =
@@ -134,8 +135,8 @@ grow_ends g c =
     let later = c.grow.new.bench in
     let same = same_bench g c in
     let is_named = named g c in
-    let last = subst EndsLastStep (sym c.grown.ensures) ((growth_says c.grow.result).last) in
-    let words = words_so _ command.Grow status _ is_named c.grown.ensures ((growth_says c.grow.result).words) in
+    let last = subst EndsLastStep (sym c.grown.ensures) ((growth_says c.grow.result c.grow.ensures.ends).last) in
+    let words = words_so _ command.Grow status _ is_named c.grown.ensures ((growth_says c.grow.result c.grow.ensures.ends).words) in
     let quiet_then : (IsQuiet g.B.Bench c.args.bench.now → IsQuiet g.B.Bench opened) = λ quiet. subst (λ b. IsQuiet g.B.Bench b) (sym same) quiet in
     record {
       words = words;
@@ -150,8 +151,8 @@ grow_ends g c =
       faults = grew_faults g c;
       schema_last = schema_was_read status last;
       table_last = table_was_read status last;
-      input_last = λ is. absurd ((growth_says c.grow.result).no_input (sym c.grown.ensures ∙ is));
-      bench_last = λ is. c.grow.ensures.fault.last_call ((growth_says c.grow.result).bench (sym c.grown.ensures ∙ is));
+      input_last = λ is. absurd ((growth_says c.grow.result c.grow.ensures.ends).no_input (sym c.grown.ensures ∙ is));
+      bench_last = λ is. c.grow.ensures.fault.last_call ((growth_says c.grow.result c.grow.ensures.ends).bench (sym c.grown.ensures ∙ is));
       spare_last = spare_called _ _ status is_named refl words;
       spare_file = λ told command asked calls. lacks_step calls_spare _ _ command is_named asked refl calls;
       later = later_so _ _ _ c.open.ensures.later (stays _) c.grow.ensures.fault.later (stays _);
@@ -174,7 +175,7 @@ grow_ends g c =
       before_bench = past_journal _ status last;
       before_spare = λ other. always_before opening_spare status refl;
       before_lines = always_before reading_lines status (refl, c.grow.ensures.sent ∙ reads.sent);
-      unwritten = λ told. at_lines _ _ _ c.grown.ensures ((growth_says c.grow.result).at_lines _ _ (λ is. is ∙ reads.file) c.grow.ensures.kept);
+      unwritten = λ told. at_lines _ _ _ c.grown.ensures ((growth_says c.grow.result c.grow.ensures.ends).at_lines _ _ (λ is. is ∙ reads.file) c.grow.ensures.kept);
       unread = λ none. none_asked _ _ none is_named;
       no_files = λ command asked none. takes_step reads_files _ _ _ is_named asked refl none;
       no_lines = λ command asked none. refl;

@@ -1,5 +1,5 @@
 -- What `run` says of `init`.
-use Rattle.std.proofs.Common.{◌≡◌, ◌+◌, ℕ, List, [], Some, IsErr, IsErrOf, refl, sym, ◌∙◌, ap, subst, map, string_bytes}
+use Rattle.std.proofs.Common.{◌≡◌, ◌+◌, ℕ, List, [], Some, IsErr, refl, sym, ◌∙◌, ap, subst, map, string_bytes}
 use Rattle.audit_types.specs.declared.shapes.Shape.{Shape}
 use Rattle.bench_core.specs.Calls.{IsQuiet, IsUntouched, LeavesOnly}
 use Rattle.table_load.specs.Cells.{SecretView}
@@ -7,7 +7,7 @@ use Rattle.table_load.specs.Database.{Database, table_in}
 use Rattle.journal_form.specs.Journal.{StandsFor}
 use Rattle.answer_journal.specs.Make.{calls_to_make}
 use Rattle.answer_journal.specs.Moments.{IsAlready, IsUnmadeOrWhole}
-use Rattle.answer_journal.specs.declared.make.MakeFault.TheVariants as make
+use Rattle.bench_core.specs.Ends.{IsRefused}
 use Rattle.auditor_top.specs.declared.words.Command.{Command}
 use Rattle.auditor_top.specs.declared.words.Command.TheVariants as command
 use Rattle.auditor_top.specs.declared.status.Status.{Status}
@@ -39,7 +39,7 @@ made_faults : (g : Over) (c : goal.After-made g) → FaultCause c.made.result
 made_faults g c =
     faults_so c.made.result _ (faults_of g.P.Source g.I.Source g.B.Bench
     (objects c.args.schema.now c.args.table.now c.args.input.now c.args.bench.now c.args.spare.now)) _
-    _ c.made.ensures c.in-Ok-Init.ensures.steady (making_faults c.make.result _ _ c.make.ensures.fault.failed c.make.ensures.fault.steady)
+    _ c.made.ensures c.in-Ok-Init.ensures.steady (making_faults c.make.result _ _ c.make.ensures.ends c.make.ensures.fault.failed c.make.ensures.fault.steady)
 
 making_it : (g : Over) (c : goal.After-made g) →
     Making g.P.Source g.I.Source g.B.Bench c.made.result (objects c.args.schema.now c.args.table.now c.args.input.now c.args.bench.now c.args.spare.now)
@@ -55,13 +55,13 @@ making_it g c =
     let shape : ((ptold : g.P.Source.told) → (base : Database) → AreFilesOf (g.P.Source.left old.schema) (g.P.Source.left old.table) base →
     c.in-Ok-Init.shape ≡ base.secret.shape) =
     λ ptold base files. (are g c ptold).2 ∙ ap (λ (s : SecretView). s.shape) (one_secret _ _ (are g c ptold).0 base (are g c ptold).1 files) in
-    let there = λ (told : g.B.Bench.told) (is : IsErrOf c.make.result make.AlreadyThere). subst
+    let there = λ (told : g.B.Bench.told) (is : IsRefused c.make.result). subst
     (λ b. IsAlready (g.B.Bench.file b) × (g.B.Bench.file later ≡ g.B.Bench.file b)) unopened (c.make.ensures.already told is) in
     subst (λ (s : Status). Making g.P.Source g.I.Source g.B.Bench s old new) (sym c.made.ensures) (record {
       made = λ ptold told done base files.
           subst (λ (s : Shape). StandsFor (g.B.Bench.file later) s []) (shape ptold base files)
-          (20, (making_says c.make.result).done _ done (c.make.ensures.done told));
-      kept = λ told undone fine. (there told (there_is c.make.result undone fine)).1;
+          (20, (making_says c.make.result c.make.ensures.ends).done _ done (c.make.ensures.done told));
+      kept = λ told undone fine. (there told (there_is c.make.result c.make.ensures.ends undone fine)).1;
       unsent = c.make.ensures.sent ∙ reads.sent;
       untouched = λ told. subst (λ b. IsAlready (g.B.Bench.file b) → IsQuiet g.B.Bench b → LeavesOnly g.B.Bench b later
           (IsUntouched (g.B.Bench.file b) (g.B.Bench.sent b))) unopened (c.make.ensures.untouched told);
@@ -69,12 +69,12 @@ making_it g c =
           subst (λ (s : Shape). LeavesOnly g.B.Bench at later (IsUnmadeOrWhole s [] (g.B.Bench.sent at))) (shape ptold base files)
           (subst (λ b. (IsAlready (g.B.Bench.file b) → ⊥) → IsQuiet g.B.Bench b → LeavesOnly g.B.Bench b later
           (IsUnmadeOrWhole c.in-Ok-Init.shape [] (g.B.Bench.sent b))) unopened (c.make.ensures.any_moment told) absent quiet);
-      unmade = λ is. absurd ((making_says c.make.result).no_memory is);
-      init_calls = λ told done. (making_says c.make.result).done _ done (c.make.ensures.ticks told)
+      unmade = λ is. absurd ((making_says c.make.result c.make.ensures.ends).no_memory is);
+      init_calls = λ told done. (making_says c.make.result c.make.ensures.ends).done _ done (c.make.ensures.ticks told)
           ∙ ap (λ b. g.B.Bench.moment b + calls_to_make (g.B.Bench.file b)) unopened;
       makes = λ ptold told base files absent none.
           making_wants c.make.result (faults_of g.P.Source g.I.Source g.B.Bench old) (faults_of g.P.Source g.I.Source g.B.Bench new)
-          (λ is. absent (there told is).0) (subst
+          c.make.ensures.ends (λ is. absent (there told is).0) (subst
           (λ (s : Status). FaultCause s (faults_of g.P.Source g.I.Source g.B.Bench old) (faults_of g.P.Source g.I.Source g.B.Bench new)) c.made.ensures
           (made_faults g c)) none;
     })
@@ -86,8 +86,8 @@ init_ends g c =
     let file = g.B.Bench.file c.args.bench.now in
     let is_named : command_of (map string_bytes c.args.words.now.items) ≡ Some command.Init =
     asked_for _ _ _ _ c.in-Ok.ensures.command c.in-Ok-Init.field-0-is c.in-Ok-Init.ensures.asked in
-    let last = subst EndsLastStep (sym c.made.ensures) ((making_says c.make.result).last) in
-    let words = words_so _ command.Init status _ is_named c.made.ensures ((making_says c.make.result).words) in
+    let last = subst EndsLastStep (sym c.made.ensures) ((making_says c.make.result c.make.ensures.ends).last) in
+    let words = words_so _ command.Init status _ is_named c.made.ensures ((making_says c.make.result c.make.ensures.ends).words) in
     record {
       words = words;
       schema = λ ptold command asked reads. schema_so status _ _ _ last (are g c ptold).1;
@@ -97,15 +97,15 @@ init_ends g c =
       own_schema_fault = no_schema_fault status last;
       own_table_fault = no_table_fault status last;
       file = λ ptold told asked is_asked base files sound. named_so _ command.Init status _ is_named c.made.ensures
-          (λ (s : Status) (k : Command). FileCause s k file (table_in base)) (making_cause c.make.result file (table_in base)
+          (λ (s : Status) (k : Command). FileCause s k file (table_in base)) (making_cause c.make.result file (table_in base) c.make.ensures.ends
           (subst (λ (f : List ℕ). IsAlready f → IsErr c.make.result) reads.file (c.make.ensures.refused told))
           (λ is. subst IsAlready reads.file (c.make.ensures.already told is).0)) asked is_asked;
       input = λ itold command asked reads. lacks_step reads_lines _ _ command is_named asked refl reads;
       faults = made_faults g c;
       schema_last = schema_was_read status last;
       table_last = table_was_read status last;
-      input_last = λ is. absurd ((making_says c.make.result).no_input (sym c.made.ensures ∙ is));
-      bench_last = λ is. c.make.ensures.fault.last_call ((making_says c.make.result).bench (sym c.made.ensures ∙ is));
+      input_last = λ is. absurd ((making_says c.make.result c.make.ensures.ends).no_input (sym c.made.ensures ∙ is));
+      bench_last = λ is. c.make.ensures.fault.last_call ((making_says c.make.result c.make.ensures.ends).bench (sym c.made.ensures ∙ is));
       spare_last = spare_called _ _ status is_named refl words;
       spare_file = λ told command asked calls. lacks_step calls_spare _ _ command is_named asked refl calls;
       later = later_so _ _ _ c.open.ensures.later (stays _) c.make.ensures.fault.later (stays _);
@@ -115,7 +115,7 @@ init_ends g c =
       does = λ command asked. does_so g.P.Source g.I.Source g.B.Bench status _ _ _ _ command is_named asked (making_it g c);
       nothing_began = λ ptold told command asked opens. lacks_step opens_journal _ _ command is_named asked refl opens;
       quiet = λ told quiet fine.
-          made_or_there c.make.result (λ is. fine (c.made.ensures ∙ is)) (c.make.ensures.quiet told)
+          made_or_there c.make.result c.make.ensures.ends (λ is. fine (c.made.ensures ∙ is)) (c.make.ensures.quiet told)
           (λ there image left.
           let still = as_quiet g.B.Bench _ _ reads quiet in
           let already = c.make.ensures.already told there in
@@ -127,7 +127,7 @@ init_ends g c =
       before_spare = λ other. always_before opening_spare status refl;
       before_lines = always_before reading_lines status (refl, c.make.ensures.sent ∙ reads.sent);
       unwritten = λ told. at_lines _ _ _ c.made.ensures
-          ((making_says c.make.result).at_lines _ (λ there. (c.make.ensures.already told there).1 ∙ reads.file));
+          ((making_says c.make.result c.make.ensures.ends).at_lines _ (λ there. (c.make.ensures.already told there).1 ∙ reads.file));
       unread = λ none. none_asked _ _ none is_named;
       no_files = λ command asked none. takes_step reads_files _ _ _ is_named asked refl none;
       no_lines = λ command asked none. refl;

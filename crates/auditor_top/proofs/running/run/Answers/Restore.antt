@@ -5,8 +5,9 @@ use Rattle.audit_types.specs.History.{Table}
 use Rattle.bench_core.specs.Calls.{IsQuiet, IsUntouched, LeavesOnly}
 use Rattle.table_load.specs.Database.{Database, base_of, secret_table, table_in}
 use Rattle.answer_journal.specs.Moments.{IsMade, IsUnmadeOrWhole}
-use Rattle.twin_journal.specs.Restoring.{CanRestore, IsLost, IsLostOf, RestoreCause, Restored, RestoredUnlessGivenUp, TakeCalls}
-use Rattle.twin_journal.specs.declared.restoring.RestoreFault.{RestoreFault}
+use Rattle.twin_journal.specs.Restoring.{CanRestore, IsLost, IsLostOf, RestoreCause, Restored, TakeCalls}
+use Rattle.twin_journal.specs.declared.restoring.RestoreRefusal.{RestoreRefusal}
+use Rattle.bench_core.specs.declared.stops.End.TheVariants.{Refused}
 use Rattle.auditor_top.specs.declared.words.Command.{Command}
 use Rattle.auditor_top.specs.declared.words.Command.TheVariants as command
 use Rattle.auditor_top.specs.declared.status.Status.{Status}
@@ -57,7 +58,7 @@ restored_faults g c =
     faults_so c.restored.result _ (faults_of g.P.Source g.I.Source g.B.Bench
     (objects c.args.schema.now c.args.table.now c.args.input.now c.args.bench.now c.args.spare.now)) _
     _ c.restored.ensures c.in-Ok-Restore.ensures.steady
-    (restore_faults c.restore.result _ _ _ does.own does.fault.failed does.fault.steady does.spare_fault.failed does.spare_fault.steady)
+    (restore_faults c.restore.result _ _ _ does.ends does.fault.failed does.fault.steady does.spare_fault.failed does.spare_fault.steady)
 
 -- the table of the files, as the step has it
 abbrev table : (g : Over) → goal.After-restored g → Table
@@ -66,10 +67,10 @@ table g c = secret_table c.in-Ok-Restore.secret c.in-Ok-Restore.protected
 quiet_opened : (g : Over) (c : goal.After-restored g) → IsQuiet g.B.Bench c.args.bench.now → IsQuiet g.B.Bench c.open.new.bench
 quiet_opened g c quiet = subst (λ b. IsQuiet g.B.Bench b) (sym (unopened g c)) quiet
 
-cause : (g : Over) (c : goal.After-restored g) → g.B.Bench.told → (fault : RestoreFault) → c.restore.result ≡ Err fault →
-    RestoreCause fault (g.B.Bench.file c.args.bench.now) (g.B.Bench.file c.args.spare.now) (table g c)
-cause g c told fault is =
-    subst (λ b. RestoreCause fault (g.B.Bench.file b) (g.B.Bench.file c.args.spare.now) (table g c)) (unopened g c) (c.restore.ensures.cause fault told told is)
+cause : (g : Over) (c : goal.After-restored g) → g.B.Bench.told → (refusal : RestoreRefusal) → c.restore.result ≡ Err (Refused refusal) →
+    RestoreCause refusal (g.B.Bench.file c.args.bench.now) (g.B.Bench.file c.args.spare.now) (table g c)
+cause g c told refusal is =
+    subst (λ b. RestoreCause refusal (g.B.Bench.file b) (g.B.Bench.file c.args.spare.now) (table g c)) (unopened g c) (c.restore.ensures.cause refusal told told is)
 
 done_so : (g : Over) (c : goal.After-restored g) → g.P.Source.told → g.B.Bench.told → restoring_status c.restore.result ≡ Done → (base : Database) →
     AreSoundFilesOf (g.P.Source.left c.args.schema.now) (g.P.Source.left c.args.table.now) base → (history : List Answered)
@@ -87,7 +88,7 @@ done_so g c ptold told done base sound =
     (is_seen g c ptold base sound)
     (subst (λ b. (history : List Answered) × (Restored (table g c) spare (g.B.Bench.file b) spare_later later history
     ⊎ Restored (table g c) (g.B.Bench.file b) spare later spare_later history)) (unopened g c)
-    ((restore_says c.restore.result).done _ done (c.restore.ensures.done told told)))
+    ((restore_says c.restore.result c.restore.ensures.ends).done _ done (c.restore.ensures.done told told)))
 
 moments : (g : Over) (c : goal.After-restored g) → g.P.Source.told → g.B.Bench.told → IsQuiet g.B.Bench c.args.bench.now →
     (base : Database) (history : List Answered) →
@@ -129,7 +130,7 @@ calls_so g c told done =
     let spare_later = g.B.Bench.moment c.restore.new.spare in
     subst (λ b. (IsLost (g.B.Bench.file c.args.spare.now) × TakeCalls spare spare_later (g.B.Bench.moment b) later)
     ⊎ (IsLost (g.B.Bench.file b) × TakeCalls (g.B.Bench.moment b) later spare spare_later)) (unopened g c)
-    ((restore_says c.restore.result).done _ done (c.restore.ensures.ticks told told))
+    ((restore_says c.restore.result c.restore.ensures.ends).done _ done (c.restore.ensures.ticks told told))
 
 restoring : (g : Over) (c : goal.After-restored g) →
     Restoring g.P.Source g.I.Source g.B.Bench c.restored.result (objects c.args.schema.now c.args.table.now c.args.input.now c.args.bench.now c.args.spare.now)
@@ -150,11 +151,11 @@ restoring g c =
     λ can. subst (λ b. CanRestore (table g c) (g.B.Bench.file b) spare) same can in
     subst (λ (s : Status). Restoring g.P.Source g.I.Source g.B.Bench s old new) (sym c.restored.ensures) (record {
       restored = done_so g c;
-      same = λ told done. (restore_says ended).done _ done (does.alike told told);
+      same = λ told done. (restore_says ended does.ends).done _ done (does.alike told told);
       cause = λ ptold told base sound.
           subst (λ (b : Database). BothCause (restoring_status ended) command.Restore file spare (table_in b)) (is_seen g c ptold base sound)
-          (restore_cause ended file spare (table g c) does.own (cause g c told));
-      no_memory = λ is. let read = does.no_memory ((restore_says ended).memory does.own is) in (read.0.file ∙ ap g.B.Bench.file same, read.1.file);
+          (restore_cause ended file spare (table g c) does.ends (cause g c told));
+      no_memory = λ is. let read = does.no_memory ((restore_says ended does.ends).memory is) in (read.0.file ∙ ap g.B.Bench.file same, read.1.file);
       restoring = moments g c;
       spare_restoring = spare_moments g c;
       kept = λ told quiet made. untouched (does.main_kept told (quiet_opened g c quiet) (subst (λ b. IsMade (g.B.Bench.file b)) (sym same) made));
@@ -164,13 +165,13 @@ restoring g c =
       spare_untouched = λ ptold told quiet none. does.spare_untouched told told quiet (λ can. none (seen g c ptold) (are_of g c ptold) (can_restore can));
       spare_quiet = λ told quiet fine. does.spare_quiet told quiet (λ is. fine (ap restoring_status is));
       unsent = (does.sent ∙ ap g.B.Bench.sent same, does.spare_sent);
-      uncalled = (restore_says ended).at_journal _;
+      uncalled = (restore_says ended does.ends).at_journal _;
       restore_calls = calls_so g c;
       restores = λ ptold told base sound can none fine.
-          restore_wants ended (faults_of g.P.Source g.I.Source g.B.Bench old) (faults_of g.P.Source g.I.Source g.B.Bench new)
-          (λ fault is. subst RestoredUnlessGivenUp is (does.restores told told
+          restore_wants ended (faults_of g.P.Source g.I.Source g.B.Bench old) (faults_of g.P.Source g.I.Source g.B.Bench new) does.ends
+          (does.restores told told
           (subst (λ b. CanRestore (table g c) (g.B.Bench.file b) spare) (sym same)
-          (subst (λ (b : Database). CanRestore (table_in b) file spare) (sym (is_seen g c ptold base sound)) can))))
+          (subst (λ (b : Database). CanRestore (table_in b) file spare) (sym (is_seen g c ptold base sound)) can)))
           (subst (λ (s : Status). FaultCause s (faults_of g.P.Source g.I.Source g.B.Bench old) (faults_of g.P.Source g.I.Source g.B.Bench new))
           c.restored.ensures
           (restored_faults g c)) none fine;
@@ -186,9 +187,9 @@ restoration_ends g c =
     let same = unopened g c in
     let is_named : command_of (map string_bytes c.args.words.now.items) ≡ Some command.Restore =
     asked_for _ _ _ _ c.in-Ok.ensures.command c.in-Ok-Restore.field-0-is c.in-Ok-Restore.ensures.asked in
-    let last = subst EndsLastStep (sym c.restored.ensures) ((restore_says ended).last) in
+    let last = subst EndsLastStep (sym c.restored.ensures) ((restore_says ended does.ends).last) in
     record {
-      words = words_so _ command.Restore status _ is_named c.restored.ensures (restore_says ended).words;
+      words = words_so _ command.Restore status _ is_named c.restored.ensures (restore_says ended does.ends).words;
       schema = λ ptold command asked reads. schema_so status _ _ _ last (are_of g c ptold).files;
       table = λ ptold command asked reads. table_so status _ _ _ last (are_of g c ptold).files;
       public = λ ptold asked. not_asked _ _ _ is_named asked refl;
@@ -196,18 +197,18 @@ restoration_ends g c =
       own_schema_fault = no_schema_fault status last;
       own_table_fault = no_table_fault status last;
       file = λ ptold told. file_so _ command.Restore status _ is_named c.restored.ensures refl _ _ file (λ base sound.
-          restore_file ended file spare (table_in base)
-          (λ fault is. subst (λ (b : Database). RestoreCause fault file spare (table_in b)) (is_seen g c ptold base sound) (cause g c told fault is)));
+          restore_file ended file spare (table_in base) does.ends
+          (λ refusal is. subst (λ (b : Database). RestoreCause refusal file spare (table_in b)) (is_seen g c ptold base sound) (cause g c told refusal is)));
       input = λ itold command asked reads. lacks_step reads_lines _ _ command is_named asked refl reads;
       faults = restored_faults g c;
       schema_last = schema_was_read status last;
       table_last = table_was_read status last;
-      input_last = λ is. absurd ((restore_says ended).no_input (sym c.restored.ensures ∙ is));
-      bench_last = λ is. does.fault.last_call ((restore_says ended).bench does.own (sym c.restored.ensures ∙ is));
-      spare_last = λ is. does.spare_fault.last_call ((restore_says ended).spare (sym c.restored.ensures ∙ is));
+      input_last = λ is. absurd ((restore_says ended does.ends).no_input (sym c.restored.ensures ∙ is));
+      bench_last = λ is. does.fault.last_call ((restore_says ended does.ends).bench (sym c.restored.ensures ∙ is));
+      spare_last = λ is. does.spare_fault.last_call ((restore_says ended does.ends).spare (sym c.restored.ensures ∙ is));
       spare_file = λ told asked is_asked calls. named_so _ command.Restore status _ is_named c.restored.ensures
           (λ (s : Status) (k : Command). SpareCause s k spare)
-          ((restore_says ended).spare_file spare) asked is_asked;
+          ((restore_says ended does.ends).spare_file spare) asked is_asked;
       later = later_so _ _ _ c.open.ensures.later (stays _) does.fault.later does.spare_fault.later;
       schema_within = λ ptold. schema_was_read status last;
       table_within = λ ptold. table_was_read status last;
@@ -219,9 +220,9 @@ restoration_ends g c =
       before_table = past_table _ status last;
       before_bench = past_journal _ status last;
       before_spare = λ other. absurd (other is_named);
-      before_lines = at_lines _ _ _ c.restored.ensures (restore_at_lines _ ended (λ fault is refuses. (refl, does.sent ∙ ap g.B.Bench.sent same)));
+      before_lines = at_lines _ _ _ c.restored.ensures (restore_at_lines _ ended does.ends (λ refuses. (refl, does.sent ∙ ap g.B.Bench.sent same)));
       unwritten = λ told. at_lines _ _ _ c.restored.ensures
-          (restore_at_lines _ ended (λ fault is refuses. (does.reads fault is refuses).0.file ∙ ap g.B.Bench.file same));
+          (restore_at_lines _ ended does.ends (λ refuses. (does.reads refuses).0.file ∙ ap g.B.Bench.file same));
       unread = λ none. none_asked _ _ none is_named;
       no_files = λ command asked none. takes_step reads_files _ _ _ is_named asked refl none;
       no_lines = λ command asked none. refl;

@@ -1,15 +1,23 @@
 -- What `run` says of `serve` whose two journals weren't opened.
 use Rattle.std.proofs.Common.{◌≡◌, ℕ, List, Some, refl, sym, ◌∙◌, ap, subst, inl, true, map, string_bytes}
+use Rattle.std.specs.Prelude.{⊤}
 use Rattle.audit_types.specs.declared.records.Answered.{Answered}
 use Rattle.bench_core.specs.Calls.{IsQuiet, IsUntouched, LeavesOnly}
 use Rattle.bench_core.specs.Moments.{weakens}
 use Rattle.table_load.specs.Database.{Database, base_of, table_in}
-use Rattle.twin_journal.specs.Twins.{CatchesUp, KeepApart, KeepTogether, TwinCause, TwinGivesUp}
-use Rattle.twin_journal.specs.declared.starting.TwinFault.TheVariants as twin
+use Rattle.twin_journal.specs.Twins.{CatchesUp, KeepApart, KeepTogether, TwinCause}
+use Rattle.twin_journal.specs.declared.starting.TwinRefusal.{TwinRefusal}
+use Rattle.bench_core.specs.Ends.{EndsBy, IsStopped}
+use Rattle.bench_core.specs.EndLaws.{by_cause}
+use Rattle.bench_core.specs.Stops.{IsOfBenches}
+use Rattle.bench_core.specs.declared.stops.End.{End}
+use Rattle.bench_core.specs.declared.stops.End.TheVariants.{Stopped}
+use Rattle.bench_core.specs.declared.stops.Stop.TheVariants as stop
 use Rattle.auditor_top.specs.Ends.{Outside, outside}
-use Rattle.auditor_top.specs.Faults.{twin_status}
+use Rattle.auditor_top.specs.Faults.{end_status, twin_status}
 use Rattle.auditor_top.specs.Twins.{BothCatchUp}
-use Rattle.auditor_top.proofs.TwinEndings.{IsOwn, own_fault, refusal, refused_status, twin_cause, twin_faults, twin_file, front_is_legal, twin_gave_up, twin_says, twin_wants, twin_words}
+use Rattle.auditor_top.proofs.StepFaults.{end_wants}
+use Rattle.auditor_top.proofs.TwinEndings.{TwinSays, TwinStops, refusal, refused_status, twin_cause, twin_faults, twin_file, front_is_legal, twin_gave_up, twin_says, twin_words}
 use Rattle.auditor_top.specs.declared.words.Command.{Command}
 use Rattle.auditor_top.specs.declared.words.Command.TheVariants as command
 use Rattle.auditor_top.specs.declared.status.Status.{Status}
@@ -55,14 +63,28 @@ keep g c ptold base main other whole over =
     (subst (λ (b : Database). KeepTogether (table_in b) (g.B.Bench.file c.args.bench.now) (g.B.Bench.file c.args.spare.now) main other whole)
     (sym (is_seen g c ptold base over.files)) over.together)
 
-own : (g : Over) (c : goal.After-drop-schema-inside-in-Ok-Twin-3 g) → IsOwn c.in-Err-start.fault
-own g c = own_fault c.in-Err-start.fault c.in-Err-start.ensures.own
+-- how the opening ended
+abbrev end : (g : Over) → goal.After-drop-schema-inside-in-Ok-Twin-3 g → End TwinRefusal
+end g c = c.in-Err-start.end
+
+stops : (g : Over) (c : goal.After-drop-schema-inside-in-Ok-Twin-3 g) → TwinStops (end g c)
+stops g c = c.in-Err-start.ensures.ends
+
+says : (g : Over) (c : goal.After-drop-schema-inside-in-Ok-Twin-3 g) → TwinSays (end g c)
+says g c = twin_says (end g c) (stops g c)
 
 cause : (g : Over) (c : goal.After-drop-schema-inside-in-Ok-Twin-3 g) → g.B.Bench.told →
-    TwinCause c.in-Err-start.fault (g.B.Bench.file c.args.bench.now) (g.B.Bench.file c.args.spare.now) (table_in (seen g c))
+    EndsBy IsOfBenches (λ refused. TwinCause refused (g.B.Bench.file c.args.bench.now) (g.B.Bench.file c.args.spare.now) (table_in (seen g c))) (end g c)
 cause g c told =
-    subst (λ b. TwinCause c.in-Err-start.fault (g.B.Bench.file b) (g.B.Bench.file c.args.spare.now) (table_in (seen g c))) (unopened g c)
-    (c.in-Err-start.ensures.cause c.in-Err-start.fault told told refl)
+    subst (λ b. EndsBy IsOfBenches (λ refused. TwinCause refused (g.B.Bench.file b) (g.B.Bench.file c.args.spare.now) (table_in (seen g c))) (end g c))
+    (unopened g c)
+    (by_cause (end g c) IsOfBenches _ (λ _. ⊤) (stops g c) (λ refused is. c.in-Err-start.ensures.cause refused told told is))
+
+-- if a call of the spare failed, the journal had been opened
+second : (g : Over) (c : goal.After-drop-schema-inside-in-Ok-Twin-3 g) → g.B.Bench.told → end g c ≡ Stopped stop.Spare →
+    HoldsLegal (g.B.Bench.file c.args.bench.now) (table_in (seen g c))
+second g c told is =
+    subst (λ b. HoldsLegal (g.B.Bench.file b) (table_in (seen g c))) (unopened g c) (c.in-Err-start.ensures.spare_second told (ap refusal is))
 
 refused_faults : (g : Over) (c : goal.After-drop-schema-inside-in-Ok-Twin-3 g) → FaultCause c.from.result
     (faults_of g.P.Source g.I.Source g.B.Bench (objects c.args.schema.now c.args.table.now c.args.input.now c.args.bench.now c.args.spare.now))
@@ -72,7 +94,7 @@ refused_faults g c =
     faults_so c.from.result _ (faults_of g.P.Source g.I.Source g.B.Bench
     (objects c.args.schema.now c.args.table.now c.args.input.now c.args.bench.now c.args.spare.now)) _
     _ c.from.ensures c.in-Ok-Twin.ensures.steady
-    (twin_faults c.in-Err-start.fault _ _ _ (own g c) does.fault.failed does.fault.steady does.spare_fault.failed does.spare_fault.steady)
+    (twin_faults (end g c) _ _ _ (stops g c) does.fault.failed does.fault.steady does.spare_fault.failed does.spare_fault.steady)
 
 -- what is given: the files of a table, and two journals of it of which one begins the other
 abbrev IsGiven : (g : Over) → goal.After-drop-schema-inside-in-Ok-Twin-3 g → Database → List Answered → List Answered → List Answered → Type 0
@@ -106,7 +128,7 @@ spare_catching g c ptold told quiet base main other whole over =
     (c.in-Err-start.ensures.spare_moments main other whole told told quiet (keep g c ptold base main other whole over))
 
 gave : (g : Over) (c : goal.After-drop-schema-inside-in-Ok-Twin-3 g) → g.P.Source.told → g.B.Bench.told → (base : Database) (main other whole : List Answered) →
-    IsGiven g c base main other whole → TwinGivesUp c.in-Err-start.fault
+    IsGiven g c base main other whole → IsStopped (end g c)
 gave g c ptold told base main other whole over = c.in-Err-start.ensures.opens main other whole told told (keep g c ptold base main other whole over)
 
 -- what there is of the outside before and after
@@ -119,7 +141,7 @@ after g c = outside g.I.Source g.B.Bench c.args.input.now c.start.new.bench
 -- if memory ran out both files still catch up
 still_caught : (g : Over) (c : goal.After-drop-schema-inside-in-Ok-Twin-3 g) → g.P.Source.told → g.B.Bench.told →
     (base : Database) (main other whole : List Answered) → IsGiven g c base main other whole →
-    c.in-Err-start.fault ≡ twin.NoMemory →
+    end g c ≡ Stopped stop.NoMemory →
     BothCatchUp base main other whole (before g c) (after g c) (g.B.Bench.file c.start.new.bench) (g.B.Bench.file c.start.new.spare)
 still_caught g c ptold told base main other whole over is =
     let found = c.in-Err-start.ensures.no_memory main other whole told told (keep g c ptold base main other whole over) (ap refusal is) in
@@ -127,7 +149,7 @@ still_caught g c ptold told base main other whole over is =
     (is_seen g c ptold base over.files) (refl, sent_same g c, found.0, found.1)
 
 -- if the spare failed all but it is as it was
-all_else_same : (g : Over) (c : goal.After-drop-schema-inside-in-Ok-Twin-3 g) → c.in-Err-start.fault ≡ twin.SpareFailed → after g c ≡ before g c
+all_else_same : (g : Over) (c : goal.After-drop-schema-inside-in-Ok-Twin-3 g) → end g c ≡ Stopped stop.Spare → after g c ≡ before g c
 all_else_same g c is =
     let same = (c.in-Err-start.ensures.spare_failed (ap refusal is)).file ∙ ap g.B.Bench.file (unopened g c) in
     ap (λ (sent : List ℕ). record { input = g.I.Source.left c.args.input.now; sent = sent; file = g.B.Bench.file c.start.new.bench }) (sent_same g c)
@@ -182,11 +204,10 @@ refusing g c =
     let old = objects c.args.schema.now c.args.table.now c.args.input.now at spare in
     let new = objects c.open.new.schema c.open.new.table c.args.input.now later spare_later in
     let n = c.in-Ok-Twin.batch in
-    let fault = c.in-Err-start.fault in
     let does = c.in-Err-start.ensures in
     subst (λ (s : Status). TwinServing g.P.Source g.I.Source g.B.Bench n s old new) (sym c.from.ensures) (record {
       twins_served = λ ptold itold told base main other whole over.
-          twin_gave_up fault n base main other whole (before g c) (after g c) (g.B.Bench.file spare_later)
+          twin_gave_up (end g c) n base main other whole (before g c) (after g c) (g.B.Bench.file spare_later) (stops g c)
           (gave g c ptold told base main other whole over) (still_caught g c ptold told base main other whole over) (all_else_same g c);
       twin_moment = λ ptold itold told quiet base main other whole over.
           weakens g.B.Bench at later (CatchesUp base.secret.shape main whole (g.B.Bench.sent at)) _ (λ image sent is. inl is)
@@ -211,15 +232,15 @@ refusing g c =
       apart = λ ptold told quiet none. untouched g c told quiet (apart g c ptold none);
       spare_apart = λ ptold told quiet none. does.spare_untouched told told quiet (apart g c ptold none);
       cause = λ ptold told base sound.
-          subst (λ (b : Database). BothCause (twin_status fault) (command.Serve n true) (g.B.Bench.file at) (g.B.Bench.file spare) (table_in b))
-          (is_seen g c ptold base sound) (twin_cause fault n _ _ _ (cause g c told));
+          subst (λ (b : Database). BothCause (end_status twin_status (end g c)) (command.Serve n true) (g.B.Bench.file at) (g.B.Bench.file spare) (table_in b))
+          (is_seen g c ptold base sound) (twin_cause (end g c) n _ _ _ (cause g c told));
       spare_quiet = λ told quiet fine. does.spare_quiet told quiet (λ is. fine (ap refused_status is));
       spare_unsent = does.spare_sent;
-      spare_unwritten = (twin_says fault).at_lines _ (λ refuses. (does.reads fault refl refuses).1.file);
-      twin_calls = λ ptold itold told done. absurd ((twin_says fault).undone done);
-      spare_calls = λ ptold itold told done. absurd ((twin_says fault).undone done);
+      spare_unwritten = (says g c).at_lines _ (λ refuses. (does.reads refuses).1.file);
+      twin_calls = λ ptold itold told done. absurd ((says g c).undone done);
+      spare_calls = λ ptold itold told done. absurd ((says g c).undone done);
       twins_complete = λ ptold itold told base main other whole over within none fine.
-          twin_wants fault (faults_of g.P.Source g.I.Source g.B.Bench old) (faults_of g.P.Source g.I.Source g.B.Bench new)
+          end_wants twin_status (end g c) (faults_of g.P.Source g.I.Source g.B.Bench old) (faults_of g.P.Source g.I.Source g.B.Bench new) (stops g c)
           (gave g c ptold told base main other whole over)
           (subst (λ (s : Status). FaultCause s (faults_of g.P.Source g.I.Source g.B.Bench old) (faults_of g.P.Source g.I.Source g.B.Bench new)) c.from.ensures
           (refused_faults g c)) none fine;
@@ -240,15 +261,14 @@ nothing_began g c ptold told asked named quiet none =
 pub twin_refused : goal.returns-in-Ok-Twin
 twin_refused g c =
     let status = c.from.result in
-    let fault = c.in-Err-start.fault in
     let does = c.in-Err-start.ensures in
     let one = command.Serve c.in-Ok-Twin.batch true in
     let file = g.B.Bench.file c.args.bench.now in
     let spare = g.B.Bench.file c.args.spare.now in
     let named = is_named g c in
-    let last = subst EndsLastStep (sym c.from.ensures) (twin_says fault).last in
+    let last = subst EndsLastStep (sym c.from.ensures) (says g c).last in
     record {
-      words = words_so _ one status _ named c.from.ensures (twin_words fault c.in-Ok-Twin.batch);
+      words = words_so _ one status _ named c.from.ensures (twin_words (end g c) c.in-Ok-Twin.batch (stops g c));
       schema = λ ptold command asked reads. schema_so status _ _ _ last (are g c ptold).files;
       table = λ ptold command asked reads. table_so status _ _ _ last (are g c ptold).files;
       public = λ ptold asked. not_asked _ _ _ named asked refl;
@@ -256,19 +276,19 @@ twin_refused g c =
       own_schema_fault = no_schema_fault status last;
       own_table_fault = no_table_fault status last;
       file = λ ptold told. file_so _ one status _ named c.from.ensures refl _ _ file (λ base sound.
-          subst (λ (b : Database). FileCause (twin_status fault) one file (table_in b)) (is_seen g c ptold base sound)
-          (twin_file fault c.in-Ok-Twin.batch _ _ _ (cause g c told)));
+          subst (λ (b : Database). FileCause (end_status twin_status (end g c)) one file (table_in b)) (is_seen g c ptold base sound)
+          (twin_file (end g c) c.in-Ok-Twin.batch _ _ _ (cause g c told) (second g c told)));
       input = λ itold command asked reads.
           subst (λ (s : Status). InputCause s (g.I.Source.left c.args.input.now) (g.I.Source.left c.args.input.now)) (sym c.from.ensures)
-          ((twin_says fault).input _);
+          ((says g c).input _);
       faults = refused_faults g c;
       schema_last = schema_was_read status last;
       table_last = table_was_read status last;
-      input_last = λ is. absurd ((twin_says fault).no_input (sym c.from.ensures ∙ is));
-      bench_last = λ is. does.fault.last_call (ap refusal ((twin_says fault).bench (own g c) (sym c.from.ensures ∙ is)));
-      spare_last = λ is. does.spare_fault.last_call (ap refusal ((twin_says fault).spare (sym c.from.ensures ∙ is)));
+      input_last = λ is. absurd ((says g c).no_input (sym c.from.ensures ∙ is));
+      bench_last = λ is. does.fault.last_call (ap refusal ((says g c).bench (sym c.from.ensures ∙ is)));
+      spare_last = λ is. does.spare_fault.last_call (ap refusal ((says g c).spare (sym c.from.ensures ∙ is)));
       spare_file = λ told command asked calls. named_so _ one status _ named c.from.ensures (λ (s : Status) (k : Command). SpareCause s k spare)
-          ((twin_says fault).spare_file c.in-Ok-Twin.batch spare) command asked;
+          ((says g c).spare_file c.in-Ok-Twin.batch spare) command asked;
       later = later_so _ _ _ c.open.ensures.later (stays _) does.fault.later does.spare_fault.later;
       schema_within = λ ptold. schema_was_read status last;
       table_within = λ ptold. table_was_read status last;
@@ -281,10 +301,10 @@ twin_refused g c =
       before_table = past_table _ status last;
       before_bench = past_journal _ status last;
       before_spare = λ other. subst (λ (s : Status). Before opening_spare s (c.start.new.spare ≡ c.args.spare.now)) (sym c.from.ensures)
-          ((twin_says fault).at_spare _ (λ f is. does.main_first f (ap refusal is)));
-      before_lines = at_lines _ _ _ c.from.ensures ((twin_says fault).at_lines _ (λ refuses. (refl, sent_same g c)));
+          ((says g c).at_spare _ (λ f is. does.main_first f (ap refusal is)));
+      before_lines = at_lines _ _ _ c.from.ensures ((says g c).at_lines _ (λ refuses. (refl, sent_same g c)));
       unwritten = λ told. at_lines _ _ _ c.from.ensures
-          ((twin_says fault).at_lines _ (λ refuses. (does.reads fault refl refuses).0.file ∙ ap g.B.Bench.file (unopened g c)));
+          ((says g c).at_lines _ (λ refuses. (does.reads refuses).0.file ∙ ap g.B.Bench.file (unopened g c)));
       unread = λ none. none_asked _ _ none named;
       no_files = λ command asked none. takes_step reads_files _ _ _ named asked refl none;
       no_lines = λ command asked none. refl;

@@ -1,29 +1,46 @@
-use Rattle.std.proofs.Common.{◌≡◌, ◌⊎◌, ℕ, List, Result, refl, sym, ap, subst, ◌∙◌}
-use Rattle.std.specs.Prelude.{Err}
+use Rattle.std.proofs.Common.{◌≡◌, ℕ, List, Result, refl, sym, ap, subst, ◌∙◌}
+use Rattle.std.specs.Prelude.{⊤, Err, IfErr}
+use Rattle.std.proofs.lemmas.Result.{IfErr-at_err, IfOk-from_err}
 use Rattle.audit_types.specs.declared.records.Answered.{Answered}
 use Rattle.audit_types.specs.declared.shapes.Shape.{Shape}
 use Rattle.audit_types.specs.History.{Protection, Table, IsLegal}
 use Rattle.bench_core.specs.Calls.{IsUntouched, LeavesOnly, OnlyReads}
 use Rattle.bench_core.specs.Moments.{still_quiet, then_tells}
-use Rattle.bench_core.specs.Reports.{not_called, not_written, told_as}
+use Rattle.bench_core.specs.Reports.{is_refusal, not_called, not_written, of_refusal, told_as}
 use Rattle.journal_form.specs.Journal.{StandsAt, StandsFor}
 use Rattle.table_load.specs.Cells.{SecretView}
 use Rattle.table_load.specs.Database.{secret_table}
 use Rattle.audit_store.specs.Refusals.{no_refusal, same_fault}
-use Rattle.audit_store.specs.Starting.{GivesUp, StartCause}
+use Rattle.bench_core.specs.Ends.{DoneUnlessStopped, EndsBy, IsDueUnlessStopped, IsStopped, RefusedUnlessStopped, refused_as, turned_end}
+use Rattle.bench_core.specs.EndLaws.{EndsBy-weaker, by_cause, not_stopped_by, renamed_by, renamed_stopped, renamed_tells, turned_by, turned_stopped, turned_tells}
+use Rattle.bench_core.specs.Stops.{IsOfBench, IsOfBenches, IsOfSpare, of_benches, spare_of_benches, turned_of_bench}
+use Rattle.bench_core.specs.declared.stops.End.{End}
+use Rattle.bench_core.specs.declared.stops.End.TheVariants.{Stopped, Refused}
+use Rattle.bench_core.specs.declared.stops.Stop.TheVariants as stop
+use Rattle.answer_journal.specs.declared.refusals.JournalRefusal.{JournalRefusal}
+use Rattle.audit_store.specs.Starting.{StartCause}
 use Rattle.audit_store.specs.Stores.{table_of}
-use Rattle.audit_store.specs.declared.starting.StartFault.{StartFault}
-use Rattle.audit_store.specs.declared.starting.StartFault.TheVariants as start
-use Rattle.twin_journal.specs.declared.starting.TwinFault.{TwinFault}
-use Rattle.twin_journal.specs.declared.starting.TwinFault.TheVariants.{Main, Differ, MainFailed, SpareFailed, NoMemory}
+use Rattle.twin_journal.specs.declared.starting.TwinRefusal.{TwinRefusal}
+use Rattle.twin_journal.specs.declared.starting.TwinRefusal.TheVariants.{Main, Spare, Differ}
 use Rattle.twin_journal.specs.Fronts.{main_is_legal, spare_is_legal}
-use Rattle.twin_journal.specs.Twins.{CatchesUp, StandsBetween, TwinCause, TwinGivesUp, fault_of_main, fault_of_spare}
+use Rattle.twin_journal.specs.Twins.{CatchesUp, IsDiffer, StandsBetween, TwinCause, TwinContents}
 use Rattle.twin_journal.proofs.CatchingUp.{still_there}
-use Rattle.twin_journal.proofs.TwinCauses.{IsOwn, main_cause, main_due, main_gives_up, main_says, never_given_up, never_main, not_started, only_read, own_of_main, own_of_refused, own_of_spare, refused, spare_cause, spare_due, spare_gives_up, spare_says}
+use Rattle.twin_journal.proofs.TwinCauses.{IsNotMain, main_due, only_read, spare_due}
 use Rattle.twin_journal.proofs.TwinMoments.{apart_never_meet, caught_due, caught_longer, caught_together, left_between, main_calls, main_catches, read_between, refused_cause, refused_due, refused_opens, spare_calls, spare_catches, while_read}
 use Rattle.twin_journal.proofs.starting.TwinStore.start.Goals as goal
 
--- ---- the journal has a fault
+-- no twin store was started, for this end
+abbrev err : End TwinRefusal → Result TwinContents (End TwinRefusal)
+err end = Err end
+
+end_of : {end other : End TwinRefusal} → err end ≡ err other → end ≡ other
+end_of is = cc
+
+-- and the histories weren't brought together
+abbrev unmet : End TwinRefusal → Result (Unit {0}) (End TwinRefusal)
+unmet end = Err end
+
+-- ---- the journal isn't gone on from
 
 pub returns-in-Err : goal.returns-in-Err
 returns-in-Err g c =
@@ -35,28 +52,28 @@ returns-in-Err g c =
     let started = c.start.new.bench in
     let reads = c.start.ensures.reads in
     let unwritten = not_written g.S.Bench spare_at (g.met.S.Bench.only_now spare_at) in
-    let given = c.in-Err.fault in
+    let end = c.in-Err.end in
     let does = c.in-Err.ensures in
-    let answer = c.main_fault.result in
-    let is : answer ≡ fault_of_main given = c.main_fault.ensures in
-    let says = main_says given in
+    let answer = c.of_main.result in
+    let is : answer ≡ refused_as Main end = c.of_main.ensures in
+    let by : EndsBy IsOfBench (λ _. ⊤) answer = subst (λ (e : End TwinRefusal). EndsBy IsOfBench (λ _. ⊤) e) (sym is)
+    (renamed_by Main end IsOfBench (λ _. ⊤) does.ends) in
     record {
       store = tt;
       stands = λ told. tt;
       spare_stands = λ told. tt;
       together = λ told spare_told. tt;
       longer = λ m o whole told spare_told keep. tt;
-      cause = λ fault told spare_told refusal.
-          let answered : answer ≡ fault = cc in
-          subst (λ (f : TwinFault). TwinCause f file spare table) (sym is ∙ answered) (main_cause file spare table given (does.cause given told refl));
-      due = λ due told spare_told some cause.
-          subst (λ (f : TwinFault). (f ≡ due) ⊎ TwinGivesUp f) (sym is)
-          (main_due file spare table given due (λ d own why. does.due d told own why)
-          (λ history stands legal. does.opens history told stands legal) some cause);
-      own = never_given_up answer (subst (λ (f : TwinFault). IsOwn f) (sym is) (own_of_main given));
+      cause = λ refusal told spare_told given.
+          let caused = by_cause end IsOfBench (λ r. TwinCause (Main r) file spare table) (λ _. ⊤) does.ends (λ r is. does.cause r told is) in
+          IfErr-at_err (EndsBy IsOfBench (λ r. TwinCause r file spare table)) given
+          (subst (λ (e : End TwinRefusal). EndsBy IsOfBench (λ r. TwinCause r file spare table) e) (sym is) (renamed_by Main end IsOfBench _ caused));
+      due = λ due told spare_told cause.
+          subst (λ (e : End TwinRefusal). IsDueUnlessStopped due e) (sym is)
+          (main_due file spare table end due (λ d why. does.due d told why) (λ history stands legal. does.opens history told stands legal) cause);
       opens = λ m o whole told spare_told keep.
-          subst (λ (f : TwinFault). TwinGivesUp f) (sym is)
-          (main_gives_up given (does.opens m told keep.main_stands (main_is_legal table file spare m o whole keep)));
+          subst (λ (e : End TwinRefusal). IsStopped e) (sym is)
+          (renamed_stopped Main end (does.opens m told keep.main_stands (main_is_legal table file spare m o whole keep)));
       main_moments = λ m o whole told spare_told quiet keep.
           while_read g.B.Bench bench started c.args.secret.shape m whole reads quiet keep.main_stands keep.main_front;
       spare_moments = λ m o whole told spare_told quiet keep.
@@ -70,19 +87,19 @@ returns-in-Err g c =
       spare_quiet = λ told quiet fine. quiet;
       sent = reads.sent;
       spare_sent = refl;
-      reads = λ fault refusal some. (reads, unwritten);
+      reads = λ refused. (reads, unwritten);
       main_failed = λ refusal. unwritten;
       spare_failed = λ refusal. reads;
+      spare_second = λ told refusal. absurd (not_stopped_by answer IsOfBench _ stop.Spare (λ no. no) by refusal);
       main_first = λ fault refusal. refl;
       ticks = λ m o whole told spare_told keep. tt;
       spare_ticks = λ m o whole told spare_told keep. tt;
-      fault =
-          told_as g.B.Bench bench started _ _ (λ failed. ap refused (is ∙ says.failed (let same : given ≡ start.Failed = cc in same)))
-          (λ refusal. ap not_started (says.of_failed (sym is ∙ let same : answer ≡ MainFailed = cc in same))) does.fault;
-      spare_fault = not_called g.S.Bench spare_at _ (λ refusal. says.other (sym is ∙ let same : answer ≡ SpareFailed = cc in same));
+      fault = renamed_tells g.B.Bench bench started Main end stop.Bench (err answer) (ap err is) does.fault;
+      spare_fault = not_called g.S.Bench spare_at _ (λ refusal. not_stopped_by answer IsOfBench _ stop.Spare (λ no. no) by refusal);
+      ends = EndsBy-weaker answer IsOfBench IsOfBenches _ _ of_benches (λ r is. tt) by;
     }
 
--- ---- the spare has one
+-- ---- the spare isn't
 
 pub returns-in-Err-open_other : goal.returns-in-Err-open_other
 returns-in-Err-open_other g c =
@@ -103,36 +120,38 @@ returns-in-Err-open_other g c =
     let legal : IsLegal table main = subst (λ (t : Table). IsLegal t main) same_table of_store.3.legal in
     let stands : g.B.Bench.told → StandsFor file c.args.secret.shape main = λ told.
     (store.journal.gate, subst (λ (s : Shape). StandsAt file s main store.journal.gate) same_shape (opened.stands told)) in
-    let none : g.B.Bench.told → (d : StartFault) → (GivesUp d → ⊥) → StartCause d file table → ⊥ = λ told d some cause. opened.due d told some cause in
+    let none : g.B.Bench.told → (d : JournalRefusal) → StartCause d file table → ⊥ = λ told d cause. opened.due d told cause in
     let spare_opened = c.open_other.new.spare in
     let spare_reads = c.open_other.ensures.reads in
-    let given = c.in-Err-open_other.fault in
+    let end = c.in-Err-open_other.end in
     let does = c.in-Err-open_other.ensures in
-    let answer = c.spare_fault.result in
-    let is : answer ≡ fault_of_spare given = c.spare_fault.ensures in
-    let says = spare_says given in
+    let answer = c.of_spare.result in
+    let is : answer ≡ refused_as Spare (turned_end end) = c.of_spare.ensures in
+    let by : EndsBy IsOfSpare IsNotMain answer = subst (λ (e : End TwinRefusal). EndsBy IsOfSpare IsNotMain e) (sym is)
+    (renamed_by Spare (turned_end end) IsOfSpare IsNotMain (turned_by end IsOfBench IsOfSpare (λ _. ⊤) turned_of_bench does.ends)) in
     record {
       store = tt;
       stands = λ told. tt;
       spare_stands = λ told. tt;
       together = λ told spare_told. tt;
       longer = λ m o whole told spare_told keep. tt;
-      cause = λ fault told spare_told refusal.
-          let answered : answer ≡ fault = cc in
-          subst (λ (f : TwinFault). TwinCause f file spare table) (sym is ∙ answered)
-          (spare_cause file spare table (none told) given (main, stands told, legal)
-          (subst (λ (t : Table). StartCause given spare t) same_table (does.cause given spare_told refl)));
-      due = λ due told spare_told some cause.
-          subst (λ (f : TwinFault). (f ≡ due) ⊎ TwinGivesUp f) (sym is)
-          (spare_due file spare table (none told) given due
-          (λ d own why. does.due d spare_told own (subst (λ (t : Table). StartCause d spare t) (sym same_table) why))
+      cause = λ refusal told spare_told given.
+          let caused = by_cause end IsOfBench (λ r. TwinCause (Spare r) file spare table) (λ _. ⊤) does.ends
+          (λ r is. ((main, stands told, legal), subst (λ (t : Table). StartCause r spare t) same_table (does.cause r spare_told is))) in
+          IfErr-at_err (EndsBy IsOfSpare (λ r. TwinCause r file spare table)) given
+          (subst (λ (e : End TwinRefusal). EndsBy IsOfSpare (λ r. TwinCause r file spare table) e) (sym is)
+          (renamed_by Spare (turned_end end) IsOfSpare _ (turned_by end IsOfBench IsOfSpare _ turned_of_bench caused)));
+      due = λ due told spare_told cause.
+          subst (λ (e : End TwinRefusal). IsDueUnlessStopped due e) (sym is)
+          (spare_due file spare table (none told) end due
+          (λ d why. does.due d spare_told (subst (λ (t : Table). StartCause d spare t) (sym same_table) why))
           (λ history is_of are. does.opens history spare_told (subst (λ (s : Shape). StandsFor spare s history) (sym same_shape) is_of)
-          (subst (λ (t : Table). IsLegal t history) (sym same_table) are)) some cause);
-      own = never_given_up answer (subst (λ (f : TwinFault). IsOwn f) (sym is) (own_of_spare given));
+          (subst (λ (t : Table). IsLegal t history) (sym same_table) are)) cause);
       opens = λ m o whole told spare_told keep.
-          subst (λ (f : TwinFault). TwinGivesUp f) (sym is)
-          (spare_gives_up given (does.opens o spare_told (subst (λ (s : Shape). StandsFor spare s o) (sym same_shape) keep.spare_stands)
-          (subst (λ (t : Table). IsLegal t o) (sym same_table) (spare_is_legal table file spare m o whole keep))));
+          subst (λ (e : End TwinRefusal). IsStopped e) (sym is)
+          (renamed_stopped Spare (turned_end end) (turned_stopped end
+          (does.opens o spare_told (subst (λ (s : Shape). StandsFor spare s o) (sym same_shape) keep.spare_stands)
+          (subst (λ (t : Table). IsLegal t o) (sym same_table) (spare_is_legal table file spare m o whole keep)))));
       main_moments = λ m o whole told spare_told quiet keep.
           while_read g.B.Bench bench started c.args.secret.shape m whole reads quiet keep.main_stands keep.main_front;
       spare_moments = λ m o whole told spare_told quiet keep.
@@ -145,27 +164,24 @@ returns-in-Err-open_other g c =
       spare_quiet = λ told quiet fine. still_quiet g.S.Bench spare_at spare_opened spare_reads quiet;
       sent = reads.sent;
       spare_sent = spare_reads.sent;
-      reads = λ fault refusal some. (reads, spare_reads);
+      reads = λ refused. (reads, spare_reads);
       main_failed = λ refusal. spare_reads;
       spare_failed = λ refusal. reads;
-      main_first = λ fault refusal. absurd (says.not_main fault (sym is ∙ let same : answer ≡ Main fault = cc in same));
+      spare_second = λ told refusal. (main, stands told, legal);
+      main_first = λ refusal given. absurd (IfErr-at_err (EndsBy IsOfSpare IsNotMain) given by);
       ticks = λ m o whole told spare_told keep. tt;
       spare_ticks = λ m o whole told spare_told keep. tt;
       fault =
           told_as g.B.Bench bench started _ _ (λ failed. no_refusal _ _ failed)
-          (λ refusal. absurd (says.other (sym is ∙ let same : answer ≡ MainFailed = cc in same))) opened.fault;
-      spare_fault =
-          told_as g.S.Bench spare_at spare_opened _ _ (λ failed. ap refused (is ∙ says.failed (let same : given ≡ start.Failed = cc in same)))
-          (λ refusal. ap not_started (says.of_failed (sym is ∙ let same : answer ≡ SpareFailed = cc in same))) does.fault;
+          (λ refusal. absurd (not_stopped_by answer IsOfSpare _ stop.Bench (λ no. no) by refusal)) opened.fault;
+      spare_fault = turned_tells Spare end answer is g.S.Bench spare_at spare_opened stop.Bench does.fault;
+      ends = EndsBy-weaker answer IsOfSpare IsOfBenches _ _ spare_of_benches (λ r is. tt) by;
     }
 
 -- ---- one was to be brought up to the other
 
-abbrev err : TwinFault → Result (Unit {0}) TwinFault
-err fault = Err fault
-
-pub returns-in-Err-catch_up : goal.returns-in-Err-catch_up
-returns-in-Err-catch_up g c =
+pub returns-in_err-catch_up : goal.returns-in_err-catch_up
+returns-in_err-catch_up g c =
     let table = secret_table c.args.secret c.args.protected in
     let bench = c.args.bench.now in
     let spare_at = c.args.spare.now in
@@ -183,7 +199,7 @@ returns-in-Err-catch_up g c =
     let legal : IsLegal table main = subst (λ (t : Table). IsLegal t main) same_table of_store.3.legal in
     let stands : g.B.Bench.told → StandsFor file c.args.secret.shape main = λ told.
     (store.journal.gate, subst (λ (s : Shape). StandsAt file s main store.journal.gate) same_shape (opened.stands told)) in
-    let none : g.B.Bench.told → (d : StartFault) → (GivesUp d → ⊥) → StartCause d file table → ⊥ = λ told d some cause. opened.due d told some cause in
+    let none : g.B.Bench.told → (d : JournalRefusal) → StartCause d file table → ⊥ = λ told d cause. opened.due d told cause in
     let spare_opened = c.open_other.new.spare in
     let spare_reads = c.open_other.ensures.reads in
     let found = c.in-Ok-open_other.found in
@@ -196,31 +212,36 @@ returns-in-Err-catch_up g c =
       subst (λ (s : Shape). StandsAt spare s other found.0.gate) same_shape
           (subst (λ (h : List Answered). StandsAt spare store.secret.shape h found.0.gate) listed (c.in-Ok-open_other.ensures.stands told)),
     ) in
-    let spare_none : g.S.Bench.told → (d : StartFault) → (GivesUp d → ⊥) → StartCause d spare table → ⊥ = λ told d some cause.
-    c.in-Ok-open_other.ensures.due d told some (subst (λ (t : Table). StartCause d spare t) (sym same_table) cause) in
+    let spare_none : g.S.Bench.told → (d : JournalRefusal) → StartCause d spare table → ⊥ = λ told d cause.
+    c.in-Ok-open_other.ensures.due d told (subst (λ (t : Table). StartCause d spare t) (sym same_table) cause) in
     let one = c.one_reading.ensures in
     let caught = c.catch_up.new.bench in
     let spare_caught = c.catch_up.new.spare in
-    let given = c.in-Err-catch_up.fault in
-    let does = c.in-Err-catch_up.ensures in
-    let why = does.cause in
-    let differ = λ (place : ℕ). λ (is : given ≡ Differ place). does.differ place (ap (λ (f : TwinFault). err f) is) in
+    let given = c.in_err-catch_up.field-0.0 in
+    let does = c.in_err-catch_up.ensures in
+    let answer = c.from_residual.result in
+    let refuses = c.from_residual.ensures in
+    let same : answer ≡ Err given = is_refusal answer given refuses in
+    let by = does.ends in
+    let differ = λ (place : ℕ). λ (is : given ≡ Refused (Differ place)). does.differ place (ap unmet is) in
     record {
-      store = tt;
-      stands = λ told. tt;
-      spare_stands = λ told. tt;
-      together = λ told spare_told. tt;
-      longer = λ m o whole told spare_told keep. tt;
-      cause = λ fault told spare_told refusal.
-          let answered : given ≡ fault = cc in
-          subst (λ (f : TwinFault). TwinCause f file spare table) answered
-          (refused_cause one table file spare main other (stands told) (spare_stands spare_told) legal other_legal given why differ);
-      due = λ due told spare_told some cause.
-          refused_due one table file spare main other (stands told) (spare_stands spare_told) legal other_legal given due why differ (none told)
-          (spare_none spare_told) some cause;
-      own = never_given_up given (own_of_refused given why);
+      store = IfOk-from_err _ _ refuses.0;
+      stands = λ told. IfOk-from_err _ _ refuses.0;
+      spare_stands = λ told. IfOk-from_err _ _ refuses.0;
+      together = λ told spare_told. IfOk-from_err _ _ refuses.0;
+      longer = λ m o whole told spare_told keep. IfOk-from_err _ _ refuses.0;
+      cause = λ refusal told spare_told is.
+          let end_is : given ≡ Refused refusal = end_of (sym same ∙ is) in
+          refused_cause one table file spare main other (stands told) (spare_stands spare_told) legal other_legal refusal
+          (subst (λ (e : End TwinRefusal). EndsBy IsOfBenches IsDiffer e) end_is by)
+          (λ place at. differ place (end_is ∙ ap (λ (r : TwinRefusal). Refused r) at));
+      due = λ due told spare_told cause.
+          of_refusal answer given refuses (RefusedUnlessStopped due)
+          (refused_due one table file spare main other (stands told) (spare_stands spare_told) legal other_legal given due by differ (none told)
+          (spare_none spare_told) cause);
       opens = λ m o whole told spare_told keep.
-          refused_opens one table file spare main other (stands told) (spare_stands spare_told) legal other_legal given why differ m o whole keep;
+          of_refusal answer given refuses DoneUnlessStopped
+          (refused_opens one table file spare main other (stands told) (spare_stands spare_told) legal other_legal given by differ m o whole keep);
       main_moments = λ m o whole told spare_told quiet keep.
           main_catches one table file spare main other (stands told) (spare_stands spare_told) legal other_legal g.B.Bench bench started caught refl reads quiet
           (λ w still meet. subst (λ (s : Shape). LeavesOnly g.B.Bench started caught (CatchesUp s main w (g.B.Bench.sent started))) same_shape
@@ -231,7 +252,7 @@ returns-in-Err-catch_up g c =
           (λ w still meet. subst (λ (s : Shape). LeavesOnly g.S.Bench spare_opened spare_caught (CatchesUp s other w (g.S.Bench.sent spare_opened))) same_shape
           (c.catch_up.ensures.spare_moments w spare_told still meet)) m o whole keep;
       no_memory = λ m o whole told spare_told keep refusal.
-          let memory = let same : given ≡ NoMemory = cc in ap (λ (f : TwinFault). err f) same in
+          let memory = same_fault given (Stopped stop.NoMemory) (sym same ∙ refusal) in
           left_between one table file spare main other (stands told) (spare_stands spare_told) legal other_legal (g.B.Bench.file caught)
           (g.S.Bench.file spare_caught)
           (λ w meet. subst (λ (s : Shape). StandsBetween s main w (g.B.Bench.file caught)) same_shape (does.no_memory w told meet memory))
@@ -248,44 +269,45 @@ returns-in-Err-catch_up g c =
           (spare_reads.untouched quiet);
       quiet = λ told quiet fine.
           does.quiet told (still_quiet g.B.Bench bench started reads quiet)
-          (λ is. let same : given ≡ MainFailed = cc in fine (ap (λ (f : TwinFault). refused f) same));
+          (λ failed. fine (same ∙ same_fault given (Stopped stop.Bench) failed));
       spare_quiet = λ told quiet fine.
           does.spare_quiet told (still_quiet g.S.Bench spare_at spare_opened spare_reads quiet)
-          (λ is. let same : given ≡ SpareFailed = cc in fine (ap (λ (f : TwinFault). refused f) same));
+          (λ failed. fine (same ∙ same_fault given (Stopped stop.Spare) failed));
       sent = c.catch_up.ensures.sent ∙ reads.sent;
       spare_sent = c.catch_up.ensures.spare_sent ∙ spare_reads.sent;
-      reads = λ fault refusal some.
-          let answered : given ≡ fault = cc in
-          only_read given why (subst (λ (f : TwinFault). TwinGivesUp f → ⊥) (sym answered) some)
-          (OnlyReads g.B.Bench bench caught × OnlyReads g.S.Bench spare_at spare_caught)
-          (λ place is. let same = does.reads place (ap (λ (f : TwinFault). err f) is) in (
-            subst (λ b. OnlyReads g.B.Bench bench b) (sym same.0) reads,
-            subst (λ b. OnlyReads g.S.Bench spare_at b) (sym same.1) spare_reads,
+      reads = λ refused.
+          only_read given (OnlyReads g.B.Bench bench caught × OnlyReads g.S.Bench spare_at spare_caught) by (rw same at refused)
+          (λ place is. let left = does.reads place (ap unmet is) in (
+            subst (λ b. OnlyReads g.B.Bench bench b) (sym left.0) reads,
+            subst (λ b. OnlyReads g.S.Bench spare_at b) (sym left.1) spare_reads,
           ));
       main_failed = λ refusal.
-          let same : given ≡ MainFailed = cc in
-          subst (λ b. OnlyReads g.S.Bench spare_at b) (sym (does.main_failed (ap (λ (f : TwinFault). err f) same))) spare_reads;
+          subst (λ b. OnlyReads g.S.Bench spare_at b) (sym (does.main_failed (same_fault given (Stopped stop.Bench) (sym same ∙ refusal)))) spare_reads;
       spare_failed = λ refusal.
-          let same : given ≡ SpareFailed = cc in
-          subst (λ b. OnlyReads g.B.Bench bench b) (sym (does.spare_failed (ap (λ (f : TwinFault). err f) same))) reads;
-      main_first = λ fault refusal. absurd (never_main given why fault (let same : given ≡ Main fault = cc in same));
-      ticks = λ m o whole told spare_told keep. tt;
-      spare_ticks = λ m o whole told spare_told keep. tt;
+          subst (λ b. OnlyReads g.B.Bench bench b) (sym (does.spare_failed (same_fault given (Stopped stop.Spare) (sym same ∙ refusal)))) reads;
+      spare_second = λ told refusal. (main, stands told, legal);
+      main_first = λ refusal is. absurd (IfErr-at_err (EndsBy IsOfBenches IsDiffer) (sym same ∙ is) by);
+      ticks = λ m o whole told spare_told keep. IfOk-from_err _ _ refuses.0;
+      spare_ticks = λ m o whole told spare_told keep. IfOk-from_err _ _ refuses.0;
       fault =
           then_tells g.B.Bench bench started caught ⊥ _
           (told_as g.B.Bench bench started _ ⊥ (λ failed. no_refusal _ _ failed) (λ none. absurd none) opened.fault) (λ none. none)
-          (told_as g.B.Bench started caught _ _ (λ is. same_fault given MainFailed is) (λ is. same_fault given MainFailed is) does.fault);
+          (told_as g.B.Bench started caught _ _ (λ is. same ∙ same_fault given (Stopped stop.Bench) is)
+          (λ is. same_fault given (Stopped stop.Bench) (sym same ∙ is)) does.fault);
       spare_fault =
           then_tells g.S.Bench spare_at spare_opened spare_caught ⊥ _
           (told_as g.S.Bench spare_at spare_opened _ ⊥ (λ failed. no_refusal _ _ failed) (λ none. absurd none) c.in-Ok-open_other.ensures.fault)
           (λ none. none)
-          (told_as g.S.Bench spare_opened spare_caught _ _ (λ is. same_fault given SpareFailed is) (λ is. same_fault given SpareFailed is) does.spare_fault);
+          (told_as g.S.Bench spare_opened spare_caught _ _ (λ is. same ∙ same_fault given (Stopped stop.Spare) is)
+          (λ is. same_fault given (Stopped stop.Spare) (sym same ∙ is)) does.spare_fault);
+      ends = of_refusal answer given refuses (λ r. IfErr r (EndsBy IsOfBenches (λ _. ⊤)))
+          (EndsBy-weaker given IsOfBenches IsOfBenches _ _ (λ stop is. is) (λ r is. tt) by);
     }
 
 -- ---- it was
 
-pub returns-in-Ok-catch_up : goal.returns-in-Ok-catch_up
-returns-in-Ok-catch_up g c =
+pub returns : goal.returns
+returns g c =
     let table = secret_table c.args.secret c.args.protected in
     let bench = c.args.bench.now in
     let spare_at = c.args.spare.now in
@@ -303,7 +325,7 @@ returns-in-Ok-catch_up g c =
     let legal : IsLegal table main = subst (λ (t : Table). IsLegal t main) same_table of_store.3.legal in
     let stands : g.B.Bench.told → StandsFor file c.args.secret.shape main = λ told.
     (store.journal.gate, subst (λ (s : Shape). StandsAt file s main store.journal.gate) same_shape (opened.stands told)) in
-    let none : g.B.Bench.told → (d : StartFault) → (GivesUp d → ⊥) → StartCause d file table → ⊥ = λ told d some cause. opened.due d told some cause in
+    let none : g.B.Bench.told → (d : JournalRefusal) → StartCause d file table → ⊥ = λ told d cause. opened.due d told cause in
     let spare_opened = c.open_other.new.spare in
     let spare_reads = c.open_other.ensures.reads in
     let found = c.in-Ok-open_other.found in
@@ -316,12 +338,12 @@ returns-in-Ok-catch_up g c =
       subst (λ (s : Shape). StandsAt spare s other found.0.gate) same_shape
           (subst (λ (h : List Answered). StandsAt spare store.secret.shape h found.0.gate) listed (c.in-Ok-open_other.ensures.stands told)),
     ) in
-    let spare_none : g.S.Bench.told → (d : StartFault) → (GivesUp d → ⊥) → StartCause d spare table → ⊥ = λ told d some cause.
-    c.in-Ok-open_other.ensures.due d told some (subst (λ (t : Table). StartCause d spare t) (sym same_table) cause) in
+    let spare_none : g.S.Bench.told → (d : JournalRefusal) → StartCause d spare table → ⊥ = λ told d cause.
+    c.in-Ok-open_other.ensures.due d told (subst (λ (t : Table). StartCause d spare t) (sym same_table) cause) in
     let one = c.one_reading.ensures in
     let caught = c.catch_up.new.bench in
     let spare_caught = c.catch_up.new.spare in
-    let does = c.in-Ok-catch_up.ensures in
+    let does = c.in_ok-catch_up.ensures in
     let now = c.catch_up.new.store.history in
     let usable = does.usable in
     record {
@@ -338,11 +360,10 @@ returns-in-Ok-catch_up g c =
           caught_together one table file spare main other (stands told) (spare_stands spare_told) legal other_legal now does.meet;
       longer = λ m o whole told spare_told keep.
           caught_longer one table file spare main other (stands told) (spare_stands spare_told) legal other_legal now does.meet m o whole keep;
-      cause = λ fault told spare_told refusal. let none : ⊥ = cc in absurd none;
-      due = λ due told spare_told some cause.
+      cause = λ refusal told spare_told given. let none : ⊥ = cc in absurd none;
+      due = λ due told spare_told cause.
           caught_due one table file spare main other (stands told) (spare_stands spare_told) legal other_legal now does.meet (none told)
-          (spare_none spare_told) due some cause;
-      own = λ fault gives. (λ refusal. let none : ⊥ = cc in absurd none, λ refusal. let none : ⊥ = cc in absurd none);
+          (spare_none spare_told) due cause;
       opens = λ m o whole told spare_told keep. tt;
       main_moments = λ m o whole told spare_told quiet keep.
           main_catches one table file spare main other (stands told) (spare_stands spare_told) legal other_legal g.B.Bench bench started caught refl reads quiet
@@ -367,10 +388,11 @@ returns-in-Ok-catch_up g c =
       spare_quiet = λ told quiet fine. does.spare_quiet told (still_quiet g.S.Bench spare_at spare_opened spare_reads quiet) (λ is. no_refusal _ _ is);
       sent = c.catch_up.ensures.sent ∙ reads.sent;
       spare_sent = c.catch_up.ensures.spare_sent ∙ spare_reads.sent;
-      reads = λ fault refusal some. let none : ⊥ = cc in absurd none;
+      reads = λ refused. absurd refused;
       main_failed = λ refusal. no_refusal _ _ refusal;
       spare_failed = λ refusal. no_refusal _ _ refusal;
-      main_first = λ fault refusal. let none : ⊥ = cc in absurd none;
+      spare_second = λ told refusal. no_refusal _ _ refusal;
+      main_first = λ refusal given. let none : ⊥ = cc in absurd none;
       ticks = λ m o whole told spare_told keep.
           main_calls one table file spare main other (stands told) (spare_stands spare_told) legal other_legal now does.meet (g.B.Bench.moment bench)
           (g.B.Bench.moment started) (g.B.Bench.moment caught) (opened.ticks told)
@@ -388,4 +410,5 @@ returns-in-Ok-catch_up g c =
           (told_as g.S.Bench spare_at spare_opened _ ⊥ (λ failed. no_refusal _ _ failed) (λ none. absurd none) c.in-Ok-open_other.ensures.fault)
           (λ none. none)
           (told_as g.S.Bench spare_opened spare_caught _ _ (λ is. no_refusal _ _ is) (λ is. no_refusal _ _ is) does.spare_fault);
+      ends = tt;
     }
