@@ -15,6 +15,7 @@ use Rattle.schema_json.specs.Columns.{Column}
 use Rattle.schema_json.specs.SecretShape.{shape_of}
 use Rattle.set_index.specs.Indexed.{IndexView}
 use Rattle.line_wire.specs.Lines.{CountedLine}
+use Rattle.line_wire.specs.Talks.{Talk}
 use Rattle.line_wire.specs.declared.question.Take.{Take}
 use Rattle.line_wire.specs.declared.reply.Reply.TheVariants as reply
 use Rattle.question_plan.specs.declared.due.Due.TheVariants as due
@@ -63,3 +64,13 @@ pub record IsExplained (columns : List Column) (index : IndexView) (history : Li
 -- those that are sent for counted lines, one for each
 abbrev pub AreExplained : List Column → IndexView → List Answered → List CountedLine → List (List ℕ) → Type 0
 AreExplained columns index history asked lines = AllZip (IsExplained columns index history) asked lines
+
+-- what explaining the lines of an input sends: one line for each, and it refuses nothing
+abbrev pub explanations : List Column → IndexView → List Answered → Talk (List ℕ) ⊥
+explanations columns index history = record {
+  bytes = λ line. line;
+  Due = AreExplained columns index history;
+  count = λ asked. length asked;
+  Refuses = λ why input lines. ⊥;
+  Reads = λ why input. ⊥;
+}

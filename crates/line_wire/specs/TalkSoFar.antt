@@ -5,6 +5,7 @@ use Rattle.std.proofs.lemmas.List.{append-nil}
 use Rattle.std.proofs.lemmas.List.Concat.{flat_map-append}
 use Rattle.bench_core.specs.declared.bench.Bench.{Ghosts}
 use Rattle.bench_core.specs.declared.source.Source.{Ghosts as SourceGhosts}
+use Rattle.bench_core.specs.declared.stops.Stop.{Stop}
 use Rattle.bench_core.specs.declared.stops.Stop.TheVariants as stop
 use Rattle.bench_core.specs.declared.stops.End.{End}
 use Rattle.bench_core.specs.declared.stops.End.TheVariants.{Stopped, Refused}
@@ -16,7 +17,7 @@ use Rattle.line_wire.specs.Calls.{Cuts, GivesLine, GivesNone, FailsRead, PassesL
 use Rattle.line_wire.specs.WhichLines.{AreFirst}
 use Rattle.line_wire.specs.LinesSoFar.{LinesSoFar, none_yet, first_lines, one_line_more, all_lines, all_input, lines_read, input_read, lines_within, input_over}
 use Rattle.line_wire.specs.SentSoFar.{SentSoFar, none_sent, one_sent, front_sent, moments_then}
-use Rattle.line_wire.specs.Talks.{DueToFirst, EndDue, EndReads, EndSends, SendsAll, SendsPart, Talk, Talks, TalksMeanwhile, TellsInput}
+use Rattle.line_wire.specs.Talks.{DueToFirst, EndDue, EndReads, EndSends, SendsAll, SendsPart, Talk, Talks, TalksMeanwhile, TellsInput, unrefused}
 
 -- these lines were read, these texts are due to them, and were sent
 pub record SoFar {P B X R : Type 0} (source : SourceGhosts P) (bench : Ghosts B) (talk : Talk X R) (first_source from : P) (first at : B)
@@ -34,6 +35,11 @@ bytes-push bytes texts text = flat_map-append bytes texts (text ∷ []) ∙ ap (
 -- an end that is done isn't for a cause
 pub no_end : {R : Type 0} (why : End R) → (let done : Result (Unit {0}) (End R) = Ok tt in done) ≡ Err why → ⊥
 no_end why is = search rules
+
+-- an end that refuses nothing is a stop if it is one as an end of a talk
+pub same_stop : (ended : Result (Unit {0}) Stop) (why : Stop) → unrefused ended ≡ Err (Stopped why) → ended ≡ Err why
+same_stop (Ok done) why is = absurd (no_end (Stopped why) is)
+same_stop (Err stop) why is = search rules
 
 -- no read failed, and it isn't answered that one did
 pub none_failed : {P : Type 0} {source : SourceGhosts P} {old new : P} {Answered : Type 0} → source.faults new ≡ source.faults old → (Answered → ⊥) →
@@ -62,6 +68,20 @@ module _ {P B X R : Type 0} (source : SourceGhosts P) (bench : Ghosts B) (talk :
       SoFar source bench talk first_source first_source first first cutter [] []
   nothing_yet cutter fresh = record { read = none_yet source first_source cutter fresh; due = none_due; sends = nothing_sent }
 
+  -- there was no memory to begin
+  pub never_began : Talks source bench talk first_source first_source first first (Err (Stopped stop.NoMemory))
+  never_began = record {
+    due = λ told. ([], ([], record { count = 0; are = refl }, none_due), nothing_sent.sent);
+    calls = λ told tells. tt;
+    reads = λ told. tt;
+    moments = nothing_sent.moments;
+    file = refl;
+    crash = λ image left. left;
+    input = none_failed refl (search rules);
+    fault = record { later = omega arith; failed = λ is. absurd (search rules); last_call = λ is. absurd (search rules); steady = λ other. refl };
+    alone = search rules;
+  }
+
 module _ {P B X R : Type 0} {source : SourceGhosts P} {bench : Ghosts B} {talk : Talk X R} {first_source from : P} {first at : B} {cutter : Cutter}
     {lines : List CountedLine} {texts : List X} (so_far : SoFar source bench talk first_source from first at cutter lines texts) where
   -- what a crash finds meanwhile
@@ -75,7 +95,7 @@ module _ {P B X R : Type 0} {source : SourceGhosts P} {bench : Ghosts B} {talk :
   -- ---- a line more
 
   module _ {new : Cutter} {after : P} (cuts : Cuts source cutter new from after) {line : CountedLine} (gives : GivesLine source cutter new from after line) where
-    read_now : LinesSoFar source first_source after new (lines ++ line ∷ [])
+    pub read_now : LinesSoFar source first_source after new (lines ++ line ∷ [])
     read_now = one_line_more source first_source from cutter lines so_far.read after new cuts line gives
 
     first_now : source.told → AreFirst (counted_lines (source.left first_source)) (lines ++ line ∷ [])
@@ -144,7 +164,7 @@ module _ {P B X R : Type 0} {source : SourceGhosts P} {bench : Ghosts B} {talk :
       (source.told → EndDue talk result (source.left first_source) (source.left after) texts) →
       (bench.told → EndSends talk result texts (bench.sent first) (bench.sent at)) →
       (source.told → bench.told → OnOk result (bench.moment at ≡ bench.moment first + talk.count (counted_lines (source.left first_source)))) →
-      (source.told → EndReads talk result (source.left first_source) (source.left after)) →
+      (source.told → EndReads talk.Reads result (source.left first_source) (source.left after)) →
       TellsInput source from after (result ≡ Err (Stopped stop.Input)) → Talks source bench talk first_source after first at result
   ends {after} result fine alone due sends calls reads input = record {
     due = λ told. (texts, due told, sends);

@@ -3,6 +3,7 @@ use Rattle.std.specs.Prelude.{◌≡◌, ◌≢◌, ◌<◌, ◌≤◌, ◌+◌,
 use Rattle.std.specs.List.{flat_map}
 use Rattle.bench_core.specs.declared.bench.Bench.{Ghosts}
 use Rattle.bench_core.specs.declared.source.Source.{Ghosts as SourceGhosts}
+use Rattle.bench_core.specs.declared.stops.Stop.{Stop}
 use Rattle.bench_core.specs.declared.stops.Stop.TheVariants as stop
 use Rattle.bench_core.specs.declared.stops.End.{End}
 use Rattle.bench_core.specs.declared.stops.End.TheVariants.{Stopped, Refused}
@@ -62,13 +63,13 @@ TalksMeanwhile told talk all file before image sent = (image ≡ file) × (told 
 
 -- ---- how much of the input there was
 
--- by the end
-abbrev pub EndReads : {X R : Type 0} → Talk X R → Result (Unit {0}) (End R) → List ℕ → List ℕ → Type 0
-EndReads talk (Ok done) input left = (left ≡ []) × (length input ≤ most_input)
-EndReads talk (Err (Stopped stop.Input)) input left = length input ≤ most_input + length left
-EndReads talk (Err (Stopped stop.Limit)) input left = most_input + length left < length input
-EndReads talk (Err (Stopped why)) input left = Unit {0}
-EndReads talk (Err (Refused why)) input left = talk.Reads why input
+-- by the end, with what is said of it at a refusal
+abbrev pub EndReads : {R : Type 0} → (R → List ℕ → Type 0) → Result (Unit {0}) (End R) → List ℕ → List ℕ → Type 0
+EndReads refused (Ok done) input left = (left ≡ []) × (length input ≤ most_input)
+EndReads refused (Err (Stopped stop.Input)) input left = length input ≤ most_input + length left
+EndReads refused (Err (Stopped stop.Limit)) input left = most_input + length left < length input
+EndReads refused (Err (Stopped why)) input left = Unit {0}
+EndReads refused (Err (Refused why)) input left = refused why input
 
 -- if it is answered that a read of the input failed, exactly one did, the last; else none did
 pub record TellsInput {P : Type 0} (source : SourceGhosts P) (old new : P) (Answered : Type 0) : Type 0 where
@@ -85,7 +86,7 @@ pub record Talks {P B X R : Type 0} (source : SourceGhosts P) (bench : Ghosts B)
   pub due : source.told → (texts : List X) × EndDue talk result (source.left first) (source.left from) texts ×
       (bench.told → EndSends talk result texts (bench.sent old) (bench.sent at))
   pub calls : source.told → bench.told → OnOk result (bench.moment at ≡ bench.moment old + talk.count (counted_lines (source.left first)))
-  pub reads : source.told → EndReads talk result (source.left first) (source.left from)
+  pub reads : source.told → EndReads talk.Reads result (source.left first) (source.left from)
   pub moments : bench.told → IsQuiet bench old →
       LeavesOnly bench old at (TalksMeanwhile source.told talk (counted_lines (source.left first)) (bench.file old) (bench.sent old))
   pub file : bench.file at ≡ bench.file old
@@ -93,6 +94,11 @@ pub record Talks {P B X R : Type 0} (source : SourceGhosts P) (bench : Ghosts B)
   pub input : TellsInput source first from (result ≡ Err (Stopped stop.Input))
   pub fault : TellsFault bench old at (result ≡ Err (Stopped stop.Bench))
   pub alone : result ≢ Err (Stopped stop.Spare)
+
+-- how a call ended that refuses nothing
+abbrev pub unrefused : Result (Unit {0}) Stop → Result (Unit {0}) (End ⊥)
+unrefused (Ok done) = Ok done
+unrefused (Err why) = Err (Stopped why)
 
 -- ---- the sending of one text
 
