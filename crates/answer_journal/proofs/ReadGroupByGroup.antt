@@ -11,10 +11,10 @@ use Rattle.audit_types.specs.Widening.{over, widened}
 use Rattle.journal_form.specs.Group.{IsWritten, GroupBreaks}
 use Rattle.journal_form.specs.Journal.{Written, AreGroups, rows_after, texts, records, gate_behind, Begins, StandsAt, BreaksBehind}
 use Rattle.journal_form.specs.GroupLaws.{AreGroups-push, rows_after-push, texts-push, records-push, after_groups}
-use Rattle.answer_journal.specs.declared.journal.BackFault.{BackFault}
-use Rattle.answer_journal.specs.declared.journal.BackFault.TheVariants.{NotMade, Damaged, Failed, NoMemory}
+use Rattle.answer_journal.specs.declared.refusals.JournalRefusal.{JournalRefusal}
+use Rattle.answer_journal.specs.declared.refusals.JournalRefusal.TheVariants.{NotMade, Damaged, OtherShape, Untrue, Illegal}
 use Rattle.answer_journal.specs.Moments.{IsMade}
-use Rattle.answer_journal.specs.Faults.{IsFaultOf, IsFaultBehind}
+use Rattle.answer_journal.specs.Refusals.{GroupCause, ReadCause}
 use Rattle.answer_journal.proofs.Histories.{stands_by}
 use Rattle.answer_journal.proofs.RecordsFit.{groups_below}
 
@@ -106,14 +106,15 @@ module _ (bytes : List ℕ) (first shape : Shape) (list : List Answered) (gate :
         );
   }
 
-  -- what a fault behind the open gate says of the whole journal
-  pub fault_behind : gate < length bytes → get_or bytes gate 0 ≡ 1 → IsMade bytes → (fault : BackFault)
-      → IsFaultBehind shape (65536 - length list) (drop (gate + 1) bytes) gate fault → IsFaultOf bytes fault
-  fault_behind lt open_gate made NotMade is = absurd is
-  fault_behind lt open_gate made (Damaged at) is =
+  -- why no group is read behind the open gate is why the journal isn't
+  pub cause_behind : gate < length bytes → get_or bytes gate 0 ≡ 1 → IsMade bytes → (refusal : JournalRefusal)
+      → GroupCause shape (65536 - length list) (drop (gate + 1) bytes) gate refusal → ReadCause refusal bytes
+  cause_behind lt open_gate made NotMade is = absurd is
+  cause_behind lt open_gate made (Damaged at) is =
       (made, inr (subst (λ (k : ℕ). BreaksBehind bytes k) (sym is.2) (breaks_in_group is.0 lt open_gate is.1)))
-  fault_behind lt open_gate made Failed is = tt
-  fault_behind lt open_gate made NoMemory is = tt
+  cause_behind lt open_gate made (OtherShape kept now) is = is
+  cause_behind lt open_gate made (Untrue place kept now) is = is
+  cause_behind lt open_gate made (Illegal place group) is = is
 
   -- one group more
   pub read_more : (size : ℕ) (more : List Answered) (rows : ℕ) → gate < length bytes → get_or bytes gate 0 ≡ 1 → size ≤ length (drop (gate + 1) bytes)

@@ -19,40 +19,8 @@ use audit_types::{Answered, NoMemory, Shape};
 use bench_core::{Bench, Failed, Stop};
 use journal_form::laws::bytes_of_records;
 use journal_form::{GROWTH_SIZE, write_growth};
-use std::alloc::{AllocError, Global};
+use std::alloc::Global;
 use std::marker::Model;
-
-/// Why a journal was not read back.
-#[derive(Clone, Copy)]
-pub enum BackFault {
-    /// The file is shorter than a journal, or its header gate isn't open.
-    NotMade,
-    /// The place of the first byte that breaks the grammar, or the file's length if it ends too early.
-    Damaged { at: u64 },
-    /// A call of the bench failed.
-    Failed,
-    NoMemory,
-}
-
-impl From<AllocError> for BackFault {
-    ghost use Rattle.answer_journal.specs.declared.journal.BackFault.TheVariants.{NoMemory};
-
-    ghost from_gives = { λ _ e. e ≡ NoMemory };
-
-    fn from(_e: AllocError) -> BackFault {
-        BackFault::NoMemory
-    }
-}
-
-impl From<Failed> for BackFault {
-    ghost use Rattle.answer_journal.specs.declared.journal.BackFault.TheVariants.{Failed};
-
-    ghost from_gives = { λ _ e. e ≡ Failed };
-
-    fn from(_e: Failed) -> BackFault {
-        BackFault::Failed
-    }
-}
 
 /// Where the journal of a bench ends, so that the next group may be appended there.
 #[derive(Drop)]

@@ -14,3 +14,4 @@ pub mod LogContents
 pub mod BenchLaws
 pub mod BenchTies
 pub mod Stops
+pub mod Ends

@@ -3,6 +3,14 @@ use Rattle.std.specs.Prelude.{◌≡◌, refl}
 use Rattle.bench_core.specs.declared.stops.Stop.{Stop}
 use Rattle.bench_core.specs.declared.stops.Stop.TheVariants.{Input, Limit, Bench, Spare, NoMemory}
 
+-- a call that calls nothing of the outside
+abbrev pub IsOfMemory : Stop → Type 0
+IsOfMemory Input = ⊥
+IsOfMemory Limit = ⊥
+IsOfMemory Bench = ⊥
+IsOfMemory Spare = ⊥
+IsOfMemory NoMemory = Unit {0}
+
 -- a call that calls one bench, and reads no input
 abbrev pub IsOfBench : Stop → Type 0
 IsOfBench Input = ⊥
@@ -18,6 +26,14 @@ IsOfBenches Limit = ⊥
 IsOfBenches Bench = Unit {0}
 IsOfBenches Spare = Unit {0}
 IsOfBenches NoMemory = Unit {0}
+
+-- what may end a call that calls nothing may end one that calls a bench
+pub of_bench : (stop : Stop) → IsOfMemory stop → IsOfBench stop
+of_bench Input is = is
+of_bench Limit is = is
+of_bench Bench is = tt
+of_bench Spare is = is
+of_bench NoMemory is = tt
 
 -- what may end a call of one bench may end a call of a bench and a spare
 pub of_benches : (stop : Stop) → IsOfBench stop → IsOfBenches stop

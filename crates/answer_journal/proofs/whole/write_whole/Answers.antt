@@ -1,4 +1,4 @@
-use Rattle.std.proofs.Common.{◌≡◌, List, ℕ, sym, subst}
+use Rattle.std.proofs.Common.{sym, subst}
 use Rattle.bench_core.specs.Moments.{still_quiet}
 use Rattle.answer_journal.specs.Whole.{AreBehindGate}
 use Rattle.answer_journal.proofs.WholeMoments.{all_moments, stands_appended}
