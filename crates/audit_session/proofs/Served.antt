@@ -11,9 +11,9 @@ use Rattle.bench_core.specs.declared.source.Source.{Ghosts as SourceGhosts}
 use Rattle.audit_store.specs.declared.keeper.Keeper.{Ghosts as KeeperGhosts}
 use Rattle.bench_core.specs.Calls.{IsQuiet, LeavesOnly}
 use Rattle.bench_core.specs.Moments.{weakens, joins}
-use Rattle.schema_json.specs.Columns.{Column}
-use Rattle.table_load.specs.Cells.{PublicView, SecretView}
-use Rattle.table_load.specs.Database.{Database, base_of, secret_table}
+use Rattle.table_load.specs.Cells.{SecretView}
+use Rattle.table_load.specs.Database.{Database, secret_table}
+use Rattle.set_index.specs.Indexed.{IndexView}
 use Rattle.journal_form.specs.Journal.{StandsAt}
 use Rattle.audit_store.specs.Stores.{StoreContents, IsAsLeft, IsStore, calls_for, table_of}
 use Rattle.line_wire.specs.Lines.{CountedLine, counted_lines, most_input}
@@ -24,7 +24,7 @@ use Rattle.question_plan.specs.declared.planning.Plan.{Plan}
 use Rattle.question_plan.specs.Session.{Replied, records_of, bytes_of, AreReplies, commits}
 use Rattle.question_plan.specs.Replies.{IsDue, IsReplyOf}
 use Rattle.audit_session.specs.Stops.{LeavesBoth, StopsOver}
-use Rattle.audit_session.specs.Ends.{KeepsCalls, Serves, TakesCalls}
+use Rattle.audit_session.specs.Ends.{KeepsCalls, Serves, TakesCalls, base_over}
 use Rattle.audit_session.specs.Groups.{BothInGroup, Gathers, InGroup, UnsentInGroup, SpareAmong, AnswersGroup, StandsOn, StopsAmong, stands_of}
 use Rattle.question_plan.specs.InTurn.{bytes_of-append, length-replies}
 use Rattle.audit_session.proofs.FirstStop.{stops_first, spare_first}
@@ -44,7 +44,7 @@ pub record AnsweredLines (told : Type 0) (base : Database) (batch : ℕ) (histor
   pub history_is : now ≡ history ++ records_of replies
 
 -- what holds at each turn of the loop
-pub record Served {P B : Type 0} (source : SourceGhosts P) (bench : Ghosts B) (columns : List Column) (public : PublicView) (batch : ℕ) (lines : Cutter)
+pub record Served {P B : Type 0} (source : SourceGhosts P) (bench : Ghosts B) (index : IndexView) (batch : ℕ) (lines : Cutter)
     (first_store store : StoreContents) (first_source from : P) (first at : B) : Type 0 where
   pub same : source.told → lines.ended ≡ true → source.left from ≡ []
   pub taken : source.told → lines.taken + length (source.left from) ≡ length (source.left first_source)
@@ -55,24 +55,24 @@ pub record Served {P B : Type 0} (source : SourceGhosts P) (bench : Ghosts B) (c
   pub is : IsStore store
   pub as_left : bench.told → IsAsLeft (bench.file at) store
   pub quiet : bench.told → IsQuiet bench first → IsQuiet bench at
-  pub answered : AnsweredLines source.told (base_of columns public first_store.protected first_store.secret) batch first_store.history
+  pub answered : AnsweredLines source.told (base_over index first_store) batch first_store.history
       (source.left first_source)
       (lines.pending ++ source.left from) lines.ended store.history
   pub sent_is : bench.told → bench.sent at ≡ bench.sent first ++ bytes_of answered.replies
   pub calls : bench.told → bench.moment at ≡ bench.moment first + length answered.lines + 4 * commits batch answered.replies
   pub moments : bench.told → IsQuiet bench first →
-      LeavesOnly bench first at (StopsAmong source.told (base_of columns public first_store.protected first_store.secret) batch first_store.history
+      LeavesOnly bench first at (StopsAmong source.told (base_over index first_store) batch first_store.history
       (counted_lines (source.left first_source)) (bench.sent first))
   pub source_steady : source.faults from ≡ source.faults first_source
   pub bench_steady : bench.faults at ≡ bench.faults first
 
 -- and of a spare, which isn't called if the keeper isn't spared
-pub record SpareServed {P K S : Type 0} (source : SourceGhosts P) (keeper : KeeperGhosts K) (spare : Ghosts S) (columns : List Column) (public : PublicView)
+pub record SpareServed {P K S : Type 0} (source : SourceGhosts P) (keeper : KeeperGhosts K) (spare : Ghosts S) (index : IndexView)
     (batch : ℕ) (first_keeper kept : K) (first_source : P) (first at : S) (replies : List (Replied Answered)) : Type 0 where
   pub stands : keeper.spared → spare.told → StandsAt (spare.file at) (keeper.store kept).secret.shape (keeper.store kept).history (keeper.spare_gate kept)
   pub moments : keeper.spared → spare.told → IsQuiet spare first →
       LeavesOnly spare first at
-      (SpareAmong source.told (base_of columns public (keeper.store first_keeper).protected (keeper.store first_keeper).secret) batch
+      (SpareAmong source.told (base_over index (keeper.store first_keeper)) batch
       (keeper.store first_keeper).history (counted_lines (source.left first_source)) (spare.sent first))
   pub quiet : keeper.spared → spare.told → IsQuiet spare first → IsQuiet spare at
   pub sent : spare.sent at ≡ spare.sent first
@@ -81,28 +81,28 @@ pub record SpareServed {P K S : Type 0} (source : SourceGhosts P) (keeper : Keep
   pub untouched : (keeper.spared → ⊥) → at ≡ first
 
 -- before the first group
-pub first_moments : {B : Type 0} (told : Type 0) (bench : Ghosts B) (columns : List Column) (public : PublicView) (batch : ℕ) (store : StoreContents)
+pub first_moments : {B : Type 0} (told : Type 0) (bench : Ghosts B) (index : IndexView) (batch : ℕ) (store : StoreContents)
     (all : List CountedLine) (at : B)
     → ((image bytes : List ℕ) → bench.since at (bench.moment at) image bytes → bench.leaves at image × (bytes ≡ bench.sent at)) → IsQuiet bench at →
     IsAsLeft (bench.file at) store
-    → LeavesOnly bench at at (StopsAmong told (base_of columns public store.protected store.secret) batch store.history all (bench.sent at))
-first_moments told bench columns public batch store all at only_now quiet stands =
-    let stops : (ls : List CountedLine) → LeavesOnly bench at at (StopsOver (base_of columns public store.protected store.secret) batch store.history ls
+    → LeavesOnly bench at at (StopsAmong told (base_over index store) batch store.history all (bench.sent at))
+first_moments told bench index batch store all at only_now quiet stands =
+    let stops : (ls : List CountedLine) → LeavesOnly bench at at (StopsOver (base_over index store) batch store.history ls
     (bench.sent at)) =
-    λ ls. stops_first bench at (base_of columns public store.protected store.secret) batch store.history ls only_now quiet (store.journal.gate, stands) in
+    λ ls. stops_first bench at (base_over index store) batch store.history ls only_now quiet (store.journal.gate, stands) in
     record {
       later = omega arith;
       each = λ image bytes was. (([], (stops []).each image bytes was), λ t. (stops all).each image bytes was);
       before = λ t image bytes le was. inl was;
     }
 
-abbrev pub nothing_served : {P B : Type 0} (source : SourceGhosts P) (bench : Ghosts B) (columns : List Column) (public : PublicView) (batch : ℕ)
+abbrev pub nothing_served : {P B : Type 0} (source : SourceGhosts P) (bench : Ghosts B) (index : IndexView) (batch : ℕ)
     (lines : Cutter)
     (store : StoreContents) (from : P) (at : B)
     → (lines.taken ≡ 0) × (lines.pending ≡ []) × (lines.ended ≡ false) → store.usable ≡ true → IsStore store → (bench.told → IsAsLeft (bench.file at) store)
     → ((image bytes : List ℕ) → bench.since at (bench.moment at) image bytes → bench.leaves at image × (bytes ≡ bench.sent at))
-    → Served source bench columns public batch lines store store from from at at
-nothing_served source bench columns public batch lines store from at fresh usable is stands only_now = record {
+    → Served source bench index batch lines store store from from at at
+nothing_served source bench index batch lines store from at fresh usable is stands only_now = record {
   same = λ told ended. absurd (false≢true (sym fresh.2 ∙ ended));
   taken = λ told. omega (arith, fresh.0);
   within = omega (arith, fresh.0);
@@ -125,21 +125,21 @@ nothing_served source bench columns public batch lines store from at fresh usabl
   };
   sent_is = λ told. sym (append-nil (bench.sent at));
   calls = λ told. omega arith;
-  moments = λ told quiet. first_moments source.told bench columns public batch store (counted_lines (source.left from)) at only_now quiet (stands told);
+  moments = λ told quiet. first_moments source.told bench index batch store (counted_lines (source.left from)) at only_now quiet (stands told);
   source_steady = refl;
   bench_steady = refl;
 }
 
-pub spare_unserved : {P K S : Type 0} (source : SourceGhosts P) (keeper : KeeperGhosts K) (spare : Ghosts S) (columns : List Column) (public : PublicView)
+pub spare_unserved : {P K S : Type 0} (source : SourceGhosts P) (keeper : KeeperGhosts K) (spare : Ghosts S) (index : IndexView)
     (batch : ℕ) (kept : K) (from : P) (at : S)
     → ((image bytes : List ℕ) → spare.since at (spare.moment at) image bytes → spare.leaves at image × (bytes ≡ spare.sent at))
     → (keeper.spared → spare.told → StandsAt (spare.file at) (keeper.store kept).secret.shape (keeper.store kept).history (keeper.spare_gate kept))
-    → SpareServed source keeper spare columns public batch kept kept from at at []
-spare_unserved source keeper spare columns public batch kept from at only_now stands = record {
+    → SpareServed source keeper spare index batch kept kept from at at []
+spare_unserved source keeper spare index batch kept from at only_now stands = record {
   stands = stands;
   moments = λ spared told quiet.
       let store = keeper.store kept in
-      spare_first source.told spare at (base_of columns public store.protected store.secret) batch store.history (counted_lines (source.left from)) only_now
+      spare_first source.told spare at (base_over index store) batch store.history (counted_lines (source.left from)) only_now
       quiet (keeper.spare_gate kept, stands spared told);
   quiet = λ spared told quiet. quiet;
   sent = refl;
@@ -148,17 +148,17 @@ spare_unserved source keeper spare columns public batch kept from at only_now st
   untouched = λ none. refl;
 }
 
-module _ {P B : Type 0} (source : SourceGhosts P) (bench : Ghosts B) (columns : List Column) (public : PublicView) (batch : ℕ) (lines : Cutter)
+module _ {P B : Type 0} (source : SourceGhosts P) (bench : Ghosts B) (index : IndexView) (batch : ℕ) (lines : Cutter)
     (first_store store : StoreContents) (first_source from : P) (first at : B)
-    (served : Served source bench columns public batch lines first_store store first_source from first at) where
+    (served : Served source bench index batch lines first_store store first_source from first at) where
   abbrev base : Database
-  base = base_of columns public first_store.protected first_store.secret
+  base = base_over index first_store
 
   abbrev all : List CountedLine
   all = counted_lines (source.left first_source)
 
   module _ (lines_now : Cutter) (ended_now : Bool) (source_now : P) (plans : List Plan)
-      (gathers : Gathers source.told columns public (lines.pending ++ source.left from) (lines_now.pending ++ source.left source_now) ended_now plans)
+      (gathers : Gathers source.told index (lines.pending ++ source.left from) (lines_now.pending ++ source.left source_now) ended_now plans)
       (few : length plans ≤ batch) (some : 0 < batch) (once : lines.ended ≡ true → ended_now ≡ true) where
     abbrev behind : List CountedLine
     behind = counted_lines (lines_now.pending ++ source.left source_now)
@@ -173,7 +173,7 @@ module _ {P B : Type 0} (source : SourceGhosts P) (bench : Ghosts B) (columns : 
     all_are t = (reads_now t).counted ∙ append_assoc served.answered.lines gathers.lines behind
 
     pub as_many : length gathers.lines ≡ length plans
-    as_many = length-plans columns public gathers.lines plans gathers.planned
+    as_many = length-plans index.columns index.public gathers.lines plans gathers.planned
 
     -- of the store as it was before the group
     over_first : (claim : SecretView → Protection → Type 0) → claim store.secret store.protected → claim first_store.secret first_store.protected
@@ -286,7 +286,7 @@ module _ {P B : Type 0} (source : SourceGhosts P) (bench : Ghosts B) (columns : 
           →
           (bench.told → IsQuiet bench at → LeavesOnly bench at new
           (InGroup (IsReplyOf (table_of store)) (stands_of store.secret.shape) store.history plans (bench.sent at)))
-          → Served source bench columns public batch lines_now first_store store_now first_source source_now first new
+          → Served source bench index batch lines_now first_store store_now first_source source_now first new
       next_turn store_now is is_ended full same taken within source_steady stands table of_store bench_steady moments = record {
         same = same;
         taken = λ t. taken t ∙ served.taken t;

@@ -7,9 +7,9 @@ use Rattle.audit_types.specs.declared.records.Answered.{Answered}
 use Rattle.bench_core.specs.declared.bench.Bench.{Ghosts}
 use Rattle.bench_core.specs.declared.source.Source.{Ghosts as SourceGhosts}
 use Rattle.bench_core.specs.Calls.{IsQuiet}
-use Rattle.schema_json.specs.Columns.{Column}
-use Rattle.table_load.specs.Cells.{PublicView, SecretView}
-use Rattle.table_load.specs.Database.{Database, base_of}
+use Rattle.table_load.specs.Cells.{SecretView}
+use Rattle.table_load.specs.Database.{Database}
+use Rattle.set_index.specs.Indexed.{IndexView}
 use Rattle.audit_store.specs.Stores.{StoreContents}
 use Rattle.line_wire.specs.Lines.{CountedLine, counted_lines, whole_lines, most_input}
 use Rattle.line_wire.specs.Cutter.{Cutter}
@@ -17,18 +17,18 @@ use Rattle.line_wire.specs.ReadLines.{IsRead, ReadsLines}
 use Rattle.question_plan.specs.Session.{records_of, AreReplies, groups}
 use Rattle.question_plan.specs.Replies.{IsDue}
 use Rattle.audit_session.specs.Stops.{LeavesBoth, stands_over}
-use Rattle.audit_session.specs.Ends.{Serves, ServesWhole, ServesSome, limited}
+use Rattle.audit_session.specs.Ends.{Serves, ServesWhole, ServesSome, base_over, limited}
 use Rattle.audit_session.specs.Groups.{CutsShort, stands_of}
 use Rattle.audit_session.proofs.StopsOfGroups.{both_between}
 use Rattle.audit_session.proofs.GroupStops.{first_groups}
 use Rattle.audit_session.proofs.EndsByFault.{limited_is}
 use Rattle.audit_session.proofs.Served.{Served}
 
-module _ {P B : Type 0} (source : SourceGhosts P) (bench : Ghosts B) (columns : List Column) (public : PublicView) (batch : ℕ) (lines : Cutter)
+module _ {P B : Type 0} (source : SourceGhosts P) (bench : Ghosts B) (index : IndexView) (batch : ℕ) (lines : Cutter)
     (first_store store : StoreContents) (first_source from : P) (first at : B)
-    (served : Served source bench columns public batch lines first_store store first_source from first at) where
+    (served : Served source bench index batch lines first_store store first_source from first at) where
   abbrev base : Database
-  base = base_of columns public first_store.protected first_store.secret
+  base = base_over index first_store
 
   abbrev all : List CountedLine
   all = counted_lines (source.left first_source)

@@ -1,7 +1,8 @@
 -- How a session ends.
 use Rattle.std.specs.Prelude.{◌≡◌, ℕ, ◌+◌, ◌*◌, ◌/◌, ◌≤◌, ◌<◌, List, [], ◌++◌, length, take, Result, Ok, Err}
 use Rattle.audit_types.specs.declared.records.Answered.{Answered}
-use Rattle.table_load.specs.Database.{Database}
+use Rattle.table_load.specs.Database.{Database, base_of}
+use Rattle.set_index.specs.Indexed.{IndexView}
 use Rattle.bench_core.specs.declared.bench.Bench.{Ghosts}
 use Rattle.bench_core.specs.Calls.{IsQuiet}
 use Rattle.bench_core.specs.declared.stops.Stop.{Stop}
@@ -11,6 +12,10 @@ use Rattle.audit_store.specs.Stores.{StoreContents}
 use Rattle.line_wire.specs.Lines.{CountedLine, counted_lines, whole_lines, most_input}
 use Rattle.question_plan.specs.Session.{Replied, records_of, bytes_of, AreReplies, groups, commits}
 use Rattle.question_plan.specs.Replies.{IsDue}
+
+-- the table that is asked: its public part, and its secrets and what is guarded of them as the store has them
+abbrev pub base_over : IndexView → StoreContents → Database
+base_over index store = base_of index.columns index.public store.protected store.secret
 
 -- lines were answered: their replies are what was sent meanwhile, and the history has their records
 pub record Serves (base : Database) (history : List Answered) (lines : List CountedLine) (now : List Answered) (before after : List ℕ) : Type 0 where

@@ -10,6 +10,7 @@ use Rattle.schema_json.specs.Columns.{Column}
 use Rattle.audit_types.specs.declared.shapes.Shape.{Shape}
 use Rattle.table_load.specs.Cells.{PublicView}
 use Rattle.table_load.specs.Database.{Database}
+use Rattle.set_index.specs.Indexed.{IndexView}
 use Rattle.journal_form.specs.Journal.{StandsFor}
 use Rattle.bench_core.specs.declared.bench.Bench.{Ghosts}
 use Rattle.bench_core.specs.declared.source.Source.{Ghosts as SourceGhosts}
@@ -47,9 +48,9 @@ ArePlans columns public (line ∷ lines) [] = ⊥
 ArePlans columns public (line ∷ lines) (plan ∷ plans) = IsPlan columns public line plan × ArePlans columns public lines plans
 
 -- lines were read, if the source tells them the first of the rest, and these are their plans
-pub record Gathers (told : Type 0) (columns : List Column) (public : PublicView) (rest left : List ℕ) (ended : Bool) (plans : List Plan) : Type 0 where
+pub record Gathers (told : Type 0) (index : IndexView) (rest left : List ℕ) (ended : Bool) (plans : List Plan) : Type 0 where
   pub lines : List CountedLine
-  pub planned : ArePlans columns public lines plans
+  pub planned : ArePlans index.columns index.public lines plans
   pub reads : told → ReadsLines rest left ended lines
 
 -- a read failed before a whole group was read

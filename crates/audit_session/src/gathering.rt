@@ -1,8 +1,7 @@
 //! Gathering the lines of a group.
 ghost use Rattle.std.specs.Prelude.{◌≡◌, ◌≢◌, ◌<◌, ◌≤◌, ◌+◌, ◌++◌, ◌||◌, [], ◌∷◌, not, true, false, length, All, IfOk, IfErr, OnOk, Ok};
 ghost use Rattle.std.specs.Vec.{vec_capacity, vec_len};
-ghost use Rattle.schema_json.specs.SecretShape.{shape_of};
-ghost use Rattle.table_load.specs.Cells.{FitsSchema};
+ghost use Rattle.set_index.specs.Indexed.{public_shape};
 ghost use Rattle.line_wire.specs.Lines.{most_input};
 ghost use Rattle.line_wire.specs.Calls.{Cuts};
 ghost use Rattle.question_plan.specs.Plans.{CanBeServed};
@@ -12,7 +11,6 @@ use audit_types::{Asked, NoMemory};
 use bench_core::{Source, Stop};
 use line_wire::Reply;
 use question_plan::{Plan, Planner};
-use schema_json::Schema;
 use set_index::Index;
 use std::alloc::Global;
 
@@ -83,7 +81,6 @@ impl Group {
 pub(crate) fn gather<P: Source>(
     alloc: Global,
     planner: &mut Planner,
-    schema: &Schema,
     index: &Index,
     source: &mut P,
     batch: u8,
@@ -91,13 +88,12 @@ pub(crate) fn gather<P: Source>(
 ) -> Result<bool, Stop>
     requires same { P.told → planner.old.ended ≡ true → P.left source.old ≡ [] }
     requires within { planner.old.taken ≤ most_input + length planner.old.pending }
-    requires fits { FitsSchema schema.now.columns index.now.public }
     requires some { 0 < batch }
 
     // The lines, what they come to, and how many there are.
-    ensures gathers { IfOk result (λ more. Gathers P.told schema.now.columns index.now.public (planner.old.pending ++ P.left source.old) (planner.new.pending ++ P.left source.new) (not more || planner.new.ended) group.new.plans.items) }
+    ensures gathers { IfOk result (λ more. Gathers P.told index.now (planner.old.pending ++ P.left source.old) (planner.new.pending ++ P.left source.new) (not more || planner.new.ended) group.new.plans.items) }
     ensures questions { OnOk result (group.new.asked.items ≡ questions_of group.new.plans.items) }
-    ensures served { OnOk result (All (CanBeServed (shape_of schema.now.columns index.now.public.rows)) group.new.plans.items) }
+    ensures served { OnOk result (All (CanBeServed (public_shape index.now)) group.new.plans.items) }
     ensures most { OnOk result (length group.new.plans.items ≤ batch) }
     ensures whole { result ≡ Ok true → length group.new.plans.items ≡ batch }
     ensures last { P.told → result ≡ Ok false → planner.new.pending ++ P.left source.new ≡ [] }
@@ -111,7 +107,7 @@ pub(crate) fn gather<P: Source>(
 {
     group.clear();
     while group.has_room(batch) {
-        match planner.next(alloc, schema, index, source)? {
+        match planner.next(alloc, index, source)? {
             Some(plan) => group.add(plan)?,
             None => return Ok(false),
         }

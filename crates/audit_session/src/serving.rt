@@ -1,8 +1,6 @@
 //! Serving over one journal, with no spare.
 ghost use Rattle.std.specs.Prelude.{◌≡◌, ◌≢◌, ◌<◌, ◌≤◌, ◌+◌, ◌-◌, ◌^◌, [], true, false, length, OnOk, Err};
-ghost use Rattle.schema_json.specs.SecretShape.{shape_of};
-ghost use Rattle.table_load.specs.Cells.{FitsSchema};
-ghost use Rattle.table_load.specs.Database.{base_of};
+ghost use Rattle.set_index.specs.Indexed.{public_shape};
 ghost use Rattle.bench_core.specs.Causes.{Rose};
 ghost use Rattle.bench_core.specs.Calls.{IsQuiet, LeavesOnly, TellsFault};
 ghost use Rattle.bench_core.specs.declared.stops.Stop.{Stop};
@@ -10,12 +8,11 @@ ghost use Rattle.journal_form.specs.Journal.{StandsFor};
 ghost use Rattle.audit_store.specs.Stores.{IsAsLeft, IsStore, table_of};
 ghost use Rattle.line_wire.specs.Lines.{counted_lines, most_input};
 ghost use Rattle.audit_session.specs.Stops.{IsBatch, IsHarmless, StopsOver};
-ghost use Rattle.audit_session.specs.Ends.{Serves, ServesWhole, ServesSome, TakesCalls, limited};
+ghost use Rattle.audit_session.specs.Ends.{base_over, Serves, ServesWhole, ServesSome, TakesCalls, limited};
 
 use crate::session::serve_with;
 use audit_store::Store;
 use bench_core::{Bench, Failed, Source, Stop};
-use schema_json::Schema;
 use set_index::Index;
 use std::alloc::Global;
 
@@ -72,7 +69,6 @@ impl Bench for NoSpare {
 /// group that a failed read or the limit cuts short are read and not answered.
 pub fn serve<P: Source, B: Bench>(
     alloc: Global,
-    schema: &Schema,
     index: &Index,
     store: &mut Store,
     source: &mut P,
@@ -80,17 +76,15 @@ pub fn serve<P: Source, B: Bench>(
     batch: u8,
 ) -> Result<(), Stop>
     requires usable { store.old.usable ≡ true }
-    requires fits { FitsSchema schema.now.columns index.now.public }
-    requires entries { index.now.protected ≡ store.old.protected }
-    requires shape { store.old.secret.shape ≡ shape_of schema.now.columns index.now.public.rows }
+    requires shape { store.old.secret.shape ≡ public_shape index.now }
     requires stands { B.told → IsAsLeft (B.file bench.old) store.old }
     requires batch { IsBatch batch }
 
     // The ends: which lines were answered. The file stands for the history, unless the bench failed.
-    ensures done { P.told → B.told → OnOk result (Serves (base_of schema.now.columns index.now.public index.now.protected store.old.secret) store.old.history (counted_lines (P.left source.old)) store.new.history (B.sent bench.old) (B.sent bench.new)) }
-    ensures input_end { P.told → B.told → result ≡ Err Stop.Input → ServesWhole (base_of schema.now.columns index.now.public index.now.protected store.old.secret) store.old.history batch (P.left source.old) (P.left source.new) store.new.history (B.sent bench.old) (B.sent bench.new) }
-    ensures limit_end { P.told → B.told → result ≡ Err Stop.Limit → ServesWhole (base_of schema.now.columns index.now.public index.now.protected store.old.secret) store.old.history batch (limited (P.left source.old)) [] store.new.history (B.sent bench.old) (B.sent bench.new) }
-    ensures memory_end { P.told → B.told → result ≡ Err Stop.NoMemory → ServesSome (base_of schema.now.columns index.now.public index.now.protected store.old.secret) store.old.history batch (counted_lines (P.left source.old)) store.new.history (B.sent bench.old) (B.sent bench.new) }
+    ensures done { P.told → B.told → OnOk result (Serves (base_over index.now store.old) store.old.history (counted_lines (P.left source.old)) store.new.history (B.sent bench.old) (B.sent bench.new)) }
+    ensures input_end { P.told → B.told → result ≡ Err Stop.Input → ServesWhole (base_over index.now store.old) store.old.history batch (P.left source.old) (P.left source.new) store.new.history (B.sent bench.old) (B.sent bench.new) }
+    ensures limit_end { P.told → B.told → result ≡ Err Stop.Limit → ServesWhole (base_over index.now store.old) store.old.history batch (limited (P.left source.old)) [] store.new.history (B.sent bench.old) (B.sent bench.new) }
+    ensures memory_end { P.told → B.told → result ≡ Err Stop.NoMemory → ServesSome (base_over index.now store.old) store.old.history batch (counted_lines (P.left source.old)) store.new.history (B.sent bench.old) (B.sent bench.new) }
     ensures stands { B.told → result ≢ Err Stop.Bench → StandsFor (B.file bench.new) store.new.secret.shape store.new.history }
     ensures quiet { B.told → IsQuiet B.Bench bench.old → result ≢ Err Stop.Bench → IsQuiet B.Bench bench.new }
 
@@ -101,11 +95,11 @@ pub fn serve<P: Source, B: Bench>(
     ensures left { B.told → store.new.usable ≡ true → IsAsLeft (B.file bench.new) store.new }
 
     // One send for each line, four calls for each group that makes a record, and no other call.
-    ensures calls { P.told → B.told → OnOk result (TakesCalls (base_of schema.now.columns index.now.public index.now.protected store.old.secret) store.old.history batch (counted_lines (P.left source.old)) (B.moment bench.old) (B.moment bench.new)) }
+    ensures calls { P.told → B.told → OnOk result (TakesCalls (base_over index.now store.old) store.old.history batch (counted_lines (P.left source.old)) (B.moment bench.old) (B.moment bench.new)) }
 
     // At every moment it is a stop.
     ensures any_moment { P.told → B.told → IsQuiet B.Bench bench.old
-        → LeavesOnly B.Bench bench.old bench.new (StopsOver (base_of schema.now.columns index.now.public index.now.protected store.old.secret) batch store.old.history (counted_lines (P.left source.old)) (B.sent bench.old)) }
+        → LeavesOnly B.Bench bench.old bench.new (StopsOver (base_over index.now store.old) batch store.old.history (counted_lines (P.left source.old)) (B.sent bench.old)) }
 
     // Whatever the input is, and whatever its source tells, every history for which an image then stands is legal and
     // discloses nothing.
@@ -130,5 +124,5 @@ pub fn serve<P: Source, B: Bench>(
     // What the store says of itself: a legal history.
     let _history = store.history();
     let mut none = NoSpare;
-    serve_with(alloc, schema, index, store, source, bench, &mut none, batch)
+    serve_with(alloc, index, store, source, bench, &mut none, batch)
 }

@@ -3,7 +3,6 @@ use Rattle.std.proofs.Common.{◌≡◌, ℕ, List, [], Result, Err, OnOk, refl,
 use Rattle.std.specs.List.{concat}
 use Rattle.std.proofs.lemmas.List.{append-nil}
 use Rattle.audit_types.specs.declared.records.Answered.{Answered}
-use Rattle.schema_json.specs.Columns.{Column}
 use Rattle.set_index.specs.Indexed.{IndexView}
 use Rattle.bench_core.specs.Calls.{IsUntouched}
 use Rattle.bench_core.specs.declared.stops.Stop.{Stop}
@@ -20,9 +19,9 @@ pub none_first : (input : List ℕ) → AreFirst (counted_lines input) []
 none_first input = record { count = 0; are = refl }
 
 -- and a file that is left as it was is what a crash may find then
-pub untouched_lines : (tells : Type 0) (columns : List Column) (index : IndexView) (history : List Answered) (input : List ℕ)
-    (file before image sent : List ℕ) → IsUntouched file before image sent → ExplainsMeanwhile tells columns index history input file before image sent
-untouched_lines tells columns index history input file before image sent same =
+pub untouched_lines : (tells : Type 0) (index : IndexView) (history : List Answered) (input : List ℕ)
+    (file before image sent : List ℕ) → IsUntouched file before image sent → ExplainsMeanwhile tells index history input file before image sent
+untouched_lines tells index history input file before image sent same =
     (same.1, λ told. record { asked = []; first = none_first input; lines = []; are = tt; front = (0, same.0 ∙ sym (append-nil before)) })
 
 -- which lines were explained is what the run says, and so are what was sent, and how much of the input there was

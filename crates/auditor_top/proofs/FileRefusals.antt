@@ -103,11 +103,11 @@ gives_up_over fault schema table base given schema_cause table_cause =
     (subst (λ (r : Result TableView TableFault). TableCause (open_status fault) r) (means_read given.table_means)
     (table_cause (record { columns = base.columns; guards = given.guards }) given.schema_is))
 
-pub gives_up_public : (fault : OpenFault) (schema table : List ℕ) (columns : List Column) (index : IndexView) → ArePublicFilesOf schema table columns index →
+pub gives_up_public : (fault : OpenFault) (schema table : List ℕ) (index : IndexView) → ArePublicFilesOf schema table index →
     SchemaCause (open_status fault) (schema_of schema) →
     ((meant : SchemaView) → schema_of schema ≡ Ok meant → TableCause (open_status fault) (public_of meant.columns table)) → GivesUp (open_status fault)
-gives_up_public fault schema table columns index given schema_cause table_cause =
-    (file_refusal fault).gives_up PublicView (record { columns = columns; guards = given.guards }) (whole index.public)
+gives_up_public fault schema table index given schema_cause table_cause =
+    (file_refusal fault).gives_up PublicView (record { columns = index.columns; guards = given.guards }) (whole index.public)
     (subst (λ (r : Result SchemaView SchemaFault). SchemaCause (open_status fault) r) given.schema_is schema_cause)
     (subst (λ (r : Result PublicView TableFault). TableCause (open_status fault) r) given.public_is
-    (table_cause (record { columns = columns; guards = given.guards }) given.schema_is))
+    (table_cause (record { columns = index.columns; guards = given.guards }) given.schema_is))

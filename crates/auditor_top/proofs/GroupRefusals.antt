@@ -113,11 +113,11 @@ module _ {P B : Type 0} (files : source.Ghosts P) (bench : Ghosts B) (asked : Co
 
 pub public_gives_up : OneListOfEntries → (fault : IndexFault) (schema table : List ℕ) (read : SchemaView) (public : PublicView) → schema_of schema ≡ Ok read →
     public_of read.columns table ≡ Ok public → ((found : GuardPart) → fault ≡ index.Bad found → IsFirstBad read.columns read.guards found) →
-    (columns : List Column) × (given : IndexView) × ArePublicFilesOf schema table columns given → GivesUp (index_status fault)
+    (given : IndexView) × ArePublicFilesOf schema table given → GivesUp (index_status fault)
 public_gives_up law fault schema table read public schema_is public_is bad given =
-    let view : SchemaView = record { columns = given.0; guards = given.2.guards } in
-    let same : read ≡ view = same_ok (schema_of schema) read view schema_is given.2.schema_is in
-    group_gives_up law fault given.0 given.1.public given.2.guards given.1.protected given.2.entries
+    let view : SchemaView = record { columns = given.0.columns; guards = given.1.guards } in
+    let same : read ≡ view = same_ok (schema_of schema) read view schema_is given.1.schema_is in
+    group_gives_up law fault view.columns given.0.public given.1.guards given.0.protected given.1.entries
     (subst (λ (v : SchemaView). (found : GuardPart) → fault ≡ index.Bad found → IsFirstBad v.columns v.guards found) same bad)
 
 pub growth_gives_up : OneListOfEntries → (fault : IndexFault) (schema table : List ℕ) (read : SchemaView) → schema_of schema ≡ Ok read →

@@ -9,8 +9,7 @@ use Rattle.bench_core.specs.declared.bench.Bench.{Ghosts}
 use Rattle.bench_core.specs.declared.source.Source as source
 use Rattle.bench_core.specs.Calls.{IsQuiet, IsUntouched, LeavesOnly, OnlyReads}
 use Rattle.bench_core.specs.Moments.{started, weakens}
-use Rattle.schema_json.specs.Columns.{Column}
-use Rattle.set_index.specs.Indexed.{IndexView}
+use Rattle.set_index.specs.Indexed.{IndexView, public_setting}
 use Rattle.table_load.specs.Database.{Database, table_in}
 use Rattle.journal_form.specs.Journal.{StandsFor}
 use Rattle.answer_journal.specs.Moments.{IsMade}
@@ -28,7 +27,6 @@ use Rattle.twin_journal.specs.Fronts.{main_is_legal, spare_is_legal}
 use Rattle.twin_journal.specs.Twins.{StandsBetween}
 use Rattle.auditor_top.specs.Stages.{opening_journal, reading_lines}
 use Rattle.auditor_top.specs.Twins.{TwinEnds}
-use Rattle.transcript_sim.specs.Beginning.{public_setting}
 use Rattle.auditor_top.specs.Causes.{BeginningCause, BothCause, FaultCause, NothingFailed, IsDoneOrWants}
 use Rattle.auditor_top.specs.Commands.{ArePublicFilesOf, AreSoundFilesOf, opens_store}
 use Rattle.auditor_top.specs.Compactions.{CompactEnds}
@@ -243,29 +241,29 @@ module _ {P I B : Type 0} (files : source.Ghosts P) (lines : source.Ghosts I) (b
 
   unsimulated : asked ≡ Some Simulate → Simulating files lines bench status old new
   unsimulated is =
-      let gave = λ (ptold : files.told) (columns : List Column) (public : IndexView) (given : ArePublicFilesOf (files.left schema) (files.left table)
-      columns public).
-      gives_up Simulate is ptold (λ opens. absurd (false≢true opens)) (columns, public, given) in
+      let gave = λ (ptold : files.told) (index : IndexView) (given : ArePublicFilesOf (files.left schema) (files.left table)
+      index).
+      gives_up Simulate is ptold (λ opens. absurd (false≢true opens)) (index, given) in
       record {
-        simulated = λ ptold itold told columns public history over.
+        simulated = λ ptold itold told index history over.
             let text = lines.left input in
-            let begun = none_begun columns public history (counted_lines text) in
+            let begun = none_begun index history (counted_lines text) in
             let same = reads.sent ∙ sym (append-nil (bench.sent at)) in
-            let gave_up = gave ptold columns public over.files in (
+            let gave_up = gave ptold index over.files in (
               [],
-              by_giving_up (λ (s : Status). SimulateEnds s columns public history text text []) status gave_up refl refl begun begun,
+              by_giving_up (λ (s : Status). SimulateEnds s index history text text []) status gave_up refl refl begun begun,
               by_giving_up (λ (s : Status). SendsLines s [] (bench.sent at) (bench.sent later)) status gave_up same same (0, same) same,
             );
-        simulating = λ ptold told quiet columns public history over.
+        simulating = λ ptold told quiet index history over.
             still quiet (λ image sent same.
-            no_verdict lines.told columns public history (counted_lines (lines.left input)) (bench.file at) (bench.sent at) image sent same.1 same.0);
-        cause = λ ptold told columns public given.
-            by_giving_up (λ (s : Status). BeginningCause s (bench.file at) (public_setting columns public)) status (gave ptold columns public given)
+            no_verdict lines.told index history (counted_lines (lines.left input)) (bench.file at) (bench.sent at) image sent same.1 same.0);
+        cause = λ ptold told index given.
+            by_giving_up (λ (s : Status). BeginningCause s (bench.file at) (public_setting index)) status (gave ptold index given)
             tt tt tt tt;
         undisturbed = left_alone;
         untouched = λ ptold told quiet none. reads.untouched quiet;
         simulate_calls = λ itold told done. never_done status early done;
-        simulates = λ ptold itold told columns public history over verdicts agree within none. wants (gave ptold columns public over.files) none;
+        simulates = λ ptold itold told index history over verdicts agree within none. wants (gave ptold index over.files) none;
       }
 
   ungrown : asked ≡ Some Grow → Growing files lines bench status old new
@@ -295,7 +293,7 @@ module _ {P I B : Type 0} (files : source.Ghosts P) (lines : source.Ghosts I) (b
           by_giving_up (λ (s : Status). SendsLines s [] (bench.sent at) (bench.sent later)) status gave_up same same (0, same) same,
         );
     explaining = λ ptold told quiet base history over.
-        still quiet (untouched_lines lines.told base.columns (public_part base) history (lines.left input) (bench.file at) (bench.sent at));
+        still quiet (untouched_lines lines.told (public_part base) history (lines.left input) (bench.file at) (bench.sent at));
     undisturbed = left_alone;
     explain_calls = λ itold told done. never_done status early done;
     explains = λ ptold itold told base history over within none. wants (gives_up Explain is ptold (λ opens. told) (base, history, over)) none;

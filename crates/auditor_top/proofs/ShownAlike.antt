@@ -3,7 +3,6 @@ use Rattle.std.proofs.Common.{◌≡◌, ℕ, Option, List, sym, ◌∙◌, ap, 
 use Rattle.std.specs.Prelude.{◌↔◌}
 use Rattle.audit_types.specs.declared.records.Answered.{Answered}
 use Rattle.audit_types.specs.declared.shapes.Shape.{Shape}
-use Rattle.schema_json.specs.Columns.{Column}
 use Rattle.set_index.specs.Indexed.{IndexView}
 use Rattle.table_load.specs.Database.{Database, AreTwins}
 use Rattle.journal_audit.specs.Reports.{Audit, Reports, ReportsFront, SendsMeanwhile, subjects}
@@ -23,9 +22,9 @@ same_said : {X : Type 0} (P : X → Type 0) (a b : X) → b ≡ a → P a ↔ P 
 same_said P a b same = (λ p. subst P (sym same) p, λ p. subst P same p)
 
 -- so what is said of what is public of one table is said of what is public of one that differs in its secrets
-same_public : (P : List Column → IndexView → Type 0) (base other : Database) → other ≡ record base { secret = other.secret } →
-    P base.columns (public_part base) ↔ P other.columns (public_part other)
-same_public P base other same = same_said (λ (d : Database). P d.columns (public_part d)) (record base { secret = other.secret }) other same
+same_public : (P : IndexView → Type 0) (base other : Database) → other ≡ record base { secret = other.secret } →
+    P (public_part base) ↔ P (public_part other)
+same_public P base other same = same_said (λ (d : Database). P (public_part d)) (record base { secret = other.secret }) other same
 
 -- and of what is told of both, with as many people
 same_told : (P : Audit → Option ℕ → Type 0) (base other : Database) (history : List Answered) → audit_over other history ≡ audit_over base history →
@@ -60,11 +59,11 @@ twins_alike base other history twins =
       report = λ status before after. same_report status base other history audit people before after;
       meanwhile = λ file before image sent.
           same_told (λ (a : Audit) (p : Option ℕ). SendsMeanwhile a (subjects a.shape p) file before image sent) base other history audit people;
-      certificates = λ asked lines. same_public (λ cs i. AreExplained cs i history asked lines) base other twins.0;
+      certificates = λ asked lines. same_public (λ i. AreExplained i history asked lines) base other twins.0;
       compacted = λ status spare new_spare before after. same_said (λ (s : Shape). CompactEnds status s history spare new_spare before after)
           base.secret.shape other.secret.shape twins.1;
       compacting = λ file before image sent. same_said (λ (s : Shape). SendsCounts s history file before image sent) base.secret.shape other.secret.shape
           twins.1;
-      files = λ schema table file begun. same_public (λ cs i. SimulatesOver schema table file cs i begun) base other twins.0;
-      verdicts = λ begun lines verdicts. same_public (λ cs i. AreVerdicts cs i begun lines verdicts) base other twins.0;
+      files = λ schema table file begun. same_public (λ i. SimulatesOver schema table file i begun) base other twins.0;
+      verdicts = λ begun lines verdicts. same_public (λ i. AreVerdicts i begun lines verdicts) base other twins.0;
     }

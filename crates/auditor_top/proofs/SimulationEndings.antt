@@ -31,14 +31,15 @@ use Rattle.auditor_top.specs.declared.status.Status.TheVariants.{Done, SourceFau
 use Rattle.auditor_top.specs.Stages.{Before, reading_lines}
 use Rattle.auditor_top.proofs.StepStatuses.{EndsLastStep}
 
-abbrev index_of : PublicView → Protection → IndexView
-index_of public protected = record { public = public; protected = protected }
+abbrev index_of : List Column → PublicView → Protection → IndexView
+index_of columns public protected = record { columns = columns; public = public; protected = protected }
 
 -- the files mean one schema and one public part, and the entries of its groups are one list
-pub same_index : OneListOfEntries → (schema table : List ℕ) (opened columns : List Column) (shown index : IndexView) →
-    ArePublicFilesOf schema table opened shown → ArePublicFilesOf schema table columns index → (opened ≡ columns) × (shown ≡ index)
-same_index law schema table opened columns shown index read files =
-    let same : ◌≡◌ {A = SchemaView} (record { columns = opened; guards = read.guards }) (record { columns = columns; guards = files.guards }) =
+pub same_index : OneListOfEntries → (schema table : List ℕ) (shown index : IndexView) → ArePublicFilesOf schema table shown →
+    ArePublicFilesOf schema table index → shown ≡ index
+same_index law schema table shown index read files =
+    let columns = index.columns in
+    let same : ◌≡◌ {A = SchemaView} (record { columns = shown.columns; guards = read.guards }) (record { columns = columns; guards = files.guards }) =
     same_ok (schema_of schema) _ _ read.schema_is files.schema_is in
     let all : whole shown.public ≡ whole index.public = same_ok (public_of columns table) (whole shown.public) (whole index.public)
     (subst (λ (v : SchemaView). public_of v.columns table ≡ Ok (whole shown.public)) same read.public_is) files.public_is in
@@ -46,31 +47,28 @@ same_index law schema table opened columns shown index read files =
     subst (λ (v : SchemaView). Protects v.columns shown.public v.guards shown.protected) same read.entries in
     let part : shown.public ≡ index.public = law.part columns shown.public index.public files.guards shown.protected index.protected all own files.entries in
     let kept : shown.protected ≡ index.protected = law.one columns index.public files.guards shown.protected index.protected
-    (subst (λ (p : PublicView). Protects columns p files.guards shown.protected) part own) files.entries in (
-      ap (λ (v : SchemaView). v.columns) same,
-      ap (λ (p : PublicView). index_of p shown.protected) part ∙ ap (λ (l : Protection). index_of index.public l) kept,
-    )
+    (subst (λ (p : PublicView). Protects columns p files.guards shown.protected) part own) files.entries in
+    ap (λ (v : SchemaView). index_of v.columns shown.public shown.protected) same
+    ∙ ap (λ (p : PublicView). index_of columns p shown.protected) part ∙ ap (λ (l : Protection). index_of columns index.public l) kept
 
 -- so what is said of what was read is said of what the files mean
-pub carried_public : OneListOfEntries → (P : List Column → IndexView → Type 0) (schema table : List ℕ) (opened columns : List Column) (shown index : IndexView)
-    → ArePublicFilesOf schema table opened shown → ArePublicFilesOf schema table columns index → P opened shown → P columns index
-carried_public law P schema table opened columns shown index read files holds =
-    let same = same_index law schema table opened columns shown index read files in
-    subst (λ (i : IndexView). P columns i) same.1 (subst (λ (cs : List Column). P cs shown) same.0 holds)
+pub carried_public : OneListOfEntries → (P : IndexView → Type 0) (schema table : List ℕ) (shown index : IndexView) → ArePublicFilesOf schema table shown →
+    ArePublicFilesOf schema table index → P shown → P index
+carried_public law P schema table shown index read files holds = subst P (same_index law schema table shown index read files) holds
 
 -- ---- before the first line
 
 -- there is no verdict yet
-pub none_begun : (columns : List Column) (public : IndexView) (history : List Answered) (lines : List CountedLine) → BeginVerdicts columns public
+pub none_begun : (index : IndexView) (history : List Answered) (lines : List CountedLine) → BeginVerdicts index
     history lines []
-none_begun columns public history lines = ([], record { count = 0; are = refl }, tt)
+none_begun index history lines = ([], record { count = 0; are = refl }, tt)
 
 -- and nothing was sent
-pub no_verdict : (told : Type 0) (columns : List Column) (public : IndexView) (history : List Answered) (lines : List CountedLine) (file before image
+pub no_verdict : (told : Type 0) (index : IndexView) (history : List Answered) (lines : List CountedLine) (file before image
     sent : List ℕ) →
-    image ≡ file → sent ≡ before → SimulatesMeanwhile told columns public history lines file before image sent
-no_verdict told columns public history lines file before image sent same none =
-    (same, λ t. ([], none_begun columns public history lines, (0, none ∙ sym (append-nil before))))
+    image ≡ file → sent ≡ before → SimulatesMeanwhile told index history lines file before image sent
+no_verdict told index history lines file before image sent same none =
+    (same, λ t. ([], none_begun index history lines, (0, none ∙ sym (append-nil before))))
 
 -- ---- beginning with a journal
 
@@ -111,11 +109,11 @@ simulation_says ended = search rules
 -- ---- reading the transcript
 
 -- the ends of a simulation are those of the run
-pub simulation_ends : (ended : Result (Unit {0}) SimulationFault) (columns : List Column) (public : IndexView) (history : List Answered) (input left : List ℕ)
+pub simulation_ends : (ended : Result (Unit {0}) SimulationFault) (index : IndexView) (history : List Answered) (input left : List ℕ)
     (verdicts : List (Replied Answered)) →
-    EndVerdicts ended columns public history input left verdicts → SimulateEnds (simulation_status ended) columns public history input left verdicts
-simulation_ends (Err (verdict.Stopped stop.Input)) columns public history input left verdicts are = are
-simulation_ends ended columns public history input left verdicts are = are
+    EndVerdicts ended index history input left verdicts → SimulateEnds (simulation_status ended) index history input left verdicts
+simulation_ends (Err (verdict.Stopped stop.Input)) index history input left verdicts are = are
+simulation_ends ended index history input left verdicts are = are
 
 pub simulation_sends : (ended : Result (Unit {0}) SimulationFault) (verdicts : List (Replied Answered)) (before after : List ℕ) →
     EndSends ended verdicts before after → SendsLines (simulation_status ended) (bytes_of verdicts) before after
@@ -148,21 +146,21 @@ simulation_faults ended before input bench input_rose input_same bench_rose benc
 
 -- if every reply agrees, the input is within its limit and nothing failed, it is done, or there was no memory
 pub simulation_wants : FirstLinesHaveVerdicts
-    → (ended : Result (Unit {0}) SimulationFault) (columns : List Column) (public : IndexView) (history : List Answered) (input left : List ℕ)
+    → (ended : Result (Unit {0}) SimulationFault) (index : IndexView) (history : List Answered) (input left : List ℕ)
     (verdicts others : List (Replied Answered)) (before after : FaultCounts)
-    → EndVerdicts ended columns public history input left verdicts → EndReads ended input left
-    → AreVerdicts columns public history (counted_lines input) others → length input ≤ 2 ^ 30 → FaultCause (simulation_status ended) before after →
+    → EndVerdicts ended index history input left verdicts → EndReads ended input left
+    → AreVerdicts index history (counted_lines input) others → length input ≤ 2 ^ 30 → FaultCause (simulation_status ended) before after →
     NothingFailed before after → IsDoneOrWants (simulation_status ended)
-simulation_wants first (Ok done) columns public history input left verdicts others before after are reads agree within rose none = inl refl
-simulation_wants first (Err (verdict.Stopped stop.Input)) columns public history input left verdicts others before after are reads agree within rose none =
+simulation_wants first (Ok done) index history input left verdicts others before after are reads agree within rose none = inl refl
+simulation_wants first (Err (verdict.Stopped stop.Input)) index history input left verdicts others before after are reads agree within rose none =
     absurd (none.input rose.0)
-simulation_wants first (Err (verdict.Stopped stop.Bench)) columns public history input left verdicts others before after are reads agree within rose none =
+simulation_wants first (Err (verdict.Stopped stop.Bench)) index history input left verdicts others before after are reads agree within rose none =
     absurd (none.bench rose.0)
-simulation_wants first (Err (verdict.Stopped stop.Limit)) columns public history input left verdicts others before after are reads agree within rose none =
+simulation_wants first (Err (verdict.Stopped stop.Limit)) index history input left verdicts others before after are reads agree within rose none =
     absurd (omega (arith, reads, within))
-simulation_wants first (Err (verdict.Disagrees line due)) columns public history input left verdicts others before after are reads agree within rose none =
-    let begun = first columns public history (counted_lines input) others line agree in
+simulation_wants first (Err (verdict.Disagrees line due)) index history input left verdicts others before after are reads agree within rose none =
+    let begun = first index history (counted_lines input) others line agree in
     absurd (are.none_with begun.0 begun.1)
-simulation_wants first (Err (verdict.Stopped stop.NoMemory)) columns public history input left verdicts others before after are reads agree within rose none =
+simulation_wants first (Err (verdict.Stopped stop.NoMemory)) index history input left verdicts others before after are reads agree within rose none =
     inr refl
-simulation_wants first ended columns public history input left verdicts others before after are reads agree within rose none = absurd are
+simulation_wants first ended index history input left verdicts others before after are reads agree within rose none = absurd are

@@ -75,8 +75,8 @@ GrowthsAreTaken =
 abbrev pub ServedIsSimulated : Type 0
 ServedIsSimulated =
     (schema table file public_schema public_table : List ℕ) (base : Database) (history : List Answered) → ServesOver schema table file base history →
-    ArePublicFilesOf public_schema public_table base.columns (public_part base) →
-    SimulatesOver public_schema public_table file base.columns (public_part base) history
+    ArePublicFilesOf public_schema public_table (public_part base) →
+    SimulatesOver public_schema public_table file (public_part base) history
 
 -- every life whose last table is that of two files keeps the promise
 abbrev pub LivesKeepPromise : Type 0

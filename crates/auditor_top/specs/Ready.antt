@@ -10,14 +10,15 @@ use Rattle.schema_json.specs.Columns.{Column, SchemaView}
 use Rattle.schema_json.specs.Reading.{schema_of, most_schema}
 use Rattle.schema_json.specs.SecretShape.{shape_of}
 use Rattle.schema_json.specs.declared.faults.SchemaFault.TheVariants as schema_fault
-use Rattle.table_load.specs.Cells.{FitsSchema, PublicView}
+use Rattle.table_load.specs.Cells.{PublicView}
 use Rattle.table_load.specs.Database.{Database, base_of, table_in}
 use Rattle.set_index.specs.Groups.{Protects}
-use Rattle.set_index.specs.Indexed.{IndexView}
+use Rattle.set_index.specs.Indexed.{IndexView, public_shape}
 use Rattle.table_load.specs.Reading.{most_table}
 use Rattle.table_load.specs.Tables.{table_of, public_of}
 use Rattle.table_load.specs.declared.faults.TableFault.TheVariants as table_fault
 use Rattle.audit_store.specs.Stores.{StoreContents, IsStore, IsAsLeft}
+use Rattle.audit_session.specs.Ends.{base_over}
 use Rattle.auditor_top.specs.declared.ready.Ready.{Ready}
 use Rattle.auditor_top.specs.declared.ready.Ready.TheVariants.{Init, Serve, Twin, Audit, Simulate, Drill, Grow, Explain, Compact, Restore}
 use Rattle.auditor_top.specs.declared.words.Command.{Command}
@@ -38,7 +39,7 @@ IsGiven command.Init schema table file = (base : Database) × AreFilesOf schema 
 IsGiven (command.Serve batch true) schema table file = (base : Database) × AreSoundFilesOf schema table base
 IsGiven (command.Serve batch false) schema table file = (base : Database) × (history : List Answered) × ServesOver schema table file base history
 IsGiven command.Audit schema table file = (base : Database) × (history : List Answered) × ServesOver schema table file base history
-IsGiven command.Simulate schema table file = (columns : List Column) × (index : IndexView) × ArePublicFilesOf schema table columns index
+IsGiven command.Simulate schema table file = (index : IndexView) × ArePublicFilesOf schema table index
 IsGiven (command.Drill number) schema table file = Unit {0}
 IsGiven command.Grow schema table file = (base : Database) × AreSoundFilesOf schema table base
 IsGiven command.Explain schema table file = (base : Database) × (history : List Answered) × ServesOver schema table file base history
@@ -48,13 +49,13 @@ IsGiven command.Restore schema table file = (base : Database) × AreSoundFilesOf
 -- the command that goes on with this
 abbrev pub command_for : Ready → Command
 command_for (Init shape) = command.Init
-command_for (Serve schema index store batch) = command.Serve batch false
-command_for (Twin schema index secret protected batch) = command.Serve batch true
+command_for (Serve index store batch) = command.Serve batch false
+command_for (Twin index secret protected batch) = command.Serve batch true
 command_for (Audit schema people store) = command.Audit
-command_for (Simulate schema index) = command.Simulate
+command_for (Simulate index) = command.Simulate
 command_for (Drill number) = command.Drill number
 command_for (Grow secret protected) = command.Grow
-command_for (Explain schema index store) = command.Explain
+command_for (Explain index store) = command.Explain
 command_for (Compact store) = command.Compact
 command_for (Restore secret protected) = command.Restore
 
@@ -67,39 +68,32 @@ pub record IsOpened {B : Type 0} (bench : Ghosts B) (now : B) (store : StoreCont
 -- its parts fit one another
 abbrev pub IsReady : {B : Type 0} → Ghosts B → B → Ready → Type 0
 IsReady bench now (Init shape) = IsShape shape
-IsReady bench now (Serve schema index store batch) =
-    IsOpened bench now store × FitsSchema schema.columns index.public × (store.secret.shape ≡ shape_of schema.columns index.public.rows) ×
-    (index.protected ≡ store.protected)
-IsReady bench now (Twin schema index secret protected batch) =
-    AreProtected secret.shape protected × FitsSchema schema.columns index.public × (secret.shape ≡ shape_of schema.columns index.public.rows) ×
-    (index.protected ≡ protected)
+IsReady bench now (Serve index store batch) = IsOpened bench now store × (store.secret.shape ≡ public_shape index)
+IsReady bench now (Twin index secret protected batch) = AreProtected secret.shape protected × (secret.shape ≡ public_shape index)
 IsReady bench now (Audit schema people store) = IsOpened bench now store × (store.secret.shape ≡ shape_of schema.columns store.secret.shape.rows)
-IsReady bench now (Simulate schema index) =
-    FitsSchema schema.columns index.public × AreProtected (shape_of schema.columns index.public.rows) index.protected
+IsReady bench now (Simulate index) = Unit {0}
 IsReady bench now (Drill number) = Unit {0}
 IsReady bench now (Grow secret protected) = AreProtected secret.shape protected
-IsReady bench now (Explain schema index store) =
-    IsOpened bench now store × FitsSchema schema.columns index.public × (store.secret.shape ≡ shape_of schema.columns index.public.rows) ×
-    (index.protected ≡ store.protected)
+IsReady bench now (Explain index store) =
+    IsOpened bench now store × (store.secret.shape ≡ public_shape index) × (index.protected ≡ store.protected)
 IsReady bench now (Compact store) = IsOpened bench now store
 IsReady bench now (Restore secret protected) = AreProtected secret.shape protected
 
 -- its parts are what the files mean
 abbrev pub IsReadyOver : List ℕ → List ℕ → Ready → Type 0
 IsReadyOver schema_file table_file (Init shape) = (base : Database) × AreFilesOf schema_file table_file base × (shape ≡ base.secret.shape)
-IsReadyOver schema_file table_file (Serve schema index store batch) =
-    AreSoundFilesOf schema_file table_file (base_of schema.columns index.public index.protected store.secret)
-IsReadyOver schema_file table_file (Twin schema index secret protected batch) =
-    AreSoundFilesOf schema_file table_file (base_of schema.columns index.public index.protected secret)
+IsReadyOver schema_file table_file (Serve index store batch) = AreSoundFilesOf schema_file table_file (base_over index store)
+IsReadyOver schema_file table_file (Twin index secret protected batch) =
+    AreSoundFilesOf schema_file table_file (base_of index.columns index.public protected secret)
 IsReadyOver schema_file table_file (Audit schema people store) =
     (public : PublicView) × AreSoundFilesOf schema_file table_file (base_of schema.columns public store.protected store.secret) ×
     (people ≡ people_told schema.columns public)
-IsReadyOver schema_file table_file (Simulate schema index) = ArePublicFilesOf schema_file table_file schema.columns index
+IsReadyOver schema_file table_file (Simulate index) = ArePublicFilesOf schema_file table_file index
 IsReadyOver schema_file table_file (Drill number) = Unit {0}
 IsReadyOver schema_file table_file (Grow secret protected) =
     (columns : List Column) × (public : PublicView) × AreSoundFilesOf schema_file table_file (base_of columns public protected secret)
-IsReadyOver schema_file table_file (Explain schema index store) =
-    AreSoundFilesOf schema_file table_file (base_of schema.columns index.public index.protected store.secret)
+IsReadyOver schema_file table_file (Explain index store) =
+    AreSoundFilesOf schema_file table_file (base_of index.columns index.public index.protected store.secret)
 IsReadyOver schema_file table_file (Compact store) =
     (columns : List Column) × (public : PublicView) × AreSoundFilesOf schema_file table_file (base_of columns public store.protected store.secret)
 IsReadyOver schema_file table_file (Restore secret protected) =

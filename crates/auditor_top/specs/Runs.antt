@@ -7,8 +7,7 @@ use Rattle.audit_types.specs.Widening.{over}
 use Rattle.bench_core.specs.declared.bench.Bench.{Ghosts}
 use Rattle.bench_core.specs.declared.source.Source as source
 use Rattle.bench_core.specs.Calls.{IsQuiet, IsUntouched, LeavesOnly}
-use Rattle.schema_json.specs.Columns.{Column}
-use Rattle.set_index.specs.Indexed.{IndexView}
+use Rattle.set_index.specs.Indexed.{IndexView, public_setting}
 use Rattle.table_load.specs.Database.{Database, table_in}
 use Rattle.journal_form.specs.Journal.{StandsFor}
 use Rattle.answer_journal.specs.Make.{calls_to_make}
@@ -21,7 +20,6 @@ use Rattle.audit_session.specs.Lives.{IsLife, Run, Standing, shape_in, serves}
 use Rattle.journal_audit.specs.Reports.{SendsMeanwhile, TakesOneEach}
 use Rattle.certificate_lines.specs.Ends.{ExplainsMeanwhile}
 use Rattle.certificate_lines.specs.Explained.{AreExplained}
-use Rattle.transcript_sim.specs.Beginning.{public_setting}
 use Rattle.transcript_sim.specs.Ends.{SimulatesMeanwhile}
 use Rattle.transcript_sim.specs.Verdicts.{AreVerdicts, exchanges}
 use Rattle.auditor_top.specs.declared.words.Command.{Command}
@@ -108,32 +106,32 @@ pub record Simulating {P I B : Type 0} (files : source.Ghosts P) (lines : source
     (old new : Objects P I B) : Type 0 where
   -- over a schema, the public part of a table, and a journal that gives a history to begin with: a verdict for each question of the input,
   -- after that history; their lines were sent, or a front of them, at the end and at every moment
-  pub simulated : files.told → lines.told → bench.told → (columns : List Column) (index : IndexView) (history : List Answered) →
-      SimulatesOver (files.left old.schema) (files.left old.table) (bench.file old.bench) columns index history →
-      (verdicts : List (Replied Answered)) × SimulateEnds status columns index history (lines.left old.input) (lines.left new.input) verdicts ×
+  pub simulated : files.told → lines.told → bench.told → (index : IndexView) (history : List Answered) →
+      SimulatesOver (files.left old.schema) (files.left old.table) (bench.file old.bench) index history →
+      (verdicts : List (Replied Answered)) × SimulateEnds status index history (lines.left old.input) (lines.left new.input) verdicts ×
       SendsLines status (bytes_of verdicts) (bench.sent old.bench) (bench.sent new.bench)
-  pub simulating : files.told → bench.told → IsQuiet bench old.bench → (columns : List Column) (index : IndexView) (history : List Answered) →
-      SimulatesOver (files.left old.schema) (files.left old.table) (bench.file old.bench) columns index history →
+  pub simulating : files.told → bench.told → IsQuiet bench old.bench → (index : IndexView) (history : List Answered) →
+      SimulatesOver (files.left old.schema) (files.left old.table) (bench.file old.bench) index history →
       LeavesOnly bench old.bench new.bench
-      (SimulatesMeanwhile lines.told columns index history (counted_lines (lines.left old.input)) (bench.file old.bench) (bench.sent old.bench))
+      (SimulatesMeanwhile lines.told index history (counted_lines (lines.left old.input)) (bench.file old.bench) (bench.sent old.bench))
   -- each refusal of the journal has its cause in the file, and no run comes to the lines over one that gives no history
-  pub cause : files.told → bench.told → (columns : List Column) (index : IndexView) →
-      ArePublicFilesOf (files.left old.schema) (files.left old.table) columns index →
-      BeginningCause status (bench.file old.bench) (public_setting columns index)
+  pub cause : files.told → bench.told → (index : IndexView) →
+      ArePublicFilesOf (files.left old.schema) (files.left old.table) index →
+      BeginningCause status (bench.file old.bench) (public_setting index)
   -- the file stays, over whatever files
   pub undisturbed : bench.told → IsQuiet bench old.bench → LeavesOnly bench old.bench new.bench (LeavesFile (bench.file old.bench))
   -- over any other files nothing began
   pub untouched : files.told → bench.told → IsQuiet bench old.bench →
-      ((columns : List Column) (index : IndexView) (history : List Answered) →
-      SimulatesOver (files.left old.schema) (files.left old.table) (bench.file old.bench) columns index history → ⊥) →
+      ((index : IndexView) (history : List Answered) →
+      SimulatesOver (files.left old.schema) (files.left old.table) (bench.file old.bench) index history → ⊥) →
       LeavesOnly bench old.bench new.bench (IsUntouched (bench.file old.bench) (bench.sent old.bench))
   -- it took two calls of the bench to open the journal, and one for each question
   pub simulate_calls : lines.told → bench.told → status ≡ Done →
       bench.moment new.bench ≡ bench.moment old.bench + 2 + length (exchanges (counted_lines (lines.left old.input)))
   -- if nothing is wrong, all replies agree and nothing fails, it is done
-  pub simulates : files.told → lines.told → bench.told → (columns : List Column) (index : IndexView) (history : List Answered) →
-      SimulatesOver (files.left old.schema) (files.left old.table) (bench.file old.bench) columns index history → (verdicts : List (Replied Answered)) →
-      AreVerdicts columns index history (counted_lines (lines.left old.input)) verdicts → length (lines.left old.input) ≤ most_input →
+  pub simulates : files.told → lines.told → bench.told → (index : IndexView) (history : List Answered) →
+      SimulatesOver (files.left old.schema) (files.left old.table) (bench.file old.bench) index history → (verdicts : List (Replied Answered)) →
+      AreVerdicts index history (counted_lines (lines.left old.input)) verdicts → length (lines.left old.input) ≤ most_input →
       NothingFailed (faults_of files lines bench old) (faults_of files lines bench new) → IsDoneOrWants status
 
 -- a run of `init`
@@ -196,12 +194,12 @@ pub record Explaining {P I B : Type 0} (files : source.Ghosts P) (lines : source
   pub explained : files.told → lines.told → bench.told → (base : Database) (history : List Answered) →
       ServesOver (files.left old.schema) (files.left old.table) (bench.file old.bench) base history →
       (asked : List CountedLine) × (certificates : List (List ℕ)) × ExplainEnds status (lines.left old.input) (lines.left new.input) asked ×
-      AreExplained base.columns (public_part base) history asked certificates ×
+      AreExplained (public_part base) history asked certificates ×
       SendsLines status (concat certificates) (bench.sent old.bench) (bench.sent new.bench)
   pub explaining : files.told → bench.told → IsQuiet bench old.bench → (base : Database) (history : List Answered) →
       ServesOver (files.left old.schema) (files.left old.table) (bench.file old.bench) base history →
       LeavesOnly bench old.bench new.bench
-      (ExplainsMeanwhile lines.told base.columns (public_part base) history (lines.left old.input) (bench.file old.bench) (bench.sent old.bench))
+      (ExplainsMeanwhile lines.told (public_part base) history (lines.left old.input) (bench.file old.bench) (bench.sent old.bench))
   -- the file stays, over whatever files
   pub undisturbed : bench.told → IsQuiet bench old.bench → LeavesOnly bench old.bench new.bench (LeavesFile (bench.file old.bench))
   -- it took two calls of the bench to open the journal, and one for each line

@@ -33,15 +33,15 @@ pub record AreShownAlike (base other : Database) (history : List Answered) : Typ
       SendsMeanwhile (audit_over base history) (subjects_over base) file before image sent
       ↔ SendsMeanwhile (audit_over other history) (subjects_over other) file before image sent
   pub certificates : (asked : List CountedLine) (lines : List (List ℕ)) →
-      AreExplained base.columns (public_part base) history asked lines ↔ AreExplained other.columns (public_part other) history asked lines
+      AreExplained (public_part base) history asked lines ↔ AreExplained (public_part other) history asked lines
   pub compacted : (status : Status) (spare new_spare before after : List ℕ) →
       CompactEnds status base.secret.shape history spare new_spare before after ↔ CompactEnds status other.secret.shape history spare new_spare before after
   pub compacting : (file before image sent : List ℕ) →
       SendsCounts base.secret.shape history file before image sent ↔ SendsCounts other.secret.shape history file before image sent
   pub files : (schema table file : List ℕ) (begun : List Answered) →
-      SimulatesOver schema table file base.columns (public_part base) begun ↔ SimulatesOver schema table file other.columns (public_part other) begun
+      SimulatesOver schema table file (public_part base) begun ↔ SimulatesOver schema table file (public_part other) begun
   pub verdicts : (begun : List Answered) (lines : List CountedLine) (verdicts : List (Replied Answered)) →
-      AreVerdicts base.columns (public_part base) begun lines verdicts ↔ AreVerdicts other.columns (public_part other) begun lines verdicts
+      AreVerdicts (public_part base) begun lines verdicts ↔ AreVerdicts (public_part other) begun lines verdicts
 
 -- other secrets, which differ in this of a column, lead the same life, byte for byte, which keeps the promise of them too, so that `audit`
 -- takes its journal; and wherever it stands the same is shown of them

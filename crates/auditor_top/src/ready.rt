@@ -2,9 +2,9 @@
 ghost use Rattle.std.specs.Prelude.{◌≡◌, ◌≤◌, ◌+◌, true, false, IfOk, IfErr, IsOk, OnOk};
 ghost use Rattle.audit_types.specs.History.{AreProtected};
 ghost use Rattle.bench_core.specs.Calls.{OnlyReads};
-ghost use Rattle.schema_json.specs.SecretShape.{shape_of};
-ghost use Rattle.table_load.specs.Cells.{FitsSchema};
 ghost use Rattle.table_load.specs.Database.{base_of};
+ghost use Rattle.set_index.specs.Indexed.{public_shape};
+ghost use Rattle.audit_session.specs.Ends.{base_over};
 ghost use Rattle.auditor_top.specs.Commands.{AreSoundFilesOf, opens_journal, opens_store, reads_files};
 ghost use Rattle.auditor_top.specs.Ends.{people_told};
 ghost use Rattle.auditor_top.specs.Ready.{IsOpened, IsReady, IsReadyOver, Refuses, command_for};
@@ -25,14 +25,14 @@ use table_load::Secret;
 #[derive(Drop)]
 pub enum Ready {
     Init(Shape),
-    Serve(Schema, Index, Store, u8),
-    Twin(Schema, Index, Secret, Guard, u8),
+    Serve(Index, Store, u8),
+    Twin(Index, Secret, Guard, u8),
     // With how many people the rows stand for, if the schema counts them.
     Audit(Schema, Option<u64>, Store),
-    Simulate(Schema, Index),
+    Simulate(Index),
     Drill(u32),
     Grow(Secret, Guard),
-    Explain(Schema, Index, Store),
+    Explain(Index, Store),
     Compact(Store),
     Restore(Secret, Guard),
 }
@@ -49,10 +49,9 @@ fn open_store<P: Source, B: Bench>(
 
     // What is started is that of the files and the journal.
     ensures over { P.told → IfOk result (λ started. AreSoundFilesOf (P.left schema.old) (P.left table.old)
-        (base_of started.schema.columns started.index.public started.store.protected started.store.secret)) }
+        (base_over started.index started.store)) }
     ensures opened { IfOk result (λ started. IsOpened B.Bench bench.new started.store) }
-    ensures fits { IfOk result (λ started. FitsSchema started.schema.columns started.index.public) }
-    ensures shape { IfOk result (λ started. started.store.secret.shape ≡ shape_of started.schema.columns started.index.public.rows) }
+    ensures shape { IfOk result (λ started. started.store.secret.shape ≡ public_shape started.index) }
     ensures entries { IfOk result (λ started. started.index.protected ≡ started.store.protected) }
     ensures steady { OnOk result ((P.faults schema.new ≡ P.faults schema.old) × (P.faults table.new ≡ P.faults table.old) × (B.faults bench.new ≡ B.faults bench.old)) }
     ensures ticks { B.told → OnOk result (B.moment bench.new ≡ B.moment bench.old + 2) }
@@ -80,10 +79,9 @@ fn open_groups<P: Source, B: Bench>(
 
     // What is made ready is that of the files.
     ensures over { P.told → IfOk result (λ made. AreSoundFilesOf (P.left schema.old) (P.left table.old)
-        (base_of made.schema.columns made.index.public made.protected made.secret)) }
+        (base_of made.index.columns made.index.public made.protected made.secret)) }
     ensures fit { IfOk result (λ made. AreProtected made.secret.shape made.protected) }
-    ensures fits { IfOk result (λ made. FitsSchema made.schema.columns made.index.public) }
-    ensures shape { IfOk result (λ made. made.secret.shape ≡ shape_of made.schema.columns made.index.public.rows) }
+    ensures shape { IfOk result (λ made. made.secret.shape ≡ public_shape made.index) }
     ensures entries { IfOk result (λ made. made.index.protected ≡ made.protected) }
     ensures steady { OnOk result ((P.faults schema.new ≡ P.faults schema.old) × (P.faults table.new ≡ P.faults table.old)) }
 
@@ -97,14 +95,13 @@ fn open_groups<P: Source, B: Bench>(
 }
 
 // How many people all rows stand for, if the schema counts them.
-fn people_of(schema: &Schema, index: &Index) -> Option<u64>
-    requires fits { FitsSchema schema.now.columns index.now.public }
-    ensures { result ≡ people_told schema.now.columns index.now.public }
+fn people_of(index: &Index) -> Option<u64>
+    ensures { result ≡ people_told index.now.columns index.now.public }
 {
-    let _place = schema.people()?;
+    let _place = index.schema().people()?;
     let mut everyone = RowSet::new(index.public().rows());
     everyone.flip();
-    Some(index.people(schema, &everyone))
+    Some(index.people(&everyone))
 }
 
 /// Reads the files that the command stands on, and opens the journal of its store.
@@ -140,21 +137,20 @@ pub fn open<P: Source, B: Bench>(
         }
         Command::Serve { batch, twin: false } => {
             let started = open_store(alloc, command, schema, table, bench)?;
-            Ok(Ready::Serve(started.schema, started.index, started.store, batch))
+            Ok(Ready::Serve(started.index, started.store, batch))
         }
         Command::Serve { batch, twin: true } => {
             let made = open_groups(alloc, command, schema, table, bench)?;
-            Ok(Ready::Twin(made.schema, made.index, made.secret, made.protected, batch))
+            Ok(Ready::Twin(made.index, made.secret, made.protected, batch))
         }
         Command::Audit => {
             let started = open_store(alloc, command, schema, table, bench)?;
-            let people = people_of(&started.schema, &started.index);
-            Ok(Ready::Audit(started.schema, people, started.store))
+            let people = people_of(&started.index);
+            Ok(Ready::Audit(started.index.into_schema(), people, started.store))
         }
         Command::Simulate => {
             let OpenedPublic { schema, public } = open_public(alloc, schema, table)?;
-            let index = Index::new(alloc, &schema, public)?;
-            Ok(Ready::Simulate(schema, index))
+            Ok(Ready::Simulate(Index::new(alloc, schema, public)?))
         }
         Command::Drill { number } => Ok(Ready::Drill(number)),
         Command::Grow => {
@@ -163,7 +159,7 @@ pub fn open<P: Source, B: Bench>(
         }
         Command::Explain => {
             let started = open_store(alloc, command, schema, table, bench)?;
-            Ok(Ready::Explain(started.schema, started.index, started.store))
+            Ok(Ready::Explain(started.index, started.store))
         }
         Command::Compact => Ok(Ready::Compact(
             open_store(alloc, command, schema, table, bench)?.store,

@@ -134,27 +134,23 @@ pub fn run<P: Source, I: Source, B: Bench>(
     match open(alloc, command, schema, table, bench) {
         Err(status) => status,
         Ok(Ready::Init(shape)) => made(Journal::make(bench, &shape)),
-        Ok(Ready::Serve(schema, index, mut store, batch)) => ended(audit_session::serve(
-            alloc, &schema, &index, &mut store, input, bench, batch,
+        Ok(Ready::Serve(index, mut store, batch)) => ended(audit_session::serve(
+            alloc, &index, &mut store, input, bench, batch,
         )),
-        Ok(Ready::Twin(schema, index, secret, protected, batch)) => match TwinStore::start(
+        Ok(Ready::Twin(index, secret, protected, batch)) => match TwinStore::start(
             alloc, secret, protected, bench, spare,
         ) {
-            Ok(mut twin) => ended(serve_twin(
-                alloc, &schema, &index, &mut twin, input, bench, spare, batch,
-            )),
+            Ok(mut twin) => ended(serve_twin(alloc, &index, &mut twin, input, bench, spare, batch)),
             Err(fault) => Status::from(fault),
         },
         Ok(Ready::Audit(schema, people, store)) => {
             ended(audit(alloc, &schema, &store, people, bench))
         }
-        Ok(Ready::Simulate(schema, index)) => judged(transcript_sim::simulate(
-            alloc, &schema, &index, input, bench,
-        )),
+        Ok(Ready::Simulate(index)) => judged(transcript_sim::simulate(alloc, &index, input, bench)),
         Ok(Ready::Drill(number)) => ended(drill(alloc, number, bench)),
         Ok(Ready::Grow(secret, protected)) => grown(Store::grow(alloc, secret, protected, bench)),
-        Ok(Ready::Explain(schema, index, store)) => ended(certificate_lines::explain(
-            alloc, &schema, &index, &store, input, bench,
+        Ok(Ready::Explain(index, store)) => ended(certificate_lines::explain(
+            alloc, &index, &store, input, bench,
         )),
         Ok(Ready::Compact(store)) => compacted(compact(alloc, &store, bench, spare)),
         Ok(Ready::Restore(secret, protected)) => restored(restore(

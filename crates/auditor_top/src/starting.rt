@@ -10,6 +10,7 @@ ghost use Rattle.journal_form.specs.Journal.{StandsFor};
 ghost use Rattle.audit_store.specs.Starting.{StartCause, GivesUp};
 ghost use Rattle.audit_store.specs.Stores.{IsStore, IsAsLeft};
 ghost use Rattle.set_index.specs.Groups.{Protects, IsFirstBad};
+ghost use Rattle.set_index.specs.Indexed.{public_shape};
 ghost use Rattle.set_index.specs.declared.index.GuardPart.{GuardPart};
 ghost use Rattle.set_index.specs.declared.index.IndexFault.{IndexFault};
 ghost use Rattle.audit_store.specs.declared.starting.StartFault.{StartFault};
@@ -18,23 +19,20 @@ use crate::opening::Opened;
 use audit_store::{StartFault, Store};
 use audit_types::Guard;
 use bench_core::Bench;
-use schema_json::Schema;
 use set_index::{Index, IndexFault, groups_of_a_schema};
 use std::alloc::Global;
 use table_load::{Secret, Table};
 
-/// The schema of a table, its public part, ready to be asked, and the store of its secrets.
+/// The public part of a table, ready to be asked, and the store of its secrets.
 #[derive(Drop)]
 pub struct Started {
-    pub schema: Schema,
     pub index: Index,
     pub store: Store,
 }
 
-/// The schema of a table, its public part, ready to be asked, its secrets, and what is guarded of them.
+/// The public part of a table, ready to be asked, its secrets, and what is guarded of them.
 #[derive(Drop)]
 pub struct ReadyTable {
-    pub schema: Schema,
     pub index: Index,
     pub secret: Secret,
     pub protected: Guard,
@@ -52,21 +50,20 @@ pub enum NotStarted {
 /// Makes the groups of a table's schema ready.
 pub fn make_ready(alloc: Global, opened: Opened) -> Result<ReadyTable, IndexFault>
     requires fits { FitsSchema opened.schema.columns opened.table.public }
-    ensures same { IfOk result (λ made. (made.schema ≡ opened.schema) × (whole made.index.public ≡ opened.table.public) × (made.secret ≡ opened.table.secret)
+    ensures same { IfOk result (λ made. (made.index.columns ≡ opened.schema.columns) × (whole made.index.public ≡ opened.table.public) × (made.secret ≡ opened.table.secret)
         × (made.index.protected ≡ made.protected)) }
-    ensures fit { IfOk result (λ made. AreProtected (shape_of opened.schema.columns made.index.public.rows) made.protected) }
+    ensures fit { IfOk result (λ made. AreProtected (public_shape made.index) made.protected) }
     ensures entries { IfOk result (λ made. Protects opened.schema.columns made.index.public opened.schema.guards made.protected) }
     ensures bad { (part : GuardPart) → result ≡ Err (IndexFault.Bad part) → IsFirstBad opened.schema.columns opened.schema.guards part }
 {
     let Opened { schema, table } = opened;
     let Table { public, secret } = table;
-    let index = match Index::new(alloc, &schema, public) {
+    let index = match Index::new(alloc, schema, public) {
         Ok(index) => index,
         Err(fault) => return Err(fault),
     };
     match index.protected().copy(alloc) {
         Ok(protected) => Ok(ReadyTable {
-            schema,
             index,
             secret,
             protected,
@@ -80,7 +77,7 @@ pub fn start<B: Bench>(alloc: Global, opened: Opened, bench: &mut B) -> Result<S
     requires fits { FitsSchema opened.schema.columns opened.table.public }
     requires shape { opened.table.secret.shape ≡ shape_of opened.schema.columns opened.table.public.rows }
 
-    ensures same { IfOk result (λ started. (started.schema ≡ opened.schema) × (whole started.index.public ≡ opened.table.public) × (started.store.secret ≡ opened.table.secret)
+    ensures same { IfOk result (λ started. (started.index.columns ≡ opened.schema.columns) × (whole started.index.public ≡ opened.table.public) × (started.store.secret ≡ opened.table.secret)
         × (started.index.protected ≡ started.store.protected)) }
     ensures entries { IfOk result (λ started. Protects opened.schema.columns started.index.public opened.schema.guards started.store.protected) }
     ensures store { IfOk result (λ started. (started.store.usable ≡ true) × IsStore started.store) }
@@ -101,7 +98,6 @@ pub fn start<B: Bench>(alloc: Global, opened: Opened, bench: &mut B) -> Result<S
 {
     groups_of_a_schema();
     let ReadyTable {
-        schema,
         index,
         secret,
         protected,
@@ -110,11 +106,7 @@ pub fn start<B: Bench>(alloc: Global, opened: Opened, bench: &mut B) -> Result<S
         Err(fault) => return Err(NotStarted::Groups(fault)),
     };
     match Store::start(alloc, secret, protected, bench) {
-        Ok(store) => Ok(Started {
-            schema,
-            index,
-            store,
-        }),
+        Ok(store) => Ok(Started { index, store }),
         Err(fault) => Err(NotStarted::Journal(fault)),
     }
 }

@@ -4,13 +4,11 @@ use Rattle.audit_types.specs.declared.records.Answered.{Answered}
 use Rattle.audit_types.specs.declared.records.Asked.{Asked}
 use Rattle.audit_types.specs.declared.records.Verdict.{Verdict}
 use Rattle.audit_types.specs.declared.records.Verdict.TheVariants.{Released, DeniedUnsafe, DeniedWide}
-use Rattle.audit_types.specs.History.{Setting, FitsShape, AreProtected, IsDecisionAfter, setting_of}
+use Rattle.audit_types.specs.History.{Setting, FitsShape, AreProtected, IsDecisionAfter}
 use Rattle.denial_proof.specs.declared.proof_parts.Proof.{Proof}
 use Rattle.denial_proof.specs.Denied.{IsLegalIn}
 use Rattle.denial_proof.specs.Laws.{CanonicalProofsAreOne}
-use Rattle.schema_json.specs.Columns.{Column}
-use Rattle.schema_json.specs.SecretShape.{shape_of}
-use Rattle.set_index.specs.Indexed.{IndexView}
+use Rattle.set_index.specs.Indexed.{IndexView, public_setting}
 use Rattle.line_wire.specs.Lines.{CountedLine}
 use Rattle.question_plan.specs.declared.planning.Plan.{Plan}
 use Rattle.question_plan.specs.declared.planning.Plan.TheVariants.{Ready, Ask}
@@ -57,23 +55,23 @@ module _ (proofs : CanonicalProofsAreOne) (plans : OnePlanIsMade) (fits : AskedQ
         one_for take asked first.verdict (question take people asked refl) first.decided a b first.line_for
         (subst (λ (v : Verdict). IsLineFor setting history take asked v b) same second.line_for)
 
-  module _ (columns : List Column) (index : IndexView) (history : List Answered) (can : CanBeExplained columns index history) where
+  module _ (index : IndexView) (history : List Answered) (can : CanBeExplained index history) where
     abbrev setting_is : Setting
-    setting_is = setting_of (shape_of columns index.public.rows) index.protected
+    setting_is = public_setting index
 
     -- so has a counted line
-    pub one_line : (asked : CountedLine) (a b : List ℕ) → IsExplained columns index history asked a → IsExplained columns index history asked b → a ≡ b
+    pub one_line : (asked : CountedLine) (a b : List ℕ) → IsExplained index history asked a → IsExplained index history asked b → a ≡ b
     one_line asked a b first second =
         one_of setting_is history can.fit can.legal first.plan
-        (λ take people question is. fits columns index.public asked take people question can.schema
-        (subst (λ (p : Plan). IsPlan columns index.public asked p) is first.planned))
+        (λ take people question is. fits index.columns index.public asked take people question can.schema
+        (subst (λ (p : Plan). IsPlan index.columns index.public asked p) is first.planned))
         a b first.line_of
-        (subst (λ (p : Plan). IsLineOf setting_is history p b) (plans columns index.public asked second.plan first.plan second.planned first.planned)
+        (subst (λ (p : Plan). IsLineOf setting_is history p b) (plans index.columns index.public asked second.plan first.plan second.planned first.planned)
         second.line_of)
 
     -- and so have all
-    pub same_lines : (asked : List CountedLine) (lines others : List (List ℕ)) → AreExplained columns index history asked lines →
-        AreExplained columns index history asked others → lines ≡ others
+    pub same_lines : (asked : List CountedLine) (lines others : List (List ℕ)) → AreExplained index history asked lines →
+        AreExplained index history asked others → lines ≡ others
     same_lines [] [] [] are those = refl
     same_lines [] [] (b ∷ others) are those = absurd those
     same_lines [] (a ∷ lines) others are those = absurd are
@@ -82,10 +80,10 @@ module _ (proofs : CanonicalProofsAreOne) (plans : OnePlanIsMade) (fits : AskedQ
     same_lines (next ∷ asked) (a ∷ lines) (b ∷ others) are those =
         ap (λ (l : List ℕ). l ∷ lines) (one_line next a b are.0 those.0) ∙ ap (λ (ls : List (List ℕ)). b ∷ ls) (same_lines asked lines others are.1 those.1)
 
-module _ (columns : List Column) (index : IndexView) (history : List Answered) where
+module _ (index : IndexView) (history : List Answered) where
   -- the first lines are due to the first counted lines
-  pub first_lines : (asked : List CountedLine) (lines : List (List ℕ)) (count : ℕ) → AreExplained columns index history asked lines →
-      AreExplained columns index history (take count asked) (take count lines)
+  pub first_lines : (asked : List CountedLine) (lines : List (List ℕ)) (count : ℕ) → AreExplained index history asked lines →
+      AreExplained index history (take count asked) (take count lines)
   first_lines asked lines zero are = tt
   first_lines [] [] (suc count) are = tt
   first_lines [] (line ∷ lines) (suc count) are = absurd are

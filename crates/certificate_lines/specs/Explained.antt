@@ -7,13 +7,11 @@ use Rattle.audit_types.specs.declared.records.Answered.{Answered}
 use Rattle.audit_types.specs.declared.records.Asked.{Asked}
 use Rattle.audit_types.specs.declared.records.Verdict.{Verdict}
 use Rattle.audit_types.specs.declared.records.Verdict.TheVariants.{Released, DeniedUnsafe, DeniedWide}
-use Rattle.audit_types.specs.History.{Setting, setting_of, IsDecisionAfter}
+use Rattle.audit_types.specs.History.{Setting, IsDecisionAfter}
 use Rattle.audit_types.specs.Limits.{most_records}
 use Rattle.denial_proof.specs.declared.proof_parts.Proof.{Proof}
 use Rattle.denial_proof.specs.Canonical.{IsCanonical, IsTooWide}
-use Rattle.schema_json.specs.Columns.{Column}
-use Rattle.schema_json.specs.SecretShape.{shape_of}
-use Rattle.set_index.specs.Indexed.{IndexView}
+use Rattle.set_index.specs.Indexed.{IndexView, public_setting}
 use Rattle.line_wire.specs.Lines.{CountedLine}
 use Rattle.line_wire.specs.Talks.{Talk}
 use Rattle.line_wire.specs.declared.question.Take.{Take}
@@ -56,20 +54,20 @@ IsLineOf setting history (Ask take people asked) line =
     ((most_records ≤ length history) × (line ≡ verdict_bytes (due_of_reply reply.Full))) ⊎ IsDecided setting history take asked line
 
 -- the line that is sent for a counted line
-pub record IsExplained (columns : List Column) (index : IndexView) (history : List Answered) (asked : CountedLine) (line : List ℕ) : Type 0 where
+pub record IsExplained (index : IndexView) (history : List Answered) (asked : CountedLine) (line : List ℕ) : Type 0 where
   pub plan : Plan
-  pub planned : IsPlan columns index.public asked plan
-  pub line_of : IsLineOf (setting_of (shape_of columns index.public.rows) index.protected) history plan line
+  pub planned : IsPlan index.columns index.public asked plan
+  pub line_of : IsLineOf (public_setting index) history plan line
 
 -- those that are sent for counted lines, one for each
-abbrev pub AreExplained : List Column → IndexView → List Answered → List CountedLine → List (List ℕ) → Type 0
-AreExplained columns index history asked lines = AllZip (IsExplained columns index history) asked lines
+abbrev pub AreExplained : IndexView → List Answered → List CountedLine → List (List ℕ) → Type 0
+AreExplained index history asked lines = AllZip (IsExplained index history) asked lines
 
 -- what explaining the lines of an input sends: one line for each, and it refuses nothing
-abbrev pub explanations : List Column → IndexView → List Answered → Talk (List ℕ) ⊥
-explanations columns index history = record {
+abbrev pub explanations : IndexView → List Answered → Talk (List ℕ) ⊥
+explanations index history = record {
   bytes = λ line. line;
-  Due = AreExplained columns index history;
+  Due = AreExplained index history;
   count = λ asked. length asked;
   Refuses = λ why input lines. ⊥;
   Reads = λ why input. ⊥;

@@ -1,9 +1,7 @@
 //! Explaining the lines of an input.
 ghost use Rattle.std.specs.Prelude.{◌≡◌, [], true, false};
-ghost use Rattle.audit_types.specs.History.{setting_of};
 ghost use Rattle.denial_proof.specs.Denied.{IsLegalIn};
-ghost use Rattle.schema_json.specs.SecretShape.{shape_of};
-ghost use Rattle.table_load.specs.Cells.{FitsSchema};
+ghost use Rattle.set_index.specs.Indexed.{public_setting, public_shape};
 ghost use Rattle.line_wire.specs.Talks.{Talks, unrefused};
 ghost use Rattle.certificate_lines.specs.Explained.{explanations};
 
@@ -13,7 +11,6 @@ use audit_core::Core;
 use audit_store::Store;
 use bench_core::{Bench, Source, Stop};
 use question_plan::Planner;
-use schema_json::Schema;
 use set_index::Index;
 use std::alloc::Global;
 use table_load::lists_of_secrets;
@@ -22,21 +19,19 @@ use table_load::lists_of_secrets;
 fn explain_lines<P: Source, B: Bench>(
     alloc: Global,
     planner: &mut Planner,
-    schema: &Schema,
     index: &Index,
     core: &Core,
     source: &mut P,
     bench: &mut B,
 ) -> Result<(), Stop>
     requires fresh { (planner.old.taken ≡ 0) × (planner.old.pending ≡ []) × (planner.old.ended ≡ false) }
-    requires fits { FitsSchema schema.now.columns index.now.public }
-    requires setting { core.now.setting ≡ setting_of (shape_of schema.now.columns index.now.public.rows) index.now.protected }
+    requires setting { core.now.setting ≡ public_setting index.now }
     requires legal { IsLegalIn core.now.setting core.now.history }
-    ensures { Talks P.Source B.Bench (explanations schema.now.columns index.now core.now.history) source.old source.new bench.old bench.new (unrefused result) }
+    ensures { Talks P.Source B.Bench (explanations index.now core.now.history) source.old source.new bench.old bench.new (unrefused result) }
 {
     let mut provers = Provers::new();
     let mut line = Vec::new(alloc);
-    while let Some(plan) = planner.next(alloc, schema, index, source)? {
+    while let Some(plan) = planner.next(alloc, index, source)? {
         write_line(alloc, core, &plan, &mut provers, &mut line)?;
         bench.send(&line)?;
     }
@@ -48,32 +43,22 @@ fn explain_lines<P: Source, B: Bench>(
 /// is that of the schema's public columns and protected groups.
 pub fn explain<P: Source, B: Bench>(
     alloc: Global,
-    schema: &Schema,
     index: &Index,
     store: &Store,
     source: &mut P,
     bench: &mut B,
 ) -> Result<(), Stop>
     requires usable { store.now.usable ≡ true }
-    requires fits { FitsSchema schema.now.columns index.now.public }
     requires entries { index.now.protected ≡ store.now.protected }
-    requires shape { store.now.secret.shape ≡ shape_of schema.now.columns index.now.public.rows }
+    requires shape { store.now.secret.shape ≡ public_shape index.now }
 
     // What is due to the lines is sent, by one call for each and no other. The file isn't touched, at the end and at every moment. It doesn't
     // give up by itself, passes over no failed call, and calls no spare.
-    ensures { Talks P.Source B.Bench (explanations schema.now.columns index.now store.now.history) source.old source.new bench.old bench.new (unrefused result) }
+    ensures { Talks P.Source B.Bench (explanations index.now store.now.history) source.old source.new bench.old bench.new (unrefused result) }
 {
     // A store says of itself that its history is legal.
     let _history = store.history();
     lists_of_secrets();
     let mut planner = Planner::new(alloc)?;
-    explain_lines(
-        alloc,
-        &mut planner,
-        schema,
-        index,
-        store.core(),
-        source,
-        bench,
-    )
+    explain_lines(alloc, &mut planner, index, store.core(), source, bench)
 }

@@ -3,7 +3,6 @@ ghost use Rattle.std.specs.Prelude.{◌≡◌, ◌≤◌, ◌+◌, [], List, tru
 ghost use Rattle.audit_types.specs.Shapes.{IsShape};
 ghost use Rattle.audit_types.specs.declared.records.Answered.{Answered};
 ghost use Rattle.schema_json.specs.Columns.{no_guards};
-ghost use Rattle.schema_json.specs.SecretShape.{shape_of};
 ghost use Rattle.table_load.specs.Cells.{FitsSchema};
 ghost use Rattle.table_load.specs.Database.{base_of};
 ghost use Rattle.bench_core.specs.BenchContents.{file_of, sent_of};
@@ -12,7 +11,8 @@ ghost use Rattle.bench_core.specs.Stops.{IsOfBench};
 ghost use Rattle.journal_form.specs.Journal.{StandsFor};
 ghost use Rattle.audit_store.specs.Stores.{IsAsLeft};
 ghost use Rattle.line_wire.specs.Lines.{counted_lines};
-ghost use Rattle.audit_session.specs.Ends.{Serves};
+ghost use Rattle.set_index.specs.Indexed.{public_shape};
+ghost use Rattle.audit_session.specs.Ends.{Serves, base_over};
 ghost use Rattle.drill_case.specs.Tables.{drill_columns, drill_public, drill_rows, drill_secret};
 ghost use Rattle.drill_case.specs.Lines.{drill_text};
 ghost use Rattle.drill_case.specs.Drills.{drill_protection, AnswersDrill, IsSummary, SendsSummary, SendsSummaryFront};
@@ -58,22 +58,19 @@ fn make(bench: &mut MemoryBench, shape: &Shape) -> Result<(), NoMemory>
 // Answers the lines over a store, each by itself.
 fn answer_over(
     alloc: Global,
-    schema: &Schema,
     index: &Index,
     store: &mut Store,
     lines: Vec<u8>,
     bench: &mut MemoryBench,
 ) -> Result<(), NoMemory>
     requires usable { store.old.usable ≡ true }
-    requires entries { index.now.protected ≡ store.old.protected }
-    requires fits { FitsSchema schema.now.columns index.now.public }
-    requires shape { store.old.secret.shape ≡ shape_of schema.now.columns index.now.public.rows }
+    requires shape { store.old.secret.shape ≡ public_shape index.now }
     requires stands { IsAsLeft (file_of bench.old) store.old }
     requires short { length lines.items ≤ 60000 }
-    ensures { OnOk result (Serves (base_of schema.now.columns index.now.public index.now.protected store.old.secret) store.old.history (counted_lines lines.items) store.new.history (sent_of bench.old) (sent_of bench.new)) }
+    ensures { OnOk result (Serves (base_over index.now store.old) store.old.history (counted_lines lines.items) store.new.history (sent_of bench.old) (sent_of bench.new)) }
 {
     let mut source = SteadySource::new(lines);
-    match audit_session::serve(alloc, schema, index, store, &mut source, bench, 1) {
+    match audit_session::serve(alloc, index, store, &mut source, bench, 1) {
         Ok(()) => Ok(()),
         Err(stop) => match stop {
             Stop::Bench | Stop::NoMemory => Err(NoMemory),
@@ -85,23 +82,21 @@ fn answer_over(
 // Starts the store of a table over its new journal, and answers the lines.
 fn answer(
     alloc: Global,
-    schema: &Schema,
     index: &Index,
     secret: Secret,
     lines: Vec<u8>,
     bench: &mut MemoryBench,
 ) -> Result<(), NoMemory>
-    requires fits { FitsSchema schema.now.columns index.now.public }
     requires none { index.now.protected ≡ drill_protection }
-    requires shape { secret.shape ≡ shape_of schema.now.columns index.now.public.rows }
+    requires shape { secret.shape ≡ public_shape index.now }
     requires stands { StandsFor (file_of bench.old) secret.shape [] }
     requires short { length lines.items ≤ 60000 }
-    ensures { OnOk result ((last : List Answered) × Serves (base_of schema.now.columns index.now.public index.now.protected secret) [] (counted_lines lines.items) last (sent_of bench.old) (sent_of bench.new)) }
+    ensures { OnOk result ((last : List Answered) × Serves (base_of index.now.columns index.now.public index.now.protected secret) [] (counted_lines lines.items) last (sent_of bench.old) (sent_of bench.new)) }
 {
     journal_form::laws::one_reading();
     let protected = index.protected().copy(alloc)?;
     match Store::start(alloc, secret, protected, bench) {
-        Ok(mut store) => answer_over(alloc, schema, index, &mut store, lines, bench),
+        Ok(mut store) => answer_over(alloc, index, &mut store, lines, bench),
         Err(fault) => match fault {
             StartFault::Failed | StartFault::NoMemory => Err(NoMemory),
             _ => unreachable!(),
@@ -113,16 +108,14 @@ fn answer(
 fn answer_lines(
     alloc: Global,
     number: u32,
-    schema: &Schema,
     index: &Index,
     secret: Secret,
     bench: &mut MemoryBench,
 ) -> Result<(), NoMemory>
-    requires columns { schema.now.columns ≡ drill_columns }
+    requires columns { index.now.columns ≡ drill_columns }
     requires public { index.now.public ≡ drill_public number }
     requires none { index.now.protected ≡ drill_protection }
     requires secret { secret ≡ drill_secret number }
-    requires fits { FitsSchema schema.now.columns index.now.public }
     requires empty { file_of bench.old ≡ [] }
     requires unsent { sent_of bench.old ≡ [] }
     ensures replies { OnOk result (AnswersDrill number (sent_of bench.new)) }
@@ -130,22 +123,22 @@ fn answer_lines(
 {
     make(bench, &secret.shape())?;
     let lines = drill_lines(alloc, number)?;
-    answer(alloc, schema, index, secret, lines, bench)
+    answer(alloc, index, secret, lines, bench)
 }
 
 // Answers the lines of a drill over this table, and says how many rows that has.
 fn answer_table(
     alloc: Global,
     number: u32,
-    schema: &Schema,
+    schema: Schema,
     table: Table,
     bench: &mut MemoryBench,
 ) -> Result<u16, NoMemory>
-    requires columns { schema.now.columns ≡ drill_columns }
-    requires guards { schema.now.guards ≡ no_guards }
+    requires columns { schema.columns ≡ drill_columns }
+    requires guards { schema.guards ≡ no_guards }
     requires public { table.public ≡ drill_public number }
     requires secret { table.secret ≡ drill_secret number }
-    requires fits { FitsSchema schema.now.columns table.public }
+    requires fits { FitsSchema schema.columns table.public }
     requires empty { file_of bench.old ≡ [] }
     requires unsent { sent_of bench.old ≡ [] }
     ensures rows { IfOk result (λ rows. rows ≡ drill_rows) }
@@ -161,7 +154,7 @@ fn answer_table(
             IndexFault::Bad { .. } => unreachable!(),
         },
     };
-    answer_lines(alloc, number, schema, &index, secret, bench)?;
+    answer_lines(alloc, number, &index, secret, bench)?;
     Ok(rows)
 }
 
@@ -175,7 +168,7 @@ fn answer_drill(alloc: Global, number: u32, bench: &mut MemoryBench) -> Result<u
 {
     let schema = drill_schema(alloc)?;
     let table = drill_table(alloc, number)?;
-    answer_table(alloc, number, &schema, table, bench)
+    answer_table(alloc, number, schema, table, bench)
 }
 
 // Writes the summary of a drill into the front of `out`, and says how many bytes it has.

@@ -1,6 +1,5 @@
 //! Planning the lines of a source, one after another.
 ghost use Rattle.std.specs.Prelude.{◌≡◌, [], true, false, IfOk, IfErr};
-ghost use Rattle.table_load.specs.Cells.{FitsSchema};
 ghost use Rattle.line_wire.specs.Calls.{Cuts, GivesNext, IsStopped};
 ghost use Rattle.question_plan.specs.Planned.{IsUnplanned, PlansNext};
 
@@ -10,7 +9,6 @@ use bench_core::{Source, Stop};
 use json::Scratch;
 use line_wire::laws::lines_in_turn;
 use line_wire::{Lines, Next, Reply};
-use schema_json::Schema;
 use set_index::Index;
 use std::alloc::Global;
 use std::marker::Model;
@@ -58,20 +56,18 @@ impl Planner {
     pub fn next<P: Source>(
         &mut self,
         alloc: Global,
-        schema: &Schema,
         index: &Index,
         source: &mut P,
     ) -> Result<Option<Plan>, Stop>
         requires same { P.told → self.old.ended ≡ true → P.left source.old ≡ [] }
-        requires fits { FitsSchema schema.now.columns index.now.public }
-        ensures plans { IfOk result (PlansNext P.Source self.old self.new source.old source.new schema.now.columns index.now.public) }
+        ensures plans { IfOk result (PlansNext P.Source self.old self.new source.old source.new index.now) }
         ensures unplanned { IfErr result (IsUnplanned P.Source self.old self.new source.old source.new) }
         ensures cuts { Cuts P.Source self.old self.new source.old source.new }
     {
         match next_line(&mut self.lines, source)? {
             Next::Line => {
                 let line = self.lines.text();
-                let plan = plan_line(alloc, schema, index, line, &mut self.scratch)?;
+                let plan = plan_line(alloc, index, line, &mut self.scratch)?;
                 Ok(Some(plan))
             }
             Next::Long => Ok(Some(Plan::Ready(Reply::Long))),

@@ -1,9 +1,9 @@
 //! Planning a line.
 ghost use Rattle.std.specs.Prelude.{◌≡◌, ◌≤◌, true, length, IfOk, MatchResult, Some};
 ghost use Rattle.audit_types.specs.Headcount.{people_behind};
-ghost use Rattle.schema_json.specs.SecretShape.{HasSecret, shape_of};
-ghost use Rattle.table_load.specs.Cells.{FitsSchema, counts_of};
+ghost use Rattle.schema_json.specs.SecretShape.{HasSecret};
 ghost use Rattle.set_index.specs.Asked.{fits_public, meaning};
+ghost use Rattle.set_index.specs.Indexed.{public_counts, public_shape};
 ghost use Rattle.predicate_lang.specs.Trees.{tree_of};
 ghost use Rattle.line_wire.specs.Lines.{text};
 ghost use Rattle.line_wire.specs.Reply.{IsInRange};
@@ -15,7 +15,6 @@ use audit_types::{Asked, NoMemory, RowSet};
 use json::Scratch;
 use line_wire::{LineFault, Reply, Request, Take, read_line_request};
 use predicate_lang::Pred;
-use schema_json::Schema;
 use set_index::{Index, reads_what_fits};
 use std::alloc::Global;
 
@@ -33,24 +32,22 @@ pub enum Plan {
 }
 
 // The people behind the rows of a condition.
-fn plan_count(schema: &Schema, index: &Index, pred: &Pred) -> Plan
-    requires public { FitsSchema schema.now.columns index.now.public }
+fn plan_count(index: &Index, pred: &Pred) -> Plan
     requires fits { fits_public index.now.public (tree_of pred.now) ≡ true }
-    ensures exact { result ≡ Plan.Ready (Reply.Count (people_behind (counts_of schema.now.columns index.now.public) (meaning index.now.public (tree_of pred.now)))) }
-    ensures served { CanBeServed (shape_of schema.now.columns index.now.public.rows) result }
+    ensures exact { result ≡ Plan.Ready (Reply.Count (people_behind (public_counts index.now) (meaning index.now.public (tree_of pred.now)))) }
+    ensures served { CanBeServed (public_shape index.now) result }
 {
     let mut rows = RowSet::new(index.public().rows());
     index.fill_rows_of(pred, &mut rows);
-    Plan::Ready(Reply::Count(index.people(schema, &rows)))
+    Plan::Ready(Reply::Count(index.people(&rows)))
 }
 
 // What a question of a secret column comes to.
-fn plan_question(schema: &Schema, index: &Index, take: Take, column: u8, pred: &Pred) -> Plan
-    requires public { FitsSchema schema.now.columns index.now.public }
+fn plan_question(index: &Index, take: Take, column: u8, pred: &Pred) -> Plan
     requires fits { fits_public index.now.public (tree_of pred.now) ≡ true }
-    requires has { HasSecret schema.now.columns column (kind_for take) }
-    ensures exact { result ≡ question_over take column index.now.public.rows (counts_of schema.now.columns index.now.public) (meaning index.now.public (tree_of pred.now)) }
-    ensures served { CanBeServed (shape_of schema.now.columns index.now.public.rows) result }
+    requires has { HasSecret index.now.columns column (kind_for take) }
+    ensures exact { result ≡ question_over take column index.now.public.rows (public_counts index.now) (meaning index.now.public (tree_of pred.now)) }
+    ensures served { CanBeServed (public_shape index.now) result }
 {
     let mut rows = RowSet::new(index.public().rows());
     index.fill_rows_of(pred, &mut rows);
@@ -59,25 +56,24 @@ fn plan_question(schema: &Schema, index: &Index, take: Take, column: u8, pred: &
     }
     Plan::Ask {
         take,
-        people: index.people(schema, &rows),
+        people: index.people(&rows),
         asked: Asked { column, rows },
     }
 }
 
 // What a request comes to.
-fn plan_request(schema: &Schema, index: &Index, request: &Request) -> Plan
-    requires public { FitsSchema schema.now.columns index.now.public }
+fn plan_request(index: &Index, request: &Request) -> Plan
     requires fits { fits_public index.now.public (condition_of request.now) ≡ true }
-    requires can { CanBeAsked schema.now.columns request.now }
-    ensures exact { result ≡ plan_of (counts_of schema.now.columns index.now.public) index.now.public request.now }
-    ensures served { CanBeServed (shape_of schema.now.columns index.now.public.rows) result }
+    requires can { CanBeAsked index.now.columns request.now }
+    ensures exact { result ≡ plan_of (public_counts index.now) index.now.public request.now }
+    ensures served { CanBeServed (public_shape index.now) result }
 {
     match request {
-        Request::Count { pred } => plan_count(schema, index, pred),
-        Request::Sum { column, pred } => plan_question(schema, index, Take::Sum, *column, pred),
-        Request::Avg { column, pred } => plan_question(schema, index, Take::Avg, *column, pred),
-        Request::Max { column, pred } => plan_question(schema, index, Take::Max, *column, pred),
-        Request::Min { column, pred } => plan_question(schema, index, Take::Min, *column, pred),
+        Request::Count { pred } => plan_count(index, pred),
+        Request::Sum { column, pred } => plan_question(index, Take::Sum, *column, pred),
+        Request::Avg { column, pred } => plan_question(index, Take::Avg, *column, pred),
+        Request::Max { column, pred } => plan_question(index, Take::Max, *column, pred),
+        Request::Min { column, pred } => plan_question(index, Take::Min, *column, pred),
     }
 }
 
@@ -95,23 +91,21 @@ fn refused(fault: LineFault) -> Result<Reply, NoMemory>
     }
 }
 
-/// Plans a line by the schema and the public part alone. A question that it gives can be decided over each table of the
+/// Plans a line by the public part of a table alone. A question that it gives can be decided over each table of the
 /// schema with as many rows, and a reply that it gives can be written. The scratch is kept from line to line.
 pub fn plan_line(
     alloc: Global,
-    schema: &Schema,
     index: &Index,
     line: &[u8],
     scratch: &mut Scratch,
 ) -> Result<Plan, NoMemory>
     requires short { length line.now ≤ 8192 }
-    requires fits { FitsSchema schema.now.columns index.now.public }
-    ensures planned { IfOk result (IsPlan schema.now.columns index.now.public (text line.now)) }
-    ensures served { IfOk result (CanBeServed (shape_of schema.now.columns index.now.public.rows)) }
+    ensures planned { IfOk result (IsPlan index.now.columns index.now.public (text line.now)) }
+    ensures served { IfOk result (CanBeServed (public_shape index.now)) }
 {
     reads_what_fits();
-    match read_line_request(alloc, schema, line, scratch) {
-        Ok(request) => Ok(plan_request(schema, index, &request)),
+    match read_line_request(alloc, index.schema(), line, scratch) {
+        Ok(request) => Ok(plan_request(index, &request)),
         Err(fault) => Ok(Plan::Ready(refused(fault)?)),
     }
 }

@@ -2,9 +2,7 @@
 //! lines is counted here, and was worked out by demo/drill.py.
 ghost use Rattle.std.specs.Prelude.{◌≡◌, [], true, OnOk};
 ghost use Rattle.audit_types.specs.Shapes.{IsShape};
-ghost use Rattle.audit_types.specs.History.{AreProtected};
-ghost use Rattle.schema_json.specs.SecretShape.{shape_of};
-ghost use Rattle.table_load.specs.Cells.{FitsSchema};
+ghost use Rattle.set_index.specs.Indexed.{public_shape};
 ghost use Rattle.bench_core.specs.BenchContents.{file_of};
 ghost use Rattle.journal_form.specs.Journal.{StandsFor};
 ghost use Rattle.audit_store.specs.Stores.{IsAsLeft};
@@ -15,7 +13,6 @@ use audit_store::Store;
 use audit_types::{NoMemory, Shape};
 use bench_core::{MemoryBench, Room, SteadySource};
 use drill_case::{drill_lines, drill_schema, drill_table};
-use schema_json::Schema;
 use set_index::Index;
 use std::alloc::Global;
 use table_load::{Secret, Table};
@@ -39,41 +36,35 @@ fn make(bench: &mut MemoryBench, shape: &Shape) -> Result<(), NoMemory>
 // Serves the lines over a store.
 fn serve_lines(
     alloc: Global,
-    schema: &Schema,
     index: &Index,
     store: &mut Store,
     lines: Vec<u8>,
     bench: &mut MemoryBench,
 ) -> Result<(), NoMemory>
     requires usable { store.old.usable ≡ true }
-    requires entries { index.now.protected ≡ store.old.protected }
-    requires fits { FitsSchema schema.now.columns index.now.public }
-    requires shape { store.old.secret.shape ≡ shape_of schema.now.columns index.now.public.rows }
+    requires shape { store.old.secret.shape ≡ public_shape index.now }
     requires stands { IsAsLeft (file_of bench.old) store.old }
 {
     let mut source = SteadySource::new(lines);
-    serve(alloc, schema, index, store, &mut source, bench, 64).map_err(|_| NoMemory)
+    serve(alloc, index, store, &mut source, bench, 64).map_err(|_| NoMemory)
 }
 
 // Starts the store of a table over its new journal, and serves the lines of a drill.
 fn start(
     alloc: Global,
     number: u32,
-    schema: &Schema,
     index: &Index,
     secret: Secret,
     bench: &mut MemoryBench,
 ) -> Result<(), NoMemory>
-    requires fits { FitsSchema schema.now.columns index.now.public }
-    requires groups { AreProtected (shape_of schema.now.columns index.now.public.rows) index.now.protected }
-    requires shape { secret.shape ≡ shape_of schema.now.columns index.now.public.rows }
+    requires shape { secret.shape ≡ public_shape index.now }
     requires empty { file_of bench.old ≡ [] }
 {
     make(bench, &secret.shape())?;
     let lines = drill_lines(alloc, number)?;
     let protected = index.protected().copy(alloc)?;
     match Store::start(alloc, secret, protected, bench) {
-        Ok(mut store) => serve_lines(alloc, schema, index, &mut store, lines, bench),
+        Ok(mut store) => serve_lines(alloc, index, &mut store, lines, bench),
         Err(_) => Err(NoMemory),
     }
 }
@@ -83,10 +74,10 @@ fn play(alloc: Global, number: u32, bench: &mut MemoryBench) -> Result<(), NoMem
 {
     let schema = drill_schema(alloc)?;
     let Table { public, secret } = drill_table(alloc, number)?;
-    let Ok(index) = Index::new(alloc, &schema, public) else {
+    let Ok(index) = Index::new(alloc, schema, public) else {
         return Err(NoMemory);
     };
-    start(alloc, number, &schema, &index, secret, bench)
+    start(alloc, number, &index, secret, bench)
 }
 
 // How many replies a drill gets, how many of them are answers, and how many are denials of unsafe questions.

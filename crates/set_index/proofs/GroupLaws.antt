@@ -7,7 +7,7 @@ use Rattle.std.proofs.lemmas.Option.{same_Some}
 use Rattle.audit_types.specs.Rows.{AreRows}
 use Rattle.audit_types.specs.RowLaws.{AreRows-rows_that}
 use Rattle.audit_types.specs.Limits.{most_groups, most_rows, most_width}
-use Rattle.audit_types.specs.History.{Protection, IsProtected, FitsShape, entry_of}
+use Rattle.audit_types.specs.History.{Protection, AreProtected, IsProtected, FitsShape, entry_of}
 use Rattle.audit_types.specs.Headcount.{Headcount, CountPeople}
 use Rattle.audit_types.specs.declared.records.Protected.{Protected}
 use Rattle.audit_types.specs.declared.shapes.Kind.TheVariants as kind
@@ -183,6 +183,18 @@ entries_are_protected places columns public guards protected are fits is guarded
       subst (λ r. 1 < r) reach guarded.reach.0,
       subst (λ r. r ≤ most_rows) reach guarded.reach.1,
     )
+
+-- and so does what a schema guards before its groups are known
+pub no_entries_are_protected : EntriesFit → (columns : List Column) (public : PublicView) (guards : Guards) (protected : Protection) → AreColumns columns →
+    FitsSchema columns public → IsPublic public → AreGuards guards → whole public ≡ public →
+    protected ≡ record { groups = []; people = people_of columns public guards; width = guards.width; reach = guards.reach } →
+    AreProtected (shape_of columns public.rows) protected
+no_entries_are_protected fit columns public guards protected are fits is guarded all same =
+    let alone : Guards = record guards { only = None; groups = [] } in
+    let few : length alone.groups ≤ most_groups = omega arith in
+    let bounded : AreGuards alone = record { few = few; width = guarded.width; reach = guarded.reach; fewest = guarded.fewest; own = guarded.own } in
+    let none : public.only ≡ None = sym (ap (λ (p : PublicView). p.only) all) in
+    subst (AreProtected (shape_of columns public.rows)) (sym same) (fit columns public alone _ are fits is bounded (refl, refl, refl, refl, none))
 
 -- ---- the people that a table counts
 

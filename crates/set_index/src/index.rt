@@ -7,14 +7,14 @@ ghost use Rattle.audit_types.specs.History.{AreProtected, entry_of};
 ghost use Rattle.audit_types.specs.Headcount.{headcount, people_behind};
 ghost use Rattle.audit_types.specs.Limits.{most_answer, most_rows};
 ghost use Rattle.audit_types.specs.Rows.{intersection, rows_that};
-ghost use Rattle.schema_json.specs.Columns.{Group};
-ghost use Rattle.schema_json.specs.SecretShape.{shape_of};
+ghost use Rattle.schema_json.specs.Columns.{AreColumns, Group};
 ghost use Rattle.predicate_lang.specs.Places.{Means};
 ghost use Rattle.predicate_lang.specs.Trees.{Tree, fits, tree_of};
 ghost use Rattle.table_load.specs.Cells.{FitsSchema, cells_at, counts_of, whole};
 ghost use Rattle.table_load.specs.Kept.{cells_kept};
 ghost use Rattle.set_index.specs.Asked.{meaning, fits_public};
 ghost use Rattle.set_index.specs.Groups.{AreEntries, AsksOnly, Protects, HasNoFault, IsFirstBad, IsFirstBadGroup, IsSoundOnly, IsGroup};
+ghost use Rattle.set_index.specs.Indexed.{public_counts, public_shape};
 ghost use Rattle.set_index.specs.Marks.{SortsColumn};
 ghost use Rattle.set_index.specs.Ordered.{IsOrder, IsShown, compare_rows};
 
@@ -50,14 +50,15 @@ pub enum IndexFault {
     NoMemory,
 }
 
-/// The public part of a table, made ready for conditions: for each column the rows in ascending order of value, and the rows
-/// that may be asked of, if the schema says which.
+/// The public part of a table and the schema that it was read by, made ready for conditions: for each column the rows in ascending
+/// order of value, the rows that may be asked of, if the schema says which, and what is guarded.
 #[derive(Drop)]
 pub struct Index {
+    schema: Schema,
     public: Public,
     only: Option<RowSet>,
     protected: Guard,
-    columns: Vec<Option<Sorted>>,
+    orders: Vec<Option<Sorted>>,
 }
 
 impl Model for Index {
@@ -257,35 +258,53 @@ fn cut_to(only: &Option<RowSet>, rows: &mut RowSet)
 }
 
 impl Index {
-    /// Makes a public part ready, and finds the rows that may be asked of, those of the groups that its schema protects, and the people
-    /// behind the rows. With a refusal it is dropped.
-    pub fn new(alloc: Global, schema: &Schema, public: Public) -> Result<Index, IndexFault>
-        requires { FitsSchema schema.now.columns public }
+    /// Makes the public part of a table ready, and finds the rows that may be asked of, those of the groups that its schema protects, and
+    /// the people behind the rows. With a refusal both are dropped.
+    pub fn new(alloc: Global, schema: Schema, public: Public) -> Result<Index, IndexFault>
+        requires { FitsSchema schema.columns public }
+        ensures columns { IfOk result (λ index. index.columns ≡ schema.columns) }
         ensures public { IfOk result (λ index. whole index.public ≡ public) }
-        ensures entries { IfOk result (λ index. Protects schema.now.columns index.public schema.now.guards index.protected) }
-        ensures bad { (part : GuardPart) → result ≡ Err (IndexFault.Bad part) → IsFirstBad schema.now.columns schema.now.guards part }
-        ensures fit { IfOk result (λ index. AreProtected (shape_of schema.now.columns index.public.rows) index.protected) }
-        ensures fits { IfOk result (λ index. FitsSchema schema.now.columns index.public) }
+        ensures entries { IfOk result (λ index. Protects schema.columns index.public schema.guards index.protected) }
+        ensures bad { (part : GuardPart) → result ≡ Err (IndexFault.Bad part) → IsFirstBad schema.columns schema.guards part }
     {
         groups_of_a_schema();
         // The count says that these are a schema's columns, and the width that what is guarded is within bounds.
         let (_count, _width) = (schema.count(), schema.width());
         // What was read of a table says of no row that it may not be asked of.
         let _rows = public.rows();
-        let Ok(columns) = sorted_columns(alloc, &public) else {
+        let Ok(orders) = sorted_columns(alloc, &public) else {
             return Err(IndexFault::NoMemory);
         };
-        let protected = guard_of(alloc, schema, &public, Vec::new(alloc))?;
+        let protected = guard_of(alloc, &schema, &public, Vec::new(alloc))?;
         let mut index = Index {
+            schema,
             public,
             only: None,
             protected,
-            columns,
+            orders,
         };
-        index.only = only_rows(alloc, schema, &index)?;
-        let groups = entries_of(alloc, schema, &index)?;
-        index.protected = guard_of(alloc, schema, &index.public, groups)?;
+        index.only = only_rows(alloc, &index.schema, &index)?;
+        let groups = entries_of(alloc, &index.schema, &index)?;
+        index.protected = guard_of(alloc, &index.schema, &index.public, groups)?;
         Ok(index)
+    }
+
+    /// The schema that the table was read by.
+    pub fn schema(&self) -> &Schema
+        ensures same { result.now.columns ≡ self.now.columns }
+        ensures columns { AreColumns self.now.columns }
+        ensures fits { FitsSchema self.now.columns self.now.public }
+    {
+        // The count says that these are a schema's columns.
+        let _count = self.schema.count();
+        &self.schema
+    }
+
+    /// Gives back the schema, and drops the rest.
+    pub fn into_schema(self) -> Schema
+        ensures { result.columns ≡ self.columns }
+    {
+        self.schema
     }
 
     /// The public part.
@@ -298,7 +317,8 @@ impl Index {
     /// What the schema guards: what few people behind the rows have, and the groups that some row satisfies, in the order of the schema; and
     /// by which width and reach.
     pub fn protected(&self) -> &Guard
-        ensures { result.now ≡ self.now.protected }
+        ensures same { result.now ≡ self.now.protected }
+        ensures fit { AreProtected (public_shape self.now) self.now.protected }
     {
         &self.protected
     }
@@ -309,7 +329,7 @@ impl Index {
         ensures rows { result.now.rows ≡ self.now.public.rows }
         ensures ascending { IsSorted (compare_rows (cells_at self.now.public place)) result.now.order }
     {
-        match self.columns.get(place as usize) {
+        match self.orders.get(place as usize) {
             Some(Some(sorted)) => sorted,
             _ => unreachable!(),
         }
@@ -349,14 +369,13 @@ impl Index {
     }
 
     /// How many people stand behind rows: as many as the rows if no column says so.
-    pub fn people(&self, schema: &Schema, rows: &RowSet) -> u64
-        requires fits { FitsSchema schema.now.columns self.now.public }
-        requires n { rows.now.n ≡ self.now.public.rows }
-        ensures exact { result ≡ people_behind (counts_of schema.now.columns self.now.public) rows.now.list }
+    pub fn people(&self, rows: &RowSet) -> u64
+        requires { rows.now.n ≡ self.now.public.rows }
+        ensures exact { result ≡ people_behind (public_counts self.now) rows.now.list }
         ensures at_least { length rows.now.list ≤ result }
         ensures at_most { result ≤ most_answer }
     {
-        match self.public().counts(schema) {
+        match self.public().counts(self.schema()) {
             Some(counts) => people_by(counts, rows),
             None => u64::from(rows.len()),
         }

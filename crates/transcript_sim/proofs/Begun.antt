@@ -14,14 +14,13 @@ use Rattle.bench_core.specs.declared.stops.Stop.{Stop}
 use Rattle.bench_core.specs.declared.stops.Stop.TheVariants as stop
 use Rattle.bench_core.specs.declared.stops.End.{End}
 use Rattle.bench_core.specs.declared.stops.End.TheVariants.{Stopped, Refused}
-use Rattle.schema_json.specs.Columns.{Column}
-use Rattle.set_index.specs.Indexed.{IndexView}
+use Rattle.set_index.specs.Indexed.{IndexView, public_setting}
 use Rattle.line_wire.specs.Lines.{CountedLine, counted_lines}
 use Rattle.line_wire.specs.Talks.{DueToFirst, EndDue, EndReads, EndSends, TalksMeanwhile}
 use Rattle.line_wire.specs.TalkSoFar.{none_failed}
 use Rattle.transcript_sim.specs.declared.simulating.SimulationRefusal.{SimulationRefusal}
 use Rattle.transcript_sim.specs.declared.simulating.SimulationRefusal.TheVariants.{Journal}
-use Rattle.transcript_sim.specs.Beginning.{BeginsWith, EndBegins, OnUnbegun, UnbegunCause, public_setting}
+use Rattle.transcript_sim.specs.Beginning.{BeginsWith, EndBegins, OnUnbegun, UnbegunCause}
 use Rattle.transcript_sim.specs.Ends.{Judges, RefusesWithin, Simulates, simulation}
 use Rattle.transcript_sim.proofs.Beginnings.{OneReading, NoBreak, never_refused, one_beginning, unblamed}
 
@@ -54,12 +53,12 @@ so_on_ok : {P Q : Type 0} (ended : Result (Unit {0}) (End SimulationRefusal)) �
 so_on_ok (Ok done) follows holds = follows holds
 so_on_ok (Err why) follows holds = tt
 
-module _ {P B : Type 0} (source : SourceGhosts P) (bench : Ghosts B) (columns : List Column) (index : IndexView) where
+module _ {P B : Type 0} (source : SourceGhosts P) (bench : Ghosts B) (index : IndexView) where
   module _ (first : P) (old : B) where
     abbrev Meanwhile : List Answered → List ℕ → List ℕ → Type 0
-    Meanwhile history = TalksMeanwhile source.told (simulation columns index history) (counted_lines (source.left first)) (bench.file old) (bench.sent old)
+    Meanwhile history = TalksMeanwhile source.told (simulation index history) (counted_lines (source.left first)) (bench.file old) (bench.sent old)
 
-    none_begun : (history : List Answered) (lines : List CountedLine) → DueToFirst (simulation columns index history) lines []
+    none_begun : (history : List Answered) (lines : List CountedLine) → DueToFirst (simulation index history) lines []
     none_begun history lines = ([], record { count = 0; are = refl }, tt)
 
     -- while the journal is read no verdict is sent
@@ -72,11 +71,11 @@ module _ {P B : Type 0} (source : SourceGhosts P) (bench : Ghosts B) (columns : 
     -- and then the lines are judged
     judging : (mid at : B) (history : List Answered) → OnlyReads bench old mid →
         (IsQuiet bench mid → LeavesOnly bench mid at
-        (TalksMeanwhile source.told (simulation columns index history) (counted_lines (source.left first)) (bench.file mid) (bench.sent mid))) →
+        (TalksMeanwhile source.told (simulation index history) (counted_lines (source.left first)) (bench.file mid) (bench.sent mid))) →
         IsQuiet bench old → LeavesOnly bench old at (Meanwhile history)
     judging mid at history reads judged quiet =
         let Said : List ℕ → List ℕ → List ℕ → List ℕ → Type 0 =
-        TalksMeanwhile source.told (simulation columns index history) (counted_lines (source.left first)) in
+        TalksMeanwhile source.told (simulation index history) (counted_lines (source.left first)) in
         joins bench old mid at (Meanwhile history) (reading mid history reads quiet)
         (subst (λ (f : List ℕ). LeavesOnly bench mid at (Said f (bench.sent old))) reads.file
         (subst (λ (s : List ℕ). LeavesOnly bench mid at (Said (bench.file mid) s)) reads.sent (judged (still_quiet bench old mid reads quiet))))
@@ -85,19 +84,19 @@ module _ {P B : Type 0} (source : SourceGhosts P) (bench : Ghosts B) (columns : 
       -- it didn't begin
       module _ (whole : NoBreak) (at : B) (reads : OnlyReads bench old at) where
         abbrev Unbegun : End JournalRefusal → Type 0
-        Unbegun = EndsBy IsOfBench (λ refusal. bench.told → UnbegunCause refusal (bench.file old) (public_setting columns index))
+        Unbegun = EndsBy IsOfBench (λ refusal. bench.told → UnbegunCause refusal (bench.file old) (public_setting index))
 
         no_verdict : (why : End JournalRefusal) → Unbegun why → (history : List Answered) → bench.told →
-            BeginsWith (bench.file old) (public_setting columns index) history → (input left : List ℕ) →
-            EndDue (simulation columns index history) (unbegun_by why) input left []
-            × EndSends (simulation columns index history) (unbegun_by why) [] (bench.sent old) (bench.sent at)
+            BeginsWith (bench.file old) (public_setting index) history → (input left : List ℕ) →
+            EndDue (simulation index history) (unbegun_by why) input left []
+            × EndSends (simulation index history) (unbegun_by why) [] (bench.sent old) (bench.sent at)
         no_verdict (Stopped stop.Bench) cause history told begins input left =
             (none_begun history (counted_lines input), (0, reads.sent ∙ sym (append-nil (bench.sent old))))
         no_verdict (Stopped stop.NoMemory) cause history told begins input left =
             (none_begun history (counted_lines input), reads.sent ∙ sym (append-nil (bench.sent old)))
         no_verdict (Stopped other) cause history told begins input left = absurd cause
         no_verdict (Refused refusal) cause history told begins input left =
-            absurd (never_refused one (bench.file old) (public_setting columns index) whole history begins refusal (cause told))
+            absurd (never_refused one (bench.file old) (public_setting index) whole history begins refusal (cause told))
 
         nothing_read : (why : End JournalRefusal) → Unbegun why → (input left : List ℕ) → EndReads RefusesWithin (unbegun_by why) input left
         nothing_read (Stopped stop.Input) cause input left = absurd cause
@@ -105,7 +104,7 @@ module _ {P B : Type 0} (source : SourceGhosts P) (bench : Ghosts B) (columns : 
         nothing_read (Stopped other) cause input left = tt
         nothing_read (Refused refusal) cause input left = tt
 
-        told_so : (why : End JournalRefusal) → Unbegun why → bench.told → EndBegins (unbegun_by why) (bench.file old) (public_setting columns index)
+        told_so : (why : End JournalRefusal) → Unbegun why → bench.told → EndBegins (unbegun_by why) (bench.file old) (public_setting index)
         told_so (Stopped stop.Bench) cause told = tt
         told_so (Stopped stop.NoMemory) cause told = tt
         told_so (Stopped other) cause told = absurd cause
@@ -122,7 +121,7 @@ module _ {P B : Type 0} (source : SourceGhosts P) (bench : Ghosts B) (columns : 
               let is : why ≡ Stopped stopped = let back : ended_by X why ≡ Err (Stopped stopped) = same_stop X why stopped same in cc in
               subst Unbegun is cause
 
-          pub not_begun : Simulates source bench columns index first first old at (unbegun_by why)
+          pub not_begun : Simulates source bench index first first old at (unbegun_by why)
           not_begun = record {
             verdicts = λ history t told begins. let said = no_verdict why cause history told begins (source.left first) (source.left first) in ([], said.0, said.1);
             calls = λ t told. tt;
@@ -149,25 +148,25 @@ module _ {P B : Type 0} (source : SourceGhosts P) (bench : Ghosts B) (columns : 
       -- it did, and its lines were judged
       pub judged_so : (mid at : B) (from : P) (history : List Answered) (ended : Result (Unit {0}) (End SimulationRefusal)) → OnlyReads bench old mid →
           {Failed : Type 0} → TellsFault bench old mid Failed → (Failed → ⊥) → (bench.told → bench.moment mid ≡ bench.moment old + 2) →
-          (bench.told → BeginsWith (bench.file old) (public_setting columns index) history) →
-          Judges source bench columns index history first from mid at ended → Simulates source bench columns index first from old at ended
+          (bench.told → BeginsWith (bench.file old) (public_setting index) history) →
+          Judges source bench index history first from mid at ended → Simulates source bench index first from old at ended
       judged_so mid at from history ended reads tells fine ticks begun judges =
           let all = judges.0 in
           record {
             verdicts = λ others t told begins.
-                let same = one_beginning one (bench.file old) (public_setting columns index) history others (begun told) begins in
+                let same = one_beginning one (bench.file old) (public_setting index) history others (begun told) begins in
                 let found = all.due t in (
                   found.0,
-                  subst (λ (h : List Answered). EndDue (simulation columns index h) ended (source.left first) (source.left from) found.0) same found.1,
-                  subst (λ (h : List Answered). EndSends (simulation columns index h) ended found.0 (bench.sent old) (bench.sent at)) same
-                      (subst (λ (s : List ℕ). EndSends (simulation columns index history) ended found.0 s (bench.sent at)) reads.sent (found.2 told)),
+                  subst (λ (h : List Answered). EndDue (simulation index h) ended (source.left first) (source.left from) found.0) same found.1,
+                  subst (λ (h : List Answered). EndSends (simulation index h) ended found.0 (bench.sent old) (bench.sent at)) same
+                      (subst (λ (s : List ℕ). EndSends (simulation index history) ended found.0 s (bench.sent at)) reads.sent (found.2 told)),
                 );
             calls = λ t told. so_on_ok ended (λ is. omega (arith, is, ticks told)) (all.calls t told);
             reads = all.reads;
-            begins = λ told. begun_with ended (bench.file old) (public_setting columns index) history judges.1 (begun told);
+            begins = λ told. begun_with ended (bench.file old) (public_setting index) history judges.1 (begun told);
             unbegun = not_unbegun _ ended judges.1;
             moments = λ others told quiet begins.
-                let same = one_beginning one (bench.file old) (public_setting columns index) history others (begun told) begins in
+                let same = one_beginning one (bench.file old) (public_setting index) history others (begun told) begins in
                 subst (λ (h : List Answered). LeavesOnly bench old at (Meanwhile h)) same (judging mid at history reads (all.moments told) quiet);
             undisturbed = λ told quiet.
                 weakens bench old at (Meanwhile history) (λ image sent. image ≡ bench.file old) (λ image sent is. is.0)

@@ -4,7 +4,6 @@ use Rattle.std.specs.Option.{option_to_list}
 use Rattle.std.proofs.lemmas.List.{append-nil}
 use Rattle.std.proofs.lemmas.List.Concat.{flat_map-append}
 use Rattle.audit_types.specs.declared.records.Answered.{Answered}
-use Rattle.schema_json.specs.Columns.{Column}
 use Rattle.set_index.specs.Indexed.{IndexView}
 use Rattle.line_wire.specs.Lines.{CountedLine}
 use Rattle.question_plan.specs.Session.{Replied, records_of, AreReplies}
@@ -31,27 +30,27 @@ records-push verdicts out =
     ∙ ap (λ (l : List Answered). records_of verdicts ++ l) (append-nil (option_to_list out.added))
 
 -- verdicts on whole exchanges, and on one more
-module _ (columns : List Column) (index : IndexView) (begun : List Answered) (lines : List CountedLine) (verdicts : List (Replied Answered))
-    (are : AreVerdicts columns index begun lines verdicts) (even : length lines ≡ 2 * length verdicts) (question : CountedLine) (expected : Expected)
-    (expects : Expects columns index (begun ++ records_of verdicts) question expected) where
+module _ (index : IndexView) (begun : List Answered) (lines : List CountedLine) (verdicts : List (Replied Answered))
+    (are : AreVerdicts index begun lines verdicts) (even : length lines ≡ 2 * length verdicts) (question : CountedLine) (expected : Expected)
+    (expects : Expects index (begun ++ records_of verdicts) question expected) where
   exchange-push : (shown : Option CountedLine) (added : Option Answered) → IsTaken expected shown added → (more : List CountedLine) →
       exchanges more ≡ record { question = question; shown = shown } ∷ [] →
-      AreVerdicts columns index begun (lines ++ more) (verdicts ++ verdict_with expected added ∷ [])
+      AreVerdicts index begun (lines ++ more) (verdicts ++ verdict_with expected added ∷ [])
   exchange-push shown added taken more is =
       let exchange : Exchange = record { question = question; shown = shown } in
-      let verdict : IsVerdict columns index (begun ++ records_of verdicts) exchange (verdict_with expected added) =
+      let verdict : IsVerdict index (begun ++ records_of verdicts) exchange (verdict_with expected added) =
       record { expected = expected; expects = expects; bytes_are = refl; taken = taken } in
-      subst (λ (es : List Exchange). AreReplies (IsVerdict columns index) begun es (verdicts ++ verdict_with expected added ∷ []))
+      subst (λ (es : List Exchange). AreReplies (IsVerdict index) begun es (verdicts ++ verdict_with expected added ∷ []))
       (sym (exchanges-append lines more (length verdicts) even ∙ ap (λ (es : List Exchange). exchanges lines ++ es) is))
-      (replies-append (IsVerdict columns index) begun (exchanges lines) (exchange ∷ []) verdicts (verdict_with expected added ∷ []) are (verdict, tt))
+      (replies-append (IsVerdict index) begun (exchanges lines) (exchange ∷ []) verdicts (verdict_with expected added ∷ []) are (verdict, tt))
 
   -- a question whose reply isn't read yet
-  pub question-push : AreVerdicts columns index begun (lines ++ question ∷ []) (verdicts ++ verdict_with expected None ∷ [])
+  pub question-push : AreVerdicts index begun (lines ++ question ∷ []) (verdicts ++ verdict_with expected None ∷ [])
   question-push = exchange-push None None refl (question ∷ []) refl
 
   -- and one whose reply agrees
   pub agreed-push : (shown : CountedLine) (added : Option Answered) → AgreesWith shown expected added →
-      AreVerdicts columns index begun ((lines ++ question ∷ []) ++ shown ∷ []) (verdicts ++ verdict_with expected added ∷ [])
+      AreVerdicts index begun ((lines ++ question ∷ []) ++ shown ∷ []) (verdicts ++ verdict_with expected added ∷ [])
   agreed-push shown added agrees =
-      subst (λ (ls : List CountedLine). AreVerdicts columns index begun ls (verdicts ++ verdict_with expected added ∷ []))
+      subst (λ (ls : List CountedLine). AreVerdicts index begun ls (verdicts ++ verdict_with expected added ∷ []))
       (sym (append_assoc lines (question ∷ []) (shown ∷ []))) (exchange-push (Some shown) added agrees (question ∷ shown ∷ []) refl)

@@ -6,10 +6,8 @@ use Rattle.audit_types.specs.declared.records.Answered.{Answered}
 use Rattle.audit_types.specs.declared.records.Asked.{Asked}
 use Rattle.audit_types.specs.declared.records.Verdict.{Verdict}
 use Rattle.audit_types.specs.declared.records.Verdict.TheVariants.{Released, DeniedUnsafe, DeniedWide}
-use Rattle.audit_types.specs.History.{Setting, setting_of}
-use Rattle.schema_json.specs.Columns.{Column}
-use Rattle.schema_json.specs.SecretShape.{shape_of}
-use Rattle.set_index.specs.Indexed.{IndexView}
+use Rattle.audit_types.specs.History.{Setting}
+use Rattle.set_index.specs.Indexed.{IndexView, public_setting}
 use Rattle.line_wire.specs.Lines.{CountedLine, text, long}
 use Rattle.line_wire.specs.Reply.{IsReply}
 use Rattle.line_wire.specs.declared.question.Take.{Take}
@@ -58,12 +56,13 @@ module _ (replies : LineIsOneReply) (plans : OnePlanIsMade) (judgements : OneJud
       (subst (λ (v : Verdict). CalledBy setting history take people asked v b) same second.called)
 
   -- so does a question
-  pub one_expected : (columns : List Column) (index : IndexView) (history : List Answered) (line : CountedLine) (a b : Expected) →
-      Expects columns index history line a → Expects columns index history line b → a ≡ b
-  one_expected columns index history line a b first second =
-      let setting = setting_of (shape_of columns index.public.rows) index.protected in
+  pub one_expected : (index : IndexView) (history : List Answered) (line : CountedLine) (a b : Expected) →
+      Expects index history line a → Expects index history line b → a ≡ b
+  one_expected index history line a b first second =
+      let setting = public_setting index in
       one_call setting history first.plan a b first.calls
-      (subst (λ (p : Plan). CallsFor setting history p b) (plans columns index.public line second.plan first.plan second.planned first.planned) second.calls)
+      (subst (λ (p : Plan). CallsFor setting history p b)
+      (plans index.columns index.public line second.plan first.plan second.planned first.planned) second.calls)
 
   -- a line that agrees makes one record
   one_record : (line : CountedLine) (expected : Expected) (a b : Option Answered) → AgreesWith line expected a → AgreesWith line expected b → a ≡ b
@@ -80,11 +79,11 @@ module _ (replies : LineIsOneReply) (plans : OnePlanIsMade) (judgements : OneJud
   one_taken expected None a b first second = first ∙ sym second
   one_taken expected (Some line) a b first second = one_record line expected a b first second
 
-  module _ (columns : List Column) (index : IndexView) where
+  module _ (index : IndexView) where
     -- one verdict is due on an exchange
-    pub one_verdict : MakesOneDue (IsVerdict columns index)
+    pub one_verdict : MakesOneDue (IsVerdict index)
     one_verdict history exchange a b first second =
-        let same = one_expected columns index history exchange.question first.expected second.expected first.expects second.expects in
+        let same = one_expected index history exchange.question first.expected second.expected first.expects second.expects in
         let bytes : a.bytes ≡ b.bytes = first.bytes_are ∙ ap (λ (x : Expected). line_of x) same ∙ sym second.bytes_are in
         let added : a.added ≡ b.added = one_taken first.expected exchange.shown a.added b.added first.taken
         (subst (λ (x : Expected). IsTaken x exchange.shown b.added) (sym same) second.taken) in
@@ -92,20 +91,20 @@ module _ (replies : LineIsOneReply) (plans : OnePlanIsMade) (judgements : OneJud
         ap (λ (l : List ℕ). made l a.added) bytes ∙ ap (λ (r : Option Answered). made b.bytes r) added
 
     pub same_verdicts : (history : List Answered) (lines : List CountedLine) (verdicts others : List (Replied Answered)) →
-        AreVerdicts columns index history lines verdicts → AreVerdicts columns index history lines others → verdicts ≡ others
+        AreVerdicts index history lines verdicts → AreVerdicts index history lines others → verdicts ≡ others
     same_verdicts history lines verdicts others first second =
-        same_replies (IsVerdict columns index) one_verdict history (exchanges lines) verdicts others first second
+        same_replies (IsVerdict index) one_verdict history (exchanges lines) verdicts others first second
 
-module _ (columns : List Column) (index : IndexView) where
+module _ (index : IndexView) where
   -- the verdict on a question doesn't wait for its reply
   before_reply : (history : List Answered) (question shown : CountedLine) (out : Replied Answered)
-      → IsVerdict columns index history (record { question = question; shown = Some shown }) out
-      → IsVerdict columns index history (record { question = question; shown = None }) (record { bytes = out.bytes; added = None })
+      → IsVerdict index history (record { question = question; shown = Some shown }) out
+      → IsVerdict index history (record { question = question; shown = None }) (record { bytes = out.bytes; added = None })
   before_reply history question shown out is = record { expected = is.expected; expects = is.expects; bytes_are = is.bytes_are; taken = refl }
 
   first_verdicts : (count : ℕ) (history : List Answered) (lines : List CountedLine) (verdicts : List (Replied Answered))
-      → AreReplies (IsVerdict columns index) history (exchanges lines) verdicts
-      → (first : List (Replied Answered)) × AreReplies (IsVerdict columns index) history (exchanges (take count lines)) first
+      → AreReplies (IsVerdict index) history (exchanges lines) verdicts
+      → (first : List (Replied Answered)) × AreReplies (IsVerdict index) history (exchanges (take count lines)) first
   first_verdicts zero history lines verdicts are = ([], tt)
   first_verdicts (suc count) history [] verdicts are = ([], tt)
   first_verdicts (suc count) history (question ∷ []) [] are = absurd are
@@ -120,5 +119,5 @@ module _ (columns : List Column) (index : IndexView) where
 
   -- the first lines of a transcript have verdicts
   pub first_lines : (history : List Answered) (lines : List CountedLine) (verdicts : List (Replied Answered)) (count : ℕ) →
-      AreVerdicts columns index history lines verdicts → (first : List (Replied Answered)) × AreVerdicts columns index history (take count lines) first
+      AreVerdicts index history lines verdicts → (first : List (Replied Answered)) × AreVerdicts index history (take count lines) first
   first_lines history lines verdicts count are = first_verdicts count history lines verdicts are

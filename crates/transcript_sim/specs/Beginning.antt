@@ -2,7 +2,7 @@
 use Rattle.std.specs.Prelude.{◌≡◌, ◌≢◌, ◌⊎◌, ℕ, List, [], Option, Result, Err}
 use Rattle.audit_types.specs.declared.records.Answered.{Answered}
 use Rattle.audit_types.specs.declared.shapes.Shape.{Shape}
-use Rattle.audit_types.specs.History.{Setting, setting_of}
+use Rattle.audit_types.specs.History.{Setting}
 use Rattle.audit_core.specs.Released.{WereReleased, IsFirstUnreleased}
 use Rattle.answer_journal.specs.Moments.{IsMade}
 use Rattle.bench_core.specs.declared.stops.Stop.TheVariants as stop
@@ -11,15 +11,8 @@ use Rattle.bench_core.specs.declared.stops.End.TheVariants.{Stopped, Refused}
 use Rattle.answer_journal.specs.declared.refusals.JournalRefusal.{JournalRefusal}
 use Rattle.answer_journal.specs.declared.refusals.JournalRefusal.TheVariants.{Damaged, OtherShape, Illegal}
 use Rattle.journal_form.specs.Journal.{StandsFor, BreaksAt}
-use Rattle.schema_json.specs.Columns.{Column}
-use Rattle.schema_json.specs.SecretShape.{shape_of}
-use Rattle.set_index.specs.Indexed.{IndexView}
 use Rattle.transcript_sim.specs.declared.simulating.SimulationRefusal.{SimulationRefusal}
 use Rattle.transcript_sim.specs.declared.simulating.SimulationRefusal.TheVariants.{Journal}
-
--- what may be read of a table by its public part
-abbrev pub public_setting : List Column → IndexView → Setting
-public_setting columns index = setting_of (shape_of columns index.public.rows) index.protected
 
 -- no journal is made, and the history is empty; or the file is that of a history which was to be released
 abbrev pub BeginsWith : List ℕ → Setting → List Answered → Type 0

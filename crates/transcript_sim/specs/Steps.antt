@@ -1,7 +1,7 @@
 -- What the steps of a simulation do: reading a line, and telling what a reply comes to.
 use Rattle.std.specs.Prelude.{◌≡◌, ◌⊎◌, ◌≤◌, ◌+◌, ℕ, true, List, [], ◌++◌, Option, Some, None, Result, Ok, Err, Bool, false}
 use Rattle.std.specs.Option.{option_to_list}
-use Rattle.audit_types.specs.History.{Setting, setting_of, FitsShape, known_of}
+use Rattle.audit_types.specs.History.{Setting, FitsShape, known_of}
 use Rattle.audit_types.specs.Judgement.{IsWithinWidth}
 use Rattle.audit_types.specs.declared.records.Answered.{Answered}
 use Rattle.bench_core.specs.declared.bench.Bench.{Ghosts as BenchGhosts}
@@ -10,9 +10,7 @@ use Rattle.bench_core.specs.declared.stops.Stop.{Stop}
 use Rattle.bench_core.specs.declared.stops.Stop.TheVariants as stop
 use Rattle.bench_core.specs.declared.stops.End.{End}
 use Rattle.bench_core.specs.declared.stops.End.TheVariants.{Refused}
-use Rattle.schema_json.specs.Columns.{Column}
-use Rattle.schema_json.specs.SecretShape.{shape_of}
-use Rattle.set_index.specs.Indexed.{IndexView}
+use Rattle.set_index.specs.Indexed.{IndexView, public_setting}
 use Rattle.line_wire.specs.Lines.{CountedLine}
 use Rattle.line_wire.specs.Cutter.{Cutter}
 use Rattle.line_wire.specs.Calls.{GivesLine, GivesNone}
@@ -43,17 +41,17 @@ ComesTo line expected Disagrees = (added : Option Answered) → ¬ (AgreesWith l
 -- ---- the two lines of an exchange
 
 -- a question, and what it calls for
-pub record GivesQuestion {P : Type 0} (source : Ghosts P) (old new : Cutter) (before after : P) (columns : List Column) (index : IndexView)
+pub record GivesQuestion {P : Type 0} (source : Ghosts P) (old new : Cutter) (before after : P) (index : IndexView)
     (history : List Answered) (expected : Expected) : Type 0 where
   pub line : CountedLine
   pub gives : GivesLine source old new before after line
-  pub expects : Expects columns index history line expected
-  pub can : CanBeTaken (setting_of (shape_of columns index.public.rows) index.protected) history expected
+  pub expects : Expects index history line expected
+  pub can : CanBeTaken (public_setting index) history expected
 
 -- a question, or no line
-abbrev pub AsksNext : {P : Type 0} → Ghosts P → Cutter → Cutter → P → P → List Column → IndexView → List Answered → Option Expected → Type 0
-AsksNext source old new before after columns index history None = GivesNone source old new before after
-AsksNext source old new before after columns index history (Some expected) = GivesQuestion source old new before after columns index history expected
+abbrev pub AsksNext : {P : Type 0} → Ghosts P → Cutter → Cutter → P → P → IndexView → List Answered → Option Expected → Type 0
+AsksNext source old new before after index history None = GivesNone source old new before after
+AsksNext source old new before after index history (Some expected) = GivesQuestion source old new before after index history expected
 
 -- a line that was shown, and what it comes to
 pub record GivesShown {P : Type 0} (source : Ghosts P) (old new : Cutter) (before after : P) (expected : Expected) (shown : Shown) : Type 0 where
@@ -94,15 +92,14 @@ SendsFor bench old new None = new ≡ old
 SendsFor bench old new (Some expected) = SendsAll bench old new (line_of expected)
 
 -- a question whose verdict couldn't be sent
-pub record GivesUnsent {P B : Type 0} (source : Ghosts P) (bench : BenchGhosts B) (old new : Cutter) (before after : P) (at now : B) (columns : List Column)
-    (index : IndexView) (history : List Answered) : Type 0 where
+pub record GivesUnsent {P B : Type 0} (source : Ghosts P) (bench : BenchGhosts B) (old new : Cutter) (before after : P) (at now : B) (index : IndexView) (history : List Answered) : Type 0 where
   pub expected : Expected
-  pub question : GivesQuestion source old new before after columns index history expected
+  pub question : GivesQuestion source old new before after index history expected
   pub fails : SendsPart bench at now (line_of expected)
 
 -- why no verdict was sent: no question was given and no call was made, or the call failed
-abbrev pub IsUnjudged : {P B : Type 0} → Ghosts P → BenchGhosts B → Cutter → Cutter → P → P → B → B → List Column → IndexView → List Answered →
+abbrev pub IsUnjudged : {P B : Type 0} → Ghosts P → BenchGhosts B → Cutter → Cutter → P → P → B → B → IndexView → List Answered →
     Stop → Type 0
-IsUnjudged source bench old new before after at now columns index history why =
+IsUnjudged source bench old new before after at now index history why =
     (IsUnplanned source old new before after why × (now ≡ at)) ⊎
-    ((why ≡ stop.Bench) × GivesUnsent source bench old new before after at now columns index history)
+    ((why ≡ stop.Bench) × GivesUnsent source bench old new before after at now index history)

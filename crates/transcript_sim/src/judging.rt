@@ -1,8 +1,6 @@
 //! One exchange of a transcript: a question, whose verdict is sent, and the line that was shown to it.
 ghost use Rattle.std.specs.Prelude.{◌≡◌, ◌++◌, [], true, false, OnOk, OnErr, IfOk, IfErr};
-ghost use Rattle.audit_types.specs.History.{setting_of};
-ghost use Rattle.schema_json.specs.SecretShape.{shape_of};
-ghost use Rattle.table_load.specs.Cells.{FitsSchema};
+ghost use Rattle.set_index.specs.Indexed.{public_setting};
 ghost use Rattle.line_wire.specs.Calls.{Cuts};
 ghost use Rattle.line_wire.specs.Talks.{SendsAll, SendsPart};
 ghost use Rattle.question_plan.specs.Planned.{IsUnplanned};
@@ -17,7 +15,6 @@ use audit_core::Core;
 use audit_types::NoMemory;
 use bench_core::{Bench, End, Failed, Source, Stop};
 use question_plan::{Due, Planner};
-use schema_json::Schema;
 use set_index::Index;
 use std::alloc::Global;
 
@@ -64,21 +61,19 @@ impl Simulation {
     pub(crate) fn judge_question<P: Source, B: Bench>(
         &mut self,
         alloc: Global,
-        schema: &Schema,
         index: &Index,
         source: &mut P,
         bench: &mut B,
     ) -> Result<Option<Expected>, Stop>
         requires same { P.told → self.old.lines.ended ≡ true → P.left source.old ≡ [] }
-        requires fits { FitsSchema schema.now.columns index.now.public }
-        requires setting { self.old.core.setting ≡ setting_of (shape_of schema.now.columns index.now.public.rows) index.now.protected }
-        ensures asks { IfOk result (AsksNext P.Source self.old.lines self.new.lines source.old source.new schema.now.columns index.now self.old.core.history) }
+        requires setting { self.old.core.setting ≡ public_setting index.now }
+        ensures asks { IfOk result (AsksNext P.Source self.old.lines self.new.lines source.old source.new index.now self.old.core.history) }
         ensures sends { IfOk result (SendsFor B.Bench bench.old bench.new) }
-        ensures unjudged { IfErr result (IsUnjudged P.Source B.Bench self.old.lines self.new.lines source.old source.new bench.old bench.new schema.now.columns index.now self.old.core.history) }
+        ensures unjudged { IfErr result (IsUnjudged P.Source B.Bench self.old.lines self.new.lines source.old source.new bench.old bench.new index.now self.old.core.history) }
         ensures same { self.new.core ≡ self.old.core }
         ensures cuts { Cuts P.Source self.old.lines self.new.lines source.old source.new }
     {
-        let Some(expected) = self.next_question(alloc, schema, index, source)? else {
+        let Some(expected) = self.next_question(alloc, index, source)? else {
             return Ok(None);
         };
         send_verdict(bench, &expected)?;

@@ -1,8 +1,6 @@
 //! Reading the lines of a transcript: a question, and the line that was shown to it.
 ghost use Rattle.std.specs.Prelude.{◌≡◌, [], true, IfOk, IfErr};
-ghost use Rattle.audit_types.specs.History.{setting_of};
-ghost use Rattle.schema_json.specs.SecretShape.{shape_of};
-ghost use Rattle.table_load.specs.Cells.{FitsSchema};
+ghost use Rattle.set_index.specs.Indexed.{public_setting};
 ghost use Rattle.line_wire.specs.Calls.{Cuts};
 ghost use Rattle.question_plan.specs.Planned.{IsUnplanned};
 ghost use Rattle.transcript_sim.specs.Steps.{AsksNext, ShowsNext};
@@ -13,7 +11,6 @@ use crate::shown::Shown;
 use bench_core::{Source, Stop};
 use line_wire::Next;
 use question_plan::Planner;
-use schema_json::Schema;
 use set_index::Index;
 use std::alloc::Global;
 
@@ -22,19 +19,17 @@ impl Simulation {
     pub(crate) fn next_question<P: Source>(
         &mut self,
         alloc: Global,
-        schema: &Schema,
         index: &Index,
         source: &mut P,
     ) -> Result<Option<Expected>, Stop>
         requires same { P.told → self.old.lines.ended ≡ true → P.left source.old ≡ [] }
-        requires fits { FitsSchema schema.now.columns index.now.public }
-        requires setting { self.old.core.setting ≡ setting_of (shape_of schema.now.columns index.now.public.rows) index.now.protected }
-        ensures asks { IfOk result (AsksNext P.Source self.old.lines self.new.lines source.old source.new schema.now.columns index.now self.old.core.history) }
+        requires setting { self.old.core.setting ≡ public_setting index.now }
+        ensures asks { IfOk result (AsksNext P.Source self.old.lines self.new.lines source.old source.new index.now self.old.core.history) }
         ensures same { self.new.core ≡ self.old.core }
         ensures short { IfErr result (IsUnplanned P.Source self.old.lines self.new.lines source.old source.new) }
         ensures cuts { Cuts P.Source self.old.lines self.new.lines source.old source.new }
     {
-        let Some(plan) = self.lines.next(alloc, schema, index, source)? else {
+        let Some(plan) = self.lines.next(alloc, index, source)? else {
             return Ok(None);
         };
         Ok(Some(expected_of(&mut self.core, plan)?))

@@ -1,9 +1,7 @@
 //! Reading a transcript, and sending its verdicts.
 ghost use Rattle.std.specs.Prelude.{◌≡◌, [], false};
-ghost use Rattle.audit_types.specs.History.{AreProtected, setting_of};
 ghost use Rattle.bench_core.specs.Ends.{refused_as};
-ghost use Rattle.schema_json.specs.SecretShape.{shape_of};
-ghost use Rattle.table_load.specs.Cells.{FitsSchema};
+ghost use Rattle.set_index.specs.Indexed.{public_setting};
 ghost use Rattle.transcript_sim.specs.Ends.{Judges, Simulates};
 
 use crate::beginning::begin;
@@ -13,7 +11,6 @@ use answer_journal::JournalRefusal;
 use bench_core::{Bench, End, Source};
 use journal_form::laws::{no_break_in_a_journal, one_reading};
 use question_plan::Due;
-use schema_json::Schema;
 use set_index::Index;
 use std::alloc::Global;
 
@@ -42,19 +39,17 @@ fn unbegun(end: End<JournalRefusal>) -> End<SimulationRefusal>
 fn judge<P: Source, B: Bench>(
     alloc: Global,
     simulation: &mut Simulation,
-    schema: &Schema,
     index: &Index,
     source: &mut P,
     bench: &mut B,
 ) -> Result<(), End<SimulationRefusal>>
     requires fresh { (simulation.old.lines.taken ≡ 0) × (simulation.old.lines.pending ≡ []) × (simulation.old.lines.ended ≡ false) }
-    requires fits { FitsSchema schema.now.columns index.now.public }
-    requires setting { simulation.old.core.setting ≡ setting_of (shape_of schema.now.columns index.now.public.rows) index.now.protected }
-    ensures { Judges P.Source B.Bench schema.now.columns index.now simulation.old.core.history source.old source.new bench.old bench.new result }
+    requires setting { simulation.old.core.setting ≡ public_setting index.now }
+    ensures { Judges P.Source B.Bench index.now simulation.old.core.history source.old source.new bench.old bench.new result }
 {
     one_verdict();
     let mut line = 0;
-    while let Some(expected) = simulation.judge_question(alloc, schema, index, source, bench)? {
+    while let Some(expected) = simulation.judge_question(alloc, index, source, bench)? {
         line += 2;
         let shown = simulation.take_shown(source, &expected)?;
         if !goes_on(shown, line, expected.due())? {
@@ -66,26 +61,23 @@ fn judge<P: Source, B: Bench>(
 
 /// Sends the verdict on each question of a transcript, by one call before its reply is looked at, and takes an answer only from
 /// a reply that agrees. No verdict depends on its own reply. The transcript begins with the history of the bench's journal, if one is
-/// made there. The index is that of the schema's public columns and protected groups; no secret is read, and nothing is written.
+/// made there. No secret is read, and nothing is written.
 pub fn simulate<P: Source, B: Bench>(
     alloc: Global,
-    schema: &Schema,
     index: &Index,
     source: &mut P,
     bench: &mut B,
 ) -> Result<(), End<SimulationRefusal>>
-    requires fits { FitsSchema schema.now.columns index.now.public }
-    requires protected { AreProtected (shape_of schema.now.columns index.now.public.rows) index.now.protected }
-    ensures { Simulates P.Source B.Bench schema.now.columns index.now source.old source.new bench.old bench.new result }
+    ensures { Simulates P.Source B.Bench index.now source.old source.new bench.old bench.new result }
 {
     one_reading();
     no_break_in_a_journal();
     // A public part says of itself that it has 1 to `MOST_ROWS` rows.
     let rows = index.public().rows();
-    let core = match begin(alloc, schema.shape(rows), index.protected(), bench) {
+    let core = match begin(alloc, index.schema().shape(rows), index.protected(), bench) {
         Ok(core) => core,
         Err(end) => return Err(unbegun(end)),
     };
     let mut simulation = Simulation::new(alloc, core)?;
-    judge(alloc, &mut simulation, schema, index, source, bench)
+    judge(alloc, &mut simulation, index, source, bench)
 }

@@ -1,21 +1,18 @@
 //! Answering lines over two journals.
 ghost use Rattle.std.specs.Prelude.{◌≡◌, ◌≢◌, ◌<◌, ◌≤◌, ◌+◌, [], List, ℕ, true, length, OnOk, Err};
-ghost use Rattle.schema_json.specs.SecretShape.{shape_of};
-ghost use Rattle.table_load.specs.Cells.{FitsSchema};
-ghost use Rattle.table_load.specs.Database.{base_of};
+ghost use Rattle.set_index.specs.Indexed.{public_shape};
 ghost use Rattle.bench_core.specs.Causes.{Rose};
 ghost use Rattle.bench_core.specs.Calls.{IsQuiet, LeavesOnly, TellsFault};
 ghost use Rattle.journal_form.specs.Journal.{StandsFor};
 ghost use Rattle.audit_store.specs.Stores.{IsAsLeft, IsStore, table_of};
 ghost use Rattle.line_wire.specs.Lines.{counted_lines, most_input};
 ghost use Rattle.audit_session.specs.Stops.{IsBatch, IsHarmless, LeavesBoth, SpareStops, StopsOver};
-ghost use Rattle.audit_session.specs.Ends.{KeepsCalls, Serves, ServesWhole, ServesSome, TakesCalls, limited};
+ghost use Rattle.audit_session.specs.Ends.{KeepsCalls, Serves, ServesWhole, ServesSome, TakesCalls, base_over, limited};
 ghost use Rattle.twin_journal.specs.Twins.{IsSpareAsLeft};
 
 use crate::starting::TwinStore;
 use audit_session::serve_with;
 use bench_core::{Bench, Source, Stop};
-use schema_json::Schema;
 use set_index::Index;
 use std::alloc::Global;
 
@@ -23,7 +20,6 @@ use std::alloc::Global;
 /// on the spare and then in the journal before the first of its replies is sent.
 pub fn serve_twin<P: Source, B: Bench, S: Bench>(
     alloc: Global,
-    schema: &Schema,
     index: &Index,
     twin: &mut TwinStore,
     source: &mut P,
@@ -32,19 +28,17 @@ pub fn serve_twin<P: Source, B: Bench, S: Bench>(
     batch: u8,
 ) -> Result<(), Stop>
     requires usable { twin.old.store.usable ≡ true }
-    requires fits { FitsSchema schema.now.columns index.now.public }
-    requires entries { index.now.protected ≡ twin.old.store.protected }
-    requires shape { twin.old.store.secret.shape ≡ shape_of schema.now.columns index.now.public.rows }
+    requires shape { twin.old.store.secret.shape ≡ public_shape index.now }
     requires stands { B.told → IsAsLeft (B.file bench.old) twin.old.store }
     requires spare_stands { S.told → IsSpareAsLeft (S.file spare.old) twin.old }
     requires batch { IsBatch batch }
 
     // The ends: which lines were answered. The file stands for the history, unless a call of the bench failed.
-    ensures done { P.told → B.told → OnOk result (Serves (base_of schema.now.columns index.now.public index.now.protected twin.old.store.secret) twin.old.store.history (counted_lines (P.left source.old)) twin.new.store.history (B.sent bench.old) (B.sent bench.new)) }
-    ensures input_end { P.told → B.told → result ≡ Err Stop.Input → ServesWhole (base_of schema.now.columns index.now.public index.now.protected twin.old.store.secret) twin.old.store.history batch (P.left source.old) (P.left source.new) twin.new.store.history (B.sent bench.old) (B.sent bench.new) }
-    ensures limit_end { P.told → B.told → result ≡ Err Stop.Limit → ServesWhole (base_of schema.now.columns index.now.public index.now.protected twin.old.store.secret) twin.old.store.history batch (limited (P.left source.old)) [] twin.new.store.history (B.sent bench.old) (B.sent bench.new) }
-    ensures memory_end { P.told → B.told → result ≡ Err Stop.NoMemory → ServesSome (base_of schema.now.columns index.now.public index.now.protected twin.old.store.secret) twin.old.store.history batch (counted_lines (P.left source.old)) twin.new.store.history (B.sent bench.old) (B.sent bench.new) }
-    ensures spare_end { P.told → B.told → result ≡ Err Stop.Spare → ServesSome (base_of schema.now.columns index.now.public index.now.protected twin.old.store.secret) twin.old.store.history batch (counted_lines (P.left source.old)) twin.new.store.history (B.sent bench.old) (B.sent bench.new) }
+    ensures done { P.told → B.told → OnOk result (Serves (base_over index.now twin.old.store) twin.old.store.history (counted_lines (P.left source.old)) twin.new.store.history (B.sent bench.old) (B.sent bench.new)) }
+    ensures input_end { P.told → B.told → result ≡ Err Stop.Input → ServesWhole (base_over index.now twin.old.store) twin.old.store.history batch (P.left source.old) (P.left source.new) twin.new.store.history (B.sent bench.old) (B.sent bench.new) }
+    ensures limit_end { P.told → B.told → result ≡ Err Stop.Limit → ServesWhole (base_over index.now twin.old.store) twin.old.store.history batch (limited (P.left source.old)) [] twin.new.store.history (B.sent bench.old) (B.sent bench.new) }
+    ensures memory_end { P.told → B.told → result ≡ Err Stop.NoMemory → ServesSome (base_over index.now twin.old.store) twin.old.store.history batch (counted_lines (P.left source.old)) twin.new.store.history (B.sent bench.old) (B.sent bench.new) }
+    ensures spare_end { P.told → B.told → result ≡ Err Stop.Spare → ServesSome (base_over index.now twin.old.store) twin.old.store.history batch (counted_lines (P.left source.old)) twin.new.store.history (B.sent bench.old) (B.sent bench.new) }
     ensures stands { B.told → result ≢ Err Stop.Bench → StandsFor (B.file bench.new) twin.new.store.secret.shape twin.new.store.history }
     ensures quiet { B.told → IsQuiet B.Bench bench.old → result ≢ Err Stop.Bench → IsQuiet B.Bench bench.new }
 
@@ -55,11 +49,11 @@ pub fn serve_twin<P: Source, B: Bench, S: Bench>(
     ensures left { B.told → twin.new.store.usable ≡ true → IsAsLeft (B.file bench.new) twin.new.store }
 
     // One send for each line, four calls for each group that makes a record, and no other call.
-    ensures calls { P.told → B.told → OnOk result (TakesCalls (base_of schema.now.columns index.now.public index.now.protected twin.old.store.secret) twin.old.store.history batch (counted_lines (P.left source.old)) (B.moment bench.old) (B.moment bench.new)) }
+    ensures calls { P.told → B.told → OnOk result (TakesCalls (base_over index.now twin.old.store) twin.old.store.history batch (counted_lines (P.left source.old)) (B.moment bench.old) (B.moment bench.new)) }
 
     // At every moment it is a stop.
     ensures any_moment { P.told → B.told → IsQuiet B.Bench bench.old
-        → LeavesOnly B.Bench bench.old bench.new (StopsOver (base_of schema.now.columns index.now.public index.now.protected twin.old.store.secret) batch twin.old.store.history (counted_lines (P.left source.old)) (B.sent bench.old)) }
+        → LeavesOnly B.Bench bench.old bench.new (StopsOver (base_over index.now twin.old.store) batch twin.old.store.history (counted_lines (P.left source.old)) (B.sent bench.old)) }
 
     // Whatever the input is, and whatever its source tells, every history for which an image then stands is legal and
     // discloses nothing.
@@ -84,17 +78,17 @@ pub fn serve_twin<P: Source, B: Bench, S: Bench>(
     // unless a call of one of them failed, both stand for one history.
     ensures spare_stands { S.told → result ≢ Err Stop.Bench → result ≢ Err Stop.Spare → StandsFor (S.file spare.new) twin.new.store.secret.shape twin.new.store.history }
     ensures spare_moments { P.told → S.told → IsQuiet S.Bench spare.old
-        → LeavesOnly S.Bench spare.old spare.new (SpareStops (base_of schema.now.columns index.now.public index.now.protected twin.old.store.secret) batch twin.old.store.history (counted_lines (P.left source.old)) (S.sent spare.old)) }
+        → LeavesOnly S.Bench spare.old spare.new (SpareStops (base_over index.now twin.old.store) batch twin.old.store.history (counted_lines (P.left source.old)) (S.sent spare.old)) }
     ensures spare_legal { S.told → IsQuiet S.Bench spare.old → LeavesOnly S.Bench spare.old spare.new (λ image sent. IsHarmless (table_of twin.old.store) image) }
     ensures spare_quiet { S.told → IsQuiet S.Bench spare.old → result ≢ Err Stop.Spare → IsQuiet S.Bench spare.new }
     ensures spare_sent { S.sent spare.new ≡ S.sent spare.old }
     ensures both { P.told → B.told → S.told → IsQuiet B.Bench bench.old → IsQuiet S.Bench spare.old
         → (image other : List ℕ) → B.leaves bench.new image → S.leaves spare.new other
-        → LeavesBoth (base_of schema.now.columns index.now.public index.now.protected twin.old.store.secret) batch twin.old.store.history (counted_lines (P.left source.old)) (B.sent bench.old) (B.sent bench.new) image other }
-    ensures spare_calls { P.told → S.told → OnOk result (KeepsCalls (base_of schema.now.columns index.now.public index.now.protected twin.old.store.secret) twin.old.store.history batch (counted_lines (P.left source.old)) (S.moment spare.old) (S.moment spare.new)) }
+        → LeavesBoth (base_over index.now twin.old.store) batch twin.old.store.history (counted_lines (P.left source.old)) (B.sent bench.old) (B.sent bench.new) image other }
+    ensures spare_calls { P.told → S.told → OnOk result (KeepsCalls (base_over index.now twin.old.store) twin.old.store.history batch (counted_lines (P.left source.old)) (S.moment spare.old) (S.moment spare.new)) }
     ensures spare_fault { TellsFault S.Bench spare.old spare.new (result ≡ Err Stop.Spare) }
 {
     // A twin store says of itself that its history is legal.
     let _history = twin.history();
-    serve_with(alloc, schema, index, twin, source, bench, spare, batch)
+    serve_with(alloc, index, twin, source, bench, spare, batch)
 }

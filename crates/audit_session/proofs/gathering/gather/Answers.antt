@@ -19,15 +19,14 @@ loop-alloc-preserved g c =
     let from = c.next.new.source in
     let plan = c.in-Some.plan in
     let added = c.in_ok-add-in-Some.ensures in
-    let columns = c.args.schema.now.columns in
-    let public = c.args.index.now.public in
+    let index = c.args.index.now in
     let room : length group.plans.items < c.args.batch = omega (arith, c.has_room.ensures.room c.loop-alloc-test.true, c.loop-alloc.invariant.many) in
-    let next = subst (λ (o : Option Plan). PlansNext g.P.Source c.loop-alloc.planner now c.loop-alloc.source from columns public o) c.in-Some.is
+    let next = subst (λ (o : Option Plan). PlansNext g.P.Source c.loop-alloc.planner now c.loop-alloc.source from index o) c.in-Some.is
     c.in_ok-plan.ensures.plans in
-    let one = one_gathered g.P.Source columns public c.args.batch c.args.planner.now c.loop-alloc.planner c.args.source.now c.loop-alloc.source
+    let one = one_gathered g.P.Source index c.args.batch c.args.planner.now c.loop-alloc.planner c.args.source.now c.loop-alloc.source
     group.plans.items group.asked.items c.loop-alloc.invariant.gathering now from plan next room c.next.ensures.cuts in
     let AllGathered : List Plan → List Asked → Type 0 =
-    λ plans asked. Gathering g.P.Source columns public c.args.batch c.args.planner.now now c.args.source.now from plans asked in
+    λ plans asked. Gathering g.P.Source index c.args.batch c.args.planner.now now c.args.source.now from plans asked in
     record {
       gathering =
           subst (λ (asked : List Asked). AllGathered c.add.new.self.plans.items asked) (sym added.asked)
@@ -72,7 +71,7 @@ returns-in_err-plan g c =
       ungathered =
           of_refusal _ given c.from_residual.ensures
           (λ r. IfErr r (IsUngathered g.P.Source c.args.batch c.args.planner.now c.next.new.self c.args.source.now c.next.new.source))
-          (no_next g.P.Source c.args.schema.now.columns c.args.index.now.public c.args.batch c.args.planner.now c.loop-alloc.planner c.args.source.now
+          (no_next g.P.Source c.args.index.now c.args.batch c.args.planner.now c.loop-alloc.planner c.args.source.now
           c.loop-alloc.source group.plans.items group.asked.items gathering c.next.new.self c.next.new.source given room c.in_err-plan.ensures.unplanned);
       cuts = then_cuts g.P.Source c.args.planner.now c.loop-alloc.planner c.next.new.self c.args.source.now c.loop-alloc.source c.next.new.source gathering.cuts
           c.next.ensures.cuts;
@@ -81,17 +80,16 @@ returns-in_err-plan g c =
 pub returns-in-None : goal.returns-in-None
 returns-in-None g c =
     let gathering = c.loop-alloc.invariant.gathering in
-    let columns = c.args.schema.now.columns in
-    let public = c.args.index.now.public in
+    let index = c.args.index.now in
     let rest = c.loop-alloc.planner.pending ++ g.P.Source.left c.loop-alloc.source in
     let now = c.next.new.self in
     let from = c.next.new.source in
     let left = now.pending ++ g.P.Source.left from in
-    let none = subst (λ (o : Option Plan). PlansNext g.P.Source c.loop-alloc.planner now c.loop-alloc.source from columns public o) c.in-None.is
+    let none = subst (λ (o : Option Plan). PlansNext g.P.Source c.loop-alloc.planner now c.loop-alloc.source from index o) c.in-None.is
     c.in_ok-plan.ensures.plans in
     record {
       gathers =
-          gathers_last g.P.Source.told columns public (c.args.planner.now.pending ++ g.P.Source.left c.args.source.now) rest left c.loop-alloc.planner.ended
+          gathers_last g.P.Source.told index (c.args.planner.now.pending ++ g.P.Source.left c.args.source.now) rest left c.loop-alloc.planner.ended
           c.loop-alloc.group.plans.items gathering.gathers (λ t. (none.nothing t, none.none t));
       questions = gathering.questions;
       served = gathering.served;
@@ -110,8 +108,7 @@ returns-in_err-add-in-Some g c =
     let gathering = c.loop-alloc.invariant.gathering in
     let now = c.next.new.self in
     let from = c.next.new.source in
-    let next = subst (λ (o : Option Plan). PlansNext g.P.Source c.loop-alloc.planner now c.loop-alloc.source from c.args.schema.now.columns
-    c.args.index.now.public o)
+    let next = subst (λ (o : Option Plan). PlansNext g.P.Source c.loop-alloc.planner now c.loop-alloc.source from c.args.index.now o)
     c.in-Some.is c.in_ok-plan.ensures.plans in
     record {
       gathers = IfOk-from_err _ _ c.from_residual-in_err-add-in-Some.ensures.0;

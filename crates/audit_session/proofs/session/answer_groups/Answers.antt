@@ -8,13 +8,12 @@ use Rattle.journal_form.specs.Journal.{StandsFor}
 use Rattle.question_plan.specs.Plans.{CanBeServed}
 use Rattle.table_load.specs.Cells.{SecretView}
 use Rattle.audit_types.specs.declared.records.Answered.{Answered}
-use Rattle.table_load.specs.Database.{base_of}
 use Rattle.line_wire.specs.Lines.{counted_lines}
 use Rattle.line_wire.specs.LinesSoFar.{not_over}
 use Rattle.bench_core.specs.declared.stops.Stop.{Stop}
 use Rattle.bench_core.specs.declared.stops.Stop.TheVariants as end
 use Rattle.bench_core.specs.Stops.{IsOfBenches}
-use Rattle.audit_session.specs.Ends.{Ends, Reads, ServesSome}
+use Rattle.audit_session.specs.Ends.{Ends, Reads, ServesSome, base_over}
 use Rattle.audit_session.specs.Groups.{IsUngathered}
 use Rattle.audit_session.proofs.EndsByFault.{ends_by, reads_by, rests_by}
 use Rattle.audit_session.proofs.GatheredLines.{still_ended, unfailed, whole_or_last}
@@ -34,12 +33,12 @@ given more = Ok more
 pub loop-more-init : goal.loop-more-init
 loop-more-init g c = record {
   served =
-      nothing_served g.P.Source g.B.Bench c.args.schema.now.columns c.args.index.now.public c.args.batch c.args.planner.now
+      nothing_served g.P.Source g.B.Bench c.args.index.now c.args.batch c.args.planner.now
       (g.K.Keeper.store c.args.keeper.now) c.args.source.now
       c.args.bench.now c.requires.fresh c.requires.usable c.requires.is c.requires.stands
       (λ image bytes was. g.met.B.Bench.only_now c.args.bench.now image bytes was);
   spare =
-      spare_unserved g.P.Source g.K.Keeper g.S.Bench c.args.schema.now.columns c.args.index.now.public c.args.batch c.args.keeper.now c.args.source.now
+      spare_unserved g.P.Source g.K.Keeper g.S.Bench c.args.index.now c.args.batch c.args.keeper.now c.args.source.now
       c.args.spare.now
       (λ image bytes was. g.met.S.Bench.only_now c.args.spare.now image bytes was) c.requires.spare_stands;
   room = c.requires.room;
@@ -56,7 +55,7 @@ loop-more-preserved g c =
     let bench_steady = a.fault.steady (search rules) in
     record {
       served =
-          next_turn g.P.Source g.B.Bench c.args.schema.now.columns c.args.index.now.public c.args.batch c.loop-more.planner
+          next_turn g.P.Source g.B.Bench c.args.index.now c.args.batch c.loop-more.planner
           (g.K.Keeper.store c.args.keeper.now) (g.K.Keeper.store c.loop-more.keeper)
           c.args.source.now c.loop-more.source c.args.bench.now c.loop-more.bench c.loop-more.invariant.served
           now (not c.in_ok-more.more || now.ended) c.gather.new.source plans e.gathers e.most c.requires.batch.0
@@ -66,7 +65,7 @@ loop-more-preserved g c =
       spare = record {
         stands = a.spare_stands;
         moments = λ spared told quiet.
-            spare_turn g.P.Source g.B.Bench c.args.schema.now.columns c.args.index.now.public c.args.batch c.loop-more.planner
+            spare_turn g.P.Source g.B.Bench c.args.index.now c.args.batch c.loop-more.planner
             (g.K.Keeper.store c.args.keeper.now)
             (g.K.Keeper.store c.loop-more.keeper) c.args.source.now c.loop-more.source c.args.bench.now c.loop-more.bench c.loop-more.invariant.served
             now (not c.in_ok-more.more || now.ended) c.gather.new.source plans e.gathers e.most c.requires.batch.0
@@ -78,7 +77,7 @@ loop-more-preserved g c =
         quiet = λ spared told quiet. a.spare_quiet spared told (c.loop-more.invariant.spare.quiet spared told quiet) (search rules);
         sent = c.answer.ensures.spare_sent ∙ c.loop-more.invariant.spare.sent;
         calls = λ spared told.
-            spare_calls_now g.P.Source g.B.Bench c.args.schema.now.columns c.args.index.now.public c.args.batch c.loop-more.planner
+            spare_calls_now g.P.Source g.B.Bench c.args.index.now c.args.batch c.loop-more.planner
             (g.K.Keeper.store c.args.keeper.now) (g.K.Keeper.store c.loop-more.keeper)
             c.args.source.now c.loop-more.source c.args.bench.now c.loop-more.bench c.loop-more.invariant.served
             now (not c.in_ok-more.more || now.ended) c.gather.new.source plans e.gathers e.most c.requires.batch.0
@@ -135,8 +134,7 @@ returns-in_err-more g c =
     let ungathered : Ungathered why = e.ungathered in
     record {
       ends = λ t u.
-          let base = base_of c.args.schema.now.columns c.args.index.now.public (g.K.Keeper.store c.args.keeper.now).protected
-          (g.K.Keeper.store c.args.keeper.now).secret in
+          let base = base_over c.args.index.now (g.K.Keeper.store c.args.keeper.now) in
           let before = g.B.Bench.sent c.args.bench.now in
           let after = g.B.Bench.sent c.loop-more.bench in
           let s = c.loop-more.invariant.served in
@@ -149,17 +147,17 @@ returns-in_err-more g c =
           after why
           (λ is.
           let fails = of_stop {X = Bool} why end.Input Ungathered ungathered is in
-          served_whole g.P.Source g.B.Bench c.args.schema.now.columns c.args.index.now.public c.args.batch c.loop-more.planner
+          served_whole g.P.Source g.B.Bench c.args.index.now c.args.batch c.loop-more.planner
           (g.K.Keeper.store c.args.keeper.now) (g.K.Keeper.store c.loop-more.keeper)
           c.args.source.now c.loop-more.source c.args.bench.now c.loop-more.bench s t u left (λ ended none. fails.going ended) (fails.short t))
           (λ is.
           let passes = of_stop {X = Bool} why end.Limit Ungathered ungathered is in
-          served_limited g.P.Source g.B.Bench c.args.schema.now.columns c.args.index.now.public c.args.batch c.loop-more.planner
+          served_limited g.P.Source g.B.Bench c.args.index.now c.args.batch c.loop-more.planner
           (g.K.Keeper.store c.args.keeper.now)
           (g.K.Keeper.store c.loop-more.keeper) c.args.source.now c.loop-more.source c.args.bench.now c.loop-more.bench s t u (now.pending ++ left)
           (λ ended. not_over rest (passes.short t).read now.pending left (passes.short t).split passes.some) (passes.short t) now.pending left now.taken refl
           passes.over (e.cuts.taken t ∙ s.taken t))
-          (λ is. some_served g.P.Source g.B.Bench c.args.schema.now.columns c.args.index.now.public c.args.batch c.loop-more.planner
+          (λ is. some_served g.P.Source g.B.Bench c.args.index.now c.args.batch c.loop-more.planner
           (g.K.Keeper.store c.args.keeper.now) (g.K.Keeper.store c.loop-more.keeper)
           c.args.source.now c.loop-more.source c.args.bench.now c.loop-more.bench s t u)
           (λ is. absurd (of_stop {X = Bool} why end.Spare Ungathered ungathered is)));
@@ -201,7 +199,7 @@ returns-in_err-more g c =
       spare_quiet = λ spared told quiet other. c.loop-more.invariant.spare.quiet spared told quiet;
       spare_sent = c.loop-more.invariant.spare.sent;
       both = λ spared t told spare_told quiet spare_quiet image other left spare_left.
-          both_kept g.P.Source g.B.Bench c.args.schema.now.columns c.args.index.now.public c.args.batch c.loop-more.planner
+          both_kept g.P.Source g.B.Bench c.args.index.now c.args.batch c.loop-more.planner
           (g.K.Keeper.store c.args.keeper.now) (g.K.Keeper.store c.loop-more.keeper) c.args.source.now c.loop-more.source c.args.bench.now
           c.loop-more.bench c.loop-more.invariant.served g.S.Bench c.loop-more.spare image other t told quiet
           (c.loop-more.invariant.spare.quiet spared spare_told spare_quiet)
@@ -225,13 +223,12 @@ returns-in_err-answer g c =
     let no_input : ended_by why ≡ Err end.Input → ⊥ = λ is. of_stop why end.Input IsOfBenches e.ends is in
     record {
       ends = λ t u.
-          let base = base_of c.args.schema.now.columns c.args.index.now.public (g.K.Keeper.store c.args.keeper.now).protected
-          (g.K.Keeper.store c.args.keeper.now).secret in
+          let base = base_over c.args.index.now (g.K.Keeper.store c.args.keeper.now) in
           let input = g.P.Source.left c.args.source.now in
           let left = g.P.Source.left c.gather.new.source in
           let before = g.B.Bench.sent c.args.bench.now in
           let some =
-          some_served g.P.Source g.B.Bench c.args.schema.now.columns c.args.index.now.public c.args.batch c.loop-more.planner
+          some_served g.P.Source g.B.Bench c.args.index.now c.args.batch c.loop-more.planner
           (g.K.Keeper.store c.args.keeper.now) (g.K.Keeper.store c.loop-more.keeper)
           c.args.source.now c.loop-more.source c.args.bench.now c.loop-more.bench c.loop-more.invariant.served t u in
           let unanswered : c.answer.new.bench ≡ c.loop-more.bench → (g.K.Keeper.store c.answer.new.keeper).history
@@ -277,7 +274,7 @@ returns-in_err-answer g c =
           let now = c.gather.new.planner in
           let plans = c.gather.new.group.plans.items in
           let rest = now.pending ++ g.P.Source.left c.gather.new.source in
-          turn_moments g.P.Source g.B.Bench c.args.schema.now.columns c.args.index.now.public c.args.batch c.loop-more.planner
+          turn_moments g.P.Source g.B.Bench c.args.index.now c.args.batch c.loop-more.planner
           (g.K.Keeper.store c.args.keeper.now) (g.K.Keeper.store c.loop-more.keeper)
           c.args.source.now c.loop-more.source c.args.bench.now c.loop-more.bench c.loop-more.invariant.served
           now (not c.in_ok-more.more || now.ended) c.gather.new.source plans e.gathers e.most c.requires.batch.0
@@ -313,7 +310,7 @@ returns-in_err-answer g c =
           let e = c.in_ok-more.ensures in
           let now = c.gather.new.planner in
           let plans = c.gather.new.group.plans.items in
-          spare_turn g.P.Source g.B.Bench c.args.schema.now.columns c.args.index.now.public c.args.batch c.loop-more.planner
+          spare_turn g.P.Source g.B.Bench c.args.index.now c.args.batch c.loop-more.planner
           (g.K.Keeper.store c.args.keeper.now)
           (g.K.Keeper.store c.loop-more.keeper) c.args.source.now c.loop-more.source c.args.bench.now c.loop-more.bench c.loop-more.invariant.served
           now (not c.in_ok-more.more || now.ended) c.gather.new.source plans e.gathers e.most c.requires.batch.0
@@ -328,7 +325,7 @@ returns-in_err-answer g c =
           let e = c.in_ok-more.ensures in
           let now = c.gather.new.planner in
           let plans = c.gather.new.group.plans.items in
-          both_turn g.P.Source g.B.Bench c.args.schema.now.columns c.args.index.now.public c.args.batch c.loop-more.planner (g.K.Keeper.store c.args.keeper.now)
+          both_turn g.P.Source g.B.Bench c.args.index.now c.args.batch c.loop-more.planner (g.K.Keeper.store c.args.keeper.now)
           (g.K.Keeper.store c.loop-more.keeper) c.args.source.now c.loop-more.source c.args.bench.now c.loop-more.bench c.loop-more.invariant.served
           now (not c.in_ok-more.more || now.ended) c.gather.new.source plans e.gathers e.most c.requires.batch.0
           (λ ended. still_ended c.in_ok-more.more now.ended (e.cuts.still ended)) (g.B.Bench.sent c.answer.new.bench) image other t told

@@ -6,9 +6,9 @@ use Rattle.audit_session.proofs.session.answer_groups.Given as goal
 
 abbrev pub invariant-loop-more : goal.invariant-loop-more
 invariant-loop-more g l = record {
-  served : Served g.P.Source g.B.Bench l.schema.columns l.index.public l.batch l.planner (g.K.Keeper.store l.fn.keeper) (g.K.Keeper.store l.keeper) l.fn.source
+  served : Served g.P.Source g.B.Bench l.index l.batch l.planner (g.K.Keeper.store l.fn.keeper) (g.K.Keeper.store l.keeper) l.fn.source
       l.source l.fn.bench l.bench;
-  spare : SpareServed g.P.Source g.K.Keeper g.S.Bench l.schema.columns l.index.public l.batch l.fn.keeper l.keeper l.fn.source l.fn.spare l.spare
+  spare : SpareServed g.P.Source g.K.Keeper g.S.Bench l.index l.batch l.fn.keeper l.keeper l.fn.source l.fn.spare l.spare
       served.answered.replies;
   room : vec_capacity l.group.replies ≡ l.batch;
 }

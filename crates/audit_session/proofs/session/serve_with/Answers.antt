@@ -1,16 +1,11 @@
-use Rattle.std.proofs.Common.{◌≡◌, [], Result, Err, refl, sym, subst, arith}
+use Rattle.std.proofs.Common.{◌≡◌, [], Result, Err, refl, subst, arith}
 use Rattle.std.proofs.lemmas.Result.{IfOk-from_err}
-use Rattle.std.specs.Prelude.{OnOk}
-use Rattle.audit_types.specs.History.{Protection}
-use Rattle.bench_core.specs.Calls.{LeavesOnly}
 use Rattle.bench_core.specs.Moments.{weakens}
 use Rattle.bench_core.specs.Reports.{is_refusal}
 use Rattle.line_wire.specs.Lines.{counted_lines}
-use Rattle.table_load.specs.Database.{base_of}
 use Rattle.bench_core.specs.declared.stops.Stop.{Stop}
 use Rattle.bench_core.specs.declared.stops.Stop.TheVariants as end
-use Rattle.audit_session.specs.Ends.{Ends, KeepsCalls, Reads, TakesCalls}
-use Rattle.audit_session.specs.Stops.{LeavesBoth, SpareStops, StopsOver}
+use Rattle.audit_session.specs.Ends.{Ends, Reads, base_over}
 use Rattle.audit_session.proofs.EndsByFault.{all_by, read_by, within_by}
 use Rattle.audit_session.proofs.FirstStop.{both_first, serves_none, spare_first, stops_first}
 use Rattle.audit_session.proofs.session.serve_with.Goals as goal
@@ -26,7 +21,7 @@ returns-in_err-planner g c =
       input_end = λ t u is. absurd cc;
       limit_end = λ t u is. absurd cc;
       memory_end = λ t u is.
-          serves_none (base_of c.args.schema.now.columns c.args.index.now.public c.args.index.now.protected (g.K.Keeper.store c.args.keeper.now).secret)
+          serves_none (base_over c.args.index.now (g.K.Keeper.store c.args.keeper.now))
           c.args.batch
           (g.K.Keeper.store c.args.keeper.now).history (counted_lines (g.P.Source.left c.args.source.now)) (g.B.Bench.sent c.args.bench.now);
       spare_end = λ t u is. absurd cc;
@@ -38,18 +33,17 @@ returns-in_err-planner g c =
       calls = λ t u. IfOk-from_err _ _ c.from_residual.ensures.0;
       any_moment = λ t u quiet.
           stops_first g.B.Bench c.args.bench.now
-          (base_of c.args.schema.now.columns c.args.index.now.public c.args.index.now.protected (g.K.Keeper.store c.args.keeper.now).secret) c.args.batch
+          (base_over c.args.index.now (g.K.Keeper.store c.args.keeper.now)) c.args.batch
           (g.K.Keeper.store c.args.keeper.now).history
           (counted_lines (g.P.Source.left c.args.source.now))
           (λ image bytes was. g.met.B.Bench.only_now c.args.bench.now image bytes was) quiet
           ((g.K.Keeper.store c.args.keeper.now).journal.gate, c.requires.stands u);
       legal = λ u quiet.
-          let base = base_of c.args.schema.now.columns c.args.index.now.public (g.K.Keeper.store c.args.keeper.now).protected
-          (g.K.Keeper.store c.args.keeper.now).secret in
+          let base = base_over c.args.index.now (g.K.Keeper.store c.args.keeper.now) in
           weakens g.B.Bench c.args.bench.now c.args.bench.now _ _
           (λ image sent stop history stands.
           c.stops.ensures base c.args.batch (g.K.Keeper.store c.args.keeper.now).history [] image stop.0 history
-          (record { schema = c.count-columns.ensures.columns; shape = c.requires.shape; protected = c.requires.is.fit }) c.requires.is.numbers
+          (record { schema = c.schema-schema.ensures.columns; shape = c.requires.shape; protected = c.requires.is.fit }) c.requires.is.numbers
           c.requires.is.legal stop.2 stands)
           (stops_first g.B.Bench c.args.bench.now base c.args.batch (g.K.Keeper.store c.args.keeper.now).history []
           (λ image bytes was. g.met.B.Bench.only_now c.args.bench.now image bytes was) quiet
@@ -74,18 +68,18 @@ returns-in_err-planner g c =
       spare_moments = λ spared t told quiet.
           weakens g.S.Bench c.args.spare.now c.args.spare.now _ _ (λ image sent found. (found.0, (found.1.0, found.1.1.1 t)))
           (spare_first g.P.Source.told g.S.Bench c.args.spare.now
-          (base_of c.args.schema.now.columns c.args.index.now.public c.args.index.now.protected (g.K.Keeper.store c.args.keeper.now).secret) c.args.batch
+          (base_over c.args.index.now (g.K.Keeper.store c.args.keeper.now)) c.args.batch
           (g.K.Keeper.store c.args.keeper.now).history (counted_lines (g.P.Source.left c.args.source.now))
           (λ image bytes was. g.met.S.Bench.only_now c.args.spare.now image bytes was) quiet
           (g.K.Keeper.spare_gate c.args.keeper.now, c.requires.spare_stands spared told));
       spare_legal = λ spared told quiet.
           let store = g.K.Keeper.store c.args.keeper.now in
-          let base = base_of c.args.schema.now.columns c.args.index.now.public store.protected store.secret in
+          let base = base_over c.args.index.now store in
           weakens g.S.Bench c.args.spare.now c.args.spare.now _ _
           (λ image sent found history stands.
           let stop = found.1.1.0 in
           c.stops.ensures base c.args.batch store.history stop.0 image stop.1.0 history
-          (record { schema = c.count-columns.ensures.columns; shape = c.requires.shape; protected = c.requires.is.fit }) c.requires.is.numbers
+          (record { schema = c.schema-schema.ensures.columns; shape = c.requires.shape; protected = c.requires.is.fit }) c.requires.is.numbers
           c.requires.is.legal
           stop.1.2 stands)
           (spare_first g.P.Source.told g.S.Bench c.args.spare.now base c.args.batch store.history (counted_lines (g.P.Source.left c.args.source.now))
@@ -95,7 +89,7 @@ returns-in_err-planner g c =
       spare_sent = refl;
       both = λ spared t told spare_told quiet spare_quiet image other left spare_left.
           both_first g.B.Bench c.args.bench.now g.S.Bench c.args.spare.now
-          (base_of c.args.schema.now.columns c.args.index.now.public c.args.index.now.protected (g.K.Keeper.store c.args.keeper.now).secret) c.args.batch
+          (base_over c.args.index.now (g.K.Keeper.store c.args.keeper.now)) c.args.batch
           (g.K.Keeper.store c.args.keeper.now).history (counted_lines (g.P.Source.left c.args.source.now)) image other quiet
           ((g.K.Keeper.store c.args.keeper.now).journal.gate, c.requires.stands told) spare_quiet
           (g.K.Keeper.spare_gate c.args.keeper.now, c.requires.spare_stands spared spare_told) left spare_left;
@@ -112,8 +106,6 @@ returns-in_err-planner g c =
 
 pub returns : goal.returns
 returns g c =
-    let columns = c.args.schema.now.columns in
-    let public = c.args.index.now.public in
     let store = (g.K.Keeper.store c.args.keeper.now) in
     let batch = c.args.batch in
     let input = g.P.Source.left c.args.source.now in
@@ -121,18 +113,12 @@ returns g c =
     let now = (g.K.Keeper.store c.answer_groups.new.keeper).history in
     let before = g.B.Bench.sent c.args.bench.now in
     let after = g.B.Bench.sent c.answer_groups.new.bench in
-    let same : store.protected ≡ c.args.index.now.protected = sym c.requires.entries in
-    let ends : g.P.Source.told → g.B.Bench.told →
-    Ends batch c.answer_groups.result (base_of columns public c.args.index.now.protected store.secret) store.history input left now before after =
-    λ t u. subst (λ (p : Protection). Ends batch c.answer_groups.result (base_of columns public p store.secret) store.history input left now before after)
-    same (c.answer_groups.ensures.ends t u) in
+    let base = base_over c.args.index.now store in
     let ends_as : (r : Result (Unit {0}) Stop) → c.answer_groups.result ≡ r → g.P.Source.told → g.B.Bench.told →
-    Ends batch r (base_of columns public c.args.index.now.protected store.secret) store.history input left now before after =
-    λ r is t u. subst
-    (λ (r : Result (Unit {0}) Stop). Ends batch r (base_of columns public c.args.index.now.protected store.secret) store.history input left now before after)
-    is (ends t u) in
+    Ends batch r base store.history input left now before after =
+    λ r is t u. subst (λ (r : Result (Unit {0}) Stop). Ends batch r base store.history input left now before after) is (c.answer_groups.ensures.ends t u) in
     record {
-      done = λ t u. all_by _ batch _ _ _ left _ _ _ (ends t u);
+      done = λ t u. all_by _ batch _ _ _ left _ _ _ (c.answer_groups.ensures.ends t u);
       input_end = λ t u is. ends_as (refused end.Input) is t u;
       limit_end = λ t u is. ends_as (refused end.Limit) is t u;
       memory_end = λ t u is. ends_as (refused end.NoMemory) is t u;
@@ -142,21 +128,15 @@ returns g c =
       again = c.answer_groups.ensures.again;
       usable = c.answer_groups.ensures.usable;
       left = c.answer_groups.ensures.left;
-      calls = λ t u.
-          subst (λ (p : Protection). OnOk c.answer_groups.result (TakesCalls (base_of columns public p store.secret) store.history batch
-          (counted_lines input)
-          (g.B.Bench.moment c.args.bench.now) (g.B.Bench.moment c.answer_groups.new.bench))) same (c.answer_groups.ensures.calls t u);
+      calls = c.answer_groups.ensures.calls;
       any_moment = λ t u quiet.
-          subst (λ (p : Protection). LeavesOnly g.B.Bench c.args.bench.now c.answer_groups.new.bench
-          (StopsOver (base_of columns public p store.secret) batch store.history (counted_lines input) before)) same
-          (weakens g.B.Bench c.args.bench.now c.answer_groups.new.bench _ _ (λ image sent stop. stop.1 t) (c.answer_groups.ensures.moments u quiet));
+          weakens g.B.Bench c.args.bench.now c.answer_groups.new.bench _ _ (λ image sent stop. stop.1 t) (c.answer_groups.ensures.moments u quiet);
       legal = λ u quiet.
-          let base = base_of columns public store.protected store.secret in
           let of_store = c.requires.is in
           weakens g.B.Bench c.args.bench.now c.answer_groups.new.bench _ _
           (λ image sent stop history stands.
           c.stops.ensures base batch store.history stop.0.0 image stop.0.1.0 history
-          (record { schema = c.count-columns.ensures.columns; shape = c.requires.shape; protected = of_store.fit }) of_store.numbers of_store.legal stop.0.1.2
+          (record { schema = c.schema-schema.ensures.columns; shape = c.requires.shape; protected = of_store.fit }) of_store.numbers of_store.legal stop.0.1.2
           stands)
           (c.answer_groups.ensures.moments u quiet);
       table = c.answer_groups.ensures.table;
@@ -172,30 +152,21 @@ returns g c =
       fault = c.answer_groups.ensures.fault;
       spare_stands = c.answer_groups.ensures.spare_stands;
       spare_moments = λ spared t told quiet.
-          subst (λ (p : Protection). LeavesOnly g.S.Bench c.args.spare.now c.answer_groups.new.spare
-          (SpareStops (base_of columns public p store.secret) batch store.history (counted_lines input) (g.S.Bench.sent c.args.spare.now))) same
-          (weakens g.S.Bench c.args.spare.now c.answer_groups.new.spare _ _ (λ image sent found. (found.0, (found.1.0, found.1.1.1 t)))
-          (c.answer_groups.ensures.spare_moments spared told quiet));
+          weakens g.S.Bench c.args.spare.now c.answer_groups.new.spare _ _ (λ image sent found. (found.0, (found.1.0, found.1.1.1 t)))
+          (c.answer_groups.ensures.spare_moments spared told quiet);
       spare_legal = λ spared told quiet.
-          let base = base_of columns public store.protected store.secret in
           weakens g.S.Bench c.args.spare.now c.answer_groups.new.spare _ _
           (λ image sent found history stands.
           let stop = found.1.1.0 in
           c.stops.ensures base batch store.history stop.0 image stop.1.0 history
-          (record { schema = c.count-columns.ensures.columns; shape = c.requires.shape; protected = c.requires.is.fit }) c.requires.is.numbers
+          (record { schema = c.schema-schema.ensures.columns; shape = c.requires.shape; protected = c.requires.is.fit }) c.requires.is.numbers
           c.requires.is.legal
           stop.1.2 stands)
           (c.answer_groups.ensures.spare_moments spared told quiet);
       spare_quiet = c.answer_groups.ensures.spare_quiet;
       spare_sent = c.answer_groups.ensures.spare_sent;
-      both = λ spared t told spare_told quiet spare_quiet image other left spare_left.
-          subst (λ (p : Protection). LeavesBoth (base_of columns public p store.secret) batch store.history (counted_lines input) before after image
-          other) same
-          (c.answer_groups.ensures.both spared t told spare_told quiet spare_quiet image other left spare_left);
-      spare_calls = λ spared t told.
-          subst (λ (p : Protection). OnOk c.answer_groups.result (KeepsCalls (base_of columns public p store.secret) store.history batch
-          (counted_lines input)
-          (g.S.Bench.moment c.args.spare.now) (g.S.Bench.moment c.answer_groups.new.spare))) same (c.answer_groups.ensures.spare_calls spared t told);
+      both = c.answer_groups.ensures.both;
+      spare_calls = c.answer_groups.ensures.spare_calls;
       spare_fault = c.answer_groups.ensures.spare_fault;
       own = c.answer_groups.ensures.own;
       untouched = c.answer_groups.ensures.untouched;

@@ -59,7 +59,7 @@ returns-in_err-schema-in-Simulate-clause-refusal g c =
     (files_refused g.P.Source g.B.Bench c.args.command c.args.schema.now c.open_public.new.schema c.args.table.now c.open_public.new.table c.args.bench.now
     fault
     (ap reads_files c.in-Simulate.is) public_of e (λ ptold reads. lacks reads_secrets c.in-Simulate.is refl reads) (λ ptold is. e.table ptold)
-    (λ ptold given. gives_up_public fault _ _ _ _ (subst (λ (k : Command). IsGiven k schema table (g.B.Bench.file c.args.bench.now)) c.in-Simulate.is given).2
+    (λ ptold given. gives_up_public fault _ _ _ (subst (λ (k : Command). IsGiven k schema table (g.B.Bench.file c.args.bench.now)) c.in-Simulate.is given).1
     (e.schema ptold) (e.table ptold)))
 
 pub returns-in_err-index-in-Simulate-clause-refusal : goal.returns-in_err-index-in-Simulate-clause-refusal
@@ -84,26 +84,10 @@ returns-in_err-index-in-Simulate-clause-refusal g c =
 
 -- ---- over a store, or what a store is made of
 
-pub returns-in_ok-started-in-Serve-default-false-clause-over : goal.returns-in_ok-started-in-Serve-default-false-clause-over
-returns-in_ok-started-in-Serve-default-false-clause-over g c =
-    let s = c.in_ok-started-in-Serve-default-false.started in
-    let a = c.in_ok-started-in-Serve-default-false.ensures in
-    λ ptold.
-    subst (λ (l : Protection). AreSoundFilesOf (g.P.Source.left c.args.schema.now) (g.P.Source.left c.args.table.now)
-    (base_of s.schema.columns s.index.public l s.store.secret)) (sym a.entries) (a.over ptold)
-
 pub returns-in_ok-started-in-Explain-clause-over : goal.returns-in_ok-started-in-Explain-clause-over
 returns-in_ok-started-in-Explain-clause-over g c =
     let s = c.in_ok-started-in-Explain.started in
     let a = c.in_ok-started-in-Explain.ensures in
     λ ptold.
     subst (λ (l : Protection). AreSoundFilesOf (g.P.Source.left c.args.schema.now) (g.P.Source.left c.args.table.now)
-    (base_of s.schema.columns s.index.public l s.store.secret)) (sym a.entries) (a.over ptold)
-
-pub returns-in_ok-made-in-Serve-default-true-clause-over : goal.returns-in_ok-made-in-Serve-default-true-clause-over
-returns-in_ok-made-in-Serve-default-true-clause-over g c =
-    let s = c.in_ok-made-in-Serve-default-true.made in
-    let a = c.in_ok-made-in-Serve-default-true.ensures in
-    λ ptold.
-    subst (λ (l : Protection). AreSoundFilesOf (g.P.Source.left c.args.schema.now) (g.P.Source.left c.args.table.now)
-    (base_of s.schema.columns s.index.public l s.secret)) (sym a.entries) (a.over ptold)
+    (base_of s.index.columns s.index.public l s.store.secret)) (sym a.entries) (a.over ptold)

@@ -1,14 +1,15 @@
 use Rattle.std.proofs.Common.{◌≡◌, List, Result, Err, sym, ◌∙◌, ap, subst}
-use Rattle.schema_json.specs.Columns.{Column, SchemaView}
+use Rattle.schema_json.specs.Columns.{Column}
 use Rattle.schema_json.specs.SecretShape.{shape_of}
 use Rattle.audit_types.specs.History.{AreProtected}
 use Rattle.audit_types.specs.declared.shapes.Shape.{Shape}
-use Rattle.table_load.specs.Cells.{FitsSchema, PublicView, SecretView}
+use Rattle.table_load.specs.Cells.{PublicView, SecretView}
 use Rattle.table_load.specs.Database.{base_of}
 use Rattle.table_load.specs.Loaded.{table_view}
 use Rattle.table_load.specs.Meaning.{MeansTable}
 use Rattle.table_load.specs.MeaningLaws.{read_means}
 use Rattle.table_load.specs.Tables.{table_of}
+use Rattle.set_index.specs.Indexed.{public_shape}
 use Rattle.set_index.specs.declared.index.IndexFault.{IndexFault}
 use Rattle.set_index.specs.declared.index.IndexFault.TheVariants as index
 use Rattle.set_index.specs.declared.index.GuardPart.{GuardPart}
@@ -66,11 +67,13 @@ returns g c =
     let e = c.in_ok-opened.ensures in
     let made = c.in_ok-make_ready.field-0 in
     let a = c.in_ok-make_ready.ensures in
-    let shape : made.secret.shape ≡ shape_of opened.schema.columns opened.table.public.rows = ap (λ (v : SecretView). v.shape) a.same.2 ∙ e.shape in
+    let shape : made.secret.shape ≡ public_shape made.index = ap (λ (v : SecretView). v.shape) a.same.2 ∙ e.shape
+    ∙ ap (λ (cs : List Column). shape_of cs opened.table.public.rows) (sym a.same.0)
+    ∙ ap (λ (p : PublicView). shape_of made.index.columns p.rows) (sym a.same.1) in
     record {
       over = λ ptold.
-          subst (λ (v : SchemaView). AreSoundFilesOf (g.P.Source.left c.args.schema.now) (g.P.Source.left c.args.table.now)
-          (base_of v.columns made.index.public made.protected made.secret)) (sym a.same.0)
+          subst (λ (cs : List Column). AreSoundFilesOf (g.P.Source.left c.args.schema.now) (g.P.Source.left c.args.table.now)
+          (base_of cs made.index.public made.protected made.secret)) (sym a.same.0)
           (subst (λ (v : SecretView). AreSoundFilesOf (g.P.Source.left c.args.schema.now) (g.P.Source.left c.args.table.now)
           (base_of opened.schema.columns made.index.public made.protected v)) (sym a.same.2)
           (record {
@@ -82,12 +85,8 @@ returns g c =
             };
             entries = a.entries;
           }));
-      fit = subst (λ (s : Shape). AreProtected s made.protected) (sym (shape ∙ ap (λ (p : PublicView). shape_of opened.schema.columns p.rows) (sym a.same.1)))
-          a.fit;
-      fits = subst (λ (p : PublicView). FitsSchema made.schema.columns p) (sym a.same.1)
-          (subst (λ (v : SchemaView). FitsSchema v.columns opened.table.public) (sym a.same.0) e.fits);
-      shape = shape ∙ ap (λ (v : SchemaView). shape_of v.columns opened.table.public.rows) (sym a.same.0)
-          ∙ ap (λ (p : PublicView). shape_of made.schema.columns p.rows) (sym a.same.1);
+      fit = subst (λ (s : Shape). AreProtected s made.protected) (sym shape) a.fit;
+      shape = shape;
       entries = a.same.3;
       steady = e.steady;
       refusal = tt;

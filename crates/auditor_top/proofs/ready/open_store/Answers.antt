@@ -1,7 +1,7 @@
 use Rattle.std.proofs.Common.{ℕ, List, sym, ◌∙◌, ap, subst}
-use Rattle.schema_json.specs.Columns.{SchemaView}
+use Rattle.schema_json.specs.Columns.{Column}
 use Rattle.schema_json.specs.SecretShape.{shape_of}
-use Rattle.table_load.specs.Cells.{FitsSchema, PublicView, SecretView}
+use Rattle.table_load.specs.Cells.{PublicView, SecretView}
 use Rattle.table_load.specs.Database.{base_of}
 use Rattle.table_load.specs.Loaded.{table_view}
 use Rattle.table_load.specs.Meaning.{MeansTable}
@@ -52,8 +52,8 @@ returns g c =
     let a = c.in_ok-start.ensures in
     record {
       over = λ ptold.
-          subst (λ (v : SchemaView). AreSoundFilesOf (g.P.Source.left c.args.schema.now) (g.P.Source.left c.args.table.now)
-          (base_of v.columns s.index.public s.store.protected s.store.secret)) (sym a.same.0)
+          subst (λ (cs : List Column). AreSoundFilesOf (g.P.Source.left c.args.schema.now) (g.P.Source.left c.args.table.now)
+          (base_of cs s.index.public s.store.protected s.store.secret)) (sym a.same.0)
           (subst (λ (v : SecretView). AreSoundFilesOf (g.P.Source.left c.args.schema.now) (g.P.Source.left c.args.table.now)
           (base_of opened.schema.columns s.index.public s.store.protected v)) (sym a.same.2)
           (record {
@@ -71,10 +71,8 @@ returns g c =
         left = λ told. subst (λ (f : List ℕ). IsAsLeft f s.store) (sym c.start.ensures.reads.file)
             (a.stands told);
       };
-      fits = subst (λ (p : PublicView). FitsSchema s.schema.columns p) (sym a.same.1)
-          (subst (λ (v : SchemaView). FitsSchema v.columns opened.table.public) (sym a.same.0) e.fits);
-      shape = ap (λ (v : SecretView). v.shape) a.same.2 ∙ e.shape ∙ ap (λ (v : SchemaView). shape_of v.columns opened.table.public.rows) (sym a.same.0)
-          ∙ ap (λ (p : PublicView). shape_of s.schema.columns p.rows) (sym a.same.1);
+      shape = ap (λ (v : SecretView). v.shape) a.same.2 ∙ e.shape ∙ ap (λ (cs : List Column). shape_of cs opened.table.public.rows) (sym a.same.0)
+          ∙ ap (λ (p : PublicView). shape_of s.index.columns p.rows) (sym a.same.1);
       entries = a.same.3;
       steady = (e.steady.0, e.steady.1, a.fault.steady (not_both _ _));
       ticks = a.ticks;

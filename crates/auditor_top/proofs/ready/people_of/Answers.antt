@@ -8,9 +8,10 @@ use Rattle.auditor_top.proofs.ready.people_of.Goals as goal
 
 pub returns : goal.returns
 returns c =
-    let columns = c.args.schema.now.columns in
+    let columns = c.args.index.now.columns in
     let public = c.args.index.now.public in
-    let there : people_place columns ≡ Some c.in_ok-_place._place = sym c.people.ensures.place ∙ c.in_ok-_place.was in
+    let there : people_place columns ≡ Some c.in_ok-_place._place =
+    ap people_place (sym c.schema.ensures.same) ∙ sym c.people.ensures.place ∙ c.in_ok-_place.was in
     let rows : c.new-everyone.result.n ≡ public.rows =
     c.new-everyone.ensures.n ∙ c.rows.ensures.rows ∙ ap (λ (p : PublicView). p.rows) c.public.ensures in
     let all : c.flip.new.self.list ≡ rows_that (λ r. true) public.rows =

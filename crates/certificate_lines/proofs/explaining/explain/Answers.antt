@@ -16,16 +16,16 @@ pub returns-in_err-planner : goal.returns-in_err-planner
 returns-in_err-planner g c =
     let same : c.from_residual.result ≡ ended_by stop.NoMemory = search rules in
     subst
-    (λ (r : Result (Unit {0}) Stop). Talks g.P.Source g.B.Bench (explanations c.args.schema.now.columns c.args.index.now c.args.store.now.history)
+    (λ (r : Result (Unit {0}) Stop). Talks g.P.Source g.B.Bench (explanations c.args.index.now c.args.store.now.history)
     c.args.source.now c.args.source.now c.args.bench.now c.args.bench.now (unrefused r))
     (sym same)
-    (never_began g.P.Source g.B.Bench (explanations c.args.schema.now.columns c.args.index.now c.args.store.now.history) c.args.source.now
+    (never_began g.P.Source g.B.Bench (explanations c.args.index.now c.args.store.now.history) c.args.source.now
     c.args.bench.now (λ image bytes was. g.met.B.Bench.only_now c.args.bench.now image bytes was) tt)
 
 pub returns : goal.returns
 returns g c =
     subst
-    (λ (h : List Answered). Talks g.P.Source g.B.Bench (explanations c.args.schema.now.columns c.args.index.now h) c.args.source.now
+    (λ (h : List Answered). Talks g.P.Source g.B.Bench (explanations c.args.index.now h) c.args.source.now
     c.explain_lines.new.source c.args.bench.now c.explain_lines.new.bench (unrefused c.explain_lines.result))
     (c.core.ensures.same c.requires.usable) c.explain_lines.ensures
 

@@ -8,7 +8,7 @@ use Rattle.certificate_lines.proofs.explaining.explain_lines.Given as goal
 abbrev pub invariant-loop-line : goal.invariant-loop-line
 invariant-loop-line g l = record {
   talk : (asked : List CountedLine) × (lines : List (List ℕ)) ×
-      SoFar g.P.Source g.B.Bench (explanations l.schema.columns l.index l.core.history) l.fn.source l.source l.fn.bench l.bench l.planner asked lines;
+      SoFar g.P.Source g.B.Bench (explanations l.index l.core.history) l.fn.source l.source l.fn.bench l.bench l.planner asked lines;
   provers : AreProversOf l.core.setting l.core.history l.provers;
 }
 

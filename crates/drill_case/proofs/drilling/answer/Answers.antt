@@ -1,8 +1,7 @@
-use Rattle.std.proofs.Common.{◌≡◌, refl, ℕ, List, [], Result, Ok, Err, OnOk, ap, sym, ◌∙◌, subst, arith}
-use Rattle.std.proofs.lemmas.List.Elements.{All-nil}
+use Rattle.std.proofs.Common.{◌≡◌, refl, ℕ, List, [], Result, Ok, Err, OnOk, ap, sym, ◌∙◌, subst}
 use Rattle.audit_types.specs.declared.records.Answered.{Answered}
 use Rattle.audit_types.specs.declared.shapes.Shape.{Shape}
-use Rattle.audit_types.specs.History.{Protection, AreProtected, IsProtected}
+use Rattle.audit_types.specs.History.{Protection, AreProtected}
 use Rattle.table_load.specs.Cells.{SecretView}
 use Rattle.bench_core.specs.BenchContents.{file_of, sent_of}
 use Rattle.audit_store.specs.Stores.{IsAsLeft}
@@ -12,7 +11,6 @@ use Rattle.audit_store.specs.declared.starting.StartFault.{StartFault}
 use Rattle.audit_store.specs.declared.starting.StartFault.TheVariants.{NotMade, Damaged, OtherShape, Untrue, Illegal, Failed, NoMemory}
 use Rattle.audit_store.specs.Starting.{GivesUp}
 use Rattle.table_load.specs.Database.{base_of, secret_table}
-use Rattle.drill_case.specs.Drills.{drill_protection}
 use Rattle.audit_session.specs.HistoryFacts.{nothing_is_legal}
 use Rattle.drill_case.proofs.drilling.answer.Goals as goal
 
@@ -22,29 +20,15 @@ up_to_some : {T E : Type 0} (r : Result T E) (last : List Answered) (UpTo : List
 up_to_some (Ok done) last UpTo is = (last, is)
 up_to_some (Err fault) last UpTo is = tt
 
--- it fits each table
-drill_fits : (shape : Shape) → AreProtected shape drill_protection
-drill_fits shape = (
-  All-nil (IsProtected shape),
-  omega arith,
-  record { within = omega arith; somebody = tt; fewest = omega arith; own = omega arith },
-  omega arith,
-  omega arith,
-  omega arith,
-  omega arith,
-)
-
 pub start-requires : goal.start-requires
 start-requires c = record {
-  fit = subst (λ (protected : Protection). AreProtected c.args.secret.shape protected)
-      (sym (c.in_ok-protected.ensures ∙ c.protected.ensures ∙ c.requires.none)) (drill_fits c.args.secret.shape);
+  fit = subst (λ (protected : Protection). AreProtected c.args.secret.shape protected) (sym (c.in_ok-protected.ensures ∙ c.protected.ensures.same))
+      (subst (λ (shape : Shape). AreProtected shape c.args.index.now.protected) (sym c.requires.shape) c.protected.ensures.fit);
 }
 
 pub answer_over-requires : goal.answer_over-requires
 answer_over-requires c = record {
   usable = c.in-Ok.ensures.store.2;
-  entries = sym (c.in-Ok.ensures.store.1 ∙ c.in_ok-protected.ensures ∙ c.protected.ensures);
-  fits = c.requires.fits;
   shape = ap (λ (secret : SecretView). secret.shape) c.in-Ok.ensures.store.0 ∙ c.requires.shape;
   stands = subst (λ (file : List ℕ). IsAsLeft file c.in-Ok.store) (sym c.start.ensures.reads.file) (c.in-Ok.ensures.stands (tt {0}));
   short = c.requires.short;
@@ -61,18 +45,16 @@ returns-in-Ok c =
     let before = sent_of c.args.bench.now in
     let after = sent_of c.answer_over.new.bench in
     let lines = counted_lines c.args.lines.items in
+    let table = base_of c.args.index.now.columns c.args.index.now.public in
+    let kept = c.in-Ok.ensures.store.1 ∙ c.in_ok-protected.ensures ∙ c.protected.ensures.same in
     up_to_some result last
-    (λ (last : List Answered). Serves (base_of c.args.schema.now.columns c.args.index.now.public c.args.index.now.protected c.args.secret) [] lines last before
-    after)
-    (subst (λ (history : List Answered). OnOk result
-    (Serves (base_of c.args.schema.now.columns c.args.index.now.public c.args.index.now.protected c.args.secret) history lines last before after))
-    past
-    (subst (λ (secret : SecretView). OnOk result
-    (Serves (base_of c.args.schema.now.columns c.args.index.now.public c.args.index.now.protected secret) store.history lines last before after))
+    (λ (last : List Answered). Serves (table c.args.index.now.protected c.args.secret) [] lines last before after)
+    (subst (λ (history : List Answered). OnOk result (Serves (table c.args.index.now.protected c.args.secret) history lines last before after)) past
+    (subst (λ (secret : SecretView). OnOk result (Serves (table c.args.index.now.protected secret) store.history lines last before after))
     c.in-Ok.ensures.store.0
-    (subst (λ (before : List ℕ). OnOk result
-    (Serves (base_of c.args.schema.now.columns c.args.index.now.public c.args.index.now.protected store.secret) store.history lines last before after))
-    c.start.ensures.reads.sent c.answer_over.ensures)))
+    (subst (λ (protected : Protection). OnOk result (Serves (table protected store.secret) store.history lines last before after)) kept
+    (subst (λ (before : List ℕ). OnOk result (Serves (table store.protected store.secret) store.history lines last before after))
+    c.start.ensures.reads.sent c.answer_over.ensures))))
 
 -- a journal that stands for a legal history is refused only if a call failed, or memory ran out
 gave_up : (fault : StartFault) → (fault ≡ Failed → ⊥) → (fault ≡ NoMemory → ⊥) → GivesUp fault → ⊥

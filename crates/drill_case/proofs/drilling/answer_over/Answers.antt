@@ -4,8 +4,6 @@ use Rattle.drill_case.proofs.drilling.answer_over.Goals as goal
 pub serve-requires : goal.serve-requires
 serve-requires c = record {
   usable = c.requires.usable;
-  fits = c.requires.fits;
-  entries = c.requires.entries;
   shape = c.requires.shape;
   stands = λ told. c.requires.stands;
   batch = search rules;

@@ -18,7 +18,7 @@ none_bad columns (part.Group place) bad = let inside : place < length {A = Group
 
 pub unreachable-requires : goal.unreachable-requires
 unreachable-requires c =
-    let schema = c.args.schema.now in
+    let schema = c.args.schema in
     none_bad schema.columns c.in-Bad.part
     (subst (λ (guards : Guards). IsFirstBad schema.columns guards c.in-Bad.part) c.requires.guards
     (c.in-Err.ensures.bad c.in-Bad.part (ap (λ f. Err f) c.in-Bad.is)))
@@ -42,12 +42,12 @@ none_left columns public guards protected none protects =
 
 pub answer_lines-requires-clause-public : goal.answer_lines-requires-clause-public
 answer_lines-requires-clause-public c =
-    none_left c.args.schema.now.columns c.in-Ok.index.public c.args.schema.now.guards c.in-Ok.index.protected c.requires.guards c.in-Ok.ensures.entries
+    none_left c.args.schema.columns c.in-Ok.index.public c.args.schema.guards c.in-Ok.index.protected c.requires.guards c.in-Ok.ensures.entries
     ∙ c.in-Ok.ensures.public ∙ c.requires.public
 
 pub answer_lines-requires-clause-none : goal.answer_lines-requires-clause-none
 answer_lines-requires-clause-none c =
-    none_guarded c.args.schema.now.columns c.in-Ok.index.public c.args.schema.now.guards c.in-Ok.index.protected c.requires.columns c.requires.guards
+    none_guarded c.args.schema.columns c.in-Ok.index.public c.args.schema.guards c.in-Ok.index.protected c.requires.columns c.requires.guards
     c.in-Ok.ensures.entries
 
 -- ---- the lines were not answered

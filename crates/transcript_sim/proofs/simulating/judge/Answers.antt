@@ -20,7 +20,7 @@ loop-expected-init g c = record {
   lines = [];
   verdicts = [];
   so_far =
-      nothing_yet g.P.Source g.B.Bench (simulation c.args.schema.now.columns c.args.index.now c.args.simulation.now.core.history) c.args.source.now
+      nothing_yet g.P.Source g.B.Bench (simulation c.args.index.now c.args.simulation.now.core.history) c.args.source.now
       c.args.bench.now (λ image bytes was. g.met.B.Bench.only_now c.args.bench.now image bytes was) tt c.args.simulation.now.lines c.requires.fresh;
   even = refl;
   line_is = refl;
@@ -35,14 +35,14 @@ returns-in_err-expected g c =
     let why = c.in_err-expected.field-0.0 in
     let same : c.from_residual.result ≡ ended_by (Stopped why) = search rules in
     subst
-    (λ (r : Result (Unit {0}) (End SimulationRefusal)). Judges g.P.Source g.B.Bench c.args.schema.now.columns c.args.index.now
+    (λ (r : Result (Unit {0}) (End SimulationRefusal)). Judges g.P.Source g.B.Bench c.args.index.now
     c.args.simulation.now.core.history c.args.source.now c.judge_question.new.source c.args.bench.now c.judge_question.new.bench r)
     (sym same) (unjudged c.loop-expected.invariant c.in_err-expected.ensures.cuts why c.in_err-expected.ensures.unjudged)
 
 pub returns : goal.returns
 returns g c =
     let none = subst (λ (o : Option Expected). AsksNext g.P.Source c.loop-expected.simulation.lines c.judge_question.new.self.lines c.loop-expected.source
-    c.judge_question.new.source c.args.schema.now.columns c.args.index.now c.loop-expected.simulation.core.history o) c.in_default.is
+    c.judge_question.new.source c.args.index.now c.loop-expected.simulation.core.history o) c.in_default.is
     c.in_ok-expected.ensures.asks in
     let nothing = subst (λ (o : Option Expected). SendsFor g.B.Bench c.loop-expected.bench c.judge_question.new.bench o) c.in_default.is
     c.in_ok-expected.ensures.sends in
@@ -53,7 +53,7 @@ returns g c =
 pub returns-in_err-shown : goal.returns-in_err-shown
 returns-in_err-shown g c =
     let question = subst (λ (o : Option Expected). AsksNext g.P.Source c.loop-expected.simulation.lines c.judge_question.new.self.lines c.loop-expected.source
-    c.judge_question.new.source c.args.schema.now.columns c.args.index.now c.loop-expected.simulation.core.history o) c.in-Some.is
+    c.judge_question.new.source c.args.index.now c.loop-expected.simulation.core.history o) c.in-Some.is
     c.in_ok-expected.ensures.asks in
     let sends = subst (λ (o : Option Expected). SendsFor g.B.Bench c.loop-expected.bench c.judge_question.new.bench o) c.in-Some.is
     c.in_ok-expected.ensures.sends in
@@ -61,14 +61,14 @@ returns-in_err-shown g c =
     let why = c.in_err-shown.field-0.0 in
     let same : c.from_residual-in_err-shown.result ≡ ended_by (Stopped why) = search rules in
     subst
-    (λ (r : Result (Unit {0}) (End SimulationRefusal)). Judges g.P.Source g.B.Bench c.args.schema.now.columns c.args.index.now
+    (λ (r : Result (Unit {0}) (End SimulationRefusal)). Judges g.P.Source g.B.Bench c.args.index.now
     c.args.simulation.now.core.history c.args.source.now c.take_shown.new.source c.args.bench.now c.judge_question.new.bench r)
     (sym same) (unshown half c.in_err-shown.ensures.cuts why c.in_err-shown.ensures.short)
 
 pub returns-in_err-goes_on : goal.returns-in_err-goes_on
 returns-in_err-goes_on g c =
     let question = subst (λ (o : Option Expected). AsksNext g.P.Source c.loop-expected.simulation.lines c.judge_question.new.self.lines c.loop-expected.source
-    c.judge_question.new.source c.args.schema.now.columns c.args.index.now c.loop-expected.simulation.core.history o) c.in-Some.is
+    c.judge_question.new.source c.args.index.now c.loop-expected.simulation.core.history o) c.in-Some.is
     c.in_ok-expected.ensures.asks in
     let sends = subst (λ (o : Option Expected). SendsFor g.B.Bench c.loop-expected.bench c.judge_question.new.bench o) c.in-Some.is
     c.in_ok-expected.ensures.sends in
@@ -77,7 +77,7 @@ returns-in_err-goes_on g c =
     let same : c.from_residual-in_err-goes_on.result ≡ ended_by why = search rules in
     let is : Err why ≡ goes_on c.in_ok-shown.shown (c.loop-expected.line + 2) (due_of c.in-Some.expected) = search rules in
     subst
-    (λ (r : Result (Unit {0}) (End SimulationRefusal)). Judges g.P.Source g.B.Bench c.args.schema.now.columns c.args.index.now
+    (λ (r : Result (Unit {0}) (End SimulationRefusal)). Judges g.P.Source g.B.Bench c.args.index.now
     c.args.simulation.now.core.history c.args.source.now c.take_shown.new.source c.args.bench.now c.judge_question.new.bench r)
     (sym same)
     (refused half c.in_ok-shown.ensures.cuts c.one_verdict.ensures.called c.one_verdict.ensures.due c.in_ok-shown.shown c.in_ok-shown.ensures.shows why is)
@@ -85,7 +85,7 @@ returns-in_err-goes_on g c =
 pub returns-then-not-branch : goal.returns-then-not-branch
 returns-then-not-branch g c =
     let question = subst (λ (o : Option Expected). AsksNext g.P.Source c.loop-expected.simulation.lines c.judge_question.new.self.lines c.loop-expected.source
-    c.judge_question.new.source c.args.schema.now.columns c.args.index.now c.loop-expected.simulation.core.history o) c.in-Some.is
+    c.judge_question.new.source c.args.index.now c.loop-expected.simulation.core.history o) c.in-Some.is
     c.in_ok-expected.ensures.asks in
     let sends = subst (λ (o : Option Expected). SendsFor g.B.Bench c.loop-expected.bench c.judge_question.new.bench o) c.in-Some.is
     c.in_ok-expected.ensures.sends in
@@ -96,7 +96,7 @@ returns-then-not-branch g c =
 pub loop-expected-preserved : goal.loop-expected-preserved
 loop-expected-preserved g c =
     let question = subst (λ (o : Option Expected). AsksNext g.P.Source c.loop-expected.simulation.lines c.judge_question.new.self.lines c.loop-expected.source
-    c.judge_question.new.source c.args.schema.now.columns c.args.index.now c.loop-expected.simulation.core.history o) c.in-Some.is
+    c.judge_question.new.source c.args.index.now c.loop-expected.simulation.core.history o) c.in-Some.is
     c.in_ok-expected.ensures.asks in
     let sends = subst (λ (o : Option Expected). SendsFor g.B.Bench c.loop-expected.bench c.judge_question.new.bench o) c.in-Some.is
     c.in_ok-expected.ensures.sends in

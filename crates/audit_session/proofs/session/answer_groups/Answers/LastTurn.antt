@@ -20,7 +20,7 @@ last_turn g c =
     let more_is : c.in_ok-more.more ≡ false = search rules in
     record {
       ends = λ t u.
-          all_served g.P.Source g.B.Bench c.args.schema.now.columns c.args.index.now.public c.args.batch c.loop-more.planner
+          all_served g.P.Source g.B.Bench c.args.index.now c.args.batch c.loop-more.planner
           (g.K.Keeper.store c.args.keeper.now) (g.K.Keeper.store c.loop-more.keeper)
           c.args.source.now c.loop-more.source c.args.bench.now c.loop-more.bench c.loop-more.invariant.served
           now (not c.in_ok-more.more || now.ended) c.gather.new.source plans e.gathers e.most c.requires.batch.0
@@ -39,7 +39,7 @@ last_turn g c =
       usable = λ bench spare memory. c.in_ok-answer.ensures.stands.usable;
       left = λ u usable. c.in_ok-answer.ensures.stands.as_left u;
       calls = λ t u.
-          all_calls g.P.Source g.B.Bench c.args.schema.now.columns c.args.index.now.public c.args.batch c.loop-more.planner
+          all_calls g.P.Source g.B.Bench c.args.index.now c.args.batch c.loop-more.planner
           (g.K.Keeper.store c.args.keeper.now) (g.K.Keeper.store c.loop-more.keeper)
           c.args.source.now c.loop-more.source c.args.bench.now c.loop-more.bench c.loop-more.invariant.served
           now (not c.in_ok-more.more || now.ended) c.gather.new.source plans e.gathers e.most c.requires.batch.0
@@ -48,7 +48,7 @@ last_turn g c =
           t u (ap counted_lines (e.last t (ap given more_is)));
       moments = λ u quiet.
           let rest = now.pending ++ g.P.Source.left c.gather.new.source in
-          turn_moments g.P.Source g.B.Bench c.args.schema.now.columns c.args.index.now.public c.args.batch c.loop-more.planner
+          turn_moments g.P.Source g.B.Bench c.args.index.now c.args.batch c.loop-more.planner
           (g.K.Keeper.store c.args.keeper.now) (g.K.Keeper.store c.loop-more.keeper)
           c.args.source.now c.loop-more.source c.args.bench.now c.loop-more.bench c.loop-more.invariant.served
           now (not c.in_ok-more.more || now.ended) c.gather.new.source plans e.gathers e.most c.requires.batch.0
@@ -69,7 +69,7 @@ last_turn g c =
       };
       spare_stands = λ spared told bench spare. (g.K.Keeper.spare_gate c.answer.new.keeper, c.in_ok-answer.ensures.spare_stands spared told);
       spare_moments = λ spared told quiet.
-          spare_turn g.P.Source g.B.Bench c.args.schema.now.columns c.args.index.now.public c.args.batch c.loop-more.planner
+          spare_turn g.P.Source g.B.Bench c.args.index.now c.args.batch c.loop-more.planner
           (g.K.Keeper.store c.args.keeper.now)
           (g.K.Keeper.store c.loop-more.keeper) c.args.source.now c.loop-more.source c.args.bench.now c.loop-more.bench c.loop-more.invariant.served
           now (not c.in_ok-more.more || now.ended) c.gather.new.source plans e.gathers e.most c.requires.batch.0
@@ -81,14 +81,14 @@ last_turn g c =
           c.in_ok-answer.ensures.spare_quiet spared told (c.loop-more.invariant.spare.quiet spared told quiet) (λ is. no_refusal _ _ is);
       spare_sent = c.answer.ensures.spare_sent ∙ c.loop-more.invariant.spare.sent;
       spare_calls = λ spared t told.
-          let calls = spare_calls_now g.P.Source g.B.Bench c.args.schema.now.columns c.args.index.now.public c.args.batch c.loop-more.planner
+          let calls = spare_calls_now g.P.Source g.B.Bench c.args.index.now c.args.batch c.loop-more.planner
           (g.K.Keeper.store c.args.keeper.now) (g.K.Keeper.store c.loop-more.keeper)
           c.args.source.now c.loop-more.source c.args.bench.now c.loop-more.bench c.loop-more.invariant.served
           now (not c.in_ok-more.more || now.ended) c.gather.new.source plans e.gathers e.most c.requires.batch.0
           (λ ended. still_ended c.in_ok-more.more now.ended (e.cuts.still ended)) (g.K.Keeper.store c.answer.new.keeper).history c.answer.new.bench
           c.in_ok-answer.ensures.answers (g.S.Bench.moment c.args.spare.now) (g.S.Bench.moment c.loop-more.spare) (g.S.Bench.moment c.answer.new.spare)
           (c.loop-more.invariant.spare.calls spared told) (c.in_ok-answer.ensures.spare_ticks spared told) in
-          all_kept g.P.Source g.B.Bench c.args.schema.now.columns c.args.index.now.public c.args.batch c.loop-more.planner
+          all_kept g.P.Source g.B.Bench c.args.index.now c.args.batch c.loop-more.planner
           (g.K.Keeper.store c.args.keeper.now) (g.K.Keeper.store c.loop-more.keeper)
           c.args.source.now c.loop-more.source c.args.bench.now c.loop-more.bench c.loop-more.invariant.served
           now (not c.in_ok-more.more || now.ended) c.gather.new.source plans e.gathers e.most c.requires.batch.0
@@ -96,7 +96,7 @@ last_turn g c =
           c.in_ok-answer.ensures.answers t (ap counted_lines (e.last t (ap given more_is))) (g.S.Bench.moment c.args.spare.now)
           (g.S.Bench.moment c.answer.new.spare) calls;
       both = λ spared t told spare_told quiet spare_quiet image other left spare_left.
-          both_turn g.P.Source g.B.Bench c.args.schema.now.columns c.args.index.now.public c.args.batch c.loop-more.planner (g.K.Keeper.store c.args.keeper.now)
+          both_turn g.P.Source g.B.Bench c.args.index.now c.args.batch c.loop-more.planner (g.K.Keeper.store c.args.keeper.now)
           (g.K.Keeper.store c.loop-more.keeper) c.args.source.now c.loop-more.source c.args.bench.now c.loop-more.bench c.loop-more.invariant.served
           now (not c.in_ok-more.more || now.ended) c.gather.new.source plans e.gathers e.most c.requires.batch.0
           (λ ended. still_ended c.in_ok-more.more now.ended (e.cuts.still ended)) (g.B.Bench.sent c.answer.new.bench) image other t told

@@ -36,7 +36,7 @@ use Rattle.auditor_top.proofs.running.run.Goals as goal
 -- the files are those of the table whose journal was opened
 are : (g : Over) (c : goal.After-drop-schema-inside-in-Ok-Explain-3 g) → g.P.Source.told →
     AreSoundFilesOf (g.P.Source.left c.args.schema.now) (g.P.Source.left c.args.table.now)
-    (base_of c.in-Ok-Explain.schema.columns c.in-Ok-Explain.index.public c.in-Ok-Explain.index.protected c.in-Ok-Explain.store.secret)
+    (base_of c.in-Ok-Explain.index.columns c.in-Ok-Explain.index.public c.in-Ok-Explain.index.protected c.in-Ok-Explain.store.secret)
 are g c ptold = subst (IsReadyOver _ _) c.in-Ok-Explain.field-0-is (c.in-Ok-Explain.ensures.over ptold)
 
 stands : (g : Over) (c : goal.After-drop-schema-inside-in-Ok-Explain-3 g) → g.B.Bench.told → IsAsLeft (g.B.Bench.file c.args.bench.now) c.in-Ok-Explain.store
@@ -51,7 +51,7 @@ holds g c told =
     let ready = subst (IsReady g.B.Bench c.open.new.bench) c.in-Ok-Explain.field-0-is c.in-Ok-Explain.ensures.ready in (
       store.history,
       (store.journal.gate, stands g c told),
-      subst (λ (p : Protection). IsLegal (secret_table store.secret p) store.history) (sym ready.3) ready.0.is.legal,
+      subst (λ (p : Protection). IsLegal (secret_table store.secret p) store.history) (sym ready.2) ready.0.is.legal,
     )
 
 explained_faults : (g : Over) (c : goal.After-drop-schema-inside-in-Ok-Explain-3 g) → FaultCause c.ended-in-Ok-Explain.result
@@ -84,26 +84,25 @@ explaining g c =
     let does = c.explain.ensures in
     let store = c.in-Ok-Explain.store in
     let kept = store.history in
-    let columns = c.in-Ok-Explain.schema.columns in
     let index = c.in-Ok-Explain.index in
-    let seen = base_of columns index.public index.protected store.secret in
+    let seen = base_of index.columns index.public index.protected store.secret in
     let same : c.in-Ok.command ≡ command.Explain = same_command _ _ _ c.in-Ok-Explain.field-0-is c.in-Ok-Explain.ensures.asked in
     let given : (g.P.Source.told → g.B.Bench.told → (base : Database) (history : List Answered) →
     ServesOver (g.P.Source.left old.schema) (g.P.Source.left old.table) file base history → (seen ≡ base) × (kept ≡ history)) =
     λ ptold told base history over. same_given c.one_reading.ensures c.groups_of_a_schema.ensures.entries _ _ file seen base kept history store.journal.gate
     (are g c ptold) (stands g c told) over in
     let moments : (g.B.Bench.told → IsQuiet g.B.Bench at → LeavesOnly g.B.Bench at later
-    (ExplainsMeanwhile g.I.Source.told columns index kept text file sent)) = λ told quiet.
-    joins g.B.Bench at opened later (ExplainsMeanwhile g.I.Source.told columns index kept text file sent)
-    (weakens g.B.Bench at opened (IsUntouched file sent) _ (untouched_lines g.I.Source.told columns index kept text file sent) (reads.untouched quiet))
-    (subst (λ (f : List ℕ). LeavesOnly g.B.Bench opened later (ExplainsMeanwhile g.I.Source.told columns index kept text f sent)) reads.file
+    (ExplainsMeanwhile g.I.Source.told index kept text file sent)) = λ told quiet.
+    joins g.B.Bench at opened later (ExplainsMeanwhile g.I.Source.told index kept text file sent)
+    (weakens g.B.Bench at opened (IsUntouched file sent) _ (untouched_lines g.I.Source.told index kept text file sent) (reads.untouched quiet))
+    (subst (λ (f : List ℕ). LeavesOnly g.B.Bench opened later (ExplainsMeanwhile g.I.Source.told index kept text f sent)) reads.file
     (subst (λ (bytes : List ℕ). LeavesOnly g.B.Bench opened later
-    (ExplainsMeanwhile g.I.Source.told columns index kept text (g.B.Bench.file opened) bytes)) reads.sent
+    (ExplainsMeanwhile g.I.Source.told index kept text (g.B.Bench.file opened) bytes)) reads.sent
     (does.any_moment told (as_quiet g.B.Bench at opened reads quiet)))) in
     subst (λ (s : Status). Explaining g.P.Source g.I.Source g.B.Bench s old new) (sym c.ended-in-Ok-Explain.ensures) (record {
       explained = λ ptold itold told base history over.
           carried (λ (b : Database) (h : List Answered). (asked : List CountedLine) × (lines : List (List ℕ)) ×
-          ExplainEnds (ended_status ended) text left asked × AreExplained b.columns (public_part b) h asked lines ×
+          ExplainEnds (ended_status ended) text left asked × AreExplained (public_part b) h asked lines ×
           SendsLines (ended_status ended) (concat lines) sent (g.B.Bench.sent later)) seen base kept history (given ptold told base history over)
           (let all = does.explains itold in (
             all.0,
@@ -115,7 +114,7 @@ explaining g c =
           ));
       explaining = λ ptold told quiet base history over.
           carried (λ (b : Database) (h : List Answered). LeavesOnly g.B.Bench at later
-          (ExplainsMeanwhile g.I.Source.told b.columns (public_part b) h text file sent)) seen base kept history
+          (ExplainsMeanwhile g.I.Source.told (public_part b) h text file sent)) seen base kept history
           (given ptold told base history over) (moments told quiet);
       undisturbed = λ told quiet. weakens g.B.Bench at later _ (LeavesFile file) (λ image bytes found. found.0) (moments told quiet);
       explain_calls = λ itold told done.

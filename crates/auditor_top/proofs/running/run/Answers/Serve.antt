@@ -1,12 +1,10 @@
 -- What `run` says of `serve`.
 use Rattle.std.proofs.Common.{◌≡◌, false, List, Some, refl, sym, ◌∙◌, ap, subst, arith, map, string_bytes}
-use Rattle.audit_types.specs.History.{Protection}
 use Rattle.audit_types.specs.declared.records.Answered.{Answered}
-use Rattle.bench_core.specs.Calls.{LeavesOnly}
 use Rattle.table_load.specs.Cells.{SecretView}
-use Rattle.table_load.specs.Database.{Database, base_of, table_in, secret_table}
+use Rattle.table_load.specs.Database.{Database, table_in}
 use Rattle.journal_form.specs.Journal.{StandsFor}
-use Rattle.audit_session.specs.Stops.{IsHarmless}
+use Rattle.audit_session.specs.Ends.{base_over}
 use Rattle.auditor_top.specs.declared.words.Command.{Command}
 use Rattle.auditor_top.specs.declared.words.Command.TheVariants as command
 use Rattle.auditor_top.specs.declared.status.Status.{Status}
@@ -32,22 +30,17 @@ use Rattle.auditor_top.proofs.running.run.Goals as goal
 
 -- the files are those of the table whose journal was opened
 abbrev seen : (g : Over) (c : goal.After-drop-schema-inside-in-Ok-Serve-2 g) → Database
-seen g c = base_of c.in-Ok-Serve.schema.columns c.in-Ok-Serve.index.public c.in-Ok-Serve.index.protected c.in-Ok-Serve.store.secret
+seen g c = base_over c.in-Ok-Serve.index c.in-Ok-Serve.store
 
 are : (g : Over) (c : goal.After-drop-schema-inside-in-Ok-Serve-2 g) → g.P.Source.told →
     AreSoundFilesOf (g.P.Source.left c.args.schema.now) (g.P.Source.left c.args.table.now) (seen g c)
 are g c ptold = subst (IsReadyOver _ _) c.in-Ok-Serve.field-0-is (c.in-Ok-Serve.ensures.over ptold)
 
-entries : (g : Over) (c : goal.After-drop-schema-inside-in-Ok-Serve-2 g) → c.in-Ok-Serve.index.protected ≡ c.in-Ok-Serve.store.protected
-entries g c = (subst (IsReady g.B.Bench c.open.new.bench) c.in-Ok-Serve.field-0-is c.in-Ok-Serve.ensures.ready).3
-
 opened : (g : Over) (c : goal.After-drop-schema-inside-in-Ok-Serve-2 g) → IsOpened g.B.Bench c.open.new.bench c.in-Ok-Serve.store
 opened g c = (subst (IsReady g.B.Bench c.open.new.bench) c.in-Ok-Serve.field-0-is c.in-Ok-Serve.ensures.ready).0
 
 holds : (g : Over) (c : goal.After-drop-schema-inside-in-Ok-Serve-2 g) → g.B.Bench.told → HoldsLegal (g.B.Bench.file c.args.bench.now) (table_in (seen g c))
-holds g c told =
-    subst (λ (p : Protection). HoldsLegal (g.B.Bench.file c.args.bench.now) (secret_table c.in-Ok-Serve.store.secret p)) (sym (entries g c))
-    (holds_so g.B.Bench c.args.bench.now c.open.new.bench c.in-Ok-Serve.store (opened g c) c.open.ensures.reads.file told)
+holds g c told = holds_so g.B.Bench c.args.bench.now c.open.new.bench c.in-Ok-Serve.store (opened g c) c.open.ensures.reads.file told
 
 served_faults : (g : Over) (c : goal.After-drop-schema-inside-in-Ok-Serve-2 g) → FaultCause c.ended.result
     (faults_of g.P.Source g.I.Source g.B.Bench (objects c.args.schema.now c.args.table.now c.args.input.now c.args.bench.now c.args.spare.now))
@@ -97,9 +90,7 @@ serving g c =
           harmless_so g.B.Bench at c.open.new.bench later reads (seen g c) base kept history
           (given ptold told base history over) n text c.stops_are_legal.ensures _ _ over
           (reads.untouched quiet)
-          (subst (λ (p : Protection). LeavesOnly g.B.Bench c.open.new.bench later (λ image sent. IsHarmless (secret_table store.secret p) image))
-          (sym (entries g c))
-          (c.serve.ensures.legal told (as_quiet g.B.Bench at c.open.new.bench reads quiet)));
+          (c.serve.ensures.legal told (as_quiet g.B.Bench at c.open.new.bench reads quiet));
       serve_calls = λ ptold itold told done base history over.
           calls_so g.B.Bench at c.open.new.bench later reads (seen g c) base kept history (given ptold told base history over) n text
           (c.in-Ok-Serve.ensures.ticks told (ap opens_store same)) ((stop_says c.serve.result).done _ done (c.serve.ensures.calls itold told));

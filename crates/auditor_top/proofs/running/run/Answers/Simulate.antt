@@ -7,7 +7,7 @@ use Rattle.table_load.specs.Database.{table_in}
 use Rattle.table_load.specs.Tables.{public_of}
 use Rattle.line_wire.specs.Lines.{counted_lines}
 use Rattle.question_plan.specs.Session.{Replied}
-use Rattle.transcript_sim.specs.Beginning.{BeginsWith, EndBegins, public_setting}
+use Rattle.transcript_sim.specs.Beginning.{BeginsWith, EndBegins}
 use Rattle.transcript_sim.specs.Ends.{EndSends, EndVerdicts, SimulatesMeanwhile}
 use Rattle.transcript_sim.specs.Verdicts.{exchanges}
 use Rattle.auditor_top.specs.declared.words.Command.TheVariants as command
@@ -25,14 +25,14 @@ use Rattle.auditor_top.proofs.Refusals.{as_quiet}
 use Rattle.auditor_top.proofs.SimulationEndings.{carried_public, refused_so, refused_too, simulation_cause, simulation_ends, simulation_sends, simulation_reads, simulation_faults, simulation_wants, simulation_says}
 use Rattle.auditor_top.specs.Stages.{opening_spare}
 use Rattle.auditor_top.proofs.StepStatuses.{at_lines, EndsLastStep, schema_read, table_read, past_table, past_journal, no_schema_fault, no_table_fault, schema_was_read, table_was_read, always_before, groups_read}
-use Rattle.set_index.specs.Indexed.{IndexView}
+use Rattle.set_index.specs.Indexed.{IndexView, public_setting}
 use Rattle.auditor_top.proofs.LastSteps.{faults_so, file_so, later_so, words_so}
 use Rattle.auditor_top.proofs.running.run.Given.{Over}
 use Rattle.auditor_top.proofs.running.run.Goals as goal
 
 -- the files are those of the public columns whose groups were made ready
 are : (g : Over) (c : goal.After-drop-schema-inside-in-Ok-Simulate-3 g) → g.P.Source.told →
-    ArePublicFilesOf (g.P.Source.left c.args.schema.now) (g.P.Source.left c.args.table.now) c.in-Ok-Simulate.schema.columns c.in-Ok-Simulate.index
+    ArePublicFilesOf (g.P.Source.left c.args.schema.now) (g.P.Source.left c.args.table.now) c.in-Ok-Simulate.index
 are g c ptold = subst (IsReadyOver _ _) c.in-Ok-Simulate.field-0-is (c.in-Ok-Simulate.ensures.over ptold)
 
 -- opening doesn't call the bench
@@ -66,57 +66,56 @@ judging g c =
     let file = g.B.Bench.file at in
     let sent = g.B.Bench.sent at in
     let ended = c.simulate.result in
-    let columns = c.in-Ok-Simulate.schema.columns in
     let index = c.in-Ok-Simulate.index in
     let unopened = same_bench g c in
-    let sends = subst (λ b. (history : List Answered) → g.I.Source.told → g.B.Bench.told → BeginsWith (g.B.Bench.file b) (public_setting columns
+    let sends = subst (λ b. (history : List Answered) → g.I.Source.told → g.B.Bench.told → BeginsWith (g.B.Bench.file b) (public_setting
     index) history →
-    (verdicts : List (Replied Answered)) × EndVerdicts ended columns index history text left verdicts
+    (verdicts : List (Replied Answered)) × EndVerdicts ended index history text left verdicts
     × EndSends ended verdicts (g.B.Bench.sent b) (g.B.Bench.sent later)) unopened c.simulate.ensures.verdicts in
     let moments = subst (λ b. (history : List Answered) → g.B.Bench.told → IsQuiet g.B.Bench b → BeginsWith (g.B.Bench.file b) (public_setting
-    columns index) history →
-    LeavesOnly g.B.Bench b later (SimulatesMeanwhile g.I.Source.told columns index history (counted_lines text) (g.B.Bench.file b) (g.B.Bench.sent b)))
+    index) history →
+    LeavesOnly g.B.Bench b later (SimulatesMeanwhile g.I.Source.told index history (counted_lines text) (g.B.Bench.file b) (g.B.Bench.sent b)))
     unopened c.simulate.ensures.any_moment in
     -- what is said of what was read is said of what the files mean
-    let carried : ((ptold : g.P.Source.told) (Says : List Column → IndexView → Type 0) (columns_given : List Column) (given : IndexView) →
-    ArePublicFilesOf schema table columns_given given → Says columns index → Says columns_given given) = λ ptold Says columns_given given files.
-    carried_public c.groups_of_a_schema.ensures.entries Says schema table columns columns_given index given (are g c ptold) files in
-    let verdicts_over : ((ptold : g.P.Source.told) (itold : g.I.Source.told) (told : g.B.Bench.told) (columns_given : List Column) (given : IndexView)
-    (history : List Answered) → SimulatesOver schema table file columns_given given history →
-    (verdicts : List (Replied Answered)) × EndVerdicts ended columns_given given history text left verdicts × EndSends ended verdicts sent
+    let carried : ((ptold : g.P.Source.told) (Says : IndexView → Type 0) (given : IndexView) →
+    ArePublicFilesOf schema table given → Says index → Says given) = λ ptold Says given files.
+    carried_public c.groups_of_a_schema.ensures.entries Says schema table index given (are g c ptold) files in
+    let verdicts_over : ((ptold : g.P.Source.told) (itold : g.I.Source.told) (told : g.B.Bench.told) (given : IndexView)
+    (history : List Answered) → SimulatesOver schema table file given history →
+    (verdicts : List (Replied Answered)) × EndVerdicts ended given history text left verdicts × EndSends ended verdicts sent
     (g.B.Bench.sent later)) =
-    λ ptold itold told columns_given given history over.
-    carried ptold (λ cs p. BeginsWith file (public_setting cs p) history →
-    (verdicts : List (Replied Answered)) × EndVerdicts ended cs p history text left verdicts × EndSends ended verdicts sent (g.B.Bench.sent later))
-    columns_given given over.files (sends history itold told) over.begins in
+    λ ptold itold told given history over.
+    carried ptold (λ p. BeginsWith file (public_setting p) history →
+    (verdicts : List (Replied Answered)) × EndVerdicts ended p history text left verdicts × EndSends ended verdicts sent (g.B.Bench.sent later))
+    given over.files (sends history itold told) over.begins in
     subst (λ (s : Status). Simulating g.P.Source g.I.Source g.B.Bench s old new) (sym c.judged.ensures) (record {
-      simulated = λ ptold itold told columns_given given history over.
-          let all = verdicts_over ptold itold told columns_given given history over in (
+      simulated = λ ptold itold told given history over.
+          let all = verdicts_over ptold itold told given history over in (
             all.0,
-            simulation_ends ended columns_given given history text left all.0 all.1,
+            simulation_ends ended given history text left all.0 all.1,
             simulation_sends ended all.0 sent (g.B.Bench.sent later) all.2,
           );
-      simulating = λ ptold told quiet columns_given given history over.
-          carried ptold (λ cs p. BeginsWith file (public_setting cs p) history →
-          LeavesOnly g.B.Bench at later (SimulatesMeanwhile g.I.Source.told cs p history (counted_lines text) file sent))
-          columns_given given over.files (moments history told quiet) over.begins;
-      cause = λ ptold told columns_given given files.
-          simulation_cause ended file (public_setting columns_given given)
-          (carried ptold (λ cs p. EndBegins ended file (public_setting cs p)) columns_given given files
-          (subst (λ b. EndBegins ended (g.B.Bench.file b) (public_setting columns index)) unopened (c.simulate.ensures.begins told)));
+      simulating = λ ptold told quiet given history over.
+          carried ptold (λ p. BeginsWith file (public_setting p) history →
+          LeavesOnly g.B.Bench at later (SimulatesMeanwhile g.I.Source.told p history (counted_lines text) file sent))
+          given over.files (moments history told quiet) over.begins;
+      cause = λ ptold told given files.
+          simulation_cause ended file (public_setting given)
+          (carried ptold (λ p. EndBegins ended file (public_setting p)) given files
+          (subst (λ b. EndBegins ended (g.B.Bench.file b) (public_setting index)) unopened (c.simulate.ensures.begins told)));
       undisturbed = λ told.
           subst (λ b. IsQuiet g.B.Bench b → LeavesOnly g.B.Bench b later (λ image bytes. image ≡ g.B.Bench.file b)) unopened
           (c.simulate.ensures.undisturbed told);
       untouched = λ ptold told quiet none.
-          subst (λ b. IsQuiet g.B.Bench b → ((history : List Answered) → BeginsWith (g.B.Bench.file b) (public_setting columns index) history → ⊥) →
+          subst (λ b. IsQuiet g.B.Bench b → ((history : List Answered) → BeginsWith (g.B.Bench.file b) (public_setting index) history → ⊥) →
           LeavesOnly g.B.Bench b later (IsUntouched (g.B.Bench.file b) (g.B.Bench.sent b))) unopened (c.simulate.ensures.untouched told) quiet
-          (λ history begins. none columns index history (record { files = are g c ptold; begins = begins }));
+          (λ history begins. none index history (record { files = are g c ptold; begins = begins }));
       simulate_calls = λ itold told done.
           (simulation_says ended).done _ done (c.simulate.ensures.calls itold told)
           ∙ ap (λ b. g.B.Bench.moment b + 2 + length (exchanges (counted_lines text))) unopened;
-      simulates = λ ptold itold told columns_given given history over verdicts agree within none.
-          let all = verdicts_over ptold itold told columns_given given history over in
-          simulation_wants c.one_verdict.ensures.first ended columns_given given history text left all.0 verdicts
+      simulates = λ ptold itold told given history over verdicts agree within none.
+          let all = verdicts_over ptold itold told given history over in
+          simulation_wants c.one_verdict.ensures.first ended given history text left all.0 verdicts
           (faults_of g.P.Source g.I.Source g.B.Bench old) (faults_of g.P.Source g.I.Source g.B.Bench new) all.1 (c.simulate.ensures.reads itold) agree within
           (subst (λ (s : Status). FaultCause s (faults_of g.P.Source g.I.Source g.B.Bench old) (faults_of g.P.Source g.I.Source g.B.Bench new)) c.judged.ensures
           (judged_faults g c)) none;

@@ -5,6 +5,7 @@ use Rattle.audit_types.specs.declared.records.Answered.{Answered}
 use Rattle.bench_core.specs.Calls.{IsQuiet, LeavesOnly}
 use Rattle.table_load.specs.Cells.{SecretView}
 use Rattle.table_load.specs.Database.{Database, base_of, table_in}
+use Rattle.audit_session.specs.Ends.{base_over}
 use Rattle.twin_journal.specs.Twins.{CatchesUp, KeepTogether, KeepWhole}
 use Rattle.auditor_top.proofs.TwinEndings.{front_is_legal}
 use Rattle.auditor_top.specs.Commands.{AreSoundFilesOf, TwinsOver, opens_store}
@@ -17,15 +18,11 @@ use Rattle.auditor_top.proofs.running.run.Goals as goal
 
 -- the files are those of the table whose groups were made ready
 abbrev pub seen : (g : Over) → goal.After-drop-schema-inside-in-Ok-start-3 g → Database
-seen g c = base_of c.in-Ok-Twin.schema.columns c.in-Ok-Twin.index.public c.in-Ok-Twin.protected c.in-Ok-Twin.secret
+seen g c = base_of c.in-Ok-Twin.index.columns c.in-Ok-Twin.index.public c.in-Ok-Twin.protected c.in-Ok-Twin.secret
 
 pub are : (g : Over) (c : goal.After-drop-schema-inside-in-Ok-start-3 g) → g.P.Source.told →
     AreSoundFilesOf (g.P.Source.left c.args.schema.now) (g.P.Source.left c.args.table.now) (seen g c)
-are g c ptold =
-    let ready = subst (IsReady g.B.Bench c.open.new.bench) c.in-Ok-Twin.field-0-is c.in-Ok-Twin.ensures.ready in
-    subst (λ (l : Protection). AreSoundFilesOf (g.P.Source.left c.args.schema.now) (g.P.Source.left c.args.table.now)
-    (base_of c.in-Ok-Twin.schema.columns c.in-Ok-Twin.index.public l c.in-Ok-Twin.secret)) ready.3
-    (subst (IsReadyOver _ _) c.in-Ok-Twin.field-0-is (c.in-Ok-Twin.ensures.over ptold))
+are g c ptold = subst (IsReadyOver _ _) c.in-Ok-Twin.field-0-is (c.in-Ok-Twin.ensures.over ptold)
 
 pub is_seen : (g : Over) (c : goal.After-drop-schema-inside-in-Ok-start-3 g) → g.P.Source.told → (base : Database) →
     AreSoundFilesOf (g.P.Source.left c.args.schema.now) (g.P.Source.left c.args.table.now) base → seen g c ≡ base
@@ -47,13 +44,14 @@ keep g c ptold base main other whole over =
 
 -- what the lines are answered over, which is that table
 abbrev pub asked : (g : Over) → goal.After-drop-schema-inside-in-Ok-start-3 g → Database
-asked g c = base_of c.in-Ok-Twin.schema.columns c.in-Ok-Twin.index.public c.in-Ok-Twin.index.protected c.in-Ok-start.twin.store.secret
+asked g c = base_over c.in-Ok-Twin.index c.in-Ok-start.twin.store
 
 pub asks : (g : Over) (c : goal.After-drop-schema-inside-in-Ok-start-3 g) → asked g c ≡ seen g c
 asks g c =
-    let ready = subst (IsReady g.B.Bench c.open.new.bench) c.in-Ok-Twin.field-0-is c.in-Ok-Twin.ensures.ready in
-    ap (λ (l : Protection). base_of c.in-Ok-Twin.schema.columns c.in-Ok-Twin.index.public l c.in-Ok-start.twin.store.secret) ready.3
-    ∙ ap (λ (s : SecretView). base_of c.in-Ok-Twin.schema.columns c.in-Ok-Twin.index.public c.in-Ok-Twin.protected s) c.in-Ok-start.ensures.store.0
+    let index = c.in-Ok-Twin.index in
+    let store = c.in-Ok-start.ensures.store in
+    ap (λ (l : Protection). base_of index.columns index.public l c.in-Ok-start.twin.store.secret) store.1
+    ∙ ap (λ (s : SecretView). base_of index.columns index.public c.in-Ok-Twin.protected s) store.0
 
 -- the journals keep together, and the history is the longer one
 pub together : (g : Over) (c : goal.After-drop-schema-inside-in-Ok-start-3 g) → g.B.Bench.told →

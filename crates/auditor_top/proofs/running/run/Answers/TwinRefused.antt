@@ -1,6 +1,5 @@
 -- What `run` says of `serve` whose two journals weren't opened.
 use Rattle.std.proofs.Common.{◌≡◌, ℕ, List, Some, refl, sym, ◌∙◌, ap, subst, inl, true, map, string_bytes}
-use Rattle.audit_types.specs.History.{Protection}
 use Rattle.audit_types.specs.declared.records.Answered.{Answered}
 use Rattle.bench_core.specs.Calls.{IsQuiet, IsUntouched, LeavesOnly}
 use Rattle.bench_core.specs.Moments.{weakens}
@@ -32,15 +31,11 @@ use Rattle.auditor_top.proofs.running.run.Goals as goal
 
 -- the files are those of the table whose groups were made ready
 abbrev seen : (g : Over) → goal.After-drop-schema-inside-in-Ok-Twin-3 g → Database
-seen g c = base_of c.in-Ok-Twin.schema.columns c.in-Ok-Twin.index.public c.in-Ok-Twin.protected c.in-Ok-Twin.secret
+seen g c = base_of c.in-Ok-Twin.index.columns c.in-Ok-Twin.index.public c.in-Ok-Twin.protected c.in-Ok-Twin.secret
 
 are : (g : Over) (c : goal.After-drop-schema-inside-in-Ok-Twin-3 g) → g.P.Source.told →
     AreSoundFilesOf (g.P.Source.left c.args.schema.now) (g.P.Source.left c.args.table.now) (seen g c)
-are g c ptold =
-    let ready = subst (IsReady g.B.Bench c.open.new.bench) c.in-Ok-Twin.field-0-is c.in-Ok-Twin.ensures.ready in
-    subst (λ (l : Protection). AreSoundFilesOf (g.P.Source.left c.args.schema.now) (g.P.Source.left c.args.table.now)
-    (base_of c.in-Ok-Twin.schema.columns c.in-Ok-Twin.index.public l c.in-Ok-Twin.secret)) ready.3
-    (subst (IsReadyOver _ _) c.in-Ok-Twin.field-0-is (c.in-Ok-Twin.ensures.over ptold))
+are g c ptold = subst (IsReadyOver _ _) c.in-Ok-Twin.field-0-is (c.in-Ok-Twin.ensures.over ptold)
 
 is_seen : (g : Over) (c : goal.After-drop-schema-inside-in-Ok-Twin-3 g) → g.P.Source.told → (base : Database) →
     AreSoundFilesOf (g.P.Source.left c.args.schema.now) (g.P.Source.left c.args.table.now) base → seen g c ≡ base

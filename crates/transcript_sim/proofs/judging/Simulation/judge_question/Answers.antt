@@ -20,7 +20,7 @@ returns-in_err-expected g c = record {
       let same : c.from_residual.result ≡ ended_by c.in_err-expected.field-0.0 = search rules in
       subst
       (λ (r : Result (Option Expected) Stop). IfErr r (IsUnjudged g.P.Source g.B.Bench c.args.self.now.lines c.next_question.new.self.lines
-      c.args.source.now c.next_question.new.source c.args.bench.now c.args.bench.now c.args.schema.now.columns c.args.index.now
+      c.args.source.now c.next_question.new.source c.args.bench.now c.args.bench.now c.args.index.now
       c.args.self.now.core.history))
       (sym same) (inl (c.in_err-expected.ensures.short, refl));
   same = c.next_question.ensures.same;
@@ -32,7 +32,7 @@ returns g c = record {
   asks =
       subst
       (λ (o : Option Expected). AsksNext g.P.Source c.args.self.now.lines c.next_question.new.self.lines c.args.source.now c.next_question.new.source
-      c.args.schema.now.columns c.args.index.now c.args.self.now.core.history o)
+      c.args.index.now c.args.self.now.core.history o)
       c.in-Some.is c.in_ok-expected.ensures.asks;
   sends =
       let sent : c.send_verdict.result ≡ Ok tt = search rules in
@@ -52,11 +52,11 @@ returns-in_err-send_verdict g c = record {
       let question =
       subst
       (λ (o : Option Expected). AsksNext g.P.Source c.args.self.now.lines c.next_question.new.self.lines c.args.source.now c.next_question.new.source
-      c.args.schema.now.columns c.args.index.now c.args.self.now.core.history o)
+      c.args.index.now c.args.self.now.core.history o)
       c.in-Some.is c.in_ok-expected.ensures.asks in
       subst
       (λ (r : Result (Option Expected) Stop). IfErr r (IsUnjudged g.P.Source g.B.Bench c.args.self.now.lines c.next_question.new.self.lines
-      c.args.source.now c.next_question.new.source c.args.bench.now c.send_verdict.new.bench c.args.schema.now.columns c.args.index.now
+      c.args.source.now c.next_question.new.source c.args.bench.now c.send_verdict.new.bench c.args.index.now
       c.args.self.now.core.history))
       (sym same) (inr (refl, record { expected = c.in-Some.expected; question = question; fails = c.in_err-send_verdict.ensures.fails }));
   same = c.next_question.ensures.same;
