@@ -10,6 +10,7 @@ use Rattle.bench_core.specs.declared.stops.Stop.TheVariants as stop
 use Rattle.bench_core.specs.declared.stops.End.{End}
 use Rattle.bench_core.specs.declared.stops.End.TheVariants.{Stopped, Refused}
 use Rattle.bench_core.specs.Bench.{AppendsFront}
+use Rattle.bench_core.specs.Calls.{IsUntouched}
 use Rattle.bench_core.specs.Causes.{Rose}
 use Rattle.line_wire.specs.Lines.{CountedLine, counted_lines}
 use Rattle.line_wire.specs.Cutter.{Cutter}
@@ -53,6 +54,12 @@ none_failed steady not = record {
 
 -- ---- before the first line
 
+-- what is left as it was is what a crash may find in the midst of a loop
+pub nothing_meanwhile : {X R : Type 0} (talk : Talk X R) → talk.Due [] [] → (told : Type 0) (all : List CountedLine) (file before image sent : List ℕ) →
+    IsUntouched file before image sent → TalksMeanwhile told talk all file before image sent
+nothing_meanwhile talk none_due told all file before image sent same =
+    (same.1, λ t. ([], ([], record { count = 0; are = refl }, none_due), (0, same.0 ∙ sym (append-nil before))))
+
 module _ {P B X R : Type 0} (source : SourceGhosts P) (bench : Ghosts B) (talk : Talk X R) (first_source : P) (first : B)
     (only_now : (image bytes : List ℕ) → bench.since first (bench.moment first) image bytes → bench.leaves first image × (bytes ≡ bench.sent first))
     (none_due : talk.Due [] []) where
@@ -61,7 +68,9 @@ module _ {P B X R : Type 0} (source : SourceGhosts P) (bench : Ghosts B) (talk :
       (TalksMeanwhile source.told talk (counted_lines (source.left first_source)) (bench.file first) (bench.sent first)) [] 0
   nothing_sent =
       none_sent bench first (TalksMeanwhile source.told talk (counted_lines (source.left first_source)) (bench.file first) (bench.sent first)) only_now
-      (λ image same. (same, λ told. ([], ([], record { count = 0; are = refl }, none_due), (0, sym (append-nil (bench.sent first))))))
+      (λ image same.
+      nothing_meanwhile talk none_due source.told (counted_lines (source.left first_source)) (bench.file first) (bench.sent first) image (bench.sent first)
+      (refl, same))
 
   -- and nothing was read
   pub nothing_yet : (cutter : Cutter) → (cutter.taken ≡ 0) × (cutter.pending ≡ []) × (cutter.ended ≡ false) →

@@ -17,7 +17,7 @@ use Rattle.bench_core.specs.declared.stops.End.TheVariants.{Stopped, Refused}
 use Rattle.set_index.specs.Indexed.{IndexView, public_setting}
 use Rattle.line_wire.specs.Lines.{CountedLine, counted_lines}
 use Rattle.line_wire.specs.Talks.{DueToFirst, EndDue, EndReads, EndSends, TalksMeanwhile}
-use Rattle.line_wire.specs.TalkSoFar.{none_failed}
+use Rattle.line_wire.specs.TalkSoFar.{none_failed, nothing_meanwhile}
 use Rattle.transcript_sim.specs.declared.simulating.SimulationRefusal.{SimulationRefusal}
 use Rattle.transcript_sim.specs.declared.simulating.SimulationRefusal.TheVariants.{Journal}
 use Rattle.transcript_sim.specs.Beginning.{BeginsWith, EndBegins, OnUnbegun, UnbegunCause}
@@ -65,7 +65,7 @@ module _ {P B : Type 0} (source : SourceGhosts P) (bench : Ghosts B) (index : In
     reading : (at : B) (history : List Answered) → OnlyReads bench old at → IsQuiet bench old → LeavesOnly bench old at (Meanwhile history)
     reading at history reads quiet =
         weakens bench old at (IsUntouched (bench.file old) (bench.sent old)) (Meanwhile history)
-        (λ image sent same. (same.1, λ t. ([], none_begun history (counted_lines (source.left first)), (0, same.0 ∙ sym (append-nil (bench.sent old))))))
+        (nothing_meanwhile (simulation index history) tt source.told (counted_lines (source.left first)) (bench.file old) (bench.sent old))
         (reads.untouched quiet)
 
     -- and then the lines are judged
