@@ -1,4 +1,3 @@
 pub mod TermsSoFar
-pub mod SoFar
 pub mod Turns
 pub mod OneText

@@ -1,77 +1,43 @@
 -- The turns of explaining: a line of the input is planned, and what is due to it is written and sent.
-use Rattle.std.proofs.Common.{◌≡◌, ◌+◌, ◌≤◌, true, List, ℕ, ◌++◌, ◌∷◌, [], Ok, Err}
+use Rattle.std.proofs.Common.{◌∷◌, ◌++◌, List, ℕ, [], Err}
 use Rattle.audit_types.specs.declared.records.Answered.{Answered}
 use Rattle.bench_core.specs.declared.bench.Bench.{Ghosts}
 use Rattle.bench_core.specs.declared.source.Source.{Ghosts as SourceGhosts}
-use Rattle.bench_core.specs.Bench.{AppendsFront, Elapses, Sending}
-use Rattle.bench_core.specs.Causes.{Rose}
 use Rattle.bench_core.specs.declared.stops.Stop.{Stop}
 use Rattle.bench_core.specs.declared.stops.Stop.TheVariants as stop
+use Rattle.bench_core.specs.declared.stops.End.TheVariants.{Stopped}
 use Rattle.set_index.specs.Indexed.{IndexView, public_setting}
 use Rattle.line_wire.specs.Lines.{CountedLine}
-use Rattle.line_wire.specs.Calls.{Cuts, GivesNone}
+use Rattle.line_wire.specs.Calls.{Cuts}
 use Rattle.line_wire.specs.Cutter.{Cutter}
+use Rattle.line_wire.specs.Talks.{Talks}
+use Rattle.line_wire.specs.TalkSoFar.{SoFar, limit_passed, read_failed, wants_memory}
 use Rattle.question_plan.specs.declared.planning.Plan.{Plan}
 use Rattle.question_plan.specs.Planned.{GivesPlan, IsUnplanned}
-use Rattle.certificate_lines.specs.Explained.{IsExplained, IsLineOf}
-use Rattle.certificate_lines.specs.Ends.{Explains}
-use Rattle.certificate_lines.proofs.SoFar.{SoFar, line_sent, line_unsent, wants_memory, all_read, cut_short}
+use Rattle.certificate_lines.specs.Explained.{IsExplained, IsLineOf, AreExplained, explanations}
 
--- between two lines: some were read, and each is explained
-pub record Turn {P B : Type 0} (source : SourceGhosts P) (bench : Ghosts B) (index : IndexView) (history : List Answered)
-    (first_source : P) (first : B) (cutter : Cutter) (from : P) (at : B) : Type 0 where
-  pub asked : List CountedLine
-  pub lines : List (List ℕ)
-  pub so_far : SoFar source bench index history first_source first cutter from at asked lines
+module _ (index : IndexView) (history : List Answered) where
+  -- what is due to one line more
+  explained-push : (asked : List CountedLine) (lines : List (List ℕ)) (next : CountedLine) (line : List ℕ) → AreExplained index history asked lines →
+      IsExplained index history next line → AreExplained index history (asked ++ next ∷ []) (lines ++ line ∷ [])
+  explained-push [] [] next line are is = (is, tt)
+  explained-push [] (l ∷ lines) next line are is = absurd are
+  explained-push (a ∷ asked) [] next line are is = absurd are
+  explained-push (a ∷ asked) (l ∷ lines) next line are is = (are.0, explained-push asked lines next line are.1 is)
 
-module _ {P B : Type 0} (source : SourceGhosts P) (bench : Ghosts B) (index : IndexView) (history : List Answered)
-    (first_source : P) (first : B) (cutter : Cutter) (from : P) (at : B)
-    (turn : Turn source bench index history first_source first cutter from at) (new : Cutter) (after : P)
-    (cuts : Cuts source cutter new from after) where
-  -- ---- a line
+  module _ {P B : Type 0} {source : SourceGhosts P} {bench : Ghosts B} {first_source from : P} {first at : B} {cutter : Cutter} {asked : List CountedLine} {lines : List (List ℕ)}
+      (so_far : SoFar source bench (explanations index history) first_source from first at cutter asked lines) {new : Cutter} {after : P} where
+    -- the line of a plan is due to the line that was planned
+    pub line_due : {plan : Plan} (gives : GivesPlan source cutter new from after index plan) (line : List ℕ) →
+        IsLineOf (public_setting index) history plan line →
+        AreExplained index history (asked ++ gives.line ∷ []) (lines ++ line ∷ [])
+    line_due {plan} gives line line_of =
+        explained-push asked lines gives.line line so_far.due (record { plan = plan; planned = gives.planned; line_of = line_of })
 
-  module _ (plan : Plan) (gives : GivesPlan source cutter new from after index.columns index.public plan) where
-    -- there was no memory for what is due to it
-    pub unwritten : Explains source bench index history first_source after first at (Err stop.NoMemory)
-    unwritten =
-        wants_memory source bench index history first_source first cutter from at turn.asked turn.lines turn.so_far after gives.gives.steady
-
-    module _ (line : List ℕ) (line_of : IsLineOf (public_setting index) history plan line) (sending : B)
-        (file : bench.file sending ≡ bench.file at) (crash : (image : List ℕ) → bench.leaves sending image → bench.leaves at image)
-        (time : Elapses (bench.moment at) (bench.moment sending) (bench.since at) (bench.since sending)
-        (Sending (bench.leaves sending) (bench.sent at) line)) where
-      explained : IsExplained index history gives.line line
-      explained = record { plan = plan; planned = gives.planned; line_of = line_of }
-
-      -- it was sent
-      pub went_on : (bench.told → bench.sent sending ≡ bench.sent at ++ line) → (bench.told → bench.moment sending ≡ bench.moment at + 1)
-          → bench.faults sending ≡ bench.faults at
-          → Turn source bench index history first_source first new after sending
-      went_on all ticks still = record {
-        asked = turn.asked ++ gives.line ∷ [];
-        lines = turn.lines ++ line ∷ [];
-        so_far =
-            line_sent source bench index history first_source first cutter from at turn.asked turn.lines turn.so_far new after gives.line line
-            gives.gives cuts explained sending file crash time all ticks still;
-      }
-
-      -- it couldn't be
-      pub unsent : (bench.told → AppendsFront (bench.sent at) line (bench.sent sending)) → Rose (bench.faults at) (bench.faults sending)
-          → bench.last_failed sending ≡ true → bench.faults at ≤ bench.faults sending
-          → Explains source bench index history first_source after first sending (Err stop.Bench)
-      unsent part rose last later =
-          line_unsent source bench index history first_source first cutter from at turn.asked turn.lines turn.so_far new after gives.line line
-          gives.gives cuts explained sending file crash time part rose last later
-
-  -- ---- no line
-
-  -- none was planned
-  pub unplanned : (why : Stop) → IsUnplanned source cutter new from after why →
-      Explains source bench index history first_source after first at (Err why)
-  unplanned why short =
-      cut_short source bench index history first_source first cutter from at turn.asked turn.lines turn.so_far new after cuts why short
-
-  -- none is left
-  pub none_left : GivesNone source cutter new from after → Explains source bench index history first_source after first at (Ok tt)
-  none_left none =
-      all_read source bench index history first_source first cutter from at turn.asked turn.lines turn.so_far new after cuts none
+    -- none was planned
+    pub unplanned : Cuts source cutter new from after → (why : Stop) → IsUnplanned source cutter new from after why →
+        Talks source bench (explanations index history) first_source after first at (Err (Stopped why))
+    unplanned cuts stop.Input short = read_failed so_far cuts short
+    unplanned cuts stop.Limit short = limit_passed so_far cuts short
+    unplanned cuts stop.NoMemory short = wants_memory so_far short
+    unplanned cuts other short = absurd short

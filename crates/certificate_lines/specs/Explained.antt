@@ -13,6 +13,7 @@ use Rattle.denial_proof.specs.declared.proof_parts.Proof.{Proof}
 use Rattle.denial_proof.specs.Canonical.{IsCanonical, IsTooWide}
 use Rattle.set_index.specs.Indexed.{IndexView, public_setting}
 use Rattle.line_wire.specs.Lines.{CountedLine}
+use Rattle.line_wire.specs.Talks.{Talk}
 use Rattle.line_wire.specs.declared.question.Take.{Take}
 use Rattle.line_wire.specs.declared.reply.Reply.TheVariants as reply
 use Rattle.question_plan.specs.declared.due.Due.TheVariants as due
@@ -61,3 +62,13 @@ pub record IsExplained (index : IndexView) (history : List Answered) (asked : Co
 -- those that are sent for counted lines, one for each
 abbrev pub AreExplained : IndexView → List Answered → List CountedLine → List (List ℕ) → Type 0
 AreExplained index history asked lines = AllZip (IsExplained index history) asked lines
+
+-- what explaining the lines of an input sends: one line for each, and it refuses nothing
+abbrev pub explanations : IndexView → List Answered → Talk (List ℕ) ⊥
+explanations index history = record {
+  bytes = λ line. line;
+  Due = AreExplained index history;
+  count = λ asked. length asked;
+  Refuses = λ why input lines. ⊥;
+  Reads = λ why input. ⊥;
+}

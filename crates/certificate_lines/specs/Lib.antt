@@ -1,5 +1,4 @@
 pub mod Texts
 pub mod Explained
-pub mod Ends
 pub mod Laws
 pub mod Provers

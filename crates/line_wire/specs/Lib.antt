@@ -17,3 +17,5 @@ pub mod LineLaws
 pub mod LinesInTurn
 pub mod LinesSoFar
 pub mod SentSoFar
+pub mod Talks
+pub mod TalkSoFar

@@ -1,15 +1,20 @@
 -- A transcript begins with one history, and a journal that gives one is never refused.
-use Rattle.std.proofs.Common.{◌≡◌, ℕ, List, Result, Ok, Err, OnOk, IfErr, sym, ◌∙◌, subst, inl, inr}
+use Rattle.std.proofs.Common.{◌≡◌, ℕ, List, Result, Ok, Err, IfErr, sym, ◌∙◌, subst, inl, inr}
 use Rattle.audit_types.specs.declared.records.Answered.{Answered}
 use Rattle.audit_types.specs.declared.shapes.Shape.{Shape}
 use Rattle.audit_types.specs.History.{Setting}
 use Rattle.audit_core.specs.Released.{WereReleased}
 use Rattle.answer_journal.specs.MadeFiles.{stands_is_made}
-use Rattle.bench_core.specs.declared.stops.Stop.TheVariants as stop
+use Rattle.answer_journal.specs.declared.refusals.JournalRefusal.{JournalRefusal}
+use Rattle.answer_journal.specs.declared.refusals.JournalRefusal.TheVariants.{Damaged, OtherShape, Illegal}
+use Rattle.bench_core.specs.Ends.{EndsBy}
+use Rattle.bench_core.specs.Stops.{IsOfBench, IsOfMemory, of_bench}
+use Rattle.bench_core.specs.declared.stops.End.{End}
+use Rattle.bench_core.specs.declared.stops.End.TheVariants.{Stopped, Refused}
 use Rattle.journal_form.specs.Journal.{StandsAt, BreaksAt}
-use Rattle.transcript_sim.specs.declared.simulating.SimulationFault.{SimulationFault}
-use Rattle.transcript_sim.specs.declared.simulating.SimulationFault.TheVariants as fault
-use Rattle.transcript_sim.specs.Beginning.{BeginsWith, EndBegins, HistoryCause, OnRefused}
+use Rattle.transcript_sim.specs.declared.simulating.SimulationRefusal.{SimulationRefusal}
+use Rattle.transcript_sim.specs.declared.simulating.SimulationRefusal.TheVariants.{Journal}
+use Rattle.transcript_sim.specs.Beginning.{BeginsWith, EndBegins, HistoryCause, OnUnbegun, UnbegunCause}
 
 -- a file is read in one way
 abbrev pub OneReading : Type 0
@@ -30,39 +35,40 @@ module _ (one : OneReading) (file : List ℕ) (setting : Setting) where
   one_beginning history others (inr first) (inr second) = (one file setting.shape setting.shape history others first.0.0 second.0.0 first.0.1 second.0.1).1
 
   module _ (whole : NoBreak) (history : List Answered) where
-    pub never_refused : BeginsWith file setting history → {X : Type 0} (ended : Result X SimulationFault) → EndBegins ended file setting → OnRefused ended ⊥
-    never_refused (inl none) (Err (fault.Damaged at)) cause = none.0 cause.0
-    never_refused (inr stands) (Err (fault.Damaged at)) cause = whole file setting.shape history stands.0.0 at stands.0.1 cause.1
-    never_refused (inl none) (Err (fault.OtherShape kept now)) cause = none.0 (stands_is_made file kept cause.history cause.stands)
-    never_refused (inr stands) (Err (fault.OtherShape kept now)) cause =
+    pub never_refused : BeginsWith file setting history → (why : JournalRefusal) → UnbegunCause why file setting → ⊥
+    never_refused (inl none) (Damaged at) cause = none.0 cause.0
+    never_refused (inr stands) (Damaged at) cause = whole file setting.shape history stands.0.0 at stands.0.1 cause.1
+    never_refused (inl none) (OtherShape kept now) cause = none.0 (stands_is_made file kept cause.history cause.stands)
+    never_refused (inr stands) (OtherShape kept now) cause =
         let read = one file kept setting.shape cause.history history cause.stands.0 stands.0.0 cause.stands.1 stands.0.1 in
         cause.other (read.0 ∙ sym cause.now_is)
-    never_refused (inl none) (Err (fault.Illegal place group)) cause = none.0 (stands_is_made file setting.shape cause.history cause.stands)
-    never_refused (inr stands) (Err (fault.Illegal place group)) cause =
+    never_refused (inl none) (Illegal place group) cause = none.0 (stands_is_made file setting.shape cause.history cause.stands)
+    never_refused (inr stands) (Illegal place group) cause =
         let read = one file setting.shape setting.shape history cause.history stands.0.0 cause.stands.0 stands.0.1 cause.stands.1 in
         let released = subst (WereReleased setting) read.1 stands.1 in
         cause.first.denied (released.each place cause.first.at cause.first.stands).released
-    never_refused begins ended cause = tt
+    never_refused begins why cause = absurd cause
 
--- an end
-abbrev pub ended_by : (X : Type 0) → SimulationFault → Result X SimulationFault
-ended_by X why = Err why
+    pub unblamed : BeginsWith file setting history → (ended : Result (Unit {0}) (End SimulationRefusal)) → EndBegins ended file setting → OnUnbegun ended ⊥
+    unblamed begins (Err (Refused (Journal why))) cause = never_refused begins why cause
+    unblamed begins ended cause = tt
 
 -- what is told of the history of a journal is told of its file
 module _ (file : List ℕ) (setting : Setting) (kept : Shape) (list : List Answered) (gate : ℕ) (stands : StandsAt file kept list gate) where
-  told_by_history : (X : Type 0) (why : SimulationFault) → HistoryCause why kept setting list → EndBegins (ended_by X why) file setting
-  told_by_history X (fault.OtherShape other now) cause = record {
+  told_by_history : (why : JournalRefusal) → HistoryCause why kept setting list → UnbegunCause why file setting
+  told_by_history (OtherShape other now) cause = record {
     now_is = cause.1;
     other = cause.2;
     history = list;
     stands = (gate, subst (λ s. StandsAt file s list gate) (sym cause.0) stands);
   }
-  told_by_history X (fault.Illegal place group) cause =
+  told_by_history (Illegal place group) cause =
       record { history = list; stands = (gate, subst (λ s. StandsAt file s list gate) cause.0 stands); first = cause.1 }
-  told_by_history X (fault.Stopped stop.NoMemory) cause = tt
-  told_by_history X other cause = absurd cause
+  told_by_history other cause = absurd cause
 
-  pub told_by_audit : {X : Type 0} (ended : Result X SimulationFault) → OnOk ended ((kept ≡ setting.shape) × WereReleased setting list) →
-      IfErr ended (λ why. HistoryCause why kept setting list) → EndBegins ended file setting
-  told_by_audit (Ok core) released cause = (list, inr ((gate, subst (λ s. StandsAt file s list gate) released.0 stands), released.1))
-  told_by_audit {X} (Err why) released cause = told_by_history X why cause
+  pub told_by_audit : {X : Type 0} (ended : Result X (End JournalRefusal)) (told : Type 0) →
+      IfErr ended (EndsBy IsOfMemory (λ why. HistoryCause why kept setting list)) →
+      IfErr ended (EndsBy IsOfBench (λ why. told → UnbegunCause why file setting))
+  told_by_audit (Ok core) told cause = tt
+  told_by_audit (Err (Stopped why)) told cause = of_bench why cause
+  told_by_audit (Err (Refused why)) told cause = λ t. told_by_history why cause

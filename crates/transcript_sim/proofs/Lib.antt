@@ -3,5 +3,4 @@ pub mod OneVerdict
 pub mod Exchanges
 pub mod Beginnings
 pub mod Begun
-pub mod SoFar
 pub mod Turns

@@ -6,10 +6,13 @@ use Rattle.audit_types.specs.History.{Setting}
 use Rattle.audit_core.specs.Released.{WereReleased, IsFirstUnreleased}
 use Rattle.answer_journal.specs.Moments.{IsMade}
 use Rattle.bench_core.specs.declared.stops.Stop.TheVariants as stop
-use Rattle.bench_core.specs.Stops.{IsOfBench}
+use Rattle.bench_core.specs.declared.stops.End.{End}
+use Rattle.bench_core.specs.declared.stops.End.TheVariants.{Stopped, Refused}
+use Rattle.answer_journal.specs.declared.refusals.JournalRefusal.{JournalRefusal}
+use Rattle.answer_journal.specs.declared.refusals.JournalRefusal.TheVariants.{Damaged, OtherShape, Illegal}
 use Rattle.journal_form.specs.Journal.{StandsFor, BreaksAt}
-use Rattle.transcript_sim.specs.declared.simulating.SimulationFault.{SimulationFault}
-use Rattle.transcript_sim.specs.declared.simulating.SimulationFault.TheVariants as fault
+use Rattle.transcript_sim.specs.declared.simulating.SimulationRefusal.{SimulationRefusal}
+use Rattle.transcript_sim.specs.declared.simulating.SimulationRefusal.TheVariants.{Journal}
 
 -- no journal is made, and the history is empty; or the file is that of a history which was to be released
 abbrev pub BeginsWith : List ℕ → Setting → List Answered → Type 0
@@ -32,31 +35,27 @@ pub record HoldsUnreleased (file : List ℕ) (setting : Setting) (place : ℕ) (
   pub stands : StandsFor file setting.shape history
   pub first : IsFirstUnreleased setting history place group
 
+-- why no history is begun with, by what the journal is
+abbrev pub UnbegunCause : JournalRefusal → List ℕ → Setting → Type 0
+UnbegunCause (Damaged at) file setting = IsDamagedAt file at
+UnbegunCause (OtherShape kept now) file setting = IsOfOther file setting kept now
+UnbegunCause (Illegal place group) file setting = HoldsUnreleased file setting place group
+UnbegunCause why file setting = ⊥
+
 -- what the end of a simulation says of the journal's file: why no history was begun with, or that one was
-abbrev pub EndBegins : {X : Type 0} → Result X SimulationFault → List ℕ → Setting → Type 0
-EndBegins (Err (fault.Damaged at)) file setting = IsDamagedAt file at
-EndBegins (Err (fault.OtherShape kept now)) file setting = IsOfOther file setting kept now
-EndBegins (Err (fault.Illegal place group)) file setting = HoldsUnreleased file setting place group
-EndBegins (Err (fault.Stopped stop.Bench)) file setting = Unit {0}
-EndBegins (Err (fault.Stopped stop.NoMemory)) file setting = Unit {0}
+abbrev pub EndBegins : Result (Unit {0}) (End SimulationRefusal) → List ℕ → Setting → Type 0
+EndBegins (Err (Refused (Journal why))) file setting = UnbegunCause why file setting
+EndBegins (Err (Stopped stop.Bench)) file setting = Unit {0}
+EndBegins (Err (Stopped stop.NoMemory)) file setting = Unit {0}
 EndBegins ended file setting = (history : List Answered) × BeginsWith file setting history
 
 -- this holds if no history was begun with, for what the journal is
-abbrev pub OnRefused : {X : Type 0} → Result X SimulationFault → Type 0 → Type 0
-OnRefused (Err (fault.Damaged at)) P = P
-OnRefused (Err (fault.OtherShape kept now)) P = P
-OnRefused (Err (fault.Illegal place group)) P = P
-OnRefused ended P = Unit {0}
-
--- no history was begun with, for what the journal is, or because a call of the bench failed or memory ran out
-abbrev pub IsUnbegun : SimulationFault → Type 0
-IsUnbegun (fault.Stopped why) = IsOfBench why
-IsUnbegun (fault.Disagrees line due) = ⊥
-IsUnbegun why = Unit {0}
+abbrev pub OnUnbegun : Result (Unit {0}) (End SimulationRefusal) → Type 0 → Type 0
+OnUnbegun (Err (Refused (Journal why))) P = P
+OnUnbegun ended P = Unit {0}
 
 -- why the audit doesn't go on from the history of a journal of this shape
-abbrev pub HistoryCause : SimulationFault → Shape → Setting → List Answered → Type 0
-HistoryCause (fault.OtherShape kept now) shape setting history = (kept ≡ shape) × (now ≡ setting.shape) × (kept ≢ now)
-HistoryCause (fault.Illegal place group) shape setting history = (shape ≡ setting.shape) × IsFirstUnreleased setting history place group
-HistoryCause (fault.Stopped stop.NoMemory) shape setting history = Unit {0}
+abbrev pub HistoryCause : JournalRefusal → Shape → Setting → List Answered → Type 0
+HistoryCause (OtherShape kept now) shape setting history = (kept ≡ shape) × (now ≡ setting.shape) × (kept ≢ now)
+HistoryCause (Illegal place group) shape setting history = (shape ≡ setting.shape) × IsFirstUnreleased setting history place group
 HistoryCause why shape setting history = ⊥

@@ -4,26 +4,25 @@ use Rattle.std.specs.Option.{option_to_list}
 use Rattle.audit_types.specs.History.{Setting, FitsShape, known_of}
 use Rattle.audit_types.specs.Judgement.{IsWithinWidth}
 use Rattle.audit_types.specs.declared.records.Answered.{Answered}
-use Rattle.audit_core.specs.declared.replaying.ReplayFault.{ReplayFault}
-use Rattle.audit_core.specs.declared.replaying.ReplayFault.TheVariants as replay
 use Rattle.bench_core.specs.declared.bench.Bench.{Ghosts as BenchGhosts}
 use Rattle.bench_core.specs.declared.source.Source.{Ghosts}
 use Rattle.bench_core.specs.declared.stops.Stop.{Stop}
 use Rattle.bench_core.specs.declared.stops.Stop.TheVariants as stop
-use Rattle.bench_core.specs.Bench.{AppendsFront, Elapses, Sending}
-use Rattle.bench_core.specs.Causes.{Rose}
+use Rattle.bench_core.specs.declared.stops.End.{End}
+use Rattle.bench_core.specs.declared.stops.End.TheVariants.{Refused}
 use Rattle.set_index.specs.Indexed.{IndexView, public_setting}
 use Rattle.line_wire.specs.Lines.{CountedLine}
 use Rattle.line_wire.specs.Cutter.{Cutter}
 use Rattle.line_wire.specs.Calls.{GivesLine, GivesNone}
+use Rattle.line_wire.specs.Talks.{SendsAll, SendsPart}
 use Rattle.question_plan.specs.declared.due.Due.{Due}
 use Rattle.question_plan.specs.Planned.{IsUnplanned}
 use Rattle.transcript_sim.specs.declared.expecting.Expected.{Expected}
 use Rattle.transcript_sim.specs.declared.expecting.Expected.TheVariants.{Only, Answer}
 use Rattle.transcript_sim.specs.declared.shown.Shown.{Shown}
 use Rattle.transcript_sim.specs.declared.shown.Shown.TheVariants.{Agrees, Disagrees}
-use Rattle.transcript_sim.specs.declared.simulating.SimulationFault.{SimulationFault}
-use Rattle.transcript_sim.specs.declared.simulating.SimulationFault.TheVariants as fault
+use Rattle.transcript_sim.specs.declared.simulating.SimulationRefusal.{SimulationRefusal}
+use Rattle.transcript_sim.specs.declared.simulating.SimulationRefusal.TheVariants as refusal
 use Rattle.transcript_sim.specs.Verdicts.{Expects, AgreesWith, line_of}
 
 -- ---- what was called for
@@ -80,43 +79,23 @@ CanFollow setting history (Some Disagrees) = Unit {0}
 CanFollow setting history None = Unit {0}
 
 -- whether a transcript goes on after it: a line that disagrees is its end, and so is none
-abbrev pub goes_on : Option Shown → ℕ → Due → Result Bool SimulationFault
+abbrev pub goes_on : Option Shown → ℕ → Due → Result Bool (End SimulationRefusal)
 goes_on (Some (Agrees added)) line due = Ok true
-goes_on (Some Disagrees) line due = Err (fault.Disagrees line due)
+goes_on (Some Disagrees) line due = Err (Refused (refusal.Disagrees line due))
 goes_on None line due = Ok false
 
 -- ---- the sending of a verdict
 
--- its line was sent, by one call
-pub record SendsVerdict {B : Type 0} (bench : BenchGhosts B) (old new : B) (expected : Expected) : Type 0 where
-  pub all : bench.told → bench.sent new ≡ bench.sent old ++ line_of expected
-  pub file : bench.file new ≡ bench.file old
-  pub crash : (image : List ℕ) → bench.leaves new image → bench.leaves old image
-  pub time : Elapses (bench.moment old) (bench.moment new) (bench.since old) (bench.since new) (Sending (bench.leaves new) (bench.sent old) (line_of expected))
-  pub ticks : bench.told → bench.moment new ≡ bench.moment old + 1
-  pub steady : bench.faults new ≡ bench.faults old
-
--- the call failed, and a front of the line was sent
-pub record FailsSending {B : Type 0} (bench : BenchGhosts B) (old new : B) (expected : Expected) : Type 0 where
-  pub part : bench.told → AppendsFront (bench.sent old) (line_of expected) (bench.sent new)
-  pub file : bench.file new ≡ bench.file old
-  pub crash : (image : List ℕ) → bench.leaves new image → bench.leaves old image
-  pub time : Elapses (bench.moment old) (bench.moment new) (bench.since old) (bench.since new) (Sending (bench.leaves new) (bench.sent old) (line_of expected))
-  pub later : bench.faults old ≤ bench.faults new
-  pub rose : Rose (bench.faults old) (bench.faults new)
-  pub last : bench.last_failed new ≡ true
-
 -- the verdict on a question was sent, and if there was none, nothing
 abbrev pub SendsFor : {B : Type 0} → BenchGhosts B → B → B → Option Expected → Type 0
 SendsFor bench old new None = new ≡ old
-SendsFor bench old new (Some expected) = SendsVerdict bench old new expected
+SendsFor bench old new (Some expected) = SendsAll bench old new (line_of expected)
 
 -- a question whose verdict couldn't be sent
-pub record GivesUnsent {P B : Type 0} (source : Ghosts P) (bench : BenchGhosts B) (old new : Cutter) (before after : P) (at now : B)
-    (index : IndexView) (history : List Answered) : Type 0 where
+pub record GivesUnsent {P B : Type 0} (source : Ghosts P) (bench : BenchGhosts B) (old new : Cutter) (before after : P) (at now : B) (index : IndexView) (history : List Answered) : Type 0 where
   pub expected : Expected
   pub question : GivesQuestion source old new before after index history expected
-  pub fails : FailsSending bench at now expected
+  pub fails : SendsPart bench at now (line_of expected)
 
 -- why no verdict was sent: no question was given and no call was made, or the call failed
 abbrev pub IsUnjudged : {P B : Type 0} → Ghosts P → BenchGhosts B → Cutter → Cutter → P → P → B → B → IndexView → List Answered →
@@ -124,10 +103,3 @@ abbrev pub IsUnjudged : {P B : Type 0} → Ghosts P → BenchGhosts B → Cutter
 IsUnjudged source bench old new before after at now index history why =
     (IsUnplanned source old new before after why × (now ≡ at)) ⊎
     ((why ≡ stop.Bench) × GivesUnsent source bench old new before after at now index history)
-
--- ---- the end of reading
-
--- the end that a history makes which wasn't to be released
-abbrev pub replay_fault : ReplayFault → SimulationFault
-replay_fault (replay.Unreleased place group) = fault.Illegal place group
-replay_fault replay.NoMemory = fault.Stopped stop.NoMemory

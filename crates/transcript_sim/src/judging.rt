@@ -2,24 +2,26 @@
 ghost use Rattle.std.specs.Prelude.{◌≡◌, ◌++◌, [], true, false, OnOk, OnErr, IfOk, IfErr};
 ghost use Rattle.set_index.specs.Indexed.{public_setting};
 ghost use Rattle.line_wire.specs.Calls.{Cuts};
+ghost use Rattle.line_wire.specs.Talks.{SendsAll, SendsPart};
 ghost use Rattle.question_plan.specs.Planned.{IsUnplanned};
-ghost use Rattle.transcript_sim.specs.Steps.{AsksNext, CanBeTaken, CanFollow, FailsSending, IsUnjudged, SendsFor, SendsVerdict, ShowsNext, goes_on, records_shown};
+ghost use Rattle.transcript_sim.specs.Steps.{AsksNext, CanBeTaken, CanFollow, IsUnjudged, SendsFor, ShowsNext, goes_on, records_shown};
+ghost use Rattle.transcript_sim.specs.Verdicts.{line_of};
 
 use crate::expecting::Expected;
 use crate::questions::next_shown;
 use crate::shown::Shown;
-use crate::simulating::SimulationFault;
+use crate::simulating::SimulationRefusal;
 use audit_core::Core;
 use audit_types::NoMemory;
-use bench_core::{Bench, Failed, Source, Stop};
+use bench_core::{Bench, End, Failed, Source, Stop};
 use question_plan::{Due, Planner};
 use set_index::Index;
 use std::alloc::Global;
 
 // Sends the line of a verdict, in one call.
 fn send_verdict<B: Bench>(bench: &mut B, expected: &Expected) -> Result<(), Failed>
-    ensures sends { OnOk result (SendsVerdict B.Bench bench.old bench.new expected.now) }
-    ensures fails { OnErr result (FailsSending B.Bench bench.old bench.new expected.now) }
+    ensures sends { OnOk result (SendsAll B.Bench bench.old bench.new (line_of expected.now)) }
+    ensures fails { OnErr result (SendsPart B.Bench bench.old bench.new (line_of expected.now)) }
 {
     bench.send(expected.line())
 }
@@ -100,12 +102,12 @@ impl Simulation {
 
 /// Whether the transcript goes on after what was shown to the last question, at this line. One that disagrees is reported
 /// with the question's verdict.
-pub(crate) fn goes_on(shown: Option<Shown>, line: u64, due: Due) -> Result<bool, SimulationFault>
+pub(crate) fn goes_on(shown: Option<Shown>, line: u64, due: Due) -> Result<bool, End<SimulationRefusal>>
     ensures { result ≡ goes_on shown line due }
 {
     match shown {
         Some(Shown::Agrees(_)) => Ok(true),
-        Some(Shown::Disagrees) => Err(SimulationFault::Disagrees { line, due }),
+        Some(Shown::Disagrees) => Err(End::Refused(SimulationRefusal::Disagrees { line, due })),
         None => Ok(false),
     }
 }

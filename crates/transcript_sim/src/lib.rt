@@ -14,4 +14,4 @@ mod questions;
 mod shown;
 mod simulating;
 
-pub use simulating::{SimulationFault, simulate};
+pub use simulating::{SimulationRefusal, simulate};

@@ -1,34 +1,33 @@
 use Rattle.std.proofs.Common.{rules, ◌≡◌, List, ℕ, [], Result, Err, refl, sym, subst}
-use Rattle.std.proofs.lemmas.List.{append-nil}
 use Rattle.audit_types.specs.declared.records.Answered.{Answered}
 use Rattle.audit_types.specs.History.{Setting, setting_of}
 use Rattle.denial_proof.specs.Denied.{IsLegalIn}
 use Rattle.bench_core.specs.declared.stops.Stop.{Stop}
 use Rattle.bench_core.specs.declared.stops.Stop.TheVariants as stop
-use Rattle.line_wire.specs.Lines.{CountedLine}
-use Rattle.certificate_lines.specs.Explained.{AreExplained}
-use Rattle.certificate_lines.specs.Ends.{EndLines, EndSends}
-use Rattle.certificate_lines.proofs.SoFar.{nothing_sent}
+use Rattle.line_wire.specs.Talks.{Talks, unrefused}
+use Rattle.line_wire.specs.TalkSoFar.{never_began}
+use Rattle.certificate_lines.specs.Explained.{explanations}
 use Rattle.certificate_lines.proofs.explaining.explain.Goals as goal
 
 abbrev ended_by : Stop → Result (Unit {0}) Stop
 ended_by why = Err why
 
-pub returns-in_err-planner-clause-explains : goal.returns-in_err-planner-clause-explains
-returns-in_err-planner-clause-explains g c = λ t.
-    let input = g.P.Source.left c.args.source.now in
-    let sent = g.B.Bench.sent c.args.bench.now in
+pub returns-in_err-planner : goal.returns-in_err-planner
+returns-in_err-planner g c =
     let same : c.from_residual.result ≡ ended_by stop.NoMemory = search rules in
     subst
-    (λ (r : Result (Unit {0}) Stop). (asked : List CountedLine) × (lines : List (List ℕ)) × EndLines r input input asked ×
-    AreExplained c.args.index.now c.args.store.now.history asked lines × (g.B.Bench.told → EndSends r lines sent sent))
+    (λ (r : Result (Unit {0}) Stop). Talks g.P.Source g.B.Bench (explanations c.args.index.now c.args.store.now.history)
+    c.args.source.now c.args.source.now c.args.bench.now c.args.bench.now (unrefused r))
     (sym same)
-    ([], [], record { count = 0; are = refl }, tt, λ u. sym (append-nil sent))
+    (never_began g.P.Source g.B.Bench (explanations c.args.index.now c.args.store.now.history) c.args.source.now
+    c.args.bench.now (λ image bytes was. g.met.B.Bench.only_now c.args.bench.now image bytes was) tt)
 
-pub returns-in_err-planner-clause-any_moment : goal.returns-in_err-planner-clause-any_moment
-returns-in_err-planner-clause-any_moment g c = λ told quiet.
-    (nothing_sent g.P.Source g.B.Bench c.args.index.now c.args.store.now.history c.args.source.now c.args.bench.now
-    (λ image bytes was. g.met.B.Bench.only_now c.args.bench.now image bytes was)).moments told quiet
+pub returns : goal.returns
+returns g c =
+    subst
+    (λ (h : List Answered). Talks g.P.Source g.B.Bench (explanations c.args.index.now h) c.args.source.now
+    c.explain_lines.new.source c.args.bench.now c.explain_lines.new.bench (unrefused c.explain_lines.result))
+    (c.core.ensures.same c.requires.usable) c.explain_lines.ensures
 
 pub explain_lines-requires-clause-legal : goal.explain_lines-requires-clause-legal
 explain_lines-requires-clause-legal g c =

@@ -4,7 +4,9 @@ use Rattle.bench_core.specs.declared.source.Failed.{Failed}
 use Rattle.bench_core.specs.declared.stops.Stop.{Stop}
 use Rattle.bench_core.specs.declared.stops.Stop.TheVariants as stop
 use Rattle.transcript_sim.specs.declared.expecting.Expected.{Expected}
-use Rattle.transcript_sim.specs.Steps.{AsksNext, IsUnjudged, SendsVerdict}
+use Rattle.line_wire.specs.Talks.{SendsAll}
+use Rattle.transcript_sim.specs.Steps.{AsksNext, IsUnjudged}
+use Rattle.transcript_sim.specs.Verdicts.{line_of}
 use Rattle.transcript_sim.proofs.judging.Simulation.judge_question.Goals as goal
 
 abbrev ended_by : Stop → Result (Option Expected) Stop
@@ -34,7 +36,7 @@ returns g c = record {
       c.in-Some.is c.in_ok-expected.ensures.asks;
   sends =
       let sent : c.send_verdict.result ≡ Ok tt = search rules in
-      subst (λ (r : Result (Unit {0}) Failed). OnOk r (SendsVerdict g.B.Bench c.args.bench.now c.send_verdict.new.bench c.in-Some.expected)) sent
+      subst (λ (r : Result (Unit {0}) Failed). OnOk r (SendsAll g.B.Bench c.args.bench.now c.send_verdict.new.bench (line_of c.in-Some.expected))) sent
       c.send_verdict.ensures.sends;
   unjudged = tt;
   same = c.next_question.ensures.same;
