@@ -1,11 +1,10 @@
 -- How a session ends, by what ended it.
-use Rattle.std.proofs.Common.{◌≡◌, ℕ, ◌+◌, ◌<◌, ◌≤◌, List, [], ◌++◌, length, take, Result, Ok, Err, refl, sym, ◌∙◌, ap, subst}
-use Rattle.std.specs.Prelude.{IsErrOf, OnOk}
+use Rattle.std.proofs.Common.{◌≡◌, ℕ, List, ◌++◌, length, take, Err, sym, ◌∙◌, ap, subst}
+use Rattle.std.specs.Prelude.{IsErrOf}
 use Rattle.std.proofs.Math.Seq.{take-append_seam}
 use Rattle.audit_types.specs.declared.records.Answered.{Answered}
 use Rattle.table_load.specs.Cells.{SecretView}
-use Rattle.table_load.specs.Database.{Database}
-use Rattle.line_wire.specs.Lines.{counted_lines, most_input}
+use Rattle.line_wire.specs.Lines.{most_input}
 use Rattle.bench_core.specs.declared.stops.Stop.{Stop}
 use Rattle.bench_core.specs.declared.stops.Stop.TheVariants as end
 use Rattle.bench_core.specs.Stops.{IsOfBenches}
@@ -13,20 +12,13 @@ use Rattle.bench_core.specs.declared.bench.Bench.{Ghosts}
 use Rattle.bench_core.specs.Calls.{IsQuiet}
 use Rattle.journal_form.specs.Journal.{StandsFor}
 use Rattle.audit_store.specs.Stores.{StoreContents}
-use Rattle.audit_session.specs.Ends.{Ends, Reads, Rests, Serves, ServesWhole, ServesSome, limited}
+use Rattle.audit_session.specs.Ends.{limited}
+use Rattle.audit_session.proofs.DecidedGroup.{by_kind}
 
 -- the file stands for the history, and a quiet bench is still quiet
 pub record Rests {B : Type 0} (bench : Ghosts B) (old new : B) (store : StoreContents) : Type 0 where
   pub stands : bench.told → StandsFor (bench.file new) store.secret.shape store.history
   pub quiet : bench.told → IsQuiet bench old → IsQuiet bench new
-
--- a stop of two benches is one of three
-uncalled : {X Claim : Type 0} (why : Stop) → IsOfBenches why → (IsErrOf {T = X} (Err why) end.Bench → ⊥) →
-    (IsErrOf {T = X} (Err why) end.NoMemory → Claim) → (IsErrOf {T = X} (Err why) end.Spare → Claim) → Claim
-uncalled end.Bench is no_bench memory spare = absurd (no_bench refl)
-uncalled end.Spare is no_bench memory spare = spare refl
-uncalled end.NoMemory is no_bench memory spare = memory refl
-uncalled other is no_bench memory spare = absurd is
 
 -- an answer that was refused without a call of the bench leaves all as it stood
 pub rests_by : {B X : Type 0} (why : Stop) → IsOfBenches why → (IsErrOf {T = X} (Err why) end.Bench → ⊥)
@@ -35,7 +27,7 @@ pub rests_by : {B X : Type 0} (why : Stop) → IsOfBenches why → (IsErrOf {T =
     → (IsErrOf {T = X} (Err why) end.Spare → (new ≡ mid) × (now.history ≡ was.history)) → now.secret ≡ was.secret → Rests bench old mid was →
     Rests bench old new now
 rests_by why is no_bench bench old mid new was now memory spare secret rests =
-    let still = uncalled why is no_bench memory spare in
+    let still = by_kind why is memory (λ bench_failed. absurd (no_bench bench_failed)) spare in
     record {
       stands = λ t.
           subst (λ (h : List Answered). StandsFor (bench.file new) now.secret.shape h) (sym still.1)

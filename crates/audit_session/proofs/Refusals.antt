@@ -1,10 +1,13 @@
 -- What a refusal says.
-use Rattle.std.proofs.Common.{◌≡◌, ℕ, ◌≤◌, Bool, true, false, Result, Ok, Err, refl, subst}
+use Rattle.std.proofs.Common.{◌≡◌, ℕ, ◌≤◌, Bool, true, false, Result, Ok, Err, refl, subst, ◌∙◌}
 use Rattle.std.specs.Result.{IsErr}
 use Rattle.std.proofs.lemmas.Bool.{false≢true}
 use Rattle.bench_core.specs.declared.stops.Stop.{Stop}
 use Rattle.bench_core.specs.declared.stops.Stop.TheVariants as end
 use Rattle.bench_core.specs.Stops.{IsOfBenches}
+use Rattle.bench_core.specs.declared.bench.Bench.{Ghosts}
+use Rattle.bench_core.specs.Calls.{TellsFault}
+use Rattle.bench_core.specs.Causes.{Rose}
 
 -- whether an input goes on has one answer
 pub no_more : {E P : Type 0} → (let given : Result Bool E = Ok false in given) ≡ Ok true → P
@@ -34,3 +37,13 @@ only_memory other is bench spare = absurd is
 -- a count that stood still before it rose
 pub still_later : (before mid now : ℕ) → mid ≡ before → mid ≤ now → before ≤ now
 still_later before mid now steady later = subst (λ (n : ℕ). n ≤ now) steady later
+
+-- calls after some of which none failed tell what they tell alone
+pub since_steady : {D : Type 0} (bench : Ghosts D) (old mid new : D) (Answered : Type 0) → bench.faults mid ≡ bench.faults old
+    → TellsFault bench mid new Answered → TellsFault bench old new Answered
+since_steady bench old mid new Answered same tells = record {
+  later = still_later _ _ _ same tells.later;
+  failed = λ answered. subst (λ (n : ℕ). Rose n (bench.faults new)) same (tells.failed answered);
+  last_call = tells.last_call;
+  steady = λ other. tells.steady other ∙ same;
+}

@@ -1,15 +1,10 @@
 -- How a session ends.
-use Rattle.std.specs.Prelude.{◌≡◌, ℕ, ◌+◌, ◌*◌, ◌/◌, ◌≤◌, ◌<◌, List, [], ◌++◌, length, take, Result, Ok, Err}
+use Rattle.std.specs.Prelude.{◌≡◌, ℕ, ◌+◌, ◌*◌, ◌/◌, List, ◌++◌, length, take}
 use Rattle.audit_types.specs.declared.records.Answered.{Answered}
 use Rattle.table_load.specs.Database.{Database, base_of}
 use Rattle.set_index.specs.Indexed.{IndexView}
-use Rattle.bench_core.specs.declared.bench.Bench.{Ghosts}
-use Rattle.bench_core.specs.Calls.{IsQuiet}
-use Rattle.bench_core.specs.declared.stops.Stop.{Stop}
-use Rattle.bench_core.specs.declared.stops.Stop.TheVariants as end
-use Rattle.journal_form.specs.Journal.{StandsFor}
 use Rattle.audit_store.specs.Stores.{StoreContents}
-use Rattle.line_wire.specs.Lines.{CountedLine, counted_lines, whole_lines, most_input}
+use Rattle.line_wire.specs.Lines.{CountedLine, whole_lines, most_input}
 use Rattle.question_plan.specs.Session.{Replied, records_of, bytes_of, AreReplies, groups, commits}
 use Rattle.question_plan.specs.Replies.{IsDue}
 

@@ -1,8 +1,5 @@
 use Rattle.audit_session.proofs.serving.serve.Goals as goal
 
 -- a keeper that isn't spared answers no fault of a spare
-pub returns-clause-usable : goal.returns-clause-usable
-returns-clause-usable g c = λ bench memory. c.serve_with.ensures.usable bench c.serve_with.ensures.own memory
-
 pub returns-clause-alone : goal.returns-clause-alone
 returns-clause-alone g c = c.serve_with.ensures.own

@@ -7,7 +7,7 @@ use Rattle.audit_types.specs.declared.shapes.Shape.{Shape}
 use Rattle.bench_core.specs.Calls.{IsQuiet}
 use Rattle.bench_core.specs.Causes.{Rose}
 use Rattle.bench_core.specs.Moments.{weakens}
-use Rattle.bench_core.specs.Reports.{is_refusal, not_called}
+use Rattle.bench_core.specs.Reports.{is_refusal, not_called, passed_on}
 use Rattle.bench_core.specs.declared.stops.Stop.{Stop}
 use Rattle.bench_core.specs.declared.stops.Stop.TheVariants as end
 use Rattle.bench_core.specs.Stops.{IsOfBenches}
@@ -25,7 +25,7 @@ use Rattle.audit_session.proofs.GatheredLines.{still_ended, unfailed, whole_or_l
 use Rattle.audit_session.proofs.HarmlessStops.{harmless, spare_harmless}
 use Rattle.audit_session.proofs.Served.{HasGathered, both_turn, first_moments, next_turn, nothing_served, spare_calls_now, spare_turn, spare_unserved, turn_moments}
 use Rattle.audit_session.proofs.ServedEnds.{both_kept, served_limited, served_whole, some_served, still_served}
-use Rattle.audit_session.proofs.Refusals.{of_stop, only_memory, still_later}
+use Rattle.audit_session.proofs.Refusals.{of_stop, only_memory, since_steady, still_later}
 use Rattle.audit_session.proofs.session.serve_with.Answers.LastTurn.{last_turn}
 use Rattle.audit_session.proofs.session.serve_with.Goals as goal
 
@@ -105,8 +105,8 @@ returns-in_err-planner g c =
 
 -- ---- from turn to turn
 
-pub loop-more-init : goal.loop-more-init
-loop-more-init g c = record {
+pub loop-group-init : goal.loop-group-init
+loop-group-init g c = record {
   served =
       nothing_served g.P.Source g.B.Bench c.args.index.now c.args.batch c.in_ok-planner.planner
       (g.K.Keeper.store c.args.keeper.now) c.args.source.now c.args.bench.now c.in_ok-planner.ensures.fresh c.requires.usable c.requires.is
@@ -118,15 +118,15 @@ loop-more-init g c = record {
   room = c.in_ok-planner.ensures.room;
 }
 
-pub loop-more-preserved : goal.loop-more-preserved
-loop-more-preserved g c =
+pub loop-group-preserved : goal.loop-group-preserved
+loop-group-preserved g c =
     let e = c.in_ok-more.ensures in
     let a = c.in_ok-answer.ensures in
-    let s = c.loop-more.invariant.served in
-    let so_far = c.loop-more.invariant.spare in
+    let s = c.loop-group.invariant.served in
+    let so_far = c.loop-group.invariant.spare in
     let now = c.gather.new.planner in
     let plans = c.gather.new.group.plans.items in
-    let turn : HasGathered g.P.Source c.args.index.now c.args.batch c.loop-more.planner now c.loop-more.source
+    let turn : HasGathered g.P.Source c.args.index.now c.args.batch c.loop-group.planner now c.loop-group.source
     c.gather.new.source (not c.in_ok-more.more || now.ended) plans =
     record {
       gathers = e.gathers;
@@ -143,51 +143,51 @@ loop-more-preserved g c =
       spare = record {
         stands = a.spare.stands;
         moments = λ told quiet.
-            spare_turn s turn g.S.Bench c.args.spare.now c.loop-more.spare c.answer.new.spare so_far.sent (so_far.moments told quiet)
+            spare_turn s turn g.S.Bench c.args.spare.now c.loop-group.spare c.answer.new.spare so_far.sent (so_far.moments told quiet)
             (a.spare.moments told (so_far.quiet told quiet));
         quiet = λ told quiet. a.spare.quiet told (so_far.quiet told quiet) (search rules);
         sent = a.spare.sent ∙ so_far.sent;
         calls = λ told.
-            spare_calls_now s turn a.answers (g.S.Bench.moment c.args.spare.now) (g.S.Bench.moment c.loop-more.spare) (g.S.Bench.moment c.answer.new.spare)
+            spare_calls_now s turn a.answers (g.S.Bench.moment c.args.spare.now) (g.S.Bench.moment c.loop-group.spare) (g.S.Bench.moment c.answer.new.spare)
             (so_far.calls told) (a.spare.ticks told);
         steady = a.spare.fault.steady (search rules) ∙ so_far.steady;
         untouched = λ none. c.answer.ensures.untouched none ∙ so_far.untouched none;
       };
-      room = a.room ∙ e.room ∙ c.loop-more.invariant.room;
+      room = a.room ∙ e.room ∙ c.loop-group.invariant.room;
     }
 
-pub loop-more-smaller : goal.loop-more-smaller
-loop-more-smaller g c = omega
-    (arith, c.in_ok-more.ensures.takes (ap given c.if-not-more.false), c.in_ok-more.ensures.cuts.within, c.loop-more.invariant.served.within)
+pub loop-group-smaller : goal.loop-group-smaller
+loop-group-smaller g c = omega
+    (arith, c.in_ok-more.ensures.takes (ap given c.if-not-more.false), c.in_ok-more.ensures.cuts.within, c.loop-group.invariant.served.within)
 
 pub gather-requires-clause-same : goal.gather-requires-clause-same
-gather-requires-clause-same g c = c.loop-more.invariant.served.same
+gather-requires-clause-same g c = c.loop-group.invariant.served.same
 
 pub gather-requires-clause-within : goal.gather-requires-clause-within
-gather-requires-clause-within g c = c.loop-more.invariant.served.within
+gather-requires-clause-within g c = c.loop-group.invariant.served.within
 
 pub answer-requires-clause-usable : goal.answer-requires-clause-usable
-answer-requires-clause-usable g c = c.loop-more.invariant.served.usable
+answer-requires-clause-usable g c = c.loop-group.invariant.served.usable
 
 pub answer-requires-clause-is : goal.answer-requires-clause-is
-answer-requires-clause-is g c = c.loop-more.invariant.served.is
+answer-requires-clause-is g c = c.loop-group.invariant.served.is
 
 pub answer-requires-clause-few : goal.answer-requires-clause-few
 answer-requires-clause-few g c = omega (arith, c.in_ok-more.ensures.most, c.requires.batch.1)
 
 pub answer-requires-clause-served : goal.answer-requires-clause-served
 answer-requires-clause-served g c =
-    let shape = ap (λ (s : SecretView). s.shape) c.loop-more.invariant.served.secret ∙ c.requires.shape in
+    let shape = ap (λ (s : SecretView). s.shape) c.loop-group.invariant.served.secret ∙ c.requires.shape in
     subst (λ (s : Shape). All (CanBeServed s) c.gather.new.group.plans.items) (sym shape) c.in_ok-more.ensures.served
 
 pub answer-requires-clause-room : goal.answer-requires-clause-room
-answer-requires-clause-room g c = omega (arith, c.in_ok-more.ensures.most, c.gather.ensures.room, c.loop-more.invariant.room)
+answer-requires-clause-room g c = omega (arith, c.in_ok-more.ensures.most, c.gather.ensures.room, c.loop-group.invariant.room)
 
 pub answer-requires-clause-stands : goal.answer-requires-clause-stands
-answer-requires-clause-stands g c = c.loop-more.invariant.served.as_left
+answer-requires-clause-stands g c = c.loop-group.invariant.served.as_left
 
 pub answer-requires-clause-spare_stands : goal.answer-requires-clause-spare_stands
-answer-requires-clause-spare_stands g c = λ spared told. c.loop-more.invariant.spare.stands (spared, told)
+answer-requires-clause-spare_stands g c = λ spared told. c.loop-group.invariant.spare.stands (spared, told)
 
 -- ---- no group was gathered
 
@@ -206,12 +206,12 @@ returns-in_err-more g c =
     let spare_harm =
     spare_harmless c.stops.ensures g.P.Source.told base c.args.batch store.history lines is_base c.requires.is.numbers c.requires.is.legal
     (g.S.Bench.sent c.args.spare.now) in
-    let s = c.loop-more.invariant.served in
-    let so_far = c.loop-more.invariant.spare in
+    let s = c.loop-group.invariant.served in
+    let so_far = c.loop-group.invariant.spare in
     let now = c.gather.new.planner in
-    let kept = g.K.Keeper.store c.loop-more.keeper in
+    let kept = g.K.Keeper.store c.loop-group.keeper in
     let left = g.P.Source.left c.gather.new.source in
-    let Ungathered : Stop → Type 0 = IsUngathered g.P.Source c.args.batch c.loop-more.planner now c.loop-more.source c.gather.new.source in
+    let Ungathered : Stop → Type 0 = IsUngathered g.P.Source c.args.batch c.loop-group.planner now c.loop-group.source c.gather.new.source in
     let ungathered : Ungathered why = e.ungathered in
     let by : (is : Stop) → c.from_residual-in_err-more.result ≡ ended_by is → Ungathered is =
     λ stop is. of_stop {X = Unit {0}} why stop Ungathered ungathered (sym same ∙ is) in
@@ -223,7 +223,7 @@ returns-in_err-more g c =
             let passes = by end.Limit is in
             let cut = passes.short t in
             served_limited s t u (now.pending ++ left)
-            (λ ended. not_over (c.loop-more.planner.pending ++ g.P.Source.left c.loop-more.source) cut.read now.pending left cut.split passes.some)
+            (λ ended. not_over (c.loop-group.planner.pending ++ g.P.Source.left c.loop-group.source) cut.read now.pending left cut.split passes.some)
             cut now.pending left now.taken refl passes.over (e.cuts.taken t ∙ s.taken t);
         memory_end = λ t u is. some_served s t u;
         spare_end = λ t u is. some_served s t u;
@@ -233,8 +233,8 @@ returns-in_err-more g c =
         usable = λ bench spare memory. s.usable;
         left = λ u usable. s.as_left u;
         calls = λ t u. IfOk-from_err _ _ c.from_residual-in_err-more.ensures.0;
-        any_moment = λ t u quiet. weakens g.B.Bench c.args.bench.now c.loop-more.bench _ _ (λ image sent stop. stop.1 t) (s.moments u quiet);
-        legal = λ u quiet. weakens g.B.Bench c.args.bench.now c.loop-more.bench _ _ harm (s.moments u quiet);
+        any_moment = λ t u quiet. weakens g.B.Bench c.args.bench.now c.loop-group.bench _ _ (λ image sent stop. stop.1 t) (s.moments u quiet);
+        legal = λ u quiet. weakens g.B.Bench c.args.bench.now c.loop-group.bench _ _ harm (s.moments u quiet);
         table = (s.secret, s.protected);
         is = s.is;
         read = λ t. IfOk-from_err _ _ c.from_residual-in_err-more.ensures.0;
@@ -245,33 +245,27 @@ returns-in_err-more g c =
         input = λ is. subst (λ (n : ℕ). Rose n (g.P.Source.faults c.gather.new.source)) s.source_steady (by end.Input is).rose;
         last_read = λ is. (by end.Input is).last;
         steady = λ other.
-            unfailed {X = Unit {0}} g.P.Source c.args.batch c.loop-more.planner now c.loop-more.source c.gather.new.source why ungathered
+            unfailed {X = Unit {0}} g.P.Source c.args.batch c.loop-group.planner now c.loop-group.source c.gather.new.source why ungathered
             (λ is. other (same ∙ is)) ∙ s.source_steady;
-        fault = record {
-          later = omega (arith, s.bench_steady);
-          failed = λ is. absurd (by end.Bench is);
-          last_call = λ is. absurd (by end.Bench is);
-          steady = λ other. s.bench_steady;
-        };
+        fault =
+            since_steady g.B.Bench c.args.bench.now c.loop-group.bench c.loop-group.bench _ s.bench_steady
+            (not_called g.B.Bench c.loop-group.bench _ (λ is. by end.Bench is));
       };
       spare = record {
-        stands = λ told bench spare. (g.K.Keeper.spare_gate c.loop-more.keeper, so_far.stands told);
+        stands = λ told bench spare. (g.K.Keeper.spare_gate c.loop-group.keeper, so_far.stands told);
         moments = λ t told quiet.
-            weakens g.S.Bench c.args.spare.now c.loop-more.spare _ _ (λ image sent found. (found.0, (found.1.0, found.1.1.1 t)))
+            weakens g.S.Bench c.args.spare.now c.loop-group.spare _ _ (λ image sent found. (found.0, (found.1.0, found.1.1.1 t)))
             (so_far.moments told quiet);
-        legal = λ told quiet. weakens g.S.Bench c.args.spare.now c.loop-more.spare _ _ spare_harm (so_far.moments told quiet);
+        legal = λ told quiet. weakens g.S.Bench c.args.spare.now c.loop-group.spare _ _ spare_harm (so_far.moments told quiet);
         quiet = λ told quiet other. so_far.quiet told quiet;
         sent = so_far.sent;
         both = λ t u told quiet spare_quiet image other left spare_left.
-            both_kept s g.S.Bench c.loop-more.spare image other t u quiet (so_far.quiet told spare_quiet)
-            (g.K.Keeper.spare_gate c.loop-more.keeper, so_far.stands told) left spare_left;
+            both_kept s g.S.Bench c.loop-group.spare image other t u quiet (so_far.quiet told spare_quiet)
+            (g.K.Keeper.spare_gate c.loop-group.keeper, so_far.stands told) left spare_left;
         calls = λ t told. IfOk-from_err _ _ c.from_residual-in_err-more.ensures.0;
-        fault = record {
-          later = omega (arith, so_far.steady);
-          failed = λ is. absurd (by end.Spare is);
-          last_call = λ is. absurd (by end.Spare is);
-          steady = λ other. so_far.steady;
-        };
+        fault =
+            since_steady g.S.Bench c.args.spare.now c.loop-group.spare c.loop-group.spare _ so_far.steady
+            (not_called g.S.Bench c.loop-group.spare _ (λ is. by end.Spare is));
       };
       own = λ is. absurd (by end.Spare is);
       untouched = so_far.untouched;
@@ -295,13 +289,13 @@ returns-in_err-answer g c =
     let spare_harm =
     spare_harmless c.stops.ensures g.P.Source.told base c.args.batch store.history lines is_base c.requires.is.numbers c.requires.is.legal
     (g.S.Bench.sent c.args.spare.now) in
-    let s = c.loop-more.invariant.served in
-    let so_far = c.loop-more.invariant.spare in
+    let s = c.loop-group.invariant.served in
+    let so_far = c.loop-group.invariant.spare in
     let now = c.gather.new.planner in
-    let before = g.K.Keeper.store c.loop-more.keeper in
+    let before = g.K.Keeper.store c.loop-group.keeper in
     let after = g.K.Keeper.store c.answer.new.keeper in
     let plans = c.gather.new.group.plans.items in
-    let turn : HasGathered g.P.Source c.args.index.now c.args.batch c.loop-more.planner now c.loop-more.source
+    let turn : HasGathered g.P.Source c.args.index.now c.args.batch c.loop-group.planner now c.loop-group.source
     c.gather.new.source (not c.in_ok-more.more || now.ended) plans =
     record {
       gathers = e.gathers;
@@ -313,12 +307,12 @@ returns-in_err-answer g c =
     let by : (is : Stop) → c.from_residual-in_err-answer.result ≡ ended_by is → IsOfBenches is =
     λ stop is. of_stop {X = Unit {0}} why stop IsOfBenches a.ends (sym same ∙ is) in
     let rests = λ (no : c.from_residual-in_err-answer.result ≡ ended_by end.Bench → ⊥).
-    rests_by {X = Unit {0}} why a.ends (λ is. no (same ∙ is)) g.B.Bench c.args.bench.now c.loop-more.bench c.answer.new.bench before after a.no_memory
+    rests_by {X = Unit {0}} why a.ends (λ is. no (same ∙ is)) g.B.Bench c.args.bench.now c.loop-group.bench c.answer.new.bench before after a.no_memory
     a.spare_first a.table.0 (record { stands = λ u. (before.journal.gate, s.as_left u); quiet = s.quiet }) in
     let moments = λ (u : g.B.Bench.told) (quiet : IsQuiet g.B.Bench c.args.bench.now).
     turn_moments s turn c.answer.new.bench u quiet (a.moments u (s.quiet u quiet)) in
     let spare_moments = λ (told : g.K.Keeper.spared × g.S.Bench.told) (quiet : IsQuiet g.S.Bench c.args.spare.now).
-    spare_turn s turn g.S.Bench c.args.spare.now c.loop-more.spare c.answer.new.spare so_far.sent (so_far.moments told quiet)
+    spare_turn s turn g.S.Bench c.args.spare.now c.loop-group.spare c.answer.new.spare so_far.sent (so_far.moments told quiet)
     (a.spare.moments told (so_far.quiet told quiet)) in
     record {
       session = record {
@@ -345,20 +339,17 @@ returns-in_err-answer g c =
         input = λ is. absurd (by end.Input is);
         last_read = λ is. absurd (by end.Input is);
         steady = λ other. e.steady ∙ s.source_steady;
-        fault = record {
-          later = still_later _ _ _ s.bench_steady c.answer.ensures.fault.later;
-          failed = λ is. subst (λ (n : ℕ). Rose n (g.B.Bench.faults c.answer.new.bench)) s.bench_steady (a.fault.failed (sym same ∙ is));
-          last_call = λ is. a.fault.last_call (sym same ∙ is);
-          steady = λ other. a.fault.steady (λ is. other (same ∙ is)) ∙ s.bench_steady;
-        };
+        fault =
+            since_steady g.B.Bench c.args.bench.now c.loop-group.bench c.answer.new.bench _ s.bench_steady
+            (passed_on g.B.Bench c.loop-group.bench c.answer.new.bench why end.Bench _ same a.fault);
       };
       spare = record {
         stands = λ told bench spare.
             let memory : why ≡ end.NoMemory =
             only_memory {X = Unit {0}} why a.ends (λ is. bench (same ∙ is)) (λ is. spare (same ∙ is)) in
             let is = ap ended_by memory in
-            let file = g.S.Bench.file c.loop-more.spare in
-            let stood : StandsFor file before.secret.shape before.history = (g.K.Keeper.spare_gate c.loop-more.keeper, so_far.stands told) in
+            let file = g.S.Bench.file c.loop-group.spare in
+            let stood : StandsFor file before.secret.shape before.history = (g.K.Keeper.spare_gate c.loop-group.keeper, so_far.stands told) in
             subst (λ b. StandsFor (g.S.Bench.file b) after.secret.shape after.history) (sym (a.spare.no_memory is))
             (subst (λ (s : SecretView). StandsFor file s.shape after.history) (sym a.table.0)
             (subst (λ (h : List Answered). StandsFor file before.secret.shape h) (sym (a.no_memory is).1) stood));
@@ -372,12 +363,9 @@ returns-in_err-answer g c =
             both_turn s turn (g.B.Bench.sent c.answer.new.bench) image other t u
             (a.both told.0 u told.1 (s.quiet u quiet) (so_far.quiet told spare_quiet) image other left spare_left);
         calls = λ t told. IfOk-from_err _ _ c.from_residual-in_err-answer.ensures.0;
-        fault = record {
-          later = still_later _ _ _ so_far.steady c.answer.ensures.spare.fault.later;
-          failed = λ is. subst (λ (n : ℕ). Rose n (g.S.Bench.faults c.answer.new.spare)) so_far.steady (a.spare.fault.failed (sym same ∙ is));
-          last_call = λ is. a.spare.fault.last_call (sym same ∙ is);
-          steady = λ other. a.spare.fault.steady (λ is. other (same ∙ is)) ∙ so_far.steady;
-        };
+        fault =
+            since_steady g.S.Bench c.args.spare.now c.loop-group.spare c.answer.new.spare _ so_far.steady
+            (passed_on g.S.Bench c.loop-group.spare c.answer.new.spare why end.Spare _ same a.spare.fault);
       };
       own = λ is. a.own (sym same ∙ is);
       untouched = λ none. c.answer.ensures.untouched none ∙ so_far.untouched none;

@@ -1,5 +1,5 @@
 -- The end of the loop after the last group.
-use Rattle.std.proofs.Common.{◌≡◌, ◌++◌, ◌||◌, Bool, false, not, Result, Ok, refl, sym, ◌∙◌, ap, rules}
+use Rattle.std.proofs.Common.{◌≡◌, ◌++◌, ◌||◌, Bool, false, not, Result, Ok, refl, ◌∙◌, ap, rules}
 use Rattle.line_wire.specs.Lines.{counted_lines}
 use Rattle.line_wire.specs.LinesSoFar.{all_within}
 use Rattle.bench_core.specs.Calls.{IsQuiet}
@@ -11,7 +11,7 @@ use Rattle.audit_store.specs.Refusals.{no_refusal}
 use Rattle.audit_session.proofs.GatheredLines.{still_ended, whole_or_last}
 use Rattle.audit_session.proofs.HarmlessStops.{harmless, spare_harmless}
 use Rattle.audit_session.proofs.Served.{HasGathered, all_calls, all_kept, all_served, both_turn, spare_calls_now, spare_turn, turn_moments}
-use Rattle.audit_session.proofs.Refusals.{still_later}
+use Rattle.audit_session.proofs.Refusals.{since_steady, still_later}
 use Rattle.audit_session.proofs.session.serve_with.Goals as goal
 
 abbrev given : Bool → Result Bool Stop
@@ -31,11 +31,11 @@ last_turn g c =
     let spare_harm =
     spare_harmless c.stops.ensures g.P.Source.told base c.args.batch store.history lines is_base c.requires.is.numbers c.requires.is.legal
     (g.S.Bench.sent c.args.spare.now) in
-    let s = c.loop-more.invariant.served in
-    let so_far = c.loop-more.invariant.spare in
+    let s = c.loop-group.invariant.served in
+    let so_far = c.loop-group.invariant.spare in
     let now = c.gather.new.planner in
     let plans = c.gather.new.group.plans.items in
-    let turn : HasGathered g.P.Source c.args.index.now c.args.batch c.loop-more.planner now c.loop-more.source
+    let turn : HasGathered g.P.Source c.args.index.now c.args.batch c.loop-group.planner now c.loop-group.source
     c.gather.new.source (not c.in_ok-more.more || now.ended) plans =
     record {
       gathers = e.gathers;
@@ -48,7 +48,7 @@ last_turn g c =
     let moments = λ (u : g.B.Bench.told) (quiet : IsQuiet g.B.Bench c.args.bench.now).
     turn_moments s turn c.answer.new.bench u quiet (a.moments u (s.quiet u quiet)) in
     let spare_moments = λ (told : g.K.Keeper.spared × g.S.Bench.told) (quiet : IsQuiet g.S.Bench c.args.spare.now).
-    spare_turn s turn g.S.Bench c.args.spare.now c.loop-more.spare c.answer.new.spare so_far.sent (so_far.moments told quiet)
+    spare_turn s turn g.S.Bench c.args.spare.now c.loop-group.spare c.answer.new.spare so_far.sent (so_far.moments told quiet)
     (a.spare.moments told (so_far.quiet told quiet)) in
     let within = λ (t : g.P.Source.told).
     all_within (g.P.Source.left c.args.source.now) now.pending (g.P.Source.left c.gather.new.source) now.taken (e.last t (ap given more_is))
@@ -78,12 +78,7 @@ last_turn g c =
         input = λ is. no_refusal _ _ is;
         last_read = λ is. no_refusal _ _ is;
         steady = λ no. e.steady ∙ s.source_steady;
-        fault = record {
-          later = still_later _ _ _ s.bench_steady c.answer.ensures.fault.later;
-          failed = λ is. no_refusal _ _ is;
-          last_call = λ is. no_refusal _ _ is;
-          steady = λ no. a.fault.steady (λ is. no_refusal _ _ is) ∙ s.bench_steady;
-        };
+        fault = since_steady g.B.Bench c.args.bench.now c.loop-group.bench c.answer.new.bench _ s.bench_steady a.fault;
       };
       spare = record {
         stands = λ told bench spare. (g.K.Keeper.spare_gate c.answer.new.keeper, a.spare.stands told);
@@ -99,14 +94,9 @@ last_turn g c =
         calls = λ t told.
             all_kept s turn a.answers t (ap counted_lines (e.last t (ap given more_is))) (g.S.Bench.moment c.args.spare.now)
             (g.S.Bench.moment c.answer.new.spare)
-            (spare_calls_now s turn a.answers (g.S.Bench.moment c.args.spare.now) (g.S.Bench.moment c.loop-more.spare)
+            (spare_calls_now s turn a.answers (g.S.Bench.moment c.args.spare.now) (g.S.Bench.moment c.loop-group.spare)
             (g.S.Bench.moment c.answer.new.spare) (so_far.calls told) (a.spare.ticks told));
-        fault = record {
-          later = still_later _ _ _ so_far.steady c.answer.ensures.spare.fault.later;
-          failed = λ is. no_refusal _ _ is;
-          last_call = λ is. no_refusal _ _ is;
-          steady = λ no. a.spare.fault.steady (λ is. no_refusal _ _ is) ∙ so_far.steady;
-        };
+        fault = since_steady g.S.Bench c.args.spare.now c.loop-group.spare c.answer.new.spare _ so_far.steady a.spare.fault;
       };
       own = λ is. no_refusal _ _ is;
       untouched = λ none. c.answer.ensures.untouched none ∙ so_far.untouched none;
