@@ -6,7 +6,7 @@ ghost use Rattle.audit_types.specs.declared.records.Answered.{Answered};
 ghost use Rattle.audit_types.specs.History.{FitsShape};
 ghost use Rattle.answer_journal.specs.declared.refusals.JournalRefusal.{JournalRefusal};
 ghost use Rattle.bench_core.specs.Calls.{OnlyReads, TellsFault};
-ghost use Rattle.bench_core.specs.Ends.{EndsBy, IsStopped, RefusedUnlessStopped};
+ghost use Rattle.bench_core.specs.Ends.{EndsBy, IsStop, RefusedUnlessStopped};
 ghost use Rattle.bench_core.specs.Stops.{IsOfBench};
 ghost use Rattle.journal_form.specs.Journal.{StandsAt, BreaksAt, most_bytes};
 ghost use Rattle.answer_journal.specs.Contents.{IsJournal};
@@ -76,7 +76,7 @@ impl Journal {
         ensures cause { (refusal : JournalRefusal) → B.told → result ≡ Err (End.Refused refusal) → ReadCause refusal (B.file bench.old) }
         ensures due { (refusal : JournalRefusal) → B.told → ReadCause refusal (B.file bench.old) → RefusedUnlessStopped refusal result }
         ensures whole { (shape : Shape) (history : List Answered) (gate : ℕ) → B.told → StandsAt (B.file bench.old) shape history gate
-            → MatchResult result (λ r. (r.0.shape ≡ shape) × (r.1.items ≡ history) × (r.0.gate ≡ gate)) (λ end. IsStopped end) }
+            → MatchResult result (λ r. (r.0.shape ≡ shape) × (r.1.items ≡ history) × (r.0.gate ≡ gate)) (λ end. IsStop end) }
         ensures ends { IfErr result (EndsBy IsOfBench IsOfReading) }
 
         ensures reads { OnlyReads B.Bench bench.old bench.new }

@@ -9,7 +9,7 @@ use Rattle.audit_types.specs.declared.records.Answered.{Answered}
 use Rattle.audit_types.specs.History.{Table, IsLegal}
 use Rattle.audit_types.specs.Minima.{as_it_stands}
 use Rattle.journal_form.specs.Journal.{StandsAt}
-use Rattle.bench_core.specs.Ends.{DoneUnlessStopped, EndsBy, IsDueUnlessStopped, IsStopped, RefusedUnlessStopped}
+use Rattle.bench_core.specs.Ends.{DoneUnlessStopped, EndsBy, IsDueUnlessStopped, IsStop, RefusedUnlessStopped}
 use Rattle.bench_core.specs.EndLaws.{due_of_one, stopped_is_due, stopped_of_none}
 use Rattle.bench_core.specs.Stops.{IsOfMemory}
 use Rattle.bench_core.specs.declared.stops.End.{End}
@@ -130,8 +130,9 @@ module _ (shape : Shape) (history : List Answered) (table : Table) where
 
 module _ (file : List ℕ) (table : Table) where
   -- if the journal wasn't read back, what is due of the start is due of the reading
-  pub due_of_reading : (end : End JournalRefusal) (due : JournalRefusal) → ((refusal : JournalRefusal) → ReadCause refusal file → IsDueUnlessStopped refusal end)
-      → ((shape : Shape) (history : List Answered) (gate : ℕ) → StandsAt file shape history gate → IsStopped end) →
+  pub due_of_reading : (end : End JournalRefusal) (due : JournalRefusal)
+      → ((refusal : JournalRefusal) → ReadCause refusal file → IsDueUnlessStopped refusal end)
+      → ((shape : Shape) (history : List Answered) (gate : ℕ) → StandsAt file shape history gate → IsStop end) →
       StartCause due file table → IsDueUnlessStopped due end
   due_of_reading end NotMade read whole cause = read NotMade cause
   due_of_reading end (Damaged at) read whole cause = read (Damaged at) cause

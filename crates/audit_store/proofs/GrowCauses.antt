@@ -5,7 +5,7 @@ use Rattle.audit_types.specs.declared.records.Answered.{Answered}
 use Rattle.audit_types.specs.Widening.{over, widened}
 use Rattle.audit_types.specs.History.{Table, IsLegal}
 use Rattle.journal_form.specs.Journal.{StandsAt, StandsFor}
-use Rattle.bench_core.specs.Ends.{IsDueUnlessStopped, IsStopped, refused_as}
+use Rattle.bench_core.specs.Ends.{IsDueUnlessStopped, IsStop, refused_as}
 use Rattle.bench_core.specs.EndLaws.{renamed_due, renamed_stopped, stopped_is_due}
 use Rattle.bench_core.specs.declared.stops.End.{End}
 use Rattle.answer_journal.specs.Refusals.{ReadCause}
@@ -26,7 +26,7 @@ grow_cause_of_reading file table (Untrue place kept now) cause = absurd cause
 grow_cause_of_reading file table (Illegal place group) cause = absurd cause
 
 -- a reading that the outside ended ended the growth
-gave_up : (end : End JournalRefusal) (due : GrowRefusal) → IsStopped end → IsDueUnlessStopped due (refused_as Journal end)
+gave_up : (end : End JournalRefusal) (due : GrowRefusal) → IsStop end → IsDueUnlessStopped due (refused_as Journal end)
 gave_up end due stopped = stopped_is_due (refused_as Journal end) due (renamed_stopped Journal end stopped)
 
 -- a history over fewer rows in the file
@@ -134,7 +134,7 @@ module _ (file : List ℕ) (table : Table) where
   -- if the journal wasn't read back, what is due is due of the reading
   pub grow_due_of_reading : (end : End JournalRefusal) (due : GrowRefusal)
       → ((refusal : JournalRefusal) → ReadCause refusal file → IsDueUnlessStopped refusal end)
-      → ((shape : Shape) (history : List Answered) (gate : ℕ) → StandsAt file shape history gate → IsStopped end) →
+      → ((shape : Shape) (history : List Answered) (gate : ℕ) → StandsAt file shape history gate → IsStop end) →
       GrowCause due file table → IsDueUnlessStopped due (refused_as Journal end)
   grow_due_of_reading end (Journal NotMade) read whole cause = renamed_due Journal end NotMade (read NotMade cause)
   grow_due_of_reading end (Journal (Damaged at)) read whole cause = renamed_due Journal end (Damaged at) (read (Damaged at) cause)

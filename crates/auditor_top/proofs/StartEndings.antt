@@ -2,7 +2,7 @@
 use Rattle.std.proofs.Common.{rules, ◌≡◌, ◌≢◌, ℕ, List, Some, true, refl, sym, subst}
 use Rattle.std.specs.Prelude.{⊤}
 use Rattle.audit_types.specs.History.{Table as Guarded}
-use Rattle.bench_core.specs.Ends.{EndsBy, IsStopped}
+use Rattle.bench_core.specs.Ends.{EndsBy, IsStop}
 use Rattle.bench_core.specs.Stops.{IsOfBench}
 use Rattle.bench_core.specs.declared.stops.End.{End}
 use Rattle.bench_core.specs.declared.stops.End.TheVariants.{Stopped, Refused}
@@ -54,7 +54,7 @@ pub record StartSays (end : End JournalRefusal) : Type 0 where
   pub words : (asked : Command) → comes_to_journal asked ≡ true → WordCause (start_status end) (Some asked)
   pub file : (asked : Command) (file : List ℕ) (table : Guarded) → EndsBy IsOfBench (λ refusal. OpeningCause refusal asked file table) end →
       FileCause (start_status end) asked file table
-  pub gives_up : IsStopped end → ready.GivesUp (start_status end)
+  pub gives_up : IsStop end → ready.GivesUp (start_status end)
   pub bench : start_status end ≡ BenchFault → end ≡ Stopped stop.Bench
 
 pub start_says : (end : End JournalRefusal) → EndsBy IsOfBench (λ _. ⊤) end → StartSays end

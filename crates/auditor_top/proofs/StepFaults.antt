@@ -4,7 +4,7 @@ use Rattle.std.specs.Prelude.{⊤}
 use Rattle.std.proofs.lemmas.Bool.{false≢true}
 use Rattle.audit_types.specs.declared.records.Answered.{Answered}
 use Rattle.bench_core.specs.Causes.{Rose}
-use Rattle.bench_core.specs.Ends.{EndsBy, IsRefused, IsStopped}
+use Rattle.bench_core.specs.Ends.{EndsBy, IsRefused, IsStop}
 use Rattle.bench_core.specs.EndLaws.{EndsBy-weaker, not_stopped_by}
 use Rattle.bench_core.specs.Stops.{IsOfBench, IsOfBenches, of_benches}
 use Rattle.bench_core.specs.declared.stops.End.{End}
@@ -128,7 +128,7 @@ bench_faults {X} name end before bench by rose same =
     (λ is. absurd (not_stopped_by end IsOfBench _ stop.Spare (λ no. no) by is)) (λ other. refl)
 
 -- if what isn't refused can't be stopped, memory ran out
-pub end_wants : {R : Type 0} (name : R → Status) (end : End R) (before after : FaultCounts) → EndsBy IsOfBenches (λ _. ⊤) end → IsStopped end →
+pub end_wants : {R : Type 0} (name : R → Status) (end : End R) (before after : FaultCounts) → EndsBy IsOfBenches (λ _. ⊤) end → IsStop end →
     FaultCause (end_status name end) before after → NothingFailed before after → (Rose before.spare after.spare → ⊥) →
     IsDoneOrWants (end_status name end)
 end_wants name (Stopped stop.Input) before after by stopped rose none fine = absurd by
@@ -173,7 +173,8 @@ made_or_there (Err (Stopped why)) stops fine made there = absurd (fine (ap stop_
 made_or_there (Err (Refused is)) stops fine made there = there tt
 
 -- if the bench didn't fail and it isn't done, one or another file was there
-pub there_is : (making : Result (Unit {0}) (End There)) → MakingStops making → making_status making ≢ Done → making_status making ≢ BenchFault → IsRefused making
+pub there_is : (making : Result (Unit {0}) (End There)) → MakingStops making → making_status making ≢ Done → making_status making ≢ BenchFault →
+    IsRefused making
 there_is (Ok done) stops undone fine = absurd (undone refl)
 there_is (Err (Stopped why)) stops undone fine = absurd (fine (ap stop_status stops))
 there_is (Err (Refused is)) stops undone fine = tt

@@ -22,7 +22,7 @@ use Rattle.set_index.specs.declared.index.IndexFault.{IndexFault}
 use Rattle.set_index.specs.declared.index.IndexFault.TheVariants as index
 use Rattle.set_index.specs.declared.index.GuardPart.{GuardPart}
 use Rattle.journal_form.specs.Journal.{StandsFor}
-use Rattle.bench_core.specs.Ends.{EndsBy, IsStopped}
+use Rattle.bench_core.specs.Ends.{EndsBy, IsStop}
 use Rattle.bench_core.specs.EndLaws.{EndsBy-weaker}
 use Rattle.bench_core.specs.Stops.{IsOfBench}
 use Rattle.bench_core.specs.declared.stops.End.{End}
@@ -128,7 +128,7 @@ module _ {P B : Type 0} (files : source.Ghosts P) (bench : Ghosts B) (law : OneL
       Protects read.columns public read.guards protected →
       (bench.told → EndsBy IsOfBench (λ refusal. StartCause refusal (bench.file at) (secret_table meant.secret protected)) end ×
       ((history : List Answered) → StandsFor (bench.file at) meant.secret.shape history → IsLegal (secret_table meant.secret protected) history →
-      IsStopped end)) → EndsBy IsOfBench (λ _. ⊤) end → TellsFault bench at later (IsErrOf {T = X} (Err end) (Stopped stop.Bench)) →
+      IsStop end)) → EndsBy IsOfBench (λ _. ⊤) end → TellsFault bench at later (IsErrOf {T = X} (Err end) (Stopped stop.Bench)) →
       Refuses files bench asked (start_status end) schema later_schema table later_table at later
   store_refused {X} end public protected all entries cause by tells =
       let status = start_status end in
@@ -172,7 +172,8 @@ module _ {P B : Type 0} (files : source.Ghosts P) (bench : Ghosts B) (law : OneL
 
 -- ---- both in one
 
-pub same_journal : {X Y : Type 0} (a b : End JournalRefusal) → ◌≡◌ {A = Result X NotStarted} (Err (began.Journal a)) (Err (began.Journal b)) → IsErrOf {T = Y} (Err a) b
+pub same_journal : {X Y : Type 0} (a b : End JournalRefusal) → ◌≡◌ {A = Result X NotStarted} (Err (began.Journal a)) (Err (began.Journal b)) →
+    IsErrOf {T = Y} (Err a) b
 same_journal a b is = cc
 
 pub same_start : {X Y : Type 0} (a b : End JournalRefusal) → IsErrOf {T = X} (Err a) b →
@@ -188,7 +189,7 @@ pub not_started : {P B X : Type 0} (files : source.Ghosts P) (bench : Ghosts B) 
     (whole public ≡ meant.public) × Protects read.columns public read.guards protected ×
     (bench.told → EndsBy IsOfBench (λ refusal. StartCause refusal (bench.file at) (secret_table meant.secret protected)) end ×
     ((history : List Answered) → StandsFor (bench.file at) meant.secret.shape history → IsLegal (secret_table meant.secret protected) history →
-    IsStopped end))) → ((end : End JournalRefusal) → ◌≡◌ {A = Result X NotStarted} (Err fault) (Err (began.Journal end)) → EndsBy IsOfBench (λ _. ⊤) end) →
+    IsStop end))) → ((end : End JournalRefusal) → ◌≡◌ {A = Result X NotStarted} (Err fault) (Err (began.Journal end)) → EndsBy IsOfBench (λ _. ⊤) end) →
     TellsFault bench at later (IsErrOf {T = X} (Err fault) (began.Journal (Stopped stop.Bench))) →
     ((f : IndexFault) → ◌≡◌ {A = Result X NotStarted} (Err fault) (Err (began.Groups f)) → later ≡ at) →
     Refuses files bench asked (started_status fault) schema later_schema table later_table at later

@@ -9,7 +9,7 @@ use Rattle.bench_core.specs.declared.stops.Stop.{Stop}
 use Rattle.bench_core.specs.declared.stops.Stop.TheVariants as stop
 use Rattle.table_load.specs.Database.{Database}
 use Rattle.audit_core.specs.LegalFronts.{legal_front}
-use Rattle.bench_core.specs.Ends.{EndsBy, IsRefusal, IsStopped}
+use Rattle.bench_core.specs.Ends.{EndsBy, IsRefusal, IsStop}
 use Rattle.bench_core.specs.EndLaws.{EndsBy-weaker}
 use Rattle.bench_core.specs.Stops.{IsOfBenches}
 use Rattle.bench_core.specs.declared.stops.End.{End}
@@ -126,7 +126,7 @@ twin_faults {X} end before bench spare stops rose same spare_rose spare_same =
 
 -- if the files keep together, a call failed or memory ran out, no line was read and nothing was sent
 pub twin_gave_up : (end : End TwinRefusal) (batch : ℕ) (base : Database) (main other whole : List Answered) (before after : Outside) (spare : List ℕ) →
-    TwinStops end → IsStopped end → (end ≡ Stopped stop.NoMemory → BothCatchUp base main other whole before after after.file spare) →
+    TwinStops end → IsStop end → (end ≡ Stopped stop.NoMemory → BothCatchUp base main other whole before after after.file spare) →
     (end ≡ Stopped stop.Spare → after ≡ before) → TwinEnds batch (end_status twin_status end) base main other whole before after spare
 twin_gave_up (Stopped stop.Input) batch base main other whole before after spare stops gave catch same = absurd stops
 twin_gave_up (Stopped stop.Limit) batch base main other whole before after spare stops gave catch same = absurd stops

@@ -14,7 +14,7 @@ ghost use Rattle.set_index.specs.Indexed.{public_shape};
 ghost use Rattle.set_index.specs.declared.index.GuardPart.{GuardPart};
 ghost use Rattle.set_index.specs.declared.index.IndexFault.{IndexFault};
 ghost use Rattle.answer_journal.specs.declared.refusals.JournalRefusal.{JournalRefusal};
-ghost use Rattle.bench_core.specs.Ends.{EndsBy, IsStopped};
+ghost use Rattle.bench_core.specs.Ends.{EndsBy, IsStop};
 ghost use Rattle.bench_core.specs.Stops.{IsOfBench};
 ghost use Rattle.bench_core.specs.declared.stops.End.{End};
 
@@ -92,7 +92,7 @@ pub fn start<B: Bench>(alloc: Global, opened: Opened, bench: &mut B) -> Result<S
     ensures cause { (end : End JournalRefusal) → result ≡ Err (NotStarted.Journal end) → (public : PublicView) × (protected : Protection)
         × (whole public ≡ opened.table.public) × Protects opened.schema.columns public opened.schema.guards protected
         × (B.told → EndsBy IsOfBench (λ refusal. StartCause refusal (B.file bench.old) (secret_table opened.table.secret protected)) end
-        × ((history : List Answered) → StandsFor (B.file bench.old) opened.table.secret.shape history → IsLegal (secret_table opened.table.secret protected) history → IsStopped end)) }
+        × ((history : List Answered) → StandsFor (B.file bench.old) opened.table.secret.shape history → IsLegal (secret_table opened.table.secret protected) history → IsStop end)) }
     ensures ends { (end : End JournalRefusal) → result ≡ Err (NotStarted.Journal end) → EndsBy IsOfBench (λ _. ⊤) end }
 
     // The journal is only read, in two calls. One that failed is reported.

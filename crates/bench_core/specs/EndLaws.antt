@@ -7,7 +7,7 @@ use Rattle.bench_core.specs.declared.stops.Stop.TheVariants as stop
 use Rattle.bench_core.specs.declared.stops.End.{End}
 use Rattle.bench_core.specs.declared.stops.End.TheVariants.{Stopped, Refused}
 use Rattle.bench_core.specs.Calls.{TellsFault}
-use Rattle.bench_core.specs.Ends.{EndsBy, IsDueUnlessStopped, IsRefusal, IsStopped, refused_as, turned_end}
+use Rattle.bench_core.specs.Ends.{EndsBy, IsDueUnlessStopped, IsRefusal, IsStop, refused_as, turned_end}
 use Rattle.bench_core.specs.Reports.{told_as}
 use Rattle.bench_core.specs.Stops.{IsOfBench, turned, turned-turned, turned_is}
 
@@ -24,12 +24,12 @@ due_of_one (Stopped stop) may P due one by = tt
 due_of_one (Refused refusal) may P due one by = one refusal by
 
 -- if no refusal has its cause, none was given
-pub stopped_of_none : {R : Type 0} (end : End R) (may : Stop → Type 0) (P : R → Type 0) → ((refusal : R) → P refusal → ⊥) → EndsBy may P end → IsStopped end
+pub stopped_of_none : {R : Type 0} (end : End R) (may : Stop → Type 0) (P : R → Type 0) → ((refusal : R) → P refusal → ⊥) → EndsBy may P end → IsStop end
 stopped_of_none (Stopped stop) may P none by = tt
 stopped_of_none (Refused refusal) may P none by = none refusal by
 
 -- an end that the outside brought about may be one of a call that was to be refused
-pub stopped_is_due : {R : Type 0} (end : End R) (due : R) → IsStopped end → IsDueUnlessStopped due end
+pub stopped_is_due : {R : Type 0} (end : End R) (due : R) → IsStop end → IsDueUnlessStopped due end
 stopped_is_due (Stopped stop) due stopped = tt
 stopped_is_due (Refused refusal) due stopped = absurd stopped
 
@@ -39,7 +39,7 @@ module _ {R S : Type 0} (name : R → S) where
   renamed_by (Stopped stop) may P by = by
   renamed_by (Refused refusal) may P by = by
 
-  pub renamed_stopped : (end : End R) → IsStopped end → IsStopped (refused_as name end)
+  pub renamed_stopped : (end : End R) → IsStop end → IsStop (refused_as name end)
   renamed_stopped (Stopped stop) stopped = tt
   renamed_stopped (Refused refusal) stopped = absurd stopped
 
@@ -73,7 +73,7 @@ pub turned_by : {R : Type 0} (end : End R) (may could : Stop → Type 0) (P : R 
 turned_by (Stopped stop) may could P turns by = turns stop by
 turned_by (Refused refusal) may could P turns by = by
 
-pub turned_stopped : {R : Type 0} (end : End R) → IsStopped end → IsStopped (turned_end end)
+pub turned_stopped : {R : Type 0} (end : End R) → IsStop end → IsStop (turned_end end)
 turned_stopped (Stopped stop) stopped = tt
 turned_stopped (Refused refusal) stopped = absurd stopped
 
@@ -82,7 +82,7 @@ turned_due (Stopped stop) due is = tt
 turned_due (Refused refusal) due is = is
 
 -- an end that isn't a refusal is a stop
-pub stopped_unless_refused : {R : Type 0} (end : End R) → (IsRefusal end → ⊥) → IsStopped end
+pub stopped_unless_refused : {R : Type 0} (end : End R) → (IsRefusal end → ⊥) → IsStop end
 stopped_unless_refused (Stopped stop) not = tt
 stopped_unless_refused (Refused refusal) not = not tt
 

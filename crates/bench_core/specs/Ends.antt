@@ -11,9 +11,9 @@ EndsBy may P (Stopped stop) = may stop
 EndsBy may P (Refused refusal) = P refusal
 
 -- something of the outside ended it
-abbrev pub IsStopped : {R : Type 0} → End R → Type 0
-IsStopped (Stopped stop) = Unit {0}
-IsStopped (Refused refusal) = ⊥
+abbrev pub IsStop : {R : Type 0} → End R → Type 0
+IsStop (Stopped stop) = Unit {0}
+IsStop (Refused refusal) = ⊥
 
 -- it was refused
 abbrev pub IsRefusal : {R : Type 0} → End R → Type 0
@@ -32,7 +32,7 @@ IsDueUnlessStopped due (Refused refusal) = refusal ≡ due
 -- it is done, unless something of the outside ended it
 abbrev pub DoneUnlessStopped : {X R : Type 0} → Result X (End R) → Type 0
 DoneUnlessStopped (Ok x) = Unit {0}
-DoneUnlessStopped (Err end) = IsStopped end
+DoneUnlessStopped (Err end) = IsStop end
 
 -- it is refused for this, unless something of the outside ended it
 abbrev pub RefusedUnlessStopped : {X R : Type 0} → R → Result X (End R) → Type 0

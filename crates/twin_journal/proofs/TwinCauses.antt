@@ -6,7 +6,7 @@ use Rattle.audit_types.specs.declared.records.Answered.{Answered}
 use Rattle.audit_types.specs.declared.shapes.Shape.{Shape}
 use Rattle.audit_types.specs.History.{Table, IsLegal}
 use Rattle.journal_form.specs.Journal.{StandsAt, StandsFor}
-use Rattle.bench_core.specs.Ends.{EndsBy, IsDueUnlessStopped, IsRefusal, IsStopped, refused_as, turned_end}
+use Rattle.bench_core.specs.Ends.{EndsBy, IsDueUnlessStopped, IsRefusal, IsStop, refused_as, turned_end}
 use Rattle.bench_core.specs.EndLaws.{renamed_due, renamed_stopped, stopped_is_due, turned_due, turned_stopped}
 use Rattle.bench_core.specs.Stops.{IsOfBenches}
 use Rattle.bench_core.specs.declared.stops.End.{End}
@@ -39,11 +39,11 @@ module _ (file spare : List ℕ) (table : Table) where
   -- ---- the journal wasn't opened
 
   module _ (end : End JournalRefusal) where
-    main_stopped : (due : TwinRefusal) → IsStopped end → IsDueUnlessStopped due (refused_as Main end)
+    main_stopped : (due : TwinRefusal) → IsStop end → IsDueUnlessStopped due (refused_as Main end)
     main_stopped due stopped = stopped_is_due (refused_as Main end) due (renamed_stopped Main end stopped)
 
     pub main_due : (due : TwinRefusal) → ((d : JournalRefusal) → StartCause d file table → IsDueUnlessStopped d end)
-        → ((history : List Answered) → StandsFor file table.setting.shape history → IsLegal table history → IsStopped end)
+        → ((history : List Answered) → StandsFor file table.setting.shape history → IsLegal table history → IsStop end)
         → TwinCause due file spare table → IsDueUnlessStopped due (refused_as Main end)
     main_due (Main d) due opens cause = renamed_due Main end d (due d cause)
     main_due (Spare d) due opens cause = main_stopped (Spare d) (opens cause.0.0 cause.0.1 cause.0.2)
@@ -54,12 +54,12 @@ module _ (file spare : List ℕ) (table : Table) where
   module _ (none : (d : JournalRefusal) → StartCause d file table → ⊥) where
     -- the spare wasn't
     module _ (end : End JournalRefusal) where
-      spare_stopped : (due : TwinRefusal) → IsStopped end → IsDueUnlessStopped due (refused_as Spare (turned_end end))
+      spare_stopped : (due : TwinRefusal) → IsStop end → IsDueUnlessStopped due (refused_as Spare (turned_end end))
       spare_stopped due stopped =
           stopped_is_due (refused_as Spare (turned_end end)) due (renamed_stopped Spare (turned_end end) (turned_stopped end stopped))
 
       pub spare_due : (due : TwinRefusal) → ((d : JournalRefusal) → StartCause d spare table → IsDueUnlessStopped d end)
-          → ((history : List Answered) → StandsFor spare table.setting.shape history → IsLegal table history → IsStopped end)
+          → ((history : List Answered) → StandsFor spare table.setting.shape history → IsLegal table history → IsStop end)
           → TwinCause due file spare table → IsDueUnlessStopped due (refused_as Spare (turned_end end))
       spare_due (Main d) due opens cause = absurd (none d cause)
       spare_due (Spare d) due opens cause = renamed_due Spare (turned_end end) d (turned_due end d (due d cause.1))

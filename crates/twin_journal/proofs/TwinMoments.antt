@@ -7,7 +7,7 @@ use Rattle.bench_core.specs.declared.bench.Bench.{Ghosts}
 use Rattle.bench_core.specs.Calls.{IsQuiet, IsUntouched, LeavesOnly, OnlyReads}
 use Rattle.bench_core.specs.Moments.{joins, still_quiet, weakens}
 use Rattle.journal_form.specs.Journal.{StandsAt, StandsFor}
-use Rattle.bench_core.specs.Ends.{EndsBy, IsDueUnlessStopped, IsStopped}
+use Rattle.bench_core.specs.Ends.{EndsBy, IsDueUnlessStopped, IsStop}
 use Rattle.bench_core.specs.Stops.{IsOfBenches}
 use Rattle.bench_core.specs.declared.stops.End.{End}
 use Rattle.bench_core.specs.declared.stops.End.TheVariants.{Stopped, Refused}
@@ -138,7 +138,7 @@ module _ (once : OneHistory) (table : Table) (file spare : List ℕ) (main other
 
   pub refused_opens : (end : End TwinRefusal) → EndsBy IsOfBenches IsDiffer end
       → ((place : ℕ) → end ≡ Refused (Differ place) → DifferFirst main other place)
-      → (m o whole : List Answered) → KeepTogether table file spare m o whole → IsStopped end
+      → (m o whole : List Answered) → KeepTogether table file spare m o whole → IsStop end
   refused_opens (Stopped stop) by differ m o whole keep = tt
   refused_opens (Refused refusal) by differ m o whole keep = refused_differ refusal by (λ place is.
       meet_or_differ main other whole place (together_meet once table file spare main other stands spare_stands m o whole keep)

@@ -57,7 +57,8 @@ returns-in_err-test_other g c =
     let given = c.in_err-test_other.field-0.0 in
     let answer = c.from_residual-in_err-test_other.result in
     let refuses = c.from_residual-in_err-test_other.ensures in
-    let why = of_refusal answer given refuses (λ r. IfErr r (EndsBy IsOfMemory (λ f. HistoryCause f c.shape.result shown table))) c.in_err-test_other.ensures.err in
+    let why = of_refusal answer given refuses (λ r. IfErr r (EndsBy IsOfMemory (λ f. HistoryCause f c.shape.result shown table)))
+    c.in_err-test_other.ensures.err in
     record {
       journal = IfOk-from_err _ _ refuses.0;
       legal = IfOk-from_err _ _ refuses.0;

@@ -5,7 +5,7 @@ use Rattle.audit_types.specs.History.{Protection, IsLegal}
 use Rattle.table_load.specs.Cells.{PublicView, SecretView, whole}
 use Rattle.table_load.specs.Database.{secret_table}
 use Rattle.journal_form.specs.Journal.{StandsFor}
-use Rattle.bench_core.specs.Ends.{EndsBy, IsStopped}
+use Rattle.bench_core.specs.Ends.{EndsBy, IsStop}
 use Rattle.bench_core.specs.EndLaws.{by_cause}
 use Rattle.bench_core.specs.Stops.{IsOfBench}
 use Rattle.bench_core.specs.declared.stops.End.{End}
@@ -33,7 +33,7 @@ returns-in-Err-start-clause-cause g c = λ end is.
     Protects opened.schema.columns public opened.schema.guards protected ×
     (g.B.Bench.told → EndsBy IsOfBench (λ refusal. StartCause refusal (g.B.Bench.file c.args.bench.now) (secret_table opened.table.secret protected)) e ×
     ((history : List Answered) → StandsFor (g.B.Bench.file c.args.bench.now) opened.table.secret.shape history →
-    IsLegal (secret_table opened.table.secret protected) history → IsStopped e))) (one_end found end is) (
+    IsLegal (secret_table opened.table.secret protected) history → IsStop e))) (one_end found end is) (
       c.in-Ok.grouped.index.public,
       entries,
       made.same.1,

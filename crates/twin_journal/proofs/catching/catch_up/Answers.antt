@@ -348,7 +348,8 @@ returns-in_err-bring_up g c =
           (λ image sent was. g.met.S.Bench.only_now c.args.spare.now image sent was) quiet (c.requires.spare_stands told) meet.other_front;
       no_memory = λ whole told meet refused.
           some_between store.secret.shape main whole (g.B.Bench.file new) lacks
-          (whole_is_other main list whole meet (record { rest = lacks; is = all }) ∙ all) (does.no_memory told (stopped_back given answer is stop.NoMemory refused));
+          (whole_is_other main list whole meet (record { rest = lacks; is = all }) ∙ all)
+          (does.no_memory told (stopped_back given answer is stop.NoMemory refused));
       spare_no_memory = λ whole told meet refused.
           still_between store.secret.shape list whole (g.S.Bench.file c.args.spare.now) c.args.journal.now.gate (c.requires.spare_stands told)
           meet.other_front;

@@ -9,7 +9,7 @@ use Rattle.bench_core.specs.Moments.{still_quiet}
 use Rattle.bench_core.specs.Reports.{not_called, not_written, told_as}
 use Rattle.journal_form.specs.Journal.{StandsAt, StandsFor}
 use Rattle.answer_journal.specs.Whole.{HoldsWhole}
-use Rattle.bench_core.specs.Ends.{EndsBy, IsDueUnlessStopped, IsRefusal, IsStopped, refused_as, turned_end}
+use Rattle.bench_core.specs.Ends.{EndsBy, IsDueUnlessStopped, IsRefusal, IsStop, refused_as, turned_end}
 use Rattle.bench_core.specs.EndLaws.{EndsBy-weaker, by_cause, each_way, not_stopped_by, renamed_by, renamed_due, renamed_stopped, renamed_tells}
 use Rattle.bench_core.specs.EndLaws.{stopped_unless_refused, turned_back, turned_by, turned_on, turned_stopped, turned_tells}
 use Rattle.bench_core.specs.Stops.{IsOfBench, IsOfBenches, IsOfSpare, of_benches, spare_of_benches, turned_of_bench}
@@ -62,7 +62,7 @@ returns-in-Err g c =
       due = λ refusal told lost_told cause.
           subst (λ (e : End RestoreRefusal). IsDueUnlessStopped (Main refusal) e) (sym is) (renamed_due Main end refusal (does.due refusal told cause));
       copies = λ history told lost_told kept.
-          subst (λ (e : End RestoreRefusal). IsStopped e) (sym is) (renamed_stopped Main end (does.opens history told kept.stands kept.legal));
+          subst (λ (e : End RestoreRefusal). IsStop e) (sym is) (renamed_stopped Main end (does.opens history told kept.stands kept.legal));
       already = λ told given. IfErr-at_err (EndsBy IsOfBench IsOfKept) given by;
       moments = λ history told lost_told quiet kept.
           read_lost g.L.Bench lost lost c.args.secret.shape history unwritten quiet (c.requires.lost lost_told);
@@ -167,7 +167,7 @@ returns-in-Err-write_whole g c =
       cause = λ refusal told given. absurd (IfErr-at_err (EndsBy IsOfSpare IsOfLost) given by);
       due = λ refusal told lost_told cause. absurd (opened.due refusal told cause);
       copies = λ history told lost_told kept.
-          subst (λ (e : End RestoreRefusal). IsStopped e) (sym turns)
+          subst (λ (e : End RestoreRefusal). IsStop e) (sym turns)
           (renamed_stopped (λ _. NothingLost) (turned_end end) (turned_stopped end
           (stopped_unless_refused end (λ there. c.requires.lost lost_told (does.already lost_told there)))));
       already = λ told given. c.requires.lost told (does.already told (lost_is_made end answer turns given));

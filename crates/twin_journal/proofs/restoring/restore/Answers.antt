@@ -13,7 +13,7 @@ use Rattle.answer_journal.specs.Moments.{IsMade}
 use Rattle.answer_journal.specs.Whole.{HoldsWhole}
 use Rattle.table_load.specs.Database.{secret_table}
 use Rattle.audit_store.specs.Refusals.{no_refusal}
-use Rattle.bench_core.specs.Ends.{DoneUnlessStopped, EndsBy, IsDueUnlessStopped, IsStopped, RefusedUnlessStopped, refused_as, turned_end}
+use Rattle.bench_core.specs.Ends.{DoneUnlessStopped, EndsBy, IsDueUnlessStopped, IsStop, RefusedUnlessStopped, refused_as, turned_end}
 use Rattle.bench_core.specs.EndLaws.{EndsBy-weaker, by_cause, renamed_by, renamed_due, renamed_stopped}
 use Rattle.bench_core.specs.EndLaws.{turned_back, turned_by, turned_due, turned_on, turned_refused, turned_stopped, turned_tells}
 use Rattle.bench_core.specs.Stops.{IsOfBenches, turned_of_benches}
@@ -269,7 +269,8 @@ returns-then-main_is_made g c =
           inl (
             spare_unmade spare_told,
             takes_calls spare file _ _ _ _ _ _ (made told) (c.in-Ok.ensures.ticks spare_told)
-                (written ∙ ap (λ (f : List ℕ). g.S.Bench.moment spare_looked + calls_to_make f) spare_reads.file) (c.in_ok-main_is_made.ensures.ticks told) read,
+                (written ∙ ap (λ (f : List ℕ). g.S.Bench.moment spare_looked + calls_to_make f) spare_reads.file)
+                (c.in_ok-main_is_made.ensures.ticks told) read,
           )) (does.ticks spare_told) (does.kept_ticks told);
       fault =
           then_tells g.B.Bench c.args.bench.now looked kept_new ⊥ _
@@ -340,7 +341,8 @@ returns-in-Ok-copy_journal g c =
                 (c.in-Ok.ensures.ticks spare_told) (c.in-Ok-copy_journal.ensures.kept_ticks spare_told),
           );
       fault =
-          then_tells g.B.Bench c.args.bench.now looked lost_new ⊥ _ (done_call g.B.Bench c.args.bench.now looked _ ⊥ c.in_ok-main_is_made.ensures.cause (λ none. none))
+          then_tells g.B.Bench c.args.bench.now looked lost_new ⊥ _
+          (done_call g.B.Bench c.args.bench.now looked _ ⊥ c.in_ok-main_is_made.ensures.cause (λ none. none))
           (λ none. none)
           (told_as g.B.Bench looked lost_new _ _ (λ is. no_refusal _ _ is) (λ is. no_refusal _ _ is) c.in-Ok-copy_journal.ensures.fault);
       spare_fault =
@@ -389,7 +391,7 @@ returns-in-Err-copy_journal g c =
           (renamed_due turned_refusal (turned_end end) (Main kept) (turned_due end (Main kept)
           (does.due kept spare_told told (subst (λ (x : List ℕ). StartCause kept x table) (sym spare_reads.file) why))))) due cause;
       restores = λ told spare_told can.
-          subst (λ (e : End RestoreRefusal). IsStopped e) (sym turns)
+          subst (λ (e : End RestoreRefusal). IsStop e) (sym turns)
           (renamed_stopped turned_refusal (turned_end end) (turned_stopped end (elim can.1 [
             | inr is ↦ does.copies can.0 spare_told told (kept_of can.0 is)
             | inl is ↦ absurd (is.unmade (spare_made spare_told))

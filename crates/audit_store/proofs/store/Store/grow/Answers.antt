@@ -10,7 +10,7 @@ use Rattle.audit_types.specs.Widening.{over, widened}
 use Rattle.journal_form.specs.Journal.{StandsAt, StandsFor}
 use Rattle.answer_journal.specs.Moments.{IsBeforeOrGrown}
 use Rattle.table_load.specs.Database.{secret_table}
-use Rattle.bench_core.specs.Ends.{DoneUnlessStopped, EndsBy, IsDueUnlessStopped, IsStopped, RefusedUnlessStopped, refused_as}
+use Rattle.bench_core.specs.Ends.{DoneUnlessStopped, EndsBy, IsDueUnlessStopped, IsStop, RefusedUnlessStopped, refused_as}
 use Rattle.bench_core.specs.EndLaws.{EndsBy-weaker, by_cause, due_of_one, not_stopped_by, renamed_by, renamed_stopped, renamed_tells, stopped_of_none}
 use Rattle.bench_core.specs.Stops.{IsOfBench, IsOfMemory, of_bench}
 use Rattle.bench_core.specs.declared.stops.End.{End}
@@ -74,7 +74,7 @@ returns g c =
           (grow_due_of_reading file table end refusal (λ r. c.in-Err.ensures.due r told) (λ shape history gate. c.in-Err.ensures.whole shape history gate told)
           cause);
       grows = λ told can.
-          subst (λ (e : End GrowRefusal). IsStopped e) (sym is_as)
+          subst (λ (e : End GrowRefusal). IsStop e) (sym is_as)
           (renamed_stopped Journal end (c.in-Err.ensures.whole (over can.rows secret.shape) can.history can.stands.0 told can.stands.1));
       done = λ told. tt;
       any_moment = λ told quiet grown.

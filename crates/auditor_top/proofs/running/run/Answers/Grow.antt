@@ -107,7 +107,8 @@ grew g c =
           (c.grow.ensures.any_moment told (subst (λ b. IsQuiet g.B.Bench b) (sym same) quiet) (can ptold rows history over_seen)));
       unsent = c.grow.ensures.sent ∙ ap g.B.Bench.sent same;
       kept = λ undone fine. growth_kept c.grow.result undone fine c.grow.ensures.kept ∙ ap g.B.Bench.file same;
-      grow_calls = λ told done. (growth_says c.grow.result c.grow.ensures.ends).done _ done (c.grow.ensures.ticks told) ∙ ap (λ (n : ℕ). n + 6) (ap g.B.Bench.moment same);
+      grow_calls = λ told done. (growth_says c.grow.result c.grow.ensures.ends).done _ done (c.grow.ensures.ticks told)
+          ∙ ap (λ (n : ℕ). n + 6) (ap g.B.Bench.moment same);
       grows = λ ptold told base rows history over none.
           growth_wants c.grow.result (faults_of g.P.Source g.I.Source g.B.Bench old) (faults_of g.P.Source g.I.Source g.B.Bench new) c.grow.ensures.ends
           (c.grow.ensures.grows told (can ptold rows history (given ptold base rows history over)))
@@ -175,7 +176,8 @@ grow_ends g c =
       before_bench = past_journal _ status last;
       before_spare = λ other. always_before opening_spare status refl;
       before_lines = always_before reading_lines status (refl, c.grow.ensures.sent ∙ reads.sent);
-      unwritten = λ told. at_lines _ _ _ c.grown.ensures ((growth_says c.grow.result c.grow.ensures.ends).at_lines _ _ (λ is. is ∙ reads.file) c.grow.ensures.kept);
+      unwritten = λ told. at_lines _ _ _ c.grown.ensures
+          ((growth_says c.grow.result c.grow.ensures.ends).at_lines _ _ (λ is. is ∙ reads.file) c.grow.ensures.kept);
       unread = λ none. none_asked _ _ none is_named;
       no_files = λ command asked none. takes_step reads_files _ _ _ is_named asked refl none;
       no_lines = λ command asked none. refl;

@@ -70,7 +70,8 @@ quiet_opened g c quiet = subst (λ b. IsQuiet g.B.Bench b) (sym (unopened g c)) 
 cause : (g : Over) (c : goal.After-restored g) → g.B.Bench.told → (refusal : RestoreRefusal) → c.restore.result ≡ Err (Refused refusal) →
     RestoreCause refusal (g.B.Bench.file c.args.bench.now) (g.B.Bench.file c.args.spare.now) (table g c)
 cause g c told refusal is =
-    subst (λ b. RestoreCause refusal (g.B.Bench.file b) (g.B.Bench.file c.args.spare.now) (table g c)) (unopened g c) (c.restore.ensures.cause refusal told told is)
+    subst (λ b. RestoreCause refusal (g.B.Bench.file b) (g.B.Bench.file c.args.spare.now) (table g c)) (unopened g c)
+    (c.restore.ensures.cause refusal told told is)
 
 done_so : (g : Over) (c : goal.After-restored g) → g.P.Source.told → g.B.Bench.told → restoring_status c.restore.result ≡ Done → (base : Database) →
     AreSoundFilesOf (g.P.Source.left c.args.schema.now) (g.P.Source.left c.args.table.now) base → (history : List Answered)

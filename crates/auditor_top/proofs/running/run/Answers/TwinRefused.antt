@@ -7,7 +7,7 @@ use Rattle.bench_core.specs.Moments.{weakens}
 use Rattle.table_load.specs.Database.{Database, base_of, table_in}
 use Rattle.twin_journal.specs.Twins.{CatchesUp, KeepApart, KeepTogether, TwinCause}
 use Rattle.twin_journal.specs.declared.starting.TwinRefusal.{TwinRefusal}
-use Rattle.bench_core.specs.Ends.{EndsBy, IsStopped}
+use Rattle.bench_core.specs.Ends.{EndsBy, IsStop}
 use Rattle.bench_core.specs.EndLaws.{by_cause}
 use Rattle.bench_core.specs.Stops.{IsOfBenches}
 use Rattle.bench_core.specs.declared.stops.End.{End}
@@ -128,7 +128,7 @@ spare_catching g c ptold told quiet base main other whole over =
     (c.in-Err-start.ensures.spare_moments main other whole told told quiet (keep g c ptold base main other whole over))
 
 gave : (g : Over) (c : goal.After-drop-schema-inside-in-Ok-Twin-3 g) → g.P.Source.told → g.B.Bench.told → (base : Database) (main other whole : List Answered) →
-    IsGiven g c base main other whole → IsStopped (end g c)
+    IsGiven g c base main other whole → IsStop (end g c)
 gave g c ptold told base main other whole over = c.in-Err-start.ensures.opens main other whole told told (keep g c ptold base main other whole over)
 
 -- what there is of the outside before and after

@@ -11,7 +11,7 @@ use Rattle.journal_form.specs.Journal.{StandsAt, StandsFor}
 use Rattle.table_load.specs.Cells.{SecretView}
 use Rattle.table_load.specs.Database.{secret_table}
 use Rattle.audit_store.specs.Refusals.{no_refusal, same_fault}
-use Rattle.bench_core.specs.Ends.{DoneUnlessStopped, EndsBy, IsDueUnlessStopped, IsStopped, RefusedUnlessStopped, refused_as, turned_end}
+use Rattle.bench_core.specs.Ends.{DoneUnlessStopped, EndsBy, IsDueUnlessStopped, IsStop, RefusedUnlessStopped, refused_as, turned_end}
 use Rattle.bench_core.specs.EndLaws.{EndsBy-weaker, by_cause, not_stopped_by, renamed_by, renamed_stopped, renamed_tells, turned_by, turned_stopped, turned_tells}
 use Rattle.bench_core.specs.Stops.{IsOfBench, IsOfBenches, IsOfSpare, of_benches, spare_of_benches, turned_of_bench}
 use Rattle.bench_core.specs.declared.stops.End.{End}
@@ -72,7 +72,7 @@ returns-in-Err g c =
           subst (λ (e : End TwinRefusal). IsDueUnlessStopped due e) (sym is)
           (main_due file spare table end due (λ d why. does.due d told why) (λ history stands legal. does.opens history told stands legal) cause);
       opens = λ m o whole told spare_told keep.
-          subst (λ (e : End TwinRefusal). IsStopped e) (sym is)
+          subst (λ (e : End TwinRefusal). IsStop e) (sym is)
           (renamed_stopped Main end (does.opens m told keep.main_stands (main_is_legal table file spare m o whole keep)));
       main_moments = λ m o whole told spare_told quiet keep.
           while_read g.B.Bench bench started c.args.secret.shape m whole reads quiet keep.main_stands keep.main_front;
@@ -148,7 +148,7 @@ returns-in-Err-open_other g c =
           (λ history is_of are. does.opens history spare_told (subst (λ (s : Shape). StandsFor spare s history) (sym same_shape) is_of)
           (subst (λ (t : Table). IsLegal t history) (sym same_table) are)) cause);
       opens = λ m o whole told spare_told keep.
-          subst (λ (e : End TwinRefusal). IsStopped e) (sym is)
+          subst (λ (e : End TwinRefusal). IsStop e) (sym is)
           (renamed_stopped Spare (turned_end end) (turned_stopped end
           (does.opens o spare_told (subst (λ (s : Shape). StandsFor spare s o) (sym same_shape) keep.spare_stands)
           (subst (λ (t : Table). IsLegal t o) (sym same_table) (spare_is_legal table file spare m o whole keep)))));
