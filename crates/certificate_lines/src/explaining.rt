@@ -39,8 +39,7 @@ fn explain_lines<P: Source, B: Bench>(
 }
 
 /// Sends a line for each counted line of the input: the verdict on it after the store's history, and for a denial as unsafe its
-/// certificate. Nothing is recorded, so that each line is decided after the same history, and nothing is written. The index
-/// is that of the schema's public columns and protected groups.
+/// certificate. Nothing is recorded, so that each line is decided after the same history, and nothing is written.
 pub fn explain<P: Source, B: Bench>(
     alloc: Global,
     index: &Index,

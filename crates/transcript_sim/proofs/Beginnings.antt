@@ -1,12 +1,13 @@
 -- A transcript begins with one history, and a journal that gives one is never refused.
-use Rattle.std.proofs.Common.{◌≡◌, ℕ, List, Result, Ok, Err, IfErr, sym, ◌∙◌, subst, inl, inr}
+use Rattle.std.proofs.Common.{◌≡◌, ℕ, List, Result, Ok, Err, IfErr, refl, sym, ◌∙◌, subst, inl, inr}
 use Rattle.audit_types.specs.declared.records.Answered.{Answered}
 use Rattle.audit_types.specs.declared.shapes.Shape.{Shape}
 use Rattle.audit_types.specs.History.{Setting}
 use Rattle.audit_core.specs.Released.{WereReleased}
 use Rattle.answer_journal.specs.MadeFiles.{stands_is_made}
+use Rattle.answer_journal.specs.Refusals.{ReadCause}
 use Rattle.answer_journal.specs.declared.refusals.JournalRefusal.{JournalRefusal}
-use Rattle.answer_journal.specs.declared.refusals.JournalRefusal.TheVariants.{Damaged, OtherShape, Illegal}
+use Rattle.answer_journal.specs.declared.refusals.JournalRefusal.TheVariants.{NotMade, Damaged, OtherShape, Illegal}
 use Rattle.bench_core.specs.Ends.{EndsBy}
 use Rattle.bench_core.specs.Stops.{IsOfBench, IsOfMemory, of_bench}
 use Rattle.bench_core.specs.declared.stops.End.{End}
@@ -53,22 +54,29 @@ module _ (one : OneReading) (file : List ℕ) (setting : Setting) where
     unblamed begins (Err (Refused (Journal why))) cause = never_refused begins why cause
     unblamed begins ended cause = tt
 
+-- a journal that isn't read back is one that is damaged, or none is made
+pub told_by_reading : (file : List ℕ) (setting : Setting) (why : JournalRefusal) → (why ≡ NotMade → ⊥) → ReadCause why file → UnbegunCause why file setting
+told_by_reading file setting NotMade made cause = absurd (made refl)
+told_by_reading file setting (Damaged at) made cause = cause
+told_by_reading file setting other made cause = absurd cause
+
 -- what is told of the history of a journal is told of its file
-module _ (file : List ℕ) (setting : Setting) (kept : Shape) (list : List Answered) (gate : ℕ) (stands : StandsAt file kept list gate) where
-  told_by_history : (why : JournalRefusal) → HistoryCause why kept setting list → UnbegunCause why file setting
-  told_by_history (OtherShape other now) cause = record {
+module _ (told : Type 0) (file : List ℕ) (setting : Setting) (kept : Shape) (list : List Answered) (gate : ℕ)
+    (stands : told → StandsAt file kept list gate) where
+  told_by_history : told → (why : JournalRefusal) → HistoryCause why kept setting list → UnbegunCause why file setting
+  told_by_history t (OtherShape other now) cause = record {
     now_is = cause.1;
     other = cause.2;
     history = list;
-    stands = (gate, subst (λ s. StandsAt file s list gate) (sym cause.0) stands);
+    stands = (gate, subst (λ s. StandsAt file s list gate) (sym cause.0) (stands t));
   }
-  told_by_history (Illegal place group) cause =
-      record { history = list; stands = (gate, subst (λ s. StandsAt file s list gate) cause.0 stands); first = cause.1 }
-  told_by_history other cause = absurd cause
+  told_by_history t (Illegal place group) cause =
+      record { history = list; stands = (gate, subst (λ s. StandsAt file s list gate) cause.0 (stands t)); first = cause.1 }
+  told_by_history t other cause = absurd cause
 
-  pub told_by_audit : {X : Type 0} (ended : Result X (End JournalRefusal)) (told : Type 0) →
+  pub told_by_audit : {X : Type 0} (ended : Result X (End JournalRefusal)) →
       IfErr ended (EndsBy IsOfMemory (λ why. HistoryCause why kept setting list)) →
       IfErr ended (EndsBy IsOfBench (λ why. told → UnbegunCause why file setting))
-  told_by_audit (Ok core) told cause = tt
-  told_by_audit (Err (Stopped why)) told cause = of_bench why cause
-  told_by_audit (Err (Refused why)) told cause = λ t. told_by_history why cause
+  told_by_audit (Ok core) cause = tt
+  told_by_audit (Err (Stopped why)) cause = of_bench why cause
+  told_by_audit (Err (Refused why)) cause = λ t. told_by_history t why cause

@@ -81,7 +81,7 @@ module _ {P B : Type 0} {source : SourceGhosts P} {bench : Ghosts B} {index : In
 module _ {P B : Type 0} {source : SourceGhosts P} {bench : Ghosts B} {index : IndexView} {begun : List Answered}
     {first_source from : P} {first at : B} {cutter : Cutter} {core : Audited} {line : ℕ}
     (turn : Turn source bench index begun first_source from first at cutter core line) {new : Cutter} {after : P}
-    (cuts : Cuts source cutter new from after) {sending : B} where
+    (cuts : Cuts source cutter new from after) where
   module _ {expected : Expected} (question : GivesQuestion source cutter new from after index core.history expected) where
     expects : Expects index (begun ++ records_of turn.verdicts) question.line expected
     expects = subst (λ (h : List Answered). Expects index h question.line expected) turn.history question.expects
@@ -90,7 +90,7 @@ module _ {P B : Type 0} {source : SourceGhosts P} {bench : Ghosts B} {index : In
     are_with = question-push index begun turn.lines turn.verdicts turn.so_far.due turn.even question.line expected expects
 
     -- it was sent
-    pub asked_half : SendsAll bench at sending (line_of expected) →
+    pub asked_half : {sending : B} → SendsAll bench at sending (line_of expected) →
         Half source bench index begun first_source after first sending new core (line + 2) expected
     asked_half sends = record {
       lines = turn.lines;
@@ -106,22 +106,22 @@ module _ {P B : Type 0} {source : SourceGhosts P} {bench : Ghosts B} {index : In
     }
 
     -- it couldn't be
-    asked_unsent : SendsPart bench at sending (line_of expected) →
+    asked_unsent : {sending : B} → SendsPart bench at sending (line_of expected) →
         Judges source bench index begun first_source after first sending (Err (Stopped stop.Bench))
     asked_unsent fails = (text_unsent turn.so_far cuts question.gives (verdict_with expected None) are_with fails, tt)
 
   -- no verdict was sent
-  pub unjudged : (why : Stop) → IsUnjudged source bench cutter new from after at sending index core.history why →
+  pub unjudged : {sending : B} (why : Stop) → IsUnjudged source bench cutter new from after at sending index core.history why →
       Judges source bench index begun first_source after first sending (Err (Stopped why))
-  unjudged why (inl is) =
+  unjudged {sending} why (inl is) =
       subst (λ (b : B). Judges source bench index begun first_source after first b (Err (Stopped why))) (sym is.1)
       (cut_short turn.so_far cuts why is.0)
-  unjudged why (inr is) =
+  unjudged {sending} why (inr is) =
       subst (λ (s : Stop). Judges source bench index begun first_source after first sending (Err (Stopped s))) (sym is.0)
       (asked_unsent is.1.question is.1.fails)
 
   -- no question is left
-  pub none_left : GivesNone source cutter new from after → sending ≡ at → Judges source bench index begun first_source after first sending (Ok tt)
+  pub none_left : {sending : B} → GivesNone source cutter new from after → sending ≡ at → Judges source bench index begun first_source after first sending (Ok tt)
   none_left none same =
       subst (λ (b : B). Judges source bench index begun first_source after first b (Ok tt)) (sym same) (none_is_left turn.so_far cuts none)
 

@@ -67,7 +67,10 @@ pub(crate) fn begin<B: Bench>(
     let protected = protected.copy(alloc)?;
     match Journal::read_back(alloc, bench) {
         Ok((journal, list)) => audited(alloc, shape, protected, journal.shape(), &list),
-        Err(End::Refused(JournalRefusal::NotMade)) => Ok(Core::new(alloc, shape, protected)?),
-        Err(end) => Err(end),
+        Err(End::Stopped(stop)) => Err(End::Stopped(stop)),
+        Err(End::Refused(refusal)) => match refusal {
+            JournalRefusal::NotMade => Ok(Core::new(alloc, shape, protected)?),
+            _ => Err(End::Refused(refusal)),
+        },
     }
 }
