@@ -16,7 +16,7 @@ use Rattle.auditor_top.specs.Causes.{FaultCounts, FaultCause, WordCause, FileCau
 use Rattle.auditor_top.specs.Ends.{GrowEnds}
 use Rattle.auditor_top.specs.Stages.{Before, reading_lines}
 use Rattle.auditor_top.specs.Faults.{growing_status}
-use Rattle.auditor_top.proofs.StepFaults.{same_counts}
+use Rattle.auditor_top.proofs.LastSteps.{IsUnrefused}
 use Rattle.auditor_top.proofs.StepStatuses.{EndsLastStep}
 
 -- what its status says by itself
@@ -40,12 +40,6 @@ growth_file (Err grow.Failed) file table can cause = tt
 growth_file (Err grow.NoMemory) file table can cause = tt
 growth_file (Err fault) file table can cause = cause fault refl
 
--- the count of the bench rose if a call of it failed, and no other count changed
-pub growth_faults : {X : Type 0} (ended : Result X GrowFault) (before : FaultCounts) (bench : ℕ) → (IsErrOf ended grow.Failed → Rose before.bench bench) →
-    ((IsErrOf ended grow.Failed → ⊥) → bench ≡ before.bench) → FaultCause (growing_status ended) before (record before { bench = bench })
-growth_faults (Err grow.Failed) before bench rose same = (rose refl, refl)
-growth_faults ended before bench rose same = same_counts before before.input bench refl (same (search rules))
-
 -- over a journal that can grow: what the file stands for
 pub growth_ends : (ended : Result (Unit {0}) GrowFault) (base : Database) (history : List Answered) (before after : List ℕ) →
     OnOk ended (StandsFor after base.secret.shape (widened base.secret.shape.rows history)) → GrowsUnlessFailed ended →
@@ -55,12 +49,12 @@ growth_ends (Err grow.Failed) base history before after stands gave_up kept = tt
 growth_ends (Err grow.NoMemory) base history before after stands gave_up kept = kept (λ is. cc)
 growth_ends ended base history before after stands gave_up kept = absurd gave_up
 
-pub growth_wants : (ended : Result (Unit {0}) GrowFault) (before after : FaultCounts) → GrowsUnlessFailed ended →
-    FaultCause (growing_status ended) before after → NothingFailed before after → IsDoneOrWants (growing_status ended)
-growth_wants (Ok done) before after gave_up rose none = inl refl
-growth_wants (Err grow.Failed) before after gave_up rose none = absurd (none.bench rose.0)
-growth_wants (Err grow.NoMemory) before after gave_up rose none = inr refl
-growth_wants ended before after gave_up rose none = absurd gave_up
+-- and it isn't refused
+pub growth_unrefused : (ended : Result (Unit {0}) GrowFault) → GrowsUnlessFailed ended → IsUnrefused (growing_status ended)
+growth_unrefused (Ok done) gave_up = tt
+growth_unrefused (Err grow.Failed) gave_up = tt
+growth_unrefused (Err grow.NoMemory) gave_up = tt
+growth_unrefused ended gave_up = absurd gave_up
 
 -- what holds unless the bench failed holds of each refusal
 pub growth_kept : {X P : Type 0} (ended : Result X GrowFault) → growing_status ended ≢ Done → growing_status ended ≢ BenchFault →

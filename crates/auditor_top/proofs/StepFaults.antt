@@ -23,6 +23,7 @@ use Rattle.auditor_top.specs.Ends.{Outside, ServeEnds}
 use Rattle.auditor_top.specs.Causes.{FaultCounts, counts, FaultCause, FileCause, IsReadyFor, IsSpareFor, InputCause, NothingFailed, IsDoneOrWants, SpareCause, WordCause}
 use Rattle.auditor_top.specs.declared.status.Which.TheVariants.{Input}
 use Rattle.auditor_top.specs.Stages.{Before, opening_spare, reading_lines}
+use Rattle.auditor_top.proofs.LastSteps.{IsUnrefused}
 use Rattle.auditor_top.proofs.StepStatuses.{EndsLastStep}
 use Rattle.auditor_top.specs.Commands.{calls_spare, reads_lines}
 
@@ -58,7 +59,6 @@ pub record MakingSays {X : Type 0} (ended : Result X MakeFault) : Type 1 where
   pub last : EndsLastStep (making_status ended)
   pub words : WordCause (making_status ended) (Some Init)
   pub bench : making_status ended ≡ BenchFault → IsErrOf ended make.Failed
-  pub no_input : making_status ended ≢ SourceFault Input
   pub no_memory : making_status ended ≢ NoMemory
   pub done : (P : Type 0) → making_status ended ≡ Done → OnOk ended P → P
   -- before the lines it ends only if a journal or another file was there
@@ -76,6 +76,7 @@ pub record StopSays {X : Type 0} (ended : Result X Stop) : Type 1 where
   pub bench : ended_status ended ≡ BenchFault → ended ≡ Err stop.Bench
   pub spare : ended_status ended ≡ SpareFault → ended ≡ Err stop.Spare
   pub input : ended_status ended ≡ SourceFault Input → ended ≡ Err stop.Input
+  pub memory : ended_status ended ≡ NoMemory → ended ≡ Err stop.NoMemory
   pub done : (P : Type 0) → ended_status ended ≡ Done → OnOk ended P → P
   pub at_lines : (P : Type 0) → Before reading_lines (ended_status ended) P
   pub at_spare : (P : Type 0) → Before opening_spare (ended_status ended) P
@@ -88,13 +89,6 @@ stop_says ended = search rules
 
 -- ---- making a journal
 
--- the count of the bench rose if a call of it failed, and no other count changed
-pub making_faults : (making : Result (Unit {0}) MakeFault) (before : FaultCounts) (bench : ℕ) → (IsErrOf making make.Failed → Rose before.bench bench)
-    → ((IsErrOf making make.Failed → ⊥) → bench ≡ before.bench)
-    → FaultCause (making_status making) before (record before { bench = bench })
-making_faults (Err make.Failed) before bench rose same = (rose refl, refl)
-making_faults making before bench rose same = same_counts before before.input bench refl (same (search rules))
-
 -- a journal was made where none was there
 pub making_cause : (making : Result (Unit {0}) MakeFault) (file : List ℕ) (table : Guarded) → (IsAlready file → IsErr making)
     → (IsErrOf making make.AlreadyThere → IsAlready file) → FileCause (making_status making) Init file table
@@ -102,12 +96,11 @@ making_cause (Ok done) file table refused already = λ there. absurd (false≢tr
 making_cause (Err make.AlreadyThere) file table refused already = already refl
 making_cause (Err make.Failed) file table refused already = tt
 
--- if nothing was there and the bench didn't fail, it is done
-pub making_wants : (making : Result (Unit {0}) MakeFault) (before after : FaultCounts) → (IsErrOf making make.AlreadyThere → ⊥)
-    → FaultCause (making_status making) before after → NothingFailed before after → IsDoneOrWants (making_status making)
-making_wants (Ok done) before after absent rose none = inl refl
-making_wants (Err make.AlreadyThere) before after absent rose none = absurd (absent refl)
-making_wants (Err make.Failed) before after absent rose none = absurd (none.bench rose.0)
+-- if nothing was there it wasn't refused
+pub making_unrefused : (making : Result (Unit {0}) MakeFault) → (IsErrOf making make.AlreadyThere → ⊥) → IsUnrefused (making_status making)
+making_unrefused (Ok done) absent = tt
+making_unrefused (Err make.AlreadyThere) absent = absurd (absent refl)
+making_unrefused (Err make.Failed) absent = tt
 
 -- if the bench didn't fail, a journal was made, or one or another file was there
 pub made_or_there : {P : Type 0} (making : Result (Unit {0}) MakeFault) → making_status making ≢ BenchFault → OnOk making P →
@@ -128,36 +121,6 @@ there_is (Err make.Failed) undone fine = absurd (fine refl)
 pub of_bench : {X : Type 0} (ended : Result X Stop) (why : Stop) → IfErr ended IsOfBench → ended ≡ Err why → IsOfBench why
 of_bench ended why ends is = subst (λ r. IfErr r IsOfBench) is ends
 
--- three counts that are as they were
-all_same : (before : FaultCounts) (input bench spare : ℕ) → input ≡ before.input → bench ≡ before.bench → spare ≡ before.spare →
-    record before { input = input; bench = bench; spare = spare } ≡ before
-all_same before input bench spare is also then =
-    ap (λ (n : ℕ). record before { input = n; bench = bench; spare = spare }) is ∙ both_same before bench spare also then
-
--- the count of what failed rose, and no other changed
-pub stop_faults : {X : Type 0} (ended : Result X Stop) (before : FaultCounts) (input bench spare : ℕ) →
-    (ended ≡ Err stop.Input → Rose before.input input) → (ended ≢ Err stop.Input → input ≡ before.input) →
-    (ended ≡ Err stop.Bench → Rose before.bench bench) → (ended ≢ Err stop.Bench → bench ≡ before.bench) →
-    (ended ≡ Err stop.Spare → Rose before.spare spare) → (ended ≢ Err stop.Spare → spare ≡ before.spare) →
-    FaultCause (ended_status ended) before (record before { input = input; bench = bench; spare = spare })
-stop_faults (Err stop.Input) before input bench spare input_rose input_same bench_rose bench_same spare_rose spare_same = (
-  input_rose refl,
-  ap (λ (n : ℕ). record before { input = input; bench = n; spare = spare }) (bench_same (λ is. cc))
-      ∙ ap (λ (n : ℕ). record before { input = input; spare = n }) (spare_same (λ is. cc)),
-)
-stop_faults (Err stop.Bench) before input bench spare input_rose input_same bench_rose bench_same spare_rose spare_same = (
-  bench_rose refl,
-  ap (λ (n : ℕ). record before { input = n; bench = bench; spare = spare }) (input_same (λ is. cc))
-      ∙ ap (λ (n : ℕ). record before { bench = bench; spare = n }) (spare_same (λ is. cc)),
-)
-stop_faults (Err stop.Spare) before input bench spare input_rose input_same bench_rose bench_same spare_rose spare_same = (
-  spare_rose refl,
-  ap (λ (n : ℕ). record before { input = n; bench = bench; spare = spare }) (input_same (λ is. cc))
-      ∙ ap (λ (n : ℕ). record before { bench = n; spare = spare }) (bench_same (λ is. cc)),
-)
-stop_faults ended before input bench spare input_rose input_same bench_rose bench_same spare_rose spare_same =
-    all_same before input bench spare (input_same (λ is. cc)) (bench_same (λ is. cc)) (spare_same (λ is. cc))
-
 -- how much of the input there was, by the end
 pub stop_reads : {X : Type 0} (ended : Result X Stop) (before after : List ℕ) → OnOk ended (after ≡ []) → OnOk ended (length before ≤ most_input)
     → (ended ≡ Err stop.Input → length before ≤ most_input + length after)
@@ -166,16 +129,6 @@ stop_reads (Ok done) before after read within failed limit = (read, within)
 stop_reads (Err stop.Input) before after read within failed limit = failed refl
 stop_reads (Err stop.Limit) before after read within failed limit = limit refl
 stop_reads ended before after read within failed limit = tt
-
--- if nothing failed, and the limit wasn't passed, it is done, or there was no memory
-pub stop_wants : {X : Type 0} (ended : Result X Stop) (before after : FaultCounts) → FaultCause (ended_status ended) before after
-    → NothingFailed before after → ended ≢ Err stop.Limit → ended ≢ Err stop.Spare → IsDoneOrWants (ended_status ended)
-stop_wants (Ok done) before after rose none within alone = inl refl
-stop_wants (Err stop.Input) before after rose none within alone = absurd (none.input rose.0)
-stop_wants (Err stop.Limit) before after rose none within alone = absurd (within refl)
-stop_wants (Err stop.Bench) before after rose none within alone = absurd (none.bench rose.0)
-stop_wants (Err stop.Spare) before after rose none within alone = absurd (alone refl)
-stop_wants (Err stop.NoMemory) before after rose none within alone = inr refl
 
 -- the ends of a session over one journal are those of the run
 pub session_ends : {X : Type 0} (ended : Result X Stop) (base : Database) (batch : ℕ) (history now : List Answered) (before after : Outside)
