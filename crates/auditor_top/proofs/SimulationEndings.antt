@@ -25,7 +25,7 @@ use Rattle.auditor_top.specs.Ends.{SimulateEnds, SendsLines}
 use Rattle.auditor_top.specs.Commands.{ArePublicFilesOf}
 use Rattle.auditor_top.specs.Causes.{BeginningCause, FaultCounts, FaultCause, InputCause, NothingFailed, IsDoneOrWants, WordCause, FileCause}
 use Rattle.auditor_top.proofs.OneTable.{same_ok}
-use Rattle.auditor_top.proofs.StepFaults.{same_counts}
+use Rattle.auditor_top.proofs.LastSteps.{IsUnrefused}
 use Rattle.auditor_top.specs.declared.status.Which.TheVariants.{Input}
 use Rattle.auditor_top.specs.declared.status.Status.TheVariants.{Done, SourceFault, BenchFault}
 use Rattle.auditor_top.specs.Stages.{Before, reading_lines}
@@ -133,36 +133,18 @@ simulation_reads (Err (verdict.OtherShape kept now)) before after reads unread =
 simulation_reads (Err (verdict.Illegal place group)) before after reads unread = unread
 simulation_reads ended before after reads unread = reads
 
--- the count of what failed rose, and no other changed
-pub simulation_faults : (ended : Result (Unit {0}) SimulationFault) (before : FaultCounts) (input bench : ℕ)
-    → (ended ≡ Err (verdict.Stopped stop.Input) → Rose before.input input) → (ended ≢ Err (verdict.Stopped stop.Input) → input ≡ before.input)
-    → (ended ≡ Err (verdict.Stopped stop.Bench) → Rose before.bench bench) → (ended ≢ Err (verdict.Stopped stop.Bench) → bench ≡ before.bench)
-    → ended ≢ Err (verdict.Stopped stop.Spare) → FaultCause (simulation_status ended) before (record before { input = input; bench = bench })
-simulation_faults (Err (verdict.Stopped stop.Input)) before input bench input_rose input_same bench_rose bench_same alone =
-    (input_rose refl, same_counts (record before { input = input }) input bench refl (bench_same (search rules)))
-simulation_faults (Err (verdict.Stopped stop.Bench)) before input bench input_rose input_same bench_rose bench_same alone =
-    (bench_rose refl, same_counts (record before { bench = bench }) input bench (input_same (search rules)) refl)
-simulation_faults (Err (verdict.Stopped stop.Spare)) before input bench input_rose input_same bench_rose bench_same alone = absurd (alone refl)
-simulation_faults ended before input bench input_rose input_same bench_rose bench_same alone =
-    same_counts before input bench (input_same (search rules)) (bench_same (search rules))
-
--- if every reply agrees, the input is within its limit and nothing failed, it is done, or there was no memory
-pub simulation_wants : FirstLinesHaveVerdicts
+-- if every reply agrees and the input is within its limit it isn't refused
+pub simulation_unrefused : FirstLinesHaveVerdicts
     → (ended : Result (Unit {0}) SimulationFault) (columns : List Column) (public : IndexView) (history : List Answered) (input left : List ℕ)
-    (verdicts others : List (Replied Answered)) (before after : FaultCounts)
+    (verdicts others : List (Replied Answered))
     → EndVerdicts ended columns public history input left verdicts → EndReads ended input left
-    → AreVerdicts columns public history (counted_lines input) others → length input ≤ 2 ^ 30 → FaultCause (simulation_status ended) before after →
-    NothingFailed before after → IsDoneOrWants (simulation_status ended)
-simulation_wants first (Ok done) columns public history input left verdicts others before after are reads agree within rose none = inl refl
-simulation_wants first (Err (verdict.Stopped stop.Input)) columns public history input left verdicts others before after are reads agree within rose none =
-    absurd (none.input rose.0)
-simulation_wants first (Err (verdict.Stopped stop.Bench)) columns public history input left verdicts others before after are reads agree within rose none =
-    absurd (none.bench rose.0)
-simulation_wants first (Err (verdict.Stopped stop.Limit)) columns public history input left verdicts others before after are reads agree within rose none =
+    → AreVerdicts columns public history (counted_lines input) others → length input ≤ 2 ^ 30 → IsUnrefused (simulation_status ended)
+simulation_unrefused first (Ok done) columns public history input left verdicts others are reads agree within = tt
+simulation_unrefused first (Err (verdict.Stopped stop.Limit)) columns public history input left verdicts others are reads agree within =
     absurd (omega (arith, reads, within))
-simulation_wants first (Err (verdict.Disagrees line due)) columns public history input left verdicts others before after are reads agree within rose none =
+simulation_unrefused first (Err (verdict.Stopped stop.Input)) columns public history input left verdicts others are reads agree within = tt
+simulation_unrefused first (Err (verdict.Stopped why)) columns public history input left verdicts others are reads agree within = tt
+simulation_unrefused first (Err (verdict.Disagrees line due)) columns public history input left verdicts others are reads agree within =
     let begun = first columns public history (counted_lines input) others line agree in
     absurd (are.none_with begun.0 begun.1)
-simulation_wants first (Err (verdict.Stopped stop.NoMemory)) columns public history input left verdicts others before after are reads agree within rose none =
-    inr refl
-simulation_wants first ended columns public history input left verdicts others before after are reads agree within rose none = absurd are
+simulation_unrefused first ended columns public history input left verdicts others are reads agree within = absurd are
