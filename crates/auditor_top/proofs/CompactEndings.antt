@@ -16,7 +16,7 @@ use Rattle.auditor_top.specs.Causes.{FaultCounts, FaultCause, WordCause, FileCau
 use Rattle.auditor_top.specs.Compactions.{CompactEnds}
 use Rattle.auditor_top.specs.Stages.{Before, opening_spare, reading_lines}
 use Rattle.auditor_top.specs.Faults.{compacting_status}
-use Rattle.auditor_top.proofs.StepFaults.{both_same}
+use Rattle.auditor_top.proofs.LastSteps.{IsUnrefused}
 use Rattle.auditor_top.proofs.StepStatuses.{EndsLastStep}
 
 -- what its status says by itself
@@ -27,7 +27,6 @@ pub record CompactSays {X : Type 0} (ended : Result X CompactFault) : Type 1 whe
   pub bench : compacting_status ended ≡ BenchFault → IsErrOf ended compact.Bench
   pub spare : compacting_status ended ≡ SpareFault → IsErrOf ended compact.Spare
   pub memory : compacting_status ended ≡ NoMemory → IsErrOf ended compact.NoMemory
-  pub no_input : compacting_status ended ≢ SourceFault Input
   pub done : (P : Type 0) → compacting_status ended ≡ Done → OnOk ended P → P
   -- it comes to the spare, and nothing was sent before the lines, nor if the spare failed
   pub at_spare : (P : Type 0) → Before opening_spare (compacting_status ended) P
@@ -45,18 +44,6 @@ compact_spare (Ok done) file already refused = λ made. absurd (false≢true (re
 compact_spare (Err compact.AlreadyThere) file already refused = already refl
 compact_spare ended file already refused = tt
 
--- the count of the object that failed rose, and no other count changed
-pub compact_faults : {X : Type 0} (ended : Result X CompactFault) (before : FaultCounts) (bench spare : ℕ) →
-    (IsErrOf ended compact.Bench → Rose before.bench bench) → ((IsErrOf ended compact.Bench → ⊥) → bench ≡ before.bench) →
-    (IsErrOf ended compact.Spare → Rose before.spare spare) → ((IsErrOf ended compact.Spare → ⊥) → spare ≡ before.spare) →
-    FaultCause (compacting_status ended) before (record before { bench = bench; spare = spare })
-compact_faults (Err compact.Spare) before bench spare rose same spare_rose spare_same =
-    (spare_rose refl, ap (λ (n : ℕ). record before { bench = n; spare = spare }) (same (search rules)))
-compact_faults (Err compact.Bench) before bench spare rose same spare_rose spare_same =
-    (rose refl, ap (λ (n : ℕ). record before { bench = bench; spare = n }) (spare_same (search rules)))
-compact_faults ended before bench spare rose same spare_rose spare_same =
-    both_same before bench spare (same (search rules)) (spare_same (search rules))
-
 -- over a legal history: what the spare holds, and what was sent
 pub compact_ends : (ended : Result (Unit {0}) CompactFault) (shape : Shape) (history : List Answered) (spare new_spare before after : List ℕ) →
     OnOk ended (Compacts shape history spare new_spare before after) →
@@ -66,15 +53,10 @@ compact_ends (Ok done) shape history spare new_spare before after all part unsen
 compact_ends (Err compact.Bench) shape history spare new_spare before after all part unsent = inr (part refl)
 compact_ends ended shape history spare new_spare before after all part unsent = unsent (λ is. cc)
 
--- if no journal is made there and nothing failed, it is done, or there was no memory
-pub compact_wants : {X : Type 0} (ended : Result X CompactFault) (before after : FaultCounts) → (IsErrOf ended compact.AlreadyThere → ⊥) →
-    FaultCause (compacting_status ended) before after → NothingFailed before after → (Rose before.spare after.spare → ⊥) →
-    IsDoneOrWants (compacting_status ended)
-compact_wants (Ok done) before after absent rose none fine = inl refl
-compact_wants (Err compact.AlreadyThere) before after absent rose none fine = absurd (absent refl)
-compact_wants (Err compact.Spare) before after absent rose none fine = absurd (fine rose.0)
-compact_wants (Err compact.Bench) before after absent rose none fine = absurd (none.bench rose.0)
-compact_wants (Err compact.NoMemory) before after absent rose none fine = inr refl
+-- if no journal is made there it isn't refused
+pub compact_unrefused : {X : Type 0} (ended : Result X CompactFault) → (IsErrOf ended compact.AlreadyThere → ⊥) → IsUnrefused (compacting_status ended)
+compact_unrefused (Err compact.AlreadyThere) absent = absurd (absent refl)
+compact_unrefused ended absent = tt
 
 -- what follows holds of the same refusals
 pub unsent_so : {X P Q : Type 0} (ended : Result X CompactFault) → (P → Q) → OnErr ended (ended ≢ Err compact.Bench → P) →

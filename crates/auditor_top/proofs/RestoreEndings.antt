@@ -15,7 +15,7 @@ use Rattle.auditor_top.specs.Causes.{BothCause, FaultCounts, FaultCause, WordCau
 use Rattle.auditor_top.specs.Stages.{Before, opening_journal, reading_lines}
 use Rattle.auditor_top.specs.Faults.{restoring_status, start_status}
 use Rattle.auditor_top.proofs.StartEndings.{start_says, start_steady}
-use Rattle.auditor_top.proofs.StepFaults.{both_same}
+use Rattle.auditor_top.proofs.LastSteps.{IsUnrefused}
 use Rattle.auditor_top.proofs.StepStatuses.{EndsLastStep}
 
 -- a fault of the journal is its own
@@ -36,7 +36,6 @@ pub record RestoreSays {X : Type 0} (ended : Result X RestoreFault) : Type 1 whe
   pub bench : IsOwn ended → restoring_status ended ≡ BenchFault → IsErrOf ended restore.MainFailed
   pub spare : restoring_status ended ≡ SpareFault → IsErrOf ended restore.SpareFailed
   pub memory : IsOwn ended → restoring_status ended ≡ NoMemory → IsErrOf ended restore.NoMemory
-  pub no_input : restoring_status ended ≢ SourceFault Input
   pub done : (P : Type 0) → restoring_status ended ≡ Done → OnOk ended P → P
   pub at_journal : (P : Type 0) → Before opening_journal (restoring_status ended) P
 
@@ -48,7 +47,6 @@ restore_says (Err (restore.Main fault)) = let says = start_says fault in record 
   bench = λ own is. absurd (own_fault fault own (says.bench is));
   spare = λ is. absurd (says.no_spare is);
   memory = λ own is. absurd (own_memory fault own (says.memory is));
-  no_input = says.no_input;
   done = λ P is holds. absurd (says.undone is);
   at_journal = says.at_journal;
 }
@@ -77,30 +75,14 @@ restore_cause (Err (restore.Main fault)) file spare table own cause = of_main fa
 restore_cause (Err (restore.Spare fault)) file spare table own cause = cause (restore.Spare fault) refl
 restore_cause (Err fault) file spare table own cause = tt
 
--- the count of the object that failed rose, and no other count changed
-pub restore_faults : {X : Type 0} (ended : Result X RestoreFault) (before : FaultCounts) (bench spare : ℕ) → IsOwn ended →
-    (IsErrOf ended restore.MainFailed → Rose before.bench bench) → ((IsErrOf ended restore.MainFailed → ⊥) → bench ≡ before.bench) →
-    (IsErrOf ended restore.SpareFailed → Rose before.spare spare) → ((IsErrOf ended restore.SpareFailed → ⊥) → spare ≡ before.spare) →
-    FaultCause (restoring_status ended) before (record before { bench = bench; spare = spare })
-restore_faults (Err restore.MainFailed) before bench spare own rose same spare_rose spare_same =
-    (rose refl, ap (λ (n : ℕ). record before { bench = bench; spare = n }) (spare_same (search rules)))
-restore_faults (Err restore.SpareFailed) before bench spare own rose same spare_rose spare_same =
-    (spare_rose refl, ap (λ (n : ℕ). record before { bench = n; spare = spare }) (same (search rules)))
-restore_faults (Err (restore.Main fault)) before bench spare own rose same spare_rose spare_same =
-    subst (λ (after : FaultCounts). FaultCause (start_status fault) before after)
-    (sym (both_same before bench spare (same (search rules)) (spare_same (search rules))))
-    (start_steady fault before (own_fault fault own))
-restore_faults ended before bench spare own rose same spare_rose spare_same = both_same before bench spare (same (search rules)) (spare_same (search rules))
-
--- if one can be restored and nothing failed, it is done, or there was no memory
-pub restore_wants : {X : Type 0} (ended : Result X RestoreFault) (before after : FaultCounts) →
-    ((fault : RestoreFault) → ended ≡ Err fault → RestoredUnlessGivenUp (Err fault)) → FaultCause (restoring_status ended) before after →
-    NothingFailed before after → (Rose before.spare after.spare → ⊥) → IsDoneOrWants (restoring_status ended)
-restore_wants (Ok done) before after gave rose none fine = inl refl
-restore_wants (Err restore.MainFailed) before after gave rose none fine = absurd (none.bench rose.0)
-restore_wants (Err restore.SpareFailed) before after gave rose none fine = absurd (fine rose.0)
-restore_wants (Err restore.NoMemory) before after gave rose none fine = inr refl
-restore_wants (Err fault) before after gave rose none fine = absurd (gave fault refl)
+-- if one can be restored it isn't refused
+pub restore_unrefused : {X : Type 0} (ended : Result X RestoreFault) → ((fault : RestoreFault) → ended ≡ Err fault → RestoredUnlessGivenUp (Err fault)) →
+    IsUnrefused (restoring_status ended)
+restore_unrefused (Ok done) gave = tt
+restore_unrefused (Err restore.MainFailed) gave = tt
+restore_unrefused (Err restore.SpareFailed) gave = tt
+restore_unrefused (Err restore.NoMemory) gave = tt
+restore_unrefused (Err fault) gave = absurd (gave fault refl)
 
 -- before the lines what was only read is as it was
 pub restore_at_lines : {X : Type 0} (P : Type 0) (ended : Result X RestoreFault) →
