@@ -27,7 +27,8 @@ use Rattle.auditor_top.specs.Stages.{Before, opening_spare, reading_lines}
 use Rattle.auditor_top.specs.Faults.{ended_status, start_status, twin_status}
 use Rattle.auditor_top.specs.Twins.{BothCatchUp, TwinEnds}
 use Rattle.auditor_top.proofs.StartEndings.{start_says, start_steady}
-use Rattle.auditor_top.proofs.StepFaults.{both_same, not_both}
+use Rattle.auditor_top.proofs.LastSteps.{IsUnrefused}
+use Rattle.auditor_top.proofs.StepFaults.{not_both}
 use Rattle.auditor_top.proofs.StepStatuses.{EndsLastStep}
 
 -- ---- they weren't opened
@@ -103,20 +104,6 @@ twin_cause (twin.Spare fault) batch file spare table cause = cause
 twin_cause (twin.Differ place) batch file spare table cause = cause
 twin_cause fault batch file spare table cause = tt
 
--- the count of the object that failed rose, and no other count changed
-pub twin_faults : {X : Type 0} (fault : TwinFault) (before : FaultCounts) (bench spare : ℕ) → IsOwn fault →
-    (IsErrOf {T = X} (Err fault) twin.MainFailed → Rose before.bench bench) → ((IsErrOf {T = X} (Err fault) twin.MainFailed → ⊥) → bench ≡ before.bench) →
-    (IsErrOf {T = X} (Err fault) twin.SpareFailed → Rose before.spare spare) → ((IsErrOf {T = X} (Err fault) twin.SpareFailed → ⊥) → spare ≡ before.spare) →
-    FaultCause (twin_status fault) before (record before { bench = bench; spare = spare })
-twin_faults twin.MainFailed before bench spare own rose same spare_rose spare_same =
-    (rose refl, ap (λ (n : ℕ). record before { bench = bench; spare = n }) (spare_same (λ is. cc)))
-twin_faults twin.SpareFailed before bench spare own rose same spare_rose spare_same =
-    (spare_rose refl, ap (λ (n : ℕ). record before { bench = n; spare = spare }) (same (λ is. cc)))
-twin_faults (twin.Main fault) before bench spare own rose same spare_rose spare_same =
-    subst (λ (after : FaultCounts). FaultCause (start_status fault) before after) (sym (both_same before bench spare (same (λ is. cc)) (spare_same (λ is. cc))))
-    (start_steady fault before own)
-twin_faults fault before bench spare own rose same spare_rose spare_same = both_same before bench spare (same (λ is. cc)) (spare_same (λ is. cc))
-
 -- if the files keep together, a call failed or memory ran out, no line was read and nothing was sent
 pub twin_gave_up : (fault : TwinFault) (batch : ℕ) (base : Database) (main other whole : List Answered) (before after : Outside) (spare : List ℕ) →
     TwinGivesUp fault →
@@ -129,13 +116,11 @@ twin_gave_up twin.MainFailed batch base main other whole before after spare gave
 twin_gave_up twin.SpareFailed batch base main other whole before after spare gave catch same = inl (same refl)
 twin_gave_up twin.NoMemory batch base main other whole before after spare gave catch same = inl (catch refl)
 
-pub twin_wants : (fault : TwinFault) (before after : FaultCounts) → TwinGivesUp fault → FaultCause (twin_status fault) before after →
-    NothingFailed before after →
-    (Rose before.spare after.spare → ⊥) → IsDoneOrWants (twin_status fault)
-twin_wants twin.MainFailed before after gave rose none fine = absurd (none.bench rose.0)
-twin_wants twin.SpareFailed before after gave rose none fine = absurd (fine rose.0)
-twin_wants twin.NoMemory before after gave rose none fine = inr refl
-twin_wants fault before after gave rose none fine = absurd gave
+pub twin_unrefused : (fault : TwinFault) → TwinGivesUp fault → IsUnrefused (twin_status fault)
+twin_unrefused twin.MainFailed gave = tt
+twin_unrefused twin.SpareFailed gave = tt
+twin_unrefused twin.NoMemory gave = tt
+twin_unrefused fault gave = absurd gave
 
 -- ---- the lines were answered
 
