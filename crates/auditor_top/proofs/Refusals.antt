@@ -66,20 +66,6 @@ at_first shape first whole stands front image same = record {
   to = front;
 }
 
--- a bench that wasn't called was only read
-pub uncalled : {B : Type 0} (bench : Ghosts B) (at : B) →
-    ((image bytes : List ℕ) → bench.since at (bench.moment at) image bytes → bench.leaves at image × (bytes ≡ bench.sent at)) → OnlyReads bench at at
-uncalled bench at only_now = record {
-  file = refl;
-  sent = refl;
-  crash = λ image left. left;
-  untouched = λ quiet. started bench at _ (λ image sent was. let now = only_now image sent was in (now.1, quiet image now.0));
-}
-
--- a bench that was only read is as quiet as before
-pub as_quiet : {B : Type 0} (bench : Ghosts B) (old new : B) → OnlyReads bench old new → IsQuiet bench old → IsQuiet bench new
-as_quiet bench old new reads quiet = λ image left. quiet image (reads.crash image left) ∙ sym reads.file
-
 module _ {P I B : Type 0} (files : source.Ghosts P) (lines : source.Ghosts I) (bench : Ghosts B) (schema later_schema table later_table : P) (input : I)
     (at later : B) (spare : B) (status : Status) (early : EndsEarly status) (reads : OnlyReads bench at later)
     (cause : FaultCause status (faults_of files lines bench (objects schema table input at spare))
