@@ -105,8 +105,10 @@ sound_read law one schema table base are other = files_read one schema table bas
 are_read : OneListOfEntries → (schema table : List ℕ) (ready : Ready) → IsReadyOver schema table ready → AreRead (command_for ready) schema table
 are_read law schema table (Init shape) over = files_read command.Init schema table over.0 over.1 (λ is. absurd (true≢false (ap reads_secrets is)))
     (λ reads. absurd (false≢true reads))
-are_read law schema table (Serve read index store batch) over = sound_read law (command.Serve batch false) schema table _ over (λ is. absurd (true≢false (ap reads_secrets is)))
-are_read law schema table (Twin read index secret protected batch) over = sound_read law (command.Serve batch true) schema table _ over (λ is. absurd (true≢false (ap reads_secrets is)))
+are_read law schema table (Serve read index store batch) over = sound_read law (command.Serve batch false) schema table _ over
+    (λ is. absurd (true≢false (ap reads_secrets is)))
+are_read law schema table (Twin read index secret protected batch) over = sound_read law (command.Serve batch true) schema table _ over
+    (λ is. absurd (true≢false (ap reads_secrets is)))
 are_read law schema table (Audit read people store) over = sound_read law command.Audit schema table _ over.1 (λ is. absurd (true≢false (ap reads_secrets is)))
 are_read law schema table (Simulate read index) over = record {
   schema_ok = λ reads. schema_is_ok _ _ over.schema_is;
@@ -124,7 +126,8 @@ are_read law schema table (Drill number) over =
 are_read law schema table (Grow secret protected) over = sound_read law command.Grow schema table _ over.2 (λ is. absurd (true≢false (ap reads_secrets is)))
 are_read law schema table (Explain read index store) over = sound_read law command.Explain schema table _ over (λ is. absurd (true≢false (ap reads_secrets is)))
 are_read law schema table (Compact store) over = sound_read law command.Compact schema table _ over.2 (λ is. absurd (true≢false (ap reads_secrets is)))
-are_read law schema table (Restore secret protected) over = sound_read law command.Restore schema table _ over.2 (λ is. absurd (true≢false (ap reads_secrets is)))
+are_read law schema table (Restore secret protected) over = sound_read law command.Restore schema table _ over.2
+    (λ is. absurd (true≢false (ap reads_secrets is)))
 
 -- ---- a store that was opened
 
@@ -402,7 +405,8 @@ module _ {P I B : Type 0} (files : source.Ghosts P) (lines : source.Ghosts I) (b
 
     -- over any other file nothing began
     pub nothing_begun : files.told → bench.told → (other : Command) → asked ≡ Some other → opens_journal other ≡ true → IsQuiet bench old.bench →
-        ((base : Database) → AreSoundFilesOf (files.left old.schema) (files.left old.table) base → IsReadyFor other (bench.file old.bench) (table_in base) → ⊥) →
+        ((base : Database) → AreSoundFilesOf (files.left old.schema) (files.left old.table) base → IsReadyFor other (bench.file old.bench) (table_in base) →
+            ⊥) →
         LeavesOnly bench old.bench at (IsUntouched (bench.file old.bench) (bench.sent old.bench))
     nothing_begun ptold told other is opens quiet none =
         let opens_one : opens_journal one ≡ true = ap opens_journal (same other is) ∙ opens in

@@ -94,7 +94,7 @@ returns-in-Err g c =
     (λ command asked none. open.unopened (ap opens_store (same command asked) ∙ none)) c.stops_are_legal.ensures
     c.lives.ensures.longer c.one_reading.ensures c.read_words.ensures.batch
     (not_written g.B.Bench old.spare (λ image sent was. g.met.B.Bench.only_now old.spare image sent was))
-    (λ number asked. absurd (false≢true (open.taken (ap reads_files (same (command.Drill number) asked))))) in
+    (λ number asked. absurd (false≢true (c.in-Err.ensures.taken (ap reads_files (same (command.Drill number) asked))))) in
     record {
       says = after_refusal g.P.Source g.I.Source g.B.Bench words c.in-Ok.command status old new.schema new.table new.bench named refuses open.reads open.later
           open.unread;

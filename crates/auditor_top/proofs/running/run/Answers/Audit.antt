@@ -143,7 +143,8 @@ module _ (g : Over) (c : goal.After-drop-schema-inside-in-Ok-Audit-3 g) where
 pub audit_ends : goal.returns-in-Ok-Audit
 audit_ends g c = record {
   says = (all g c).says;
-  lives = goes_on g.P.Source g.I.Source g.B.Bench _ _ (old g c) (new g c) c.lives.ensures.longer c.one_reading.ensures c.read_words.ensures.batch (all g c).does;
+  lives = goes_on g.P.Source g.I.Source g.B.Bench _ _ (old g c) (new g c) c.lives.ensures.longer c.one_reading.ensures c.read_words.ensures.batch
+      (all g c).does;
   does = (all g c).does;
   nothing_began = (all g c).nothing_began;
 }

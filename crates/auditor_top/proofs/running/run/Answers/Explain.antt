@@ -142,7 +142,8 @@ module _ (g : Over) (c : goal.After-drop-schema-inside-in-Ok-Explain-3 g) where
 pub explanation_ends : goal.returns-in-Ok-Explain
 explanation_ends g c = record {
   says = (all g c).says;
-  lives = goes_on g.P.Source g.I.Source g.B.Bench _ _ (old g c) (new g c) c.lives.ensures.longer c.one_reading.ensures c.read_words.ensures.batch (all g c).does;
+  lives = goes_on g.P.Source g.I.Source g.B.Bench _ _ (old g c) (new g c) c.lives.ensures.longer c.one_reading.ensures c.read_words.ensures.batch
+      (all g c).does;
   does = (all g c).does;
   nothing_began = (all g c).nothing_began;
 }

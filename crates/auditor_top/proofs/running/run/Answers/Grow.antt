@@ -82,9 +82,11 @@ module _ (g : Over) (c : goal.After-grown g) where
   abbrev begun : g.row.B.Denot → Objects g.row.P.Denot g.row.I.Denot g.row.B.Denot
   begun at = objects old.schema old.table old.input at old.spare
 
-  faults : FaultCause (growing_status c.grow.result) (faults_of g.P.Source g.I.Source g.B.Bench (begun mid.bench)) (faults_of g.P.Source g.I.Source g.B.Bench new)
+  faults : FaultCause (growing_status c.grow.result) (faults_of g.P.Source g.I.Source g.B.Bench (begun mid.bench))
+      (faults_of g.P.Source g.I.Source g.B.Bench new)
   faults =
-      subst (λ b. FaultCause (growing_status c.grow.result) (faults_of g.P.Source g.I.Source g.B.Bench (begun b)) (faults_of g.P.Source g.I.Source g.B.Bench new))
+      subst (λ b. FaultCause (growing_status c.grow.result) (faults_of g.P.Source g.I.Source g.B.Bench (begun b))
+      (faults_of g.P.Source g.I.Source g.B.Bench new))
       (sym (goes.unopened refl)) says.faults
 
   -- what is given is so of the table that was opened
@@ -143,7 +145,8 @@ module _ (g : Over) (c : goal.After-grown g) where
 pub grow_ends : goal.returns-in-Ok-Grow
 grow_ends g c = record {
   says = (all g c).says;
-  lives = goes_on g.P.Source g.I.Source g.B.Bench _ _ (old g c) (new g c) c.lives.ensures.longer c.one_reading.ensures c.read_words.ensures.batch (all g c).does;
+  lives = goes_on g.P.Source g.I.Source g.B.Bench _ _ (old g c) (new g c) c.lives.ensures.longer c.one_reading.ensures c.read_words.ensures.batch
+      (all g c).does;
   does = (all g c).does;
   nothing_began = (all g c).nothing_began;
 }

@@ -81,9 +81,11 @@ module _ (g : Over) (c : goal.After-restored g) where
   abbrev begun : g.row.B.Denot → Objects g.row.P.Denot g.row.I.Denot g.row.B.Denot
   begun at = objects old.schema old.table old.input at old.spare
 
-  faults : FaultCause (restoring_status c.restore.result) (faults_of g.P.Source g.I.Source g.B.Bench (begun mid.bench)) (faults_of g.P.Source g.I.Source g.B.Bench new)
+  faults : FaultCause (restoring_status c.restore.result) (faults_of g.P.Source g.I.Source g.B.Bench (begun mid.bench))
+      (faults_of g.P.Source g.I.Source g.B.Bench new)
   faults =
-      subst (λ b. FaultCause (restoring_status c.restore.result) (faults_of g.P.Source g.I.Source g.B.Bench (begun b)) (faults_of g.P.Source g.I.Source g.B.Bench new))
+      subst (λ b. FaultCause (restoring_status c.restore.result) (faults_of g.P.Source g.I.Source g.B.Bench (begun b))
+      (faults_of g.P.Source g.I.Source g.B.Bench new))
       (sym (goes.unopened refl)) says.faults
 
   -- the table of the groups is every table that the files mean
@@ -146,7 +148,8 @@ module _ (g : Over) (c : goal.After-restored g) where
 pub restoration_ends : goal.returns
 restoration_ends g c = record {
   says = (all g c).says;
-  lives = goes_on g.P.Source g.I.Source g.B.Bench _ _ (old g c) (new g c) c.lives.ensures.longer c.one_reading.ensures c.read_words.ensures.batch (all g c).does;
+  lives = goes_on g.P.Source g.I.Source g.B.Bench _ _ (old g c) (new g c) c.lives.ensures.longer c.one_reading.ensures c.read_words.ensures.batch
+      (all g c).does;
   does = (all g c).does;
   nothing_began = (all g c).nothing_began;
 }

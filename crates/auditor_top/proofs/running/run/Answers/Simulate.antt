@@ -91,9 +91,11 @@ module _ (g : Over) (c : goal.After-drop-schema-inside-in-Ok-Simulate-3 g) where
   abbrev begun : g.row.B.Denot → Objects g.row.P.Denot g.row.I.Denot g.row.B.Denot
   begun at = objects old.schema old.table old.input at old.spare
 
-  faults : FaultCause (simulation_status c.simulate.result) (faults_of g.P.Source g.I.Source g.B.Bench (begun mid.bench)) (faults_of g.P.Source g.I.Source g.B.Bench new)
+  faults : FaultCause (simulation_status c.simulate.result) (faults_of g.P.Source g.I.Source g.B.Bench (begun mid.bench))
+      (faults_of g.P.Source g.I.Source g.B.Bench new)
   faults =
-      subst (λ b. FaultCause (simulation_status c.simulate.result) (faults_of g.P.Source g.I.Source g.B.Bench (begun b)) (faults_of g.P.Source g.I.Source g.B.Bench new))
+      subst (λ b. FaultCause (simulation_status c.simulate.result) (faults_of g.P.Source g.I.Source g.B.Bench (begun b))
+      (faults_of g.P.Source g.I.Source g.B.Bench new))
       (sym (goes.unopened refl)) says.faults
 
   -- what is said of what was read is said of what the files mean
@@ -105,7 +107,8 @@ module _ (g : Over) (c : goal.After-drop-schema-inside-in-Ok-Simulate-3 g) where
 
   verdicts : g.P.Source.told → g.I.Source.told → g.B.Bench.told → (columns : List Column) (index : IndexView) (history : List Answered) →
       SimulatesOver (g.P.Source.left old.schema) (g.P.Source.left old.table) (g.B.Bench.file mid.bench) columns index history →
-      (verdicts : List (Replied Answered)) × EndVerdicts c.simulate.result columns index history (g.I.Source.left old.input) (g.I.Source.left new.input) verdicts
+      (verdicts : List (Replied Answered)) × EndVerdicts c.simulate.result columns index history (g.I.Source.left old.input)
+          (g.I.Source.left new.input) verdicts
       × EndSends c.simulate.result verdicts (g.B.Bench.sent mid.bench) (g.B.Bench.sent new.bench)
   verdicts ptold itold told columns index history over =
       given (λ cs i. BeginsWith (g.B.Bench.file mid.bench) (public_setting cs i) history → (verdicts : List (Replied Answered))
@@ -154,7 +157,8 @@ module _ (g : Over) (c : goal.After-drop-schema-inside-in-Ok-Simulate-3 g) where
 pub simulate_ends : goal.returns-in-Ok-Simulate
 simulate_ends g c = record {
   says = (all g c).says;
-  lives = goes_on g.P.Source g.I.Source g.B.Bench _ _ (old g c) (new g c) c.lives.ensures.longer c.one_reading.ensures c.read_words.ensures.batch (all g c).does;
+  lives = goes_on g.P.Source g.I.Source g.B.Bench _ _ (old g c) (new g c) c.lives.ensures.longer c.one_reading.ensures c.read_words.ensures.batch
+      (all g c).does;
   does = (all g c).does;
   nothing_began = (all g c).nothing_began;
 }
