@@ -42,7 +42,7 @@ pub record StopEnds {P I B X : Type 0} (lines : source.Ghosts I) (bench : Ghosts
 
 pub stop_ends : {P I B X : Type 0} (lines : source.Ghosts I) (bench : Ghosts B) (ready : Ready) (ended : Result X Stop) (mid new : Objects P I B) →
     StopEnds lines bench ready ended mid new → StepEnds lines bench ready (ended_status ended) mid new
-stop_ends {X = X} lines bench ready ended mid new ends =
+stop_ends lines bench ready ended mid new ends =
     let says = stop_says ended in
     record {
       last = says.last;
@@ -54,11 +54,11 @@ stop_ends {X = X} lines bench ready ended mid new ends =
         later = ends.input_fault.later;
         failed = λ is. ends.input_fault.failed (says.input is);
         last_read = λ is. ends.input_fault.last_read (says.input is);
-        steady = λ none. ends.input_fault.steady (λ is. none (ap (λ (r : Result X Stop). ended_status r) is));
+        steady = λ none. ends.input_fault.steady (λ is. none (ap ended_status is));
       };
-      bench_fault = told_as bench mid.bench new.bench _ _ (λ is. ap (λ (r : Result X Stop). ended_status r) is) says.bench ends.bench_fault;
-      spare_fault = told_as bench mid.spare new.spare _ _ (λ is. ap (λ (r : Result X Stop). ended_status r) is) says.spare ends.spare_fault;
-      quiet = λ told quiet fine. ends.quiet told quiet (λ is. fine (ap (λ (r : Result X Stop). ended_status r) is));
+      bench_fault = told_as bench mid.bench new.bench _ _ (λ is. ap ended_status is) says.bench ends.bench_fault;
+      spare_fault = told_as bench mid.spare new.spare _ _ (λ is. ap ended_status is) says.spare ends.spare_fault;
+      quiet = λ told quiet fine. ends.quiet told quiet (λ is. fine (ap ended_status is));
       nothing_began = λ told opens closed quiet table unready.
           absurd (unready (ends.file told table (λ store. absurd (true≢false (sym store ∙ closed)))));
       before_lines = says.at_lines _;

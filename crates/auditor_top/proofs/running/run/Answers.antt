@@ -80,27 +80,27 @@ pub returns-in-Err : goal.returns-in-Err
 returns-in-Err g c =
     let status = c.in-Err.status in
     let refuses = c.in-Err.ensures.refusal in
-    let open = c.open.ensures in
+    let opening = c.open.ensures in
     let words = command_of (map string_bytes c.args.words.now.items) in
     let named : words ≡ Some c.in-Ok.command = c.in-Ok.ensures.command in
     let old = objects c.args.schema.now c.args.table.now c.args.input.now c.args.bench.now c.args.spare.now in
     let new = objects c.open.new.schema c.open.new.table c.args.input.now c.open.new.bench c.args.spare.now in
     let same = λ command asked. one_command words _ command named asked in
     let all = refused g.P.Source g.I.Source g.B.Bench old.schema new.schema old.table new.table old.input old.bench new.bench old.spare status refuses.early
-    open.reads (refuses.faults (g.I.Source.faults old.input) (g.B.Bench.faults old.spare)) words
+    opening.reads (refuses.faults (g.I.Source.faults old.input) (g.B.Bench.faults old.spare)) words
     (λ command asked ptold told given. subst (λ (k : Command). (opens_store k ≡ true → g.B.Bench.told)
     → IsGiven k (g.P.Source.left old.schema) (g.P.Source.left old.table) (g.B.Bench.file old.bench) → GivesUp status) (same command asked)
     (refuses.gives_up ptold) told given)
-    (λ command asked none. open.unopened (ap opens_store (same command asked) ∙ none)) c.stops_are_legal.ensures
+    (λ command asked none. opening.unopened (ap opens_store (same command asked) ∙ none)) c.stops_are_legal.ensures
     c.lives.ensures.longer c.one_reading.ensures c.read_words.ensures.batch
     (not_written g.B.Bench old.spare (λ image sent was. g.met.B.Bench.only_now old.spare image sent was))
     (λ number asked. absurd (false≢true (c.in-Err.ensures.taken (ap reads_files (same (command.Drill number) asked))))) in
     record {
-      says = after_refusal g.P.Source g.I.Source g.B.Bench words c.in-Ok.command status old new.schema new.table new.bench named refuses open.reads open.later
-          open.unread;
+      says = after_refusal g.P.Source g.I.Source g.B.Bench words c.in-Ok.command status old new.schema new.table new.bench named refuses opening.reads opening.later
+          opening.unread;
       lives = goes_on g.P.Source g.I.Source g.B.Bench _ status old new c.lives.ensures.longer c.one_reading.ensures c.read_words.ensures.batch all;
       does = all;
-      nothing_began = λ ptold told command asked opens quiet none. open.reads.untouched quiet;
+      nothing_began = λ ptold told command asked opens quiet none. opening.reads.untouched quiet;
     }
 
 -- ---- the command goes on

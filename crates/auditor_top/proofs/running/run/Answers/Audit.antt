@@ -43,9 +43,9 @@ module _ (g : Over) (c : goal.After-drop-schema-inside-in-Ok-Audit-3 g) where
   goes : GoesOnWith g.P.Source g.B.Bench (command_of (map string_bytes c.args.words.now.items)) ready old mid
   goes =
       let found = c.in-Ok-Audit in
-      let open = c.open.ensures in
+      let opening = c.open.ensures in
       goes_with g.P.Source g.B.Bench _ _ _ ready old mid found.field-0-is found.ensures.asked c.in-Ok.ensures.command found.ensures.ready
-      found.ensures.over open.reads found.ensures.steady open.unread open.unopened found.ensures.ticks
+      found.ensures.over opening.reads found.ensures.steady opening.unread opening.unopened found.ensures.ticks
 
   -- no stop of a source or of a spare
   is_of_bench : (why : Stop) → c.audit.result ≡ Err why → IsOfBench why

@@ -46,16 +46,14 @@ module _ (g : Over) (c : goal.After-drop-store-inside-in-Ok-Compact-5 g) where
   goes : GoesOnWith g.P.Source g.B.Bench (command_of (map string_bytes c.args.words.now.items)) ready old mid
   goes =
       let found = c.in-Ok-Compact in
-      let open = c.open.ensures in
+      let opening = c.open.ensures in
       goes_with g.P.Source g.B.Bench _ _ _ ready old mid found.field-0-is found.ensures.asked c.in-Ok.ensures.command found.ensures.ready
-      found.ensures.over open.reads found.ensures.steady open.unread open.unopened found.ensures.ticks
+      found.ensures.over opening.reads found.ensures.steady opening.unread opening.unopened found.ensures.ticks
 
   ends : StepEnds g.I.Source g.B.Bench ready (compacting_status c.compact.result) mid new
   ends =
       let does = c.compact.ensures in
       let step = compact_says c.compact.result in
-      let told_so : ({a : Result (Unit {0}) CompactFault} → c.compact.result ≡ a → compacting_status c.compact.result ≡ compacting_status a) =
-      λ is. ap (λ (r : Result (Unit {0}) CompactFault). compacting_status r) is in
       record {
         last = step.last;
         words = step.words;
@@ -63,8 +61,8 @@ module _ (g : Over) (c : goal.After-drop-store-inside-in-Ok-Compact-5 g) where
         spare_file = λ told calls. compact_spare c.compact.result _ (does.already told) (λ made. (does.refused told made).0);
         input = λ itold reads. absurd (false≢true reads);
         input_fault = unread_input g.I.Source old.input _ (not_of_lines command.Compact _ refl step.words);
-        bench_fault = told_as g.B.Bench mid.bench new.bench _ _ (λ is. told_so is) step.bench does.fault;
-        spare_fault = told_as g.B.Bench old.spare new.spare _ _ (λ is. told_so is) step.spare does.spare_fault;
+        bench_fault = told_as g.B.Bench mid.bench new.bench _ _ (λ is. ap compacting_status is) step.bench does.fault;
+        spare_fault = told_as g.B.Bench old.spare new.spare _ _ (λ is. ap compacting_status is) step.spare does.spare_fault;
         quiet = λ told quiet fine image left. quiet image (does.crash image left) ∙ sym does.file;
         nothing_began = λ told opens closed. absurd (true≢false closed);
         before_lines = before_so reading_lines (compacting_status c.compact.result) (λ is. (refl, ap g.B.Bench.sent is)) (step.at_lines _ does.unsent);

@@ -43,9 +43,9 @@ module _ (g : Over) (c : goal.After-made g) where
   goes : GoesOnWith g.P.Source g.B.Bench (command_of (map string_bytes c.args.words.now.items)) ready old mid
   goes =
       let found = c.in-Ok-Init in
-      let open = c.open.ensures in
+      let opening = c.open.ensures in
       goes_with g.P.Source g.B.Bench _ _ _ ready old mid found.field-0-is found.ensures.asked c.in-Ok.ensures.command found.ensures.ready
-      found.ensures.over open.reads found.ensures.steady open.unread open.unopened found.ensures.ticks
+      found.ensures.over opening.reads found.ensures.steady opening.unread opening.unopened found.ensures.ticks
 
   ends : StepEnds g.I.Source g.B.Bench ready (making_status c.make.result) mid new
   ends =
@@ -58,7 +58,7 @@ module _ (g : Over) (c : goal.After-made g) where
         spare_file = λ told calls. absurd (false≢true calls);
         input = λ itold reads. absurd (false≢true reads);
         input_fault = unread_input g.I.Source old.input _ (not_of_lines command.Init _ refl step.words);
-        bench_fault = told_as g.B.Bench mid.bench new.bench _ _ (λ is. ap (λ (r : Result (Unit {0}) MakeFault). making_status r) is) step.bench does.fault;
+        bench_fault = told_as g.B.Bench mid.bench new.bench _ _ (λ is. ap making_status is) step.bench does.fault;
         spare_fault = not_called g.B.Bench old.spare _ (not_of_spare command.Init _ refl step.words);
         quiet = λ told quiet fine. made_or_there c.make.result fine (does.quiet told) (λ there image left.
             let already = does.already told there in

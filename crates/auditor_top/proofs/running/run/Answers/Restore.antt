@@ -41,17 +41,15 @@ module _ (g : Over) (c : goal.After-restored g) where
   goes : GoesOnWith g.P.Source g.B.Bench (command_of (map string_bytes c.args.words.now.items)) ready old mid
   goes =
       let found = c.in-Ok-Restore in
-      let open = c.open.ensures in
+      let opening = c.open.ensures in
       goes_with g.P.Source g.B.Bench _ _ _ ready old mid found.field-0-is found.ensures.asked c.in-Ok.ensures.command found.ensures.ready
-      found.ensures.over open.reads found.ensures.steady open.unread open.unopened found.ensures.ticks
+      found.ensures.over opening.reads found.ensures.steady opening.unread opening.unopened found.ensures.ticks
 
   ends : StepEnds g.I.Source g.B.Bench ready (restoring_status c.restore.result) mid new
   ends =
       let ended = c.restore.result in
       let does = c.restore.ensures in
       let step = restore_says ended in
-      let told_so : ({a : Result (Unit {0}) RestoreFault} → ended ≡ a → restoring_status ended ≡ restoring_status a) =
-      λ is. ap (λ (r : Result (Unit {0}) RestoreFault). restoring_status r) is in
       record {
         last = step.last;
         words = step.words;
@@ -60,9 +58,9 @@ module _ (g : Over) (c : goal.After-restored g) where
         spare_file = λ told calls. step.spare_file _;
         input = λ itold reads. absurd (false≢true reads);
         input_fault = unread_input g.I.Source old.input _ (not_of_lines command.Restore _ refl step.words);
-        bench_fault = told_as g.B.Bench mid.bench new.bench _ _ (λ is. told_so is) (step.bench does.own) does.fault;
-        spare_fault = told_as g.B.Bench old.spare new.spare _ _ (λ is. told_so is) step.spare does.spare_fault;
-        quiet = λ told quiet fine. does.quiet told quiet (λ is. fine (told_so is));
+        bench_fault = told_as g.B.Bench mid.bench new.bench _ _ (λ is. ap restoring_status is) (step.bench does.own) does.fault;
+        spare_fault = told_as g.B.Bench old.spare new.spare _ _ (λ is. ap restoring_status is) step.spare does.spare_fault;
+        quiet = λ told quiet fine. does.quiet told quiet (λ is. fine (ap restoring_status is));
         nothing_began = λ told opens closed quiet table unready. absurd (unready tt);
         before_lines = restore_at_lines _ ended (λ fault is refuses. (refl, does.sent));
         unwritten = λ told. restore_at_lines _ ended (λ fault is refuses. (does.reads fault is refuses).0.file);
@@ -130,7 +128,7 @@ module _ (g : Over) (c : goal.After-restored g) where
         untouched = λ ptold told quiet none. does.untouched told told quiet (λ can. none _ (goes.over ptold).2 can);
         spare_untouched = λ ptold told quiet none. does.spare_untouched told told quiet (λ can. none _ (goes.over ptold).2 can);
         spare_quiet = λ told quiet fine. does.spare_quiet told quiet
-            (λ is. fine (ap (λ (r : Result (Unit {0}) RestoreFault). restoring_status r) is));
+            (λ is. fine (ap restoring_status is));
         unsent = (does.sent, does.spare_sent);
         uncalled = step.at_journal _;
         restore_calls = λ told done. step.done _ done (does.ticks told told);

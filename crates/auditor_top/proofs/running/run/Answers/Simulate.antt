@@ -42,17 +42,15 @@ module _ (g : Over) (c : goal.After-drop-schema-inside-in-Ok-Simulate-3 g) where
   goes : GoesOnWith g.P.Source g.B.Bench (command_of (map string_bytes c.args.words.now.items)) ready old mid
   goes =
       let found = c.in-Ok-Simulate in
-      let open = c.open.ensures in
+      let opening = c.open.ensures in
       goes_with g.P.Source g.B.Bench _ _ _ ready old mid found.field-0-is found.ensures.asked c.in-Ok.ensures.command found.ensures.ready
-      found.ensures.over open.reads found.ensures.steady open.unread open.unopened found.ensures.ticks
+      found.ensures.over opening.reads found.ensures.steady opening.unread opening.unopened found.ensures.ticks
 
   ends : StepEnds g.I.Source g.B.Bench ready (simulation_status c.simulate.result) mid new
   ends =
       let ended = c.simulate.result in
       let does = c.simulate.ensures in
       let step = simulation_says ended in
-      let told_so : ({a : Result (Unit {0}) SimulationFault} → ended ≡ a → simulation_status ended ≡ simulation_status a) =
-      λ is. ap (λ (r : Result (Unit {0}) SimulationFault). simulation_status r) is in
       record {
         last = step.last;
         words = step.words does.alone;
@@ -63,13 +61,13 @@ module _ (g : Over) (c : goal.After-drop-schema-inside-in-Ok-Simulate-3 g) where
           later = does.later.0;
           failed = λ is. does.input (step.input is);
           last_read = λ is. does.last_call.0 (step.input is);
-          steady = λ none. does.steady.0 (λ is. none (told_so is));
+          steady = λ none. does.steady.0 (λ is. none (ap simulation_status is));
         };
         bench_fault = record {
           later = does.later.1;
           failed = λ is. does.bench (step.bench is);
           last_call = λ is. does.last_call.1 (step.bench is);
-          steady = λ none. does.steady.1 (λ is. none (told_so is));
+          steady = λ none. does.steady.1 (λ is. none (ap simulation_status is));
         };
         spare_fault = not_called g.B.Bench old.spare _ (not_of_spare command.Simulate _ refl (step.words does.alone));
         quiet = λ told quiet fine image left. quiet image (does.crash image left) ∙ sym does.file;
