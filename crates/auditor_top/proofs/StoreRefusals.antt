@@ -13,7 +13,7 @@ use Rattle.schema_json.specs.Reading.{schema_of}
 use Rattle.table_load.specs.Cells.{PublicView, TableView, whole}
 use Rattle.table_load.specs.Database.{Database, base_of, secret_table, table_in}
 use Rattle.table_load.specs.Meaning.{MeansTable}
-use Rattle.table_load.specs.MeaningLaws.{read_means}
+use Rattle.table_load.specs.MeaningLaws.{means_read, read_means}
 use Rattle.table_load.specs.Tables.{table_of}
 use Rattle.set_index.specs.Groups.{Protects, IsFirstBad}
 use Rattle.set_index.specs.Indexed.{OneListOfEntries}
@@ -30,15 +30,29 @@ use Rattle.auditor_top.specs.declared.starting.NotStarted.TheVariants as began
 use Rattle.auditor_top.specs.declared.words.Command.{Command}
 use Rattle.auditor_top.specs.declared.words.Command.TheVariants.{Init, Serve, Audit, Simulate, Drill, Grow, Explain, Compact, Restore}
 use Rattle.auditor_top.specs.Faults.{index_status, start_status, started_status}
-use Rattle.auditor_top.specs.Causes.{FaultCounts, FaultCause, FileCause, OpeningCause, counts}
-use Rattle.auditor_top.specs.Commands.{AreSoundFilesOf, ServesOver, comes_to_journal, opens_journal, opens_store, reads_files, reads_groups}
+use Rattle.auditor_top.specs.Causes.{FaultCounts, FaultCause, FileCause, GroupCause, OpeningCause, SchemaCause, TableCause, counts}
+use Rattle.auditor_top.specs.Commands.{AreFilesOf, AreSoundFilesOf, ServesOver, comes_to_journal, opens_journal, opens_store, reads_files, reads_groups}
 use Rattle.auditor_top.specs.Ready.{IsGiven, Refuses}
 use Rattle.auditor_top.proofs.GroupRefusals.{groups_refused, group_gives_up}
-use Rattle.auditor_top.proofs.OneTable.{same_ok, one_base, table_is_ok}
-use Rattle.auditor_top.proofs.LastSteps.{groups_so, schema_so, table_so}
+use Rattle.auditor_top.proofs.OneTable.{groups_are_sound, one_base, same_ok, schema_is_ok, table_is_ok}
 use Rattle.auditor_top.proofs.StartEndings.{start_says}
 use Rattle.auditor_top.proofs.StepFaults.{moved, same_counts}
-use Rattle.auditor_top.proofs.StepStatuses.{no_schema_fault, no_table_fault, past_journal, past_table, schema_was_read, table_was_read}
+use Rattle.auditor_top.proofs.StepStatuses.{EndsLastStep, groups_read, no_schema_fault, no_table_fault, past_journal, past_table, schema_read, schema_was_read, table_read, table_was_read}
+
+-- the files were read, and no group has a fault
+schema_so : (status : Status) (schema table : List ℕ) (base : Database) → EndsLastStep status → AreFilesOf schema table base →
+    SchemaCause status (schema_of schema)
+schema_so status schema table base last are = schema_read status _ last (schema_is_ok _ _ are.schema_is)
+
+table_so : (status : Status) (schema table : List ℕ) (base : Database) → EndsLastStep status → AreFilesOf schema table base →
+    (meant : SchemaView) → schema_of schema ≡ Ok meant → TableCause status (table_of meant.columns table)
+table_so status schema table base last are meant is =
+    table_read status _ last (table_is_ok (λ (cs : List Column). table_of cs table) _ _ meant _ are.schema_is (means_read are.table_means) is)
+
+groups_so : OneListOfEntries → (status : Status) (schema table : List ℕ) (base : Database) → EndsLastStep status → AreSoundFilesOf schema table base →
+    (meant : SchemaView) → schema_of schema ≡ Ok meant → GroupCause status meant.columns meant.guards
+groups_so law status schema table base last are meant is =
+    groups_read status _ _ last (groups_are_sound law _ _ base.public _ base.protected meant are.files.schema_is are.entries is)
 
 -- a command that opens a store opens the journal, and refuses it as a start does
 pub opens_too : (asked : Command) → opens_store asked ≡ true → opens_journal asked ≡ true

@@ -9,7 +9,7 @@ mod Compact
 mod Restore
 mod TwinRefused
 mod Twin
-use Rattle.std.proofs.Common.{◌≡◌, true, Some, refl, ◌∙◌, ap, subst, inr, map, string_bytes}
+use Rattle.std.proofs.Common.{◌≡◌, true, false, Some, refl, ◌∙◌, ap, subst, inr, map, string_bytes}
 use Rattle.std.proofs.lemmas.Bool.{false≢true}
 use Rattle.bench_core.specs.Reports.{not_written}
 use Rattle.auditor_top.specs.declared.words.Command.{Command}
@@ -56,7 +56,7 @@ returns-in-Err-Bad g c =
 pub returns-in-Err-NoMemory : goal.returns-in-Err-NoMemory
 returns-in-Err-NoMemory g c =
     let at = objects c.args.schema.now c.args.table.now c.args.input.now c.args.bench.now c.args.spare.now in
-    let uncalled = λ b. not_written g.B.Bench b (λ image sent was. g.met.B.Bench.only_now b image sent was) in
+    let uncalled = λ (b : g.row.B.Denot). not_written g.B.Bench b (λ image sent was. g.met.B.Bench.only_now b image sent was) in
     let all = refused g.P.Source g.I.Source g.B.Bench at.schema at.schema at.table at.table at.input at.bench at.bench at.spare NoMemory tt (uncalled at.bench)
     refl (command_of (map string_bytes c.args.words.now.items)) (λ command asked ptold told given. tt) (λ command asked none. refl) c.stops_are_legal.ensures
     c.lives.ensures.longer c.one_reading.ensures c.read_words.ensures.batch (uncalled at.spare)
@@ -85,7 +85,7 @@ returns-in-Err g c =
     let named : words ≡ Some c.in-Ok.command = c.in-Ok.ensures.command in
     let old = objects c.args.schema.now c.args.table.now c.args.input.now c.args.bench.now c.args.spare.now in
     let new = objects c.open.new.schema c.open.new.table c.args.input.now c.open.new.bench c.args.spare.now in
-    let same = λ command asked. one_command words _ command named asked in
+    let same = λ (command : Command) (asked : words ≡ Some command). one_command words _ command named asked in
     let all = refused g.P.Source g.I.Source g.B.Bench old.schema new.schema old.table new.table old.input old.bench new.bench old.spare status refuses.early
     opening.reads (refuses.faults (g.I.Source.faults old.input) (g.B.Bench.faults old.spare)) words
     (λ command asked ptold told given. subst (λ (k : Command). (opens_store k ≡ true → g.B.Bench.told)

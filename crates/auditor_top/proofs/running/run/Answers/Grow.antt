@@ -65,7 +65,7 @@ module _ (g : Over) (c : goal.After-grown g) where
         spare_fault = not_called g.B.Bench old.spare _ (not_of_spare command.Grow _ refl step.words);
         quiet = λ told quiet fine. does.quiet told quiet (λ is. fine (ap growing_status is));
         nothing_began = λ told opens closed quiet table unready. does.untouched told quiet unready;
-        before_lines = always_before reading_lines _ (refl, does.sent);
+        before_lines = always_before reading_lines (growing_status c.grow.result) (refl, does.sent);
         unwritten = λ told. step.at_lines _ _ (λ same. same) does.kept;
         before_spare = λ calls. absurd (false≢true calls);
         never_written = λ told none. absurd (true≢false none);
@@ -103,7 +103,7 @@ module _ (g : Over) (c : goal.After-grown g) where
       subst (λ (b : Database). GrowsOver (g.P.Source.left old.schema) (g.P.Source.left old.table) (g.B.Bench.file mid.bench) b rows history)
       (sym (is_seen ptold base over.files)) over
 
-  can : (ptold : g.P.Source.told) (base : Database) (rows : ℕ) (history : List Answered) →
+  abbrev can : (ptold : g.P.Source.told) (base : Database) (rows : ℕ) (history : List Answered) →
       GrowsOver (g.P.Source.left old.schema) (g.P.Source.left old.table) (g.B.Bench.file mid.bench) base rows history →
       CanGrow (g.B.Bench.file mid.bench) (table_in (seen ptold))
   can ptold base rows history over =

@@ -66,7 +66,7 @@ module _ (g : Over) (c : goal.After-made g) where
             (moments.each image (g.B.Bench.sent new.bench) (g.met.B.Bench.counts_now new.bench (g.B.Bench.moment mid.bench) image moments.later left)).1
             ∙ sym already.1);
         nothing_began = λ told opens. absurd (false≢true opens);
-        before_lines = always_before reading_lines _ (refl, does.sent);
+        before_lines = always_before reading_lines (making_status c.make.result) (refl, does.sent);
         unwritten = λ told. step.at_lines _ (λ there. (does.already told there).1);
         before_spare = λ calls. absurd (false≢true calls);
         never_written = λ told none. absurd (true≢false none);
