@@ -249,9 +249,7 @@ serve-requires g c =
     let ready = subst (IsReady g.B.Bench c.open.new.bench) c.in-Ok-Serve.field-0-is c.in-Ok-Serve.ensures.ready in
     record {
       usable = ready.0.usable;
-      fits = ready.1;
-      shape = ready.2;
-      entries = ready.3;
+      shape = ready.1;
       stands = ready.0.left;
       batch = c.read_words.ensures.batch n false (asked_for _ _ _ _ c.in-Ok.ensures.command c.in-Ok-Serve.field-0-is c.in-Ok-Serve.ensures.asked);
     }
@@ -259,14 +257,9 @@ serve-requires g c =
 pub explain-requires : goal.explain-requires
 explain-requires g c =
     let ready = subst (IsReady g.B.Bench c.open.new.bench) c.in-Ok-Explain.field-0-is c.in-Ok-Explain.ensures.ready in
-    record { usable = ready.0.usable; fits = ready.1; shape = ready.2; entries = ready.3 }
+    record { usable = ready.0.usable; shape = ready.1; entries = ready.2 }
 
 pub audit-requires : goal.audit-requires
 audit-requires g c =
     let ready = subst (IsReady g.B.Bench c.open.new.bench) c.in-Ok-Audit.field-0-is c.in-Ok-Audit.ensures.ready in
     record { usable = ready.0.usable; shape = ready.1 }
-
-pub simulate-requires : goal.simulate-requires
-simulate-requires g c =
-    let ready = subst (IsReady g.B.Bench c.open.new.bench) c.in-Ok-Simulate.field-0-is c.in-Ok-Simulate.ensures.ready in
-    record { fits = ready.0; protected = ready.1 }
