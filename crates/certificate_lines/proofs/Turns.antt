@@ -30,7 +30,7 @@ module _ {P B : Type 0} (source : SourceGhosts P) (bench : Ghosts B) (index : In
     (cuts : Cuts source cutter new from after) where
   -- ---- a line
 
-  module _ (plan : Plan) (gives : GivesPlan source cutter new from after index.columns index.public plan) where
+  module _ (plan : Plan) (gives : GivesPlan source cutter new from after index plan) where
     -- there was no memory for what is due to it
     pub unwritten : Explains source bench index history first_source after first at (Err stop.NoMemory)
     unwritten =
