@@ -1,5 +1,5 @@
 -- A simulation is its beginning, which only reads the journal, and then the judging of its lines.
-use Rattle.std.proofs.Common.{◌≡◌, ◌+◌, ℕ, List, [], length, Result, Ok, Err, OnOk, refl, sym, ◌∙◌, ap, subst, arith}
+use Rattle.std.proofs.Common.{◌≡◌, ◌+◌, ℕ, List, [], Result, Ok, Err, OnOk, refl, sym, ◌∙◌, ap, subst, arith}
 use Rattle.std.proofs.lemmas.List.{append-nil}
 use Rattle.audit_types.specs.declared.records.Answered.{Answered}
 use Rattle.audit_types.specs.History.{Setting}
@@ -22,7 +22,7 @@ use Rattle.transcript_sim.specs.declared.simulating.SimulationRefusal.{Simulatio
 use Rattle.transcript_sim.specs.declared.simulating.SimulationRefusal.TheVariants.{Journal}
 use Rattle.transcript_sim.specs.Beginning.{BeginsWith, EndBegins, OnUnbegun, UnbegunCause}
 use Rattle.transcript_sim.specs.Ends.{Judges, RefusesWithin, Simulates, simulation}
-use Rattle.transcript_sim.proofs.Beginnings.{OneReading, NoBreak, never_refused, one_beginning, unblamed}
+use Rattle.transcript_sim.proofs.Beginnings.{OneReading, NoBreak, never_refused, one_beginning}
 
 -- the end of a simulation that ends as its beginning did
 abbrev pub unbegun_by : End JournalRefusal → Result (Unit {0}) (End SimulationRefusal)
