@@ -13,9 +13,7 @@ use Rattle.bench_core.specs.Stops.{IsOfBench, IsOfMemory, of_bench}
 use Rattle.bench_core.specs.declared.stops.End.{End}
 use Rattle.bench_core.specs.declared.stops.End.TheVariants.{Stopped, Refused}
 use Rattle.journal_form.specs.Journal.{StandsAt, BreaksAt}
-use Rattle.transcript_sim.specs.declared.simulating.SimulationRefusal.{SimulationRefusal}
-use Rattle.transcript_sim.specs.declared.simulating.SimulationRefusal.TheVariants.{Journal}
-use Rattle.transcript_sim.specs.Beginning.{BeginsWith, EndBegins, HistoryCause, OnUnbegun, UnbegunCause}
+use Rattle.transcript_sim.specs.Beginning.{BeginsWith, HistoryCause, UnbegunCause}
 
 -- a file is read in one way
 abbrev pub OneReading : Type 0
@@ -49,10 +47,6 @@ module _ (one : OneReading) (file : List ℕ) (setting : Setting) where
         let released = subst (WereReleased setting) read.1 stands.1 in
         cause.first.denied (released.each place cause.first.at cause.first.stands).released
     never_refused begins why cause = absurd cause
-
-    pub unblamed : BeginsWith file setting history → (ended : Result (Unit {0}) (End SimulationRefusal)) → EndBegins ended file setting → OnUnbegun ended ⊥
-    unblamed begins (Err (Refused (Journal why))) cause = never_refused begins why cause
-    unblamed begins ended cause = tt
 
 -- a journal that isn't read back is one that is damaged, or none is made
 pub told_by_reading : (file : List ℕ) (setting : Setting) (why : JournalRefusal) → (why ≡ NotMade → ⊥) → ReadCause why file → UnbegunCause why file setting
