@@ -123,7 +123,8 @@ module _ {P B : Type 0} (source : SourceGhosts P) (bench : Ghosts B) (index : In
 
           pub not_begun : Simulates source bench index first first old at (unbegun_by why)
           not_begun = record {
-            verdicts = λ history t told begins. let said = no_verdict why cause history told begins (source.left first) (source.left first) in ([], said.0, said.1);
+            verdicts = λ history t told begins.
+                let said = no_verdict why cause history told begins (source.left first) (source.left first) in ([], said.0, said.1);
             calls = λ t told. tt;
             reads = λ t. nothing_read why cause (source.left first) (source.left first);
             begins = told_so why cause;
