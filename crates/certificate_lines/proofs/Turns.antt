@@ -25,7 +25,8 @@ module _ (index : IndexView) (history : List Answered) where
   explained-push (a ∷ asked) [] next line are is = absurd are
   explained-push (a ∷ asked) (l ∷ lines) next line are is = (are.0, explained-push asked lines next line are.1 is)
 
-  module _ {P B : Type 0} {source : SourceGhosts P} {bench : Ghosts B} {first_source from : P} {first at : B} {cutter : Cutter} {asked : List CountedLine} {lines : List (List ℕ)}
+  module _ {P B : Type 0} {source : SourceGhosts P} {bench : Ghosts B} {first_source from : P} {first at : B} {cutter : Cutter}
+      {asked : List CountedLine} {lines : List (List ℕ)}
       (so_far : SoFar source bench (explanations index history) first_source from first at cutter asked lines) {new : Cutter} {after : P} where
     -- the line of a plan is due to the line that was planned
     pub line_due : {plan : Plan} (gives : GivesPlan source cutter new from after index plan) (line : List ℕ) →

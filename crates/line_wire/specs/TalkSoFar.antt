@@ -10,8 +10,9 @@ use Rattle.bench_core.specs.declared.stops.Stop.TheVariants as stop
 use Rattle.bench_core.specs.declared.stops.End.{End}
 use Rattle.bench_core.specs.declared.stops.End.TheVariants.{Stopped, Refused}
 use Rattle.bench_core.specs.Bench.{AppendsFront}
-use Rattle.bench_core.specs.Calls.{IsUntouched}
+use Rattle.bench_core.specs.Calls.{IsUntouched, TellsFault}
 use Rattle.bench_core.specs.Causes.{Rose}
+use Rattle.bench_core.specs.Reports.{told_as}
 use Rattle.line_wire.specs.Lines.{CountedLine, counted_lines}
 use Rattle.line_wire.specs.Cutter.{Cutter}
 use Rattle.line_wire.specs.Calls.{Cuts, GivesLine, GivesNone, FailsRead, PassesLimit}
@@ -48,7 +49,7 @@ pub none_failed : {P : Type 0} {source : SourceGhosts P} {old new : P} {Answered
 none_failed steady not = record {
   later = omega (arith, steady);
   failed = λ is. absurd (not is);
-  last_call = λ is. absurd (not is);
+  last_read = λ is. absurd (not is);
   steady = λ other. steady;
 }
 
@@ -185,7 +186,7 @@ module _ {P B X R : Type 0} {source : SourceGhosts P} {bench : Ghosts B} {talk :
     input = record {
       later = omega (arith, input.later, so_far.read.steady);
       failed = λ is. subst (λ (n : ℕ). Rose n (source.faults after)) so_far.read.steady (input.failed is);
-      last_call = input.last_call;
+      last_read = input.last_read;
       steady = λ other. input.steady other ∙ so_far.read.steady;
     };
     fault = record {
@@ -229,7 +230,7 @@ module _ {P B X R : Type 0} {source : SourceGhosts P} {bench : Ghosts B} {talk :
         ends (Err (Stopped stop.Input)) (search rules) (search rules)
         (λ told. (lines, lines_read source first_source from cutter lines so_far.read after new cuts fails told, so_far.due)) so_far.sends.sent
         (λ told tells. tt) (input_read source first_source from cutter lines so_far.read after new cuts fails)
-        (record { later = cuts.later; failed = λ is. fails.rose; last_call = λ is. fails.last; steady = λ other. absurd (other refl) })
+        (record { later = cuts.later; failed = λ is. fails.rose; last_read = λ is. fails.last; steady = λ other. absurd (other refl) })
 
     -- the limit was passed
     pub limit_passed : PassesLimit source cutter new from after → Talks source bench talk first_source after first at (Err (Stopped stop.Limit))
@@ -238,3 +239,27 @@ module _ {P B X R : Type 0} {source : SourceGhosts P} {bench : Ghosts B} {talk :
         (λ told. (lines, lines_within source first_source from cutter lines so_far.read after new cuts passes told, so_far.due)) so_far.sends.sent
         (λ told tells. tt) (input_over source first_source from cutter lines so_far.read after new cuts passes)
         (none_failed passes.steady (search rules))
+
+-- ---- a loop that refuses nothing
+
+module _ {P B X : Type 0} {source : SourceGhosts P} {bench : Ghosts B} {talk : Talk X ⊥} {first_source from : P} {first at : B}
+    (ended : Result (Unit {0}) Stop) (talks : Talks source bench talk first_source from first at (unrefused ended)) where
+  -- what it tells of a failed read, of a failed call of the bench and of a spare is said of its own end
+  pub input_told : TellsInput source first_source from (ended ≡ Err stop.Input)
+  input_told = record {
+    later = talks.input.later;
+    failed = λ is. talks.input.failed (ap unrefused is);
+    last_read = λ is. talks.input.last_read (ap unrefused is);
+    steady = λ other. talks.input.steady (λ is. other (same_stop ended stop.Input is));
+  }
+
+  pub fault_told : TellsFault bench first at (ended ≡ Err stop.Bench)
+  fault_told = told_as bench first at _ _ (same_stop ended stop.Bench) (λ is. ap unrefused is) talks.fault
+
+  pub never_spare : ended ≢ Err stop.Spare
+  never_spare is = talks.alone (ap unrefused is)
+
+-- and so is what it says if it is done
+pub done_too : (A : Type 0) (ended : Result (Unit {0}) Stop) → OnOk (unrefused ended) A → OnOk ended A
+done_too A (Ok done) holds = holds
+done_too A (Err why) holds = tt

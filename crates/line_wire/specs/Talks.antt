@@ -75,7 +75,7 @@ EndReads refused (Err (Refused why)) input left = refused why input
 pub record TellsInput {P : Type 0} (source : SourceGhosts P) (old new : P) (Answered : Type 0) : Type 0 where
   pub later : source.faults old ≤ source.faults new
   pub failed : Answered → Rose (source.faults old) (source.faults new)
-  pub last_call : Answered → source.last_failed new ≡ true
+  pub last_read : Answered → source.last_failed new ≡ true
   pub steady : (Answered → ⊥) → source.faults new ≡ source.faults old
 
 -- ---- all of it

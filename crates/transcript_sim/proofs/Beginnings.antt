@@ -5,7 +5,7 @@ use Rattle.audit_types.specs.declared.shapes.Shape.{Shape}
 use Rattle.audit_types.specs.History.{Setting}
 use Rattle.audit_core.specs.Released.{WereReleased}
 use Rattle.answer_journal.specs.MadeFiles.{stands_is_made}
-use Rattle.answer_journal.specs.Refusals.{ReadCause}
+use Rattle.answer_journal.specs.Refusals.{IsOfReading, ReadCause}
 use Rattle.answer_journal.specs.declared.refusals.JournalRefusal.{JournalRefusal}
 use Rattle.answer_journal.specs.declared.refusals.JournalRefusal.TheVariants.{NotMade, Damaged, OtherShape, Illegal}
 use Rattle.bench_core.specs.Ends.{EndsBy}
@@ -13,9 +13,7 @@ use Rattle.bench_core.specs.Stops.{IsOfBench, IsOfMemory, of_bench}
 use Rattle.bench_core.specs.declared.stops.End.{End}
 use Rattle.bench_core.specs.declared.stops.End.TheVariants.{Stopped, Refused}
 use Rattle.journal_form.specs.Journal.{StandsAt, BreaksAt}
-use Rattle.transcript_sim.specs.declared.simulating.SimulationRefusal.{SimulationRefusal}
-use Rattle.transcript_sim.specs.declared.simulating.SimulationRefusal.TheVariants.{Journal}
-use Rattle.transcript_sim.specs.Beginning.{BeginsWith, EndBegins, HistoryCause, OnUnbegun, UnbegunCause}
+use Rattle.transcript_sim.specs.Beginning.{BeginsWith, HistoryCause, IsOfBeginning, UnbegunCause}
 
 -- a file is read in one way
 abbrev pub OneReading : Type 0
@@ -50,9 +48,17 @@ module _ (one : OneReading) (file : List ℕ) (setting : Setting) where
         cause.first.denied (released.each place cause.first.at cause.first.stands).released
     never_refused begins why cause = absurd cause
 
-    pub unblamed : BeginsWith file setting history → (ended : Result (Unit {0}) (End SimulationRefusal)) → EndBegins ended file setting → OnUnbegun ended ⊥
-    unblamed begins (Err (Refused (Journal why))) cause = never_refused begins why cause
-    unblamed begins ended cause = tt
+-- what keeps the audit from going on is one of the causes
+of_history : (why : JournalRefusal) (kept : Shape) (setting : Setting) (list : List Answered) → HistoryCause why kept setting list → IsOfBeginning why
+of_history (OtherShape other now) kept setting list cause = tt
+of_history (Illegal place group) kept setting list cause = tt
+of_history other kept setting list cause = absurd cause
+
+-- and what keeps it from being read, if it is made
+pub of_reading : (why : JournalRefusal) → (why ≡ NotMade → ⊥) → IsOfReading why → IsOfBeginning why
+of_reading NotMade made is = absurd (made refl)
+of_reading (Damaged at) made is = tt
+of_reading other made is = absurd is
 
 -- a journal that isn't read back is one that is damaged, or none is made
 pub told_by_reading : (file : List ℕ) (setting : Setting) (why : JournalRefusal) → (why ≡ NotMade → ⊥) → ReadCause why file → UnbegunCause why file setting
@@ -76,7 +82,7 @@ module _ (told : Type 0) (file : List ℕ) (setting : Setting) (kept : Shape) (l
 
   pub told_by_audit : {X : Type 0} (ended : Result X (End JournalRefusal)) →
       IfErr ended (EndsBy IsOfMemory (λ why. HistoryCause why kept setting list)) →
-      IfErr ended (EndsBy IsOfBench (λ why. told → UnbegunCause why file setting))
+      IfErr ended (EndsBy IsOfBench (λ why. IsOfBeginning why × (told → UnbegunCause why file setting)))
   told_by_audit (Ok core) cause = tt
   told_by_audit (Err (Stopped why)) cause = of_bench why cause
-  told_by_audit (Err (Refused why)) cause = λ t. told_by_history t why cause
+  told_by_audit (Err (Refused why)) cause = (of_history why kept setting list cause, λ t. told_by_history t why cause)

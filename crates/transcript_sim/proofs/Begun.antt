@@ -1,5 +1,5 @@
 -- A simulation is its beginning, which only reads the journal, and then the judging of its lines.
-use Rattle.std.proofs.Common.{◌≡◌, ◌+◌, ℕ, List, [], length, Result, Ok, Err, OnOk, refl, sym, ◌∙◌, ap, subst, arith}
+use Rattle.std.proofs.Common.{◌≡◌, ◌+◌, ℕ, List, [], Result, Ok, Err, OnOk, refl, sym, ◌∙◌, ap, subst, arith}
 use Rattle.std.proofs.lemmas.List.{append-nil}
 use Rattle.audit_types.specs.declared.records.Answered.{Answered}
 use Rattle.audit_types.specs.History.{Setting}
@@ -20,9 +20,9 @@ use Rattle.line_wire.specs.Talks.{DueToFirst, EndDue, EndReads, EndSends, TalksM
 use Rattle.line_wire.specs.TalkSoFar.{none_failed, nothing_meanwhile}
 use Rattle.transcript_sim.specs.declared.simulating.SimulationRefusal.{SimulationRefusal}
 use Rattle.transcript_sim.specs.declared.simulating.SimulationRefusal.TheVariants.{Journal}
-use Rattle.transcript_sim.specs.Beginning.{BeginsWith, EndBegins, OnUnbegun, UnbegunCause}
+use Rattle.transcript_sim.specs.Beginning.{BeginsWith, EndBegins, IfUnbegun, IsOfBeginning, OnUnbegun, UnbegunCause}
 use Rattle.transcript_sim.specs.Ends.{Judges, RefusesWithin, Simulates, simulation}
-use Rattle.transcript_sim.proofs.Beginnings.{OneReading, NoBreak, never_refused, one_beginning, unblamed}
+use Rattle.transcript_sim.proofs.Beginnings.{OneReading, NoBreak, never_refused, one_beginning}
 
 -- the end of a simulation that ends as its beginning did
 abbrev pub unbegun_by : End JournalRefusal → Result (Unit {0}) (End SimulationRefusal)
@@ -45,7 +45,7 @@ begun_with (Err (Stopped stop.Bench)) file setting history none begins = tt
 begun_with (Err (Stopped stop.NoMemory)) file setting history none begins = tt
 begun_with ended file setting history none begins = (history, begins)
 
-not_unbegun : (P : Type 0) (ended : Result (Unit {0}) (End SimulationRefusal)) → OnUnbegun ended ⊥ → OnUnbegun ended P
+not_unbegun : (P : JournalRefusal → Type 0) (ended : Result (Unit {0}) (End SimulationRefusal)) → OnUnbegun ended ⊥ → IfUnbegun ended P
 not_unbegun P (Err (Refused (Journal why))) none = absurd none
 not_unbegun P ended none = tt
 
@@ -84,7 +84,7 @@ module _ {P B : Type 0} (source : SourceGhosts P) (bench : Ghosts B) (index : In
       -- it didn't begin
       module _ (whole : NoBreak) (at : B) (reads : OnlyReads bench old at) where
         abbrev Unbegun : End JournalRefusal → Type 0
-        Unbegun = EndsBy IsOfBench (λ refusal. bench.told → UnbegunCause refusal (bench.file old) (public_setting index))
+        Unbegun = EndsBy IsOfBench (λ refusal. IsOfBeginning refusal × (bench.told → UnbegunCause refusal (bench.file old) (public_setting index)))
 
         no_verdict : (why : End JournalRefusal) → Unbegun why → (history : List Answered) → bench.told →
             BeginsWith (bench.file old) (public_setting index) history → (input left : List ℕ) →
@@ -96,7 +96,7 @@ module _ {P B : Type 0} (source : SourceGhosts P) (bench : Ghosts B) (index : In
             (none_begun history (counted_lines input), reads.sent ∙ sym (append-nil (bench.sent old)))
         no_verdict (Stopped other) cause history told begins input left = absurd cause
         no_verdict (Refused refusal) cause history told begins input left =
-            absurd (never_refused one (bench.file old) (public_setting index) whole history begins refusal (cause told))
+            absurd (never_refused one (bench.file old) (public_setting index) whole history begins refusal (cause.1 told))
 
         nothing_read : (why : End JournalRefusal) → Unbegun why → (input left : List ℕ) → EndReads RefusesWithin (unbegun_by why) input left
         nothing_read (Stopped stop.Input) cause input left = absurd cause
@@ -108,7 +108,11 @@ module _ {P B : Type 0} (source : SourceGhosts P) (bench : Ghosts B) (index : In
         told_so (Stopped stop.Bench) cause told = tt
         told_so (Stopped stop.NoMemory) cause told = tt
         told_so (Stopped other) cause told = absurd cause
-        told_so (Refused refusal) cause told = cause told
+        told_so (Refused refusal) cause told = cause.1 told
+
+        refused_so : (why : End JournalRefusal) → Unbegun why → IfUnbegun (unbegun_by why) IsOfBeginning
+        refused_so (Stopped other) cause = tt
+        refused_so (Refused refusal) cause = cause.0
 
         untouched_so : (why : End JournalRefusal) → OnUnbegun (unbegun_by why) ((first ≡ first) × (bench.sent at ≡ bench.sent old))
         untouched_so (Stopped other) = tt
@@ -123,10 +127,12 @@ module _ {P B : Type 0} (source : SourceGhosts P) (bench : Ghosts B) (index : In
 
           pub not_begun : Simulates source bench index first first old at (unbegun_by why)
           not_begun = record {
-            verdicts = λ history t told begins. let said = no_verdict why cause history told begins (source.left first) (source.left first) in ([], said.0, said.1);
+            verdicts = λ history t told begins.
+                let said = no_verdict why cause history told begins (source.left first) (source.left first) in ([], said.0, said.1);
             calls = λ t told. tt;
             reads = λ t. nothing_read why cause (source.left first) (source.left first);
             begins = told_so why cause;
+            refuses = refused_so why cause;
             unbegun = untouched_so why;
             moments = λ history told quiet begins. reading at history reads quiet;
             undisturbed = λ told quiet.
@@ -164,6 +170,7 @@ module _ {P B : Type 0} (source : SourceGhosts P) (bench : Ghosts B) (index : In
             calls = λ t told. so_on_ok ended (λ is. omega (arith, is, ticks told)) (all.calls t told);
             reads = all.reads;
             begins = λ told. begun_with ended (bench.file old) (public_setting index) history judges.1 (begun told);
+            refuses = not_unbegun _ ended judges.1;
             unbegun = not_unbegun _ ended judges.1;
             moments = λ others told quiet begins.
                 let same = one_beginning one (bench.file old) (public_setting index) history others (begun told) begins in

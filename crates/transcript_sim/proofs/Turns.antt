@@ -121,7 +121,8 @@ module _ {P B : Type 0} {source : SourceGhosts P} {bench : Ghosts B} {index : In
       (asked_unsent is.1.question is.1.fails)
 
   -- no question is left
-  pub none_left : {sending : B} → GivesNone source cutter new from after → sending ≡ at → Judges source bench index begun first_source after first sending (Ok tt)
+  pub none_left : {sending : B} → GivesNone source cutter new from after → sending ≡ at →
+      Judges source bench index begun first_source after first sending (Ok tt)
   none_left none same =
       subst (λ (b : B). Judges source bench index begun first_source after first b (Ok tt)) (sym same) (none_is_left turn.so_far cuts none)
 

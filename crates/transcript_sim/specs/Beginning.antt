@@ -9,7 +9,7 @@ use Rattle.bench_core.specs.declared.stops.Stop.TheVariants as stop
 use Rattle.bench_core.specs.declared.stops.End.{End}
 use Rattle.bench_core.specs.declared.stops.End.TheVariants.{Stopped, Refused}
 use Rattle.answer_journal.specs.declared.refusals.JournalRefusal.{JournalRefusal}
-use Rattle.answer_journal.specs.declared.refusals.JournalRefusal.TheVariants.{Damaged, OtherShape, Illegal}
+use Rattle.answer_journal.specs.declared.refusals.JournalRefusal.TheVariants.{NotMade, Damaged, OtherShape, Untrue, Illegal}
 use Rattle.journal_form.specs.Journal.{StandsFor, BreaksAt}
 use Rattle.transcript_sim.specs.declared.simulating.SimulationRefusal.{SimulationRefusal}
 use Rattle.transcript_sim.specs.declared.simulating.SimulationRefusal.TheVariants.{Journal}
@@ -35,6 +35,12 @@ pub record HoldsUnreleased (file : List ℕ) (setting : Setting) (place : ℕ) (
   pub stands : StandsFor file setting.shape history
   pub first : IsFirstUnreleased setting history place group
 
+-- a journal is refused for these alone: it needn't be made, and no answer is tested
+abbrev pub IsOfBeginning : JournalRefusal → Type 0
+IsOfBeginning NotMade = ⊥
+IsOfBeginning (Untrue place kept now) = ⊥
+IsOfBeginning refusal = Unit {0}
+
 -- why no history is begun with, by what the journal is
 abbrev pub UnbegunCause : JournalRefusal → List ℕ → Setting → Type 0
 UnbegunCause (Damaged at) file setting = IsDamagedAt file at
@@ -49,10 +55,14 @@ EndBegins (Err (Stopped stop.Bench)) file setting = Unit {0}
 EndBegins (Err (Stopped stop.NoMemory)) file setting = Unit {0}
 EndBegins ended file setting = (history : List Answered) × BeginsWith file setting history
 
--- this holds if no history was begun with, for what the journal is
+-- if no history was begun with, for what the journal is, this holds of the refusal
+abbrev pub IfUnbegun : Result (Unit {0}) (End SimulationRefusal) → (JournalRefusal → Type 0) → Type 0
+IfUnbegun (Err (Refused (Journal why))) P = P why
+IfUnbegun ended P = Unit {0}
+
+-- this holds then
 abbrev pub OnUnbegun : Result (Unit {0}) (End SimulationRefusal) → Type 0 → Type 0
-OnUnbegun (Err (Refused (Journal why))) P = P
-OnUnbegun ended P = Unit {0}
+OnUnbegun ended P = IfUnbegun ended (λ why. P)
 
 -- why the audit doesn't go on from the history of a journal of this shape
 abbrev pub HistoryCause : JournalRefusal → Shape → Setting → List Answered → Type 0

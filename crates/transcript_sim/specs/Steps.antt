@@ -1,5 +1,5 @@
 -- What the steps of a simulation do: reading a line, and telling what a reply comes to.
-use Rattle.std.specs.Prelude.{◌≡◌, ◌⊎◌, ◌≤◌, ◌+◌, ℕ, true, List, [], ◌++◌, Option, Some, None, Result, Ok, Err, Bool, false}
+use Rattle.std.specs.Prelude.{◌≡◌, ◌⊎◌, ℕ, true, List, [], Option, Some, None, Result, Ok, Err, Bool, false}
 use Rattle.std.specs.Option.{option_to_list}
 use Rattle.audit_types.specs.History.{Setting, FitsShape, known_of}
 use Rattle.audit_types.specs.Judgement.{IsWithinWidth}

@@ -9,7 +9,7 @@ ghost use Rattle.bench_core.specs.Ends.{EndsBy};
 ghost use Rattle.bench_core.specs.Stops.{IsOfBench, IsOfMemory};
 ghost use Rattle.bench_core.specs.declared.stops.End.{End};
 ghost use Rattle.bench_core.specs.declared.stops.Stop.{Stop};
-ghost use Rattle.transcript_sim.specs.Beginning.{BeginsWith, HistoryCause, UnbegunCause};
+ghost use Rattle.transcript_sim.specs.Beginning.{BeginsWith, HistoryCause, IsOfBeginning, UnbegunCause};
 
 use answer_journal::{Journal, JournalRefusal};
 use audit_core::{Core, ReplayFault, replay};
@@ -57,7 +57,7 @@ pub(crate) fn begin<B: Bench>(
     requires fit { AreProtected shape protected.now }
     ensures setting { IfOk result (λ core. core.setting ≡ setting_of shape protected.now) }
     ensures begins { B.told → IfOk result (λ core. BeginsWith (B.file bench.old) (setting_of shape protected.now) core.history) }
-    ensures cause { IfErr result (EndsBy IsOfBench (λ refusal. B.told → UnbegunCause refusal (B.file bench.old) (setting_of shape protected.now))) }
+    ensures cause { IfErr result (EndsBy IsOfBench (λ refusal. IsOfBeginning refusal × (B.told → UnbegunCause refusal (B.file bench.old) (setting_of shape protected.now)))) }
 
     // Nothing is written and nothing sent.
     ensures reads { OnlyReads B.Bench bench.old bench.new }

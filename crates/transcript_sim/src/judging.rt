@@ -102,7 +102,11 @@ impl Simulation {
 
 /// Whether the transcript goes on after what was shown to the last question, at this line. One that disagrees is reported
 /// with the question's verdict.
-pub(crate) fn goes_on(shown: Option<Shown>, line: u64, due: Due) -> Result<bool, End<SimulationRefusal>>
+pub(crate) fn goes_on(
+    shown: Option<Shown>,
+    line: u64,
+    due: Due,
+) -> Result<bool, End<SimulationRefusal>>
     ensures { result ≡ goes_on shown line due }
 {
     match shown {

@@ -2,14 +2,14 @@ use Rattle.std.proofs.Common.{rules, ◌≡◌, List, [], Err, IfErr, sym, ap, s
 use Rattle.audit_types.specs.History.{Protection, setting_of}
 use Rattle.audit_types.specs.declared.records.Answered.{Answered}
 use Rattle.audit_types.specs.declared.shapes.Shape.{Shape}
-use Rattle.answer_journal.specs.Refusals.{ReadCause}
+use Rattle.answer_journal.specs.Refusals.{IsOfReading, ReadCause}
 use Rattle.answer_journal.specs.declared.refusals.JournalRefusal.{JournalRefusal}
 use Rattle.bench_core.specs.Ends.{EndsBy}
 use Rattle.bench_core.specs.Reports.{told_as}
 use Rattle.bench_core.specs.Stops.{IsOfBench}
 use Rattle.journal_form.specs.Journal.{StandsAt}
-use Rattle.transcript_sim.specs.Beginning.{UnbegunCause}
-use Rattle.transcript_sim.proofs.Beginnings.{told_by_audit, told_by_reading}
+use Rattle.transcript_sim.specs.Beginning.{IsOfBeginning, UnbegunCause}
+use Rattle.transcript_sim.proofs.Beginnings.{of_reading, told_by_audit, told_by_reading}
 use Rattle.transcript_sim.proofs.beginning.begin.Goals as goal
 
 pub returns-in-Ok-clause-cause : goal.returns-in-Ok-clause-cause
@@ -21,7 +21,8 @@ returns-in-Ok-clause-cause g c =
     subst (λ (s : Shape). StandsAt file s c.deref.result.now journal.gate) (sym c.shape.ensures.shape)
     (subst (λ (h : List Answered). StandsAt file journal.shape h journal.gate) (sym c.deref.ensures.value) (c.in-Ok.ensures.stands told)) in
     subst
-    (λ (p : Protection). IfErr c.audited.result (EndsBy IsOfBench (λ refusal. g.B.Bench.told → UnbegunCause refusal file (setting_of c.args.shape p)))) same
+    (λ (p : Protection). IfErr c.audited.result (EndsBy IsOfBench (λ refusal. IsOfBeginning refusal × (g.B.Bench.told →
+    UnbegunCause refusal file (setting_of c.args.shape p))))) same
     (told_by_audit g.B.Bench.told file (setting_of c.args.shape c.in_ok-protected.protected) c.shape.result c.deref.result.now journal.gate stands
     c.audited.result c.audited.ensures.cause)
 
@@ -38,9 +39,11 @@ returns-in_default g c =
     record {
       setting = tt;
       begins = λ told. tt;
-      cause = λ told.
-          told_by_reading (g.B.Bench.file c.args.bench.now) (setting_of c.args.shape c.args.protected.now) refusal c.in_default.not-NotMade
-          (c.in-Err-Refused.ensures.cause refusal told (ap Err c.in-Err-Refused.field-0-is));
+      cause = (
+        of_reading refusal c.in_default.not-NotMade (subst (EndsBy IsOfBench IsOfReading) c.in-Err-Refused.field-0-is c.in-Err-Refused.ensures.ends),
+        λ told. told_by_reading (g.B.Bench.file c.args.bench.now) (setting_of c.args.shape c.args.protected.now) refusal c.in_default.not-NotMade
+            (c.in-Err-Refused.ensures.cause refusal told (ap Err c.in-Err-Refused.field-0-is)),
+      );
       reads = c.read_back.ensures.reads;
       ticks = λ told. tt;
       fault = told_as g.B.Bench c.args.bench.now c.read_back.new.bench _ _ (λ is. absurd cc) (λ is. absurd cc) c.in-Err-Refused.ensures.fault;

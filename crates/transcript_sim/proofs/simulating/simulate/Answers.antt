@@ -13,7 +13,7 @@ use Rattle.schema_json.specs.Columns.{Column}
 use Rattle.schema_json.specs.SecretShape.{shape_of}
 use Rattle.table_load.specs.Cells.{PublicView, whole}
 use Rattle.set_index.specs.Indexed.{IndexView, public_setting, public_shape}
-use Rattle.transcript_sim.specs.Beginning.{BeginsWith, UnbegunCause}
+use Rattle.transcript_sim.specs.Beginning.{BeginsWith, IsOfBeginning, UnbegunCause}
 use Rattle.transcript_sim.specs.Ends.{Simulates}
 use Rattle.transcript_sim.proofs.Begun.{judged_so, not_begun, unbegun_by}
 use Rattle.transcript_sim.proofs.simulating.simulate.Goals as goal
@@ -35,7 +35,8 @@ returns-in-Err g c =
     let why = c.in-Err.end in
     let setting = same_setting index c.schema.result.now.columns c.public.result.now c.rows-rows.result c.shape.result c.protected.result.now
     c.schema.ensures.same c.public.ensures c.rows-rows.ensures.rows c.shape.ensures.shape c.protected.ensures.same in
-    let cause = subst (λ (s : Setting). EndsBy IsOfBench (λ (refusal : JournalRefusal). g.B.Bench.told → UnbegunCause refusal file s) why) setting
+    let cause = subst (λ (s : Setting). EndsBy IsOfBench (λ (refusal : JournalRefusal). IsOfBeginning refusal ×
+    (g.B.Bench.told → UnbegunCause refusal file s)) why) setting
     c.in-Err.ensures.cause in
     subst
     (λ (end : End SimulationRefusal). Simulates g.P.Source g.B.Bench index c.args.source.now c.args.source.now c.args.bench.now c.begin.new.bench
