@@ -279,7 +279,7 @@ pub unread_input : {I : Type 0} (lines : source.Ghosts I) (at : I) (Answered : T
 unread_input lines at Answered none = record {
   later = omega arith;
   failed = λ answered. absurd (none answered);
-  last_call = λ answered. absurd (none answered);
+  last_read = λ answered. absurd (none answered);
   steady = λ other. refl;
 }
 
@@ -289,7 +289,7 @@ pub input_as : {I : Type 0} (lines : source.Ghosts I) (old new : I) (Told Answer
 input_as lines old new Told Answered to from tells = record {
   later = tells.later;
   failed = λ answered. tells.failed (from answered);
-  last_call = λ answered. tells.last_call (from answered);
+  last_read = λ answered. tells.last_read (from answered);
   steady = λ other. tells.steady (λ told. other (to told));
 }
 
@@ -379,7 +379,7 @@ module _ {P I B : Type 0} (files : source.Ghosts P) (lines : source.Ghosts I) (b
       faults = fault_cause;
       schema_last = schema_was_read status ends.last;
       table_last = table_was_read status ends.last;
-      input_last = ends.input_fault.last_call;
+      input_last = ends.input_fault.last_read;
       bench_last = ends.bench_fault.last_call;
       spare_last = ends.spare_fault.last_call;
       later = record {

@@ -1,5 +1,5 @@
 -- What sending texts for the lines of the input comes to, by cases on how it ended.
-use Rattle.std.proofs.Common.{◌≡◌, ℕ, List, [], Result, Ok, Err, OnOk, refl}
+use Rattle.std.proofs.Common.{◌≡◌, ℕ, List, [], Result, Err, refl}
 use Rattle.bench_core.specs.declared.stops.Stop.{Stop}
 use Rattle.bench_core.specs.declared.stops.Stop.TheVariants as stop
 use Rattle.line_wire.specs.Lines.{CountedLine}
@@ -11,11 +11,6 @@ use Rattle.auditor_top.specs.Faults.{ended_status}
 -- before the first line nothing is due
 pub none_due : {X R : Type 0} (talk : Talk X R) → talk.Due [] [] → (all : List CountedLine) → DueToFirst talk all []
 none_due talk due all = ([], record { count = 0; are = refl }, due)
-
--- what is done is done of what refuses nothing
-pub on_done : {P : Type 0} (ended : Result (Unit {0}) Stop) → OnOk (unrefused ended) P → OnOk ended P
-on_done (Ok done) holds = holds
-on_done (Err why) holds = tt
 
 -- of what refuses nothing: what is due to the lines, what was sent, and how much of the input there was
 module _ {X : Type 0} (talk : Talk X ⊥) where

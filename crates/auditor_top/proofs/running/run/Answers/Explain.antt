@@ -4,12 +4,11 @@ use Rattle.std.proofs.lemmas.Bool.{false≢true, true≢false}
 use Rattle.audit_types.specs.declared.records.Answered.{Answered}
 use Rattle.bench_core.specs.Calls.{IsQuiet, IsUntouched, LeavesOnly}
 use Rattle.bench_core.specs.Moments.{joins, still_quiet, weakens}
-use Rattle.bench_core.specs.Reports.{not_called, told_as}
-use Rattle.bench_core.specs.declared.stops.Stop.TheVariants as stop
+use Rattle.bench_core.specs.Reports.{not_called}
 use Rattle.table_load.specs.Database.{Database, base_of}
 use Rattle.line_wire.specs.Lines.{counted_lines}
 use Rattle.line_wire.specs.Talks.{EndReads, EndSends, Talk, TalksMeanwhile, unrefused}
-use Rattle.line_wire.specs.TalkSoFar.{nothing_meanwhile, same_stop}
+use Rattle.line_wire.specs.TalkSoFar.{done_too, fault_told, input_told, never_spare, nothing_meanwhile}
 use Rattle.certificate_lines.specs.Explained.{explanations}
 use Rattle.auditor_top.specs.declared.ready.Ready.{Ready}
 use Rattle.auditor_top.specs.declared.ready.Ready.TheVariants as made
@@ -19,12 +18,12 @@ use Rattle.auditor_top.specs.Ends.{LeavesFile, SendsTexts, TalkEnds, public_part
 use Rattle.auditor_top.specs.Faults.{ended_status}
 use Rattle.auditor_top.specs.Runs.{Explaining, Objects, objects}
 use Rattle.auditor_top.specs.Says.{Says}
-use Rattle.auditor_top.proofs.LastSteps.{Answers, GoesOnWith, StepEnds, after_step, answers, done_or_wants, goes_with, input_as, stands_so}
+use Rattle.auditor_top.proofs.LastSteps.{Answers, GoesOnWith, StepEnds, after_step, answers, done_or_wants, goes_with, stands_so}
 use Rattle.auditor_top.proofs.OneRunMore.{goes_on}
 use Rattle.auditor_top.proofs.OneTable.{carried, same_given}
 use Rattle.auditor_top.proofs.StepFaults.{stop_says}
 use Rattle.auditor_top.proofs.StopEndings.{stop_ends, stop_unrefused}
-use Rattle.auditor_top.proofs.TalkEndings.{on_done, talk_ends, talk_reads, talk_sends}
+use Rattle.auditor_top.proofs.TalkEndings.{talk_ends, talk_reads, talk_sends}
 use Rattle.auditor_top.proofs.running.run.Given.{Over}
 use Rattle.auditor_top.proofs.running.run.Goals as goal
 
@@ -58,10 +57,10 @@ module _ (g : Over) (c : goal.After-drop-schema-inside-in-Ok-Explain-3 g) where
       stop_ends g.I.Source g.B.Bench ready c.explain.result mid new (record {
         input = λ is. refl;
         limit = λ is. refl;
-        other = λ is. absurd (does.alone (ap unrefused is));
-        input_fault = input_as g.I.Source old.input new.input _ _ (same_stop c.explain.result stop.Input) (λ is. ap unrefused is) does.input;
-        bench_fault = told_as g.B.Bench mid.bench new.bench _ _ (same_stop c.explain.result stop.Bench) (λ is. ap unrefused is) does.fault;
-        spare_fault = not_called g.B.Bench old.spare _ (λ is. does.alone (ap unrefused is));
+        other = λ is. absurd (never_spare c.explain.result does is);
+        input_fault = input_told c.explain.result does;
+        bench_fault = fault_told c.explain.result does;
+        spare_fault = not_called g.B.Bench old.spare _ (never_spare c.explain.result does);
         file = λ told table for. for refl;
         spare_file = λ told. tt;
         reads = λ itold reads. talk_reads talk c.explain.result _ _ (does.reads itold);
@@ -127,11 +126,11 @@ module _ (g : Over) (c : goal.After-drop-schema-inside-in-Ok-Explain-3 g) where
             (TalksMeanwhile g.I.Source.told (explanations (public_part b) h) (counted_lines text) file sent)) ptold told base history over (moments told quiet);
         undisturbed = λ told quiet. weakens g.B.Bench old.bench new.bench _ (LeavesFile file) (λ image bytes found. found.0) (moments told quiet);
         explain_calls = λ itold told done.
-            (stop_says ended).done _ done (on_done ended (does.calls itold told)) ∙ ap (λ (n : ℕ). n + length (counted_lines text)) (goes.ticks told refl);
+            (stop_says ended).done _ done (done_too _ ended (does.calls itold told)) ∙ ap (λ (n : ℕ). n + length (counted_lines text)) (goes.ticks told refl);
         explains = λ ptold itold told base history over within none.
             done_or_wants _ _ _ (stop_unrefused ended
             (λ is. let over = subst (λ r. EndReads talk.Reads (unrefused r) text left) is (does.reads itold) in omega (arith, over, within))) says.faults none
-            (λ is. absurd (does.alone (ap unrefused ((stop_says ended).spare is))));
+            (λ is. absurd (never_spare ended does ((stop_says ended).spare is)));
       }
 
   all : Answers g.P.Source g.I.Source g.B.Bench (command_of (map string_bytes c.args.words.now.items)) c.ended-in-Ok-Explain.result old new

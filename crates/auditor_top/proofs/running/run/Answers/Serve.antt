@@ -52,7 +52,7 @@ module _ (g : Over) (c : goal.After-drop-schema-inside-in-Ok-Serve-2 g) where
         input = λ is. refl;
         limit = λ is. refl;
         other = λ is. absurd (c.serve.ensures.alone is);
-        input_fault = record { later = does.later; failed = does.input; last_call = does.last_read; steady = does.steady };
+        input_fault = record { later = does.later; failed = does.input; last_read = does.last_read; steady = does.steady };
         bench_fault = does.fault;
         spare_fault = not_called g.B.Bench old.spare _ c.serve.ensures.alone;
         file = λ told table for. for refl;

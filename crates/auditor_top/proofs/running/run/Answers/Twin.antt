@@ -67,7 +67,7 @@ module _ (g : Over) (c : goal.After-drop-schema-inside-in-Ok-start-3 g) where
         input = λ is. refl;
         limit = λ is. refl;
         other = λ is. refl;
-        input_fault = record { later = does.later; failed = does.input; last_call = does.last_read; steady = does.steady };
+        input_fault = record { later = does.later; failed = does.input; last_read = does.last_read; steady = does.steady };
         bench_fault = then_tells g.B.Bench mid.bench c.start.new.bench new.bench _ _ begun.fault (not_both _ _) does.fault;
         spare_fault = then_tells g.B.Bench old.spare c.start.new.spare new.spare _ _ begun.spare_fault (not_both _ _) c.serve_twin.ensures.spare.fault;
         file = λ told table for. front_is_legal (secret_table c.in-Ok-Twin.secret c.in-Ok-Twin.protected) _ _ _ (together told);
