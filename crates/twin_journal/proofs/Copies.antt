@@ -92,7 +92,7 @@ IsOfLost refusal = ⊥
 pub lost_of_copy : (refusal : RestoreRefusal) → IsOfLost refusal → IsOfCopy refusal
 lost_of_copy NothingLost is = tt
 lost_of_copy BothLost is = is
-lost_of_copy (Main refusal) is = is
+lost_of_copy (Main refusal) is = absurd is
 lost_of_copy (Spare refusal) is = is
 
 module _ (table : Table) (file spare : List ℕ) (refusal : RestoreRefusal) (of : IsOfCopy refusal) (never : refusal ≡ NothingLost → ⊥) where
