@@ -7,7 +7,7 @@ use Rattle.audit_types.specs.declared.shapes.Shape.{Shape}
 use Rattle.audit_types.specs.History.{Table}
 use Rattle.bench_core.specs.declared.bench.Bench.{Ghosts}
 use Rattle.bench_core.specs.Calls.{IsQuiet, IsUntouched, LeavesOnly, OnlyReads}
-use Rattle.bench_core.specs.Moments.{joins, still_quiet, then_reads, weakens}
+use Rattle.bench_core.specs.Moments.{joins, still_quiet, weakens}
 use Rattle.journal_form.specs.Journal.{StandsFor}
 use Rattle.answer_journal.specs.Make.{calls_to_look, calls_to_make}
 use Rattle.answer_journal.specs.Moments.{IsMade, IsUnmadeOrWhole}
