@@ -141,7 +141,7 @@ pub fn run<P: Source, I: Source, B: Bench>(
             alloc, secret, protected, bench, spare,
         ) {
             Ok(mut twin) => ended(serve_twin(alloc, &index, &mut twin, input, bench, spare, batch)),
-            Err(fault) => Status::from(fault),
+            Err(end) => Status::from(end),
         },
         Ok(Ready::Audit(schema, people, store)) => {
             ended(audit(alloc, &schema, &store, people, bench))
