@@ -16,7 +16,7 @@ use table_load::Secret;
 
 /// Why a journal has not grown. That it is damaged, or of other columns or more rows, comes before that it has the table's rows already,
 /// and this before an answer that isn't true over all rows, or a question that was not to be released over them.
-#[derive(Clone, Copy, PartialEq, Eq)]
+#[derive(Clone, Copy)]
 pub enum GrowRefusal {
     /// The journal isn't one that goes on over all rows of the table.
     Journal(JournalRefusal),

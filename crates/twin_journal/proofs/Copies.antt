@@ -7,7 +7,7 @@ use Rattle.audit_types.specs.declared.shapes.Shape.{Shape}
 use Rattle.audit_types.specs.History.{Table}
 use Rattle.bench_core.specs.declared.bench.Bench.{Ghosts}
 use Rattle.bench_core.specs.Calls.{IsQuiet, IsUntouched, LeavesOnly, OnlyReads}
-use Rattle.bench_core.specs.Moments.{joins, still_quiet, then_reads, weakens}
+use Rattle.bench_core.specs.Moments.{joins, still_quiet, weakens}
 use Rattle.journal_form.specs.Journal.{StandsFor}
 use Rattle.answer_journal.specs.Make.{calls_to_look, calls_to_make}
 use Rattle.answer_journal.specs.Moments.{IsMade, IsUnmadeOrWhole}
@@ -92,7 +92,7 @@ IsOfLost refusal = ⊥
 pub lost_of_copy : (refusal : RestoreRefusal) → IsOfLost refusal → IsOfCopy refusal
 lost_of_copy NothingLost is = tt
 lost_of_copy BothLost is = is
-lost_of_copy (Main refusal) is = is
+lost_of_copy (Main refusal) is = absurd is
 lost_of_copy (Spare refusal) is = is
 
 module _ (table : Table) (file spare : List ℕ) (refusal : RestoreRefusal) (of : IsOfCopy refusal) (never : refusal ≡ NothingLost → ⊥) where

@@ -21,7 +21,7 @@ use std::alloc::Global;
 use table_load::Secret;
 
 /// Why nothing was restored.
-#[derive(Clone, Copy, PartialEq, Eq)]
+#[derive(Clone, Copy)]
 pub enum RestoreRefusal {
     /// Both files are made journals.
     NothingLost,

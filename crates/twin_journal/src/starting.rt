@@ -23,7 +23,7 @@ use std::marker::Model;
 use table_load::Secret;
 
 /// Why two journals were not opened.
-#[derive(Clone, Copy, PartialEq, Eq)]
+#[derive(Clone, Copy)]
 pub enum TwinRefusal {
     /// The journal isn't gone on from.
     Main(JournalRefusal),

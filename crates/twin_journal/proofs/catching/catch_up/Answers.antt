@@ -33,10 +33,10 @@ abbrev stopped : Stop → End TwinRefusal
 stopped s = Stopped s
 
 -- what ended a call of the spare, and the end of it here
-module _ {X Y : Type 0} (given : Stop) where
-  never_spare : IsOfBench given → IsErrOf {T = X} (Err given) stop.Spare → ⊥
-  never_spare of is = let same : given ≡ stop.Spare = cc in subst IsOfBench same of
+never_spare : (given : Stop) → IsOfBench given → IsErrOf {T = Unit {0}} (Err given) stop.Spare → ⊥
+never_spare given of is = let same : given ≡ stop.Spare = cc in subst IsOfBench same of
 
+module _ {X Y : Type 0} (given : Stop) where
   module _ (answer : Stop) (is : answer ≡ turned given) where
     turned_back : (what : Stop) → IsErrOf {T = Y} (Err (stopped answer)) (stopped what) → IsErrOf {T = X} (Err given) (turned what)
     turned_back what refused = let same : answer ≡ what = cc in ap (λ (s : Stop). err s) (turned_is given what (sym is ∙ same))

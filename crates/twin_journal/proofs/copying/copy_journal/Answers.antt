@@ -139,8 +139,8 @@ lost_is_made : {X : Type 0} (end : End AlreadyThere) (answer : End RestoreRefusa
 lost_is_made (Stopped stop) answer is given = let none : ⊥ = cc in none
 lost_is_made (Refused there) answer is given = tt
 
-pub returns-in-Err-write_whole : goal.returns-in-Err-write_whole
-returns-in-Err-write_whole g c =
+pub returns : goal.returns
+returns g c =
     let table = secret_table c.args.secret c.args.protected in
     let file = g.K.Bench.file c.args.kept.now in
     let lost = c.args.lost.now in
