@@ -1,4 +1,4 @@
-use Rattle.std.proofs.Common.{rules, ◌≡◌, List, ℕ, [], Result, Err, refl, sym, subst}
+use Rattle.std.proofs.Common.{rules, ◌≡◌, List, Result, Err, sym, subst}
 use Rattle.audit_types.specs.declared.records.Answered.{Answered}
 use Rattle.audit_types.specs.History.{Setting, setting_of}
 use Rattle.denial_proof.specs.Denied.{IsLegalIn}

@@ -4,6 +4,7 @@ use Rattle.audit_types.specs.declared.shapes.Shape.{Shape}
 use Rattle.audit_types.specs.History.{Protection, AreProtected}
 use Rattle.table_load.specs.Cells.{SecretView}
 use Rattle.bench_core.specs.BenchContents.{file_of, sent_of}
+use Rattle.bench_core.specs.Ends.{IsStop}
 use Rattle.audit_store.specs.Stores.{IsAsLeft}
 use Rattle.line_wire.specs.Lines.{counted_lines}
 use Rattle.audit_session.specs.Ends.{Serves}
@@ -57,4 +58,4 @@ returns-in-Ok c =
 pub unreachable-requires : goal.unreachable-requires
 unreachable-requires c =
     let table = secret_table c.args.secret c.in_ok-protected.protected in
-    c.in-Err-Refused.ensures.opens [] (tt {0}) c.requires.stands (nothing_is_legal table)
+    subst IsStop c.in-Err-Refused.field-0-is (c.in-Err-Refused.ensures.opens [] (tt {0}) c.requires.stands (nothing_is_legal table))

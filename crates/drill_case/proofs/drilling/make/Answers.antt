@@ -5,6 +5,3 @@ make-requires c = c.requires.shape
 
 pub returns-in-Ok : goal.returns-in-Ok
 returns-in-Ok c = record { made = (20, c.in-Ok.ensures.done (tt {0})); sent = c.make.ensures.sent }
-
-pub returns-in-Failed : goal.returns-in-Failed
-returns-in-Failed c = record { made = tt; sent = c.make.ensures.sent }
