@@ -10,7 +10,7 @@ use Rattle.twin_journal.specs.Twins.{CatchesUp, KeepTogether, KeepWhole}
 use Rattle.auditor_top.proofs.TwinEndings.{front_is_legal}
 use Rattle.auditor_top.specs.Commands.{AreSoundFilesOf, TwinsOver, opens_store}
 use Rattle.auditor_top.specs.Causes.{HoldsLegal}
-use Rattle.auditor_top.specs.Ready.{IsReady, IsReadyOver}
+use Rattle.auditor_top.specs.Ready.{IsReadyOver}
 use Rattle.auditor_top.proofs.OneCommand.{same_command}
 use Rattle.auditor_top.proofs.OneTable.{one_base}
 use Rattle.auditor_top.proofs.running.run.Given.{Over}

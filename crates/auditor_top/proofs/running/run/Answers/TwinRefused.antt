@@ -17,7 +17,7 @@ use Rattle.auditor_top.specs.Words.{command_of, NamesCommand}
 use Rattle.auditor_top.specs.Commands.{AreSoundFilesOf, TwinsOver, calls_spare, opens_store, reads_files, writes}
 use Rattle.auditor_top.specs.Causes.{BothCause, FileCause, FaultCause, HoldsLegal, InputCause, SpareCause, IsReadyFor}
 use Rattle.auditor_top.specs.Stages.{Before, opening_spare}
-use Rattle.auditor_top.specs.Ready.{IsReady, IsReadyOver}
+use Rattle.auditor_top.specs.Ready.{IsReadyOver}
 use Rattle.auditor_top.specs.Runs.{objects, faults_of, TwinServing}
 use Rattle.auditor_top.proofs.OneCommand.{one_command, same_command, asked_for, not_asked, none_asked, takes_step}
 use Rattle.auditor_top.proofs.OneRunMore.{does_so, goes_on, left_of_spare, spare_goes_on}
