@@ -10,7 +10,7 @@ use Rattle.answer_journal.specs.Moments.{IsMade}
 use Rattle.journal_compact.specs.Compactions.{Compacts, CompactsFront}
 use Rattle.answer_journal.specs.declared.refusals.AlreadyThere.{AlreadyThere as There}
 use Rattle.bench_core.specs.Ends.{EndsBy, IsRefused}
-use Rattle.bench_core.specs.EndLaws.{EndsBy-weaker, stopped_unless_refused}
+use Rattle.bench_core.specs.EndLaws.{stopped_unless_refused}
 use Rattle.bench_core.specs.Stops.{IsOfBenches}
 use Rattle.bench_core.specs.declared.stops.End.{End}
 use Rattle.bench_core.specs.declared.stops.End.TheVariants.{Stopped, Refused}
@@ -22,7 +22,8 @@ use Rattle.auditor_top.specs.Causes.{FaultCounts, FaultCause, WordCause, FileCau
 use Rattle.auditor_top.specs.Compactions.{CompactEnds}
 use Rattle.auditor_top.specs.Stages.{Before, opening_spare, reading_lines}
 use Rattle.auditor_top.specs.Faults.{compacting_status}
-use Rattle.auditor_top.proofs.StepFaults.{both_same, end_faults, end_wants}
+use Rattle.auditor_top.proofs.LastSteps.{IsUnrefused}
+use Rattle.auditor_top.proofs.StepFaults.{end_unrefused}
 use Rattle.auditor_top.proofs.StepStatuses.{EndsLastStep}
 
 -- a call of the bench or of the spare ends it early, or that memory ran out
@@ -37,7 +38,6 @@ pub record CompactSays {X : Type 0} (ended : Result X (End There)) : Type 1 wher
   pub bench : compacting_status ended ≡ BenchFault → IsErrOf ended (Stopped stop.Bench)
   pub spare : compacting_status ended ≡ SpareFault → IsErrOf ended (Stopped stop.Spare)
   pub memory : compacting_status ended ≡ NoMemory → IsErrOf ended (Stopped stop.NoMemory)
-  pub no_input : compacting_status ended ≢ SourceFault Input
   pub done : (P : Type 0) → compacting_status ended ≡ Done → OnOk ended P → P
   -- it comes to the spare, and nothing was sent before the lines, nor if the spare failed
   pub at_spare : (P : Type 0) → Before opening_spare (compacting_status ended) P
@@ -59,17 +59,6 @@ compact_spare (Err (Stopped stop.Limit)) file stops already refused = absurd sto
 compact_spare (Err (Stopped why)) file stops already refused = tt
 compact_spare (Err (Refused there)) file stops already refused = already tt
 
--- the count of the object that failed rose, and no other count changed
-pub compact_faults : {X : Type 0} (ended : Result X (End There)) (before : FaultCounts) (bench spare : ℕ) → CompactStops ended →
-    (IsErrOf ended (Stopped stop.Bench) → Rose before.bench bench) → ((IsErrOf ended (Stopped stop.Bench) → ⊥) → bench ≡ before.bench) →
-    (IsErrOf ended (Stopped stop.Spare) → Rose before.spare spare) → ((IsErrOf ended (Stopped stop.Spare) → ⊥) → spare ≡ before.spare) →
-    FaultCause (compacting_status ended) before (record before { bench = bench; spare = spare })
-compact_faults (Ok done) before bench spare stops rose same spare_rose spare_same =
-    both_same before bench spare (same (λ is. cc)) (spare_same (λ is. cc))
-compact_faults (Err end) before bench spare stops rose same spare_rose spare_same =
-    end_faults (λ there. SpareThere) end before bench spare (EndsBy-weaker end IsOfBenches IsOfBenches _ _ (λ why is. is) (λ there is. refl) stops)
-    rose same spare_rose spare_same
-
 -- over a legal history: what the spare holds, and what was sent
 pub compact_ends : (ended : Result (Unit {0}) (End There)) (shape : Shape) (history : List Answered) (spare new_spare before after : List ℕ) →
     CompactStops ended → OnOk ended (Compacts shape history spare new_spare before after) →
@@ -83,13 +72,10 @@ compact_ends (Err (Stopped stop.Spare)) shape history spare new_spare before aft
 compact_ends (Err (Stopped stop.NoMemory)) shape history spare new_spare before after stops all part unsent = unsent (λ is. cc)
 compact_ends (Err (Refused there)) shape history spare new_spare before after stops all part unsent = unsent (λ is. cc)
 
--- if no journal is made there and nothing failed, it is done, or there was no memory
-pub compact_wants : {X : Type 0} (ended : Result X (End There)) (before after : FaultCounts) → CompactStops ended → (IsRefused ended → ⊥) →
-    FaultCause (compacting_status ended) before after → NothingFailed before after → (Rose before.spare after.spare → ⊥) →
-    IsDoneOrWants (compacting_status ended)
-compact_wants (Ok done) before after stops absent rose none fine = inl refl
-compact_wants (Err end) before after stops absent rose none fine =
-    end_wants (λ there. SpareThere) end before after stops (stopped_unless_refused end absent) rose none fine
+-- if no journal is made there it isn't refused
+pub compact_unrefused : {X : Type 0} (ended : Result X (End There)) → CompactStops ended → (IsRefused ended → ⊥) → IsUnrefused (compacting_status ended)
+compact_unrefused (Ok done) stops absent = tt
+compact_unrefused (Err end) stops absent = end_unrefused (λ there. SpareThere) end stops (stopped_unless_refused end absent)
 
 -- what follows holds of the same refusals
 pub unsent_so : {X P Q : Type 0} (ended : Result X (End There)) → (P → Q) → OnErr ended (ended ≢ Err (Stopped stop.Bench) → P) →

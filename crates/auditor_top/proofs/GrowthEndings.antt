@@ -9,7 +9,7 @@ use Rattle.table_load.specs.Database.{Database}
 use Rattle.journal_form.specs.Journal.{StandsFor}
 use Rattle.bench_core.specs.Ends.{DoneUnlessStopped, EndsBy}
 use Rattle.bench_core.specs.EndLaws.{EndsBy-weaker}
-use Rattle.bench_core.specs.Stops.{IsOfBench}
+use Rattle.bench_core.specs.Stops.{IsOfBench, IsOfBenches, of_benches}
 use Rattle.bench_core.specs.declared.stops.End.{End}
 use Rattle.bench_core.specs.declared.stops.End.TheVariants.{Stopped, Refused}
 use Rattle.bench_core.specs.declared.stops.Stop.TheVariants as stop
@@ -25,8 +25,9 @@ use Rattle.auditor_top.specs.Causes.{FaultCounts, FaultCause, WordCause, FileCau
 use Rattle.auditor_top.specs.Ends.{GrowEnds}
 use Rattle.auditor_top.specs.Stages.{Before, reading_lines}
 use Rattle.auditor_top.specs.Faults.{grow_status, growing_status}
+use Rattle.auditor_top.proofs.LastSteps.{IsUnrefused}
 use Rattle.auditor_top.proofs.StartEndings.{refusal_says}
-use Rattle.auditor_top.proofs.StepFaults.{bench_faults, same_counts}
+use Rattle.auditor_top.proofs.StepFaults.{end_unrefused}
 use Rattle.auditor_top.proofs.StepStatuses.{EndsLastStep}
 
 -- a call of the bench ends it early, or that memory ran out
@@ -38,7 +39,6 @@ pub record GrowthSays {X : Type 0} (ended : Result X (End GrowRefusal)) : Type 1
   pub last : EndsLastStep (growing_status ended)
   pub words : WordCause (growing_status ended) (Some Grow)
   pub bench : growing_status ended ≡ BenchFault → IsErrOf ended (Stopped stop.Bench)
-  pub no_input : growing_status ended ≢ SourceFault Input
   pub done : (P : Type 0) → growing_status ended ≡ Done → OnOk ended P → P
   pub at_lines : (P Q : Type 0) → (Q → P) → OnErr ended (ended ≢ Err (Stopped stop.Bench) → Q) → Before reading_lines (growing_status ended) P
 
@@ -61,18 +61,6 @@ growth_file (Err (Stopped stop.NoMemory)) file table stops can cause = tt
 growth_file (Err (Refused (grow.Journal refusal))) file table stops can cause = (refusal_says refusal).file Grow file table (cause (grow.Journal refusal) refl)
 growth_file (Err (Refused (grow.NothingNew rows))) file table stops can cause = cause (grow.NothingNew rows) refl
 
--- the count of the bench rose if a call of it failed, and no other count changed
-pub growth_faults : {X : Type 0} (ended : Result X (End GrowRefusal)) (before : FaultCounts) (bench : ℕ) → GrowthStops ended →
-    (IsErrOf ended (Stopped stop.Bench) → Rose before.bench bench) → ((IsErrOf ended (Stopped stop.Bench) → ⊥) → bench ≡ before.bench) →
-    FaultCause (growing_status ended) before (record before { bench = bench })
-growth_faults (Ok done) before bench stops rose same = same_counts before before.input bench refl (same (λ is. cc))
-growth_faults (Err end) before bench stops rose same =
-    bench_faults grow_status end before bench (EndsBy-weaker end IsOfBench IsOfBench _ _ (λ why is. is) (λ refusal is. steady refusal) stops) rose same
-  where
-    steady : (refusal : GrowRefusal) → FaultCause (grow_status refusal) before before
-    steady (grow.Journal refusal) = (refusal_says refusal).steady before
-    steady (grow.NothingNew rows) = refl
-
 -- over a journal that can grow: what the file stands for
 pub growth_ends : (ended : Result (Unit {0}) (End GrowRefusal)) (base : Database) (history : List Answered) (before after : List ℕ) → GrowthStops ended →
     OnOk ended (StandsFor after base.secret.shape (widened base.secret.shape.rows history)) → DoneUnlessStopped ended →
@@ -85,15 +73,11 @@ growth_ends (Err (Stopped stop.Spare)) base history before after stops stands ga
 growth_ends (Err (Stopped stop.NoMemory)) base history before after stops stands gave_up kept = kept (λ is. cc)
 growth_ends (Err (Refused refusal)) base history before after stops stands gave_up kept = absurd gave_up
 
-pub growth_wants : (ended : Result (Unit {0}) (End GrowRefusal)) (before after : FaultCounts) → GrowthStops ended → DoneUnlessStopped ended →
-    FaultCause (growing_status ended) before after → NothingFailed before after → IsDoneOrWants (growing_status ended)
-growth_wants (Ok done) before after stops gave_up rose none = inl refl
-growth_wants (Err (Stopped stop.Input)) before after stops gave_up rose none = absurd stops
-growth_wants (Err (Stopped stop.Limit)) before after stops gave_up rose none = absurd stops
-growth_wants (Err (Stopped stop.Bench)) before after stops gave_up rose none = absurd (none.bench rose.0)
-growth_wants (Err (Stopped stop.Spare)) before after stops gave_up rose none = absurd stops
-growth_wants (Err (Stopped stop.NoMemory)) before after stops gave_up rose none = inr refl
-growth_wants (Err (Refused refusal)) before after stops gave_up rose none = absurd gave_up
+-- and it isn't refused
+pub growth_unrefused : (ended : Result (Unit {0}) (End GrowRefusal)) → GrowthStops ended → DoneUnlessStopped ended → IsUnrefused (growing_status ended)
+growth_unrefused (Ok done) stops gave_up = tt
+growth_unrefused (Err end) stops gave_up =
+    end_unrefused grow_status end (EndsBy-weaker end IsOfBench IsOfBenches _ _ of_benches (λ refusal is. is) stops) gave_up
 
 -- what holds unless the bench failed holds of each refusal
 pub growth_kept : {X P : Type 0} (ended : Result X (End GrowRefusal)) → growing_status ended ≢ Done → growing_status ended ≢ BenchFault →

@@ -1,6 +1,6 @@
 -- A life with one run more.
 use Rattle.std.proofs.Common.{◌≡◌, ◌≢◌, ℕ, inl, inr, List, [], ◌∷◌, ◌++◌, Bool, true, false, Option, Some}
-use Rattle.std.proofs.Common.{refl, sym, ◌∙◌, subst, arith}
+use Rattle.std.proofs.Common.{refl, sym, ◌∙◌, ap, subst, arith}
 use Rattle.std.proofs.lemmas.List.{append_cancel_left, append-nil}
 use Rattle.audit_types.specs.declared.records.Answered.{Answered}
 use Rattle.audit_types.specs.History.{Table, IsLegal}
@@ -25,7 +25,6 @@ use Rattle.auditor_top.specs.Promise.{GoesOn, RunsMakeLives}
 use Rattle.auditor_top.specs.Ends.{Outside}
 use Rattle.auditor_top.specs.Twins.{LeavesTwins}
 use Rattle.auditor_top.specs.Runs.{Objects, Does}
-use Rattle.auditor_top.proofs.OneCommand.{one_command}
 use Rattle.auditor_top.proofs.OneTable.{OneReading, untouched_stops}
 
 pub lead_push : (at : Standing) (runs : List Run) (mid : Standing) (run : Run) → Lead at runs mid → GoesFrom mid run →
@@ -139,32 +138,19 @@ spare_goes_on files lines bench batch old new longer one is found base at goes f
     here.4 here.5 here.3.legal reaches
     (found left.base here.0 here.1 at.history (record { files = here.2; together = here.3 }) image sent leaves all)
 
--- whatever moment a run of a command is stopped at, the life goes on with it
-pub goes_on : {P I B : Type 0} (files : source.Ghosts P) (lines : source.Ghosts I) (bench : Ghosts B) (status : Status) (old new : Objects P I B) →
-    RunsMakeLives → OneReading → (command : Command) → ((batch : ℕ) (twin : Bool) → command ≡ Serve batch twin → IsBatch batch) →
-    Does files lines bench command status old new → files.told → bench.told → (command ≢ Grow → lines.told) →
-    IsQuiet bench old.bench → (base : Database) (at : Standing) →
+-- whatever moment a run is stopped at, the life goes on with it
+pub goes_on : {P I B : Type 0} (files : source.Ghosts P) (lines : source.Ghosts I) (bench : Ghosts B) (asked : Option Command) (status : Status)
+    (old new : Objects P I B) → RunsMakeLives → OneReading → ((batch : ℕ) (twin : Bool) → asked ≡ Some (Serve batch twin) → IsBatch batch) →
+    ((command : Command) → asked ≡ Some command → Does files lines bench command status old new) → files.told → bench.told → (command : Command) →
+    asked ≡ Some command → (command ≢ Grow → lines.told) → IsQuiet bench old.bench → (base : Database) (at : Standing) →
     GoesOnOver command (files.left old.schema) (files.left old.table) (bench.file old.bench) (bench.file old.spare) at base →
     (first : Database) (runs : List Run) → IsLife first runs at → (image sent : List ℕ) (left : Standing) → left.base ≡ base →
     bench.since new.bench (bench.moment old.bench) image (bench.sent old.bench ++ sent) → StandsFor image (shape_in left) left.history →
     ((batch : ℕ) → command ≡ Serve batch true → IsFront at.history left.history) →
     GoesOn first runs (record { deed = deed_of command (lines.left old.input); left = left; sent = sent })
-goes_on files lines bench status old new longer one command batches does ptold told itold quiet base at goes first runs life image sent left is was
-    stands reaches =
-    command_on files lines bench old longer at first runs life image sent left stands status new one quiet was ptold told command batches does itold
-    reaches (subst (λ (b : Database). GoesOnOver command (files.left old.schema) (files.left old.table) (bench.file old.bench)
-    (bench.file old.spare) at b) (sym is) goes)
-
--- with a run of any other command none does
-pub never_goes_on : {Y : Type 0} (words : Option Command) (command one : Command) (schema table file spare : List ℕ) (at : Standing) (base : Database) →
-    words ≡ Some one → words ≡ Some command → (GoesOnOver one schema table file spare at base → ⊥) →
-    GoesOnOver command schema table file spare at base → Y
-never_goes_on words command one schema table file spare at base is asked never goes =
-    absurd (never (subst (λ (k : Command). GoesOnOver k schema table file spare at base) (one_command words command one asked is) goes))
-
--- what a run of the command does that the arguments name
-pub does_so : {P I B : Type 0} (files : source.Ghosts P) (lines : source.Ghosts I) (bench : Ghosts B) (status : Status) (old new : Objects P I B)
-    (words : Option Command) (one command : Command) → words ≡ Some one → words ≡ Some command → Does files lines bench one status old new →
-    Does files lines bench command status old new
-does_so files lines bench status old new words one command is asked does =
-    subst (λ (k : Command). Does files lines bench k status old new) (one_command words one command is asked) does
+goes_on files lines bench asked status old new longer one batches does ptold told command named itold quiet base at goes first runs life image sent left is
+    was stands reaches =
+    command_on files lines bench old longer at first runs life image sent left stands status new one quiet was ptold told command
+    (λ batch twin same. batches batch twin (named ∙ ap (λ (k : Command). Some k) same)) (does command named) itold reaches
+    (subst (λ (b : Database). GoesOnOver command (files.left old.schema) (files.left old.table) (bench.file old.bench) (bench.file old.spare) at b) (sym is)
+    goes)

@@ -14,6 +14,9 @@ use Rattle.table_load.specs.Database.{Database, table_in}
 use Rattle.journal_form.specs.Journal.{StandsFor}
 use Rattle.answer_journal.specs.Moments.{IsMade}
 use Rattle.line_wire.specs.Lines.{CountedLine, counted_lines}
+use Rattle.line_wire.specs.TalkSoFar.{nothing_meanwhile}
+use Rattle.certificate_lines.specs.Explained.{explanations}
+use Rattle.transcript_sim.specs.Ends.{simulation}
 use Rattle.audit_session.specs.Stops.{IsBatch, IsFront, StopsOver}
 use Rattle.audit_session.specs.Ends.{ServesSome}
 use Rattle.journal_audit.specs.Reports.{ReportsFront}
@@ -30,17 +33,16 @@ use Rattle.auditor_top.specs.Twins.{TwinEnds}
 use Rattle.auditor_top.specs.Causes.{BeginningCause, BothCause, FaultCause, NothingFailed, IsDoneOrWants}
 use Rattle.auditor_top.specs.Commands.{ArePublicFilesOf, AreSoundFilesOf, opens_store}
 use Rattle.auditor_top.specs.Compactions.{CompactEnds}
-use Rattle.auditor_top.specs.Ends.{AuditEnds, GrowEnds, LeavesFile, ServeEnds, SimulateEnds, SendsLines, StandsForWhat, ExplainEnds, audit_over, people_over, subjects_over, outside, public_part}
+use Rattle.auditor_top.specs.Ends.{AuditEnds, GrowEnds, LeavesFile, ServeEnds, SendsTexts, SimulateEnds, StandsForWhat, TalkEnds, audit_over, people_over, subjects_over, outside, public_part}
 use Rattle.auditor_top.specs.Promise.{RunsMakeLives}
 use Rattle.auditor_top.specs.Ready.{IsGiven, EndsEarly, GivesUp}
 use Rattle.auditor_top.specs.Runs.{Objects, objects, faults_of, Does, Making, Serving, Auditing, Simulating, Drilling, Growing, Explaining, Compacting, TwinServing, Restoring}
 use Rattle.auditor_top.proofs.AuditEndings.{untouched_report}
-use Rattle.auditor_top.proofs.ExplainEndings.{none_first, untouched_lines}
 use Rattle.auditor_top.proofs.OneRunMore.{spare_goes_on}
 use Rattle.auditor_top.proofs.OneTable.{OneReading, nothing_served, untouched_stops}
-use Rattle.auditor_top.proofs.SimulationEndings.{none_begun, no_verdict}
 use Rattle.auditor_top.proofs.StepFaults.{not_made}
 use Rattle.auditor_top.proofs.StepStatuses.{always_before, by_giving_up}
+use Rattle.auditor_top.proofs.TalkEndings.{none_due}
 
 -- every history for which a stop over a legal history leaves an image is legal, and discloses nothing
 abbrev pub StopsAreLegal : Type 0
@@ -63,20 +65,6 @@ at_first shape first whole stands front image same = record {
   from = record { rest = []; is = sym (append-nil first) };
   to = front;
 }
-
--- a bench that wasn't called was only read
-pub uncalled : {B : Type 0} (bench : Ghosts B) (at : B) →
-    ((image bytes : List ℕ) → bench.since at (bench.moment at) image bytes → bench.leaves at image × (bytes ≡ bench.sent at)) → OnlyReads bench at at
-uncalled bench at only_now = record {
-  file = refl;
-  sent = refl;
-  crash = λ image left. left;
-  untouched = λ quiet. started bench at _ (λ image sent was. let now = only_now image sent was in (now.1, quiet image now.0));
-}
-
--- a bench that was only read is as quiet as before
-pub as_quiet : {B : Type 0} (bench : Ghosts B) (old new : B) → OnlyReads bench old new → IsQuiet bench old → IsQuiet bench new
-as_quiet bench old new reads quiet = λ image left. quiet image (reads.crash image left) ∙ sym reads.file
 
 module _ {P I B : Type 0} (files : source.Ghosts P) (lines : source.Ghosts I) (bench : Ghosts B) (schema later_schema table later_table : P) (input : I)
     (at later : B) (spare : B) (status : Status) (early : EndsEarly status) (reads : OnlyReads bench at later)
@@ -247,16 +235,17 @@ module _ {P I B : Type 0} (files : source.Ghosts P) (lines : source.Ghosts I) (b
       record {
         simulated = λ ptold itold told index history over.
             let text = lines.left input in
-            let begun = none_begun index history (counted_lines text) in
+            let begun = none_due (simulation index history) tt (counted_lines text) in
             let same = reads.sent ∙ sym (append-nil (bench.sent at)) in
             let gave_up = gave ptold index over.files in (
               [],
               by_giving_up (λ (s : Status). SimulateEnds s index history text text []) status gave_up refl refl begun begun,
-              by_giving_up (λ (s : Status). SendsLines s [] (bench.sent at) (bench.sent later)) status gave_up same same (0, same) same,
+              by_giving_up (λ (s : Status). SendsTexts (simulation index history) s [] (bench.sent at) (bench.sent later)) status gave_up same same
+                  (0, same) same,
             );
         simulating = λ ptold told quiet index history over.
             still quiet (λ image sent same.
-            no_verdict lines.told index history (counted_lines (lines.left input)) (bench.file at) (bench.sent at) image sent same.1 same.0);
+            nothing_meanwhile (simulation index history) tt lines.told (counted_lines (lines.left input)) (bench.file at) (bench.sent at) image sent same);
         cause = λ ptold told index given.
             by_giving_up (λ (s : Status). BeginningCause s (bench.file at) (public_setting index)) status (gave ptold index given)
             tt tt tt tt;
@@ -283,17 +272,17 @@ module _ {P I B : Type 0} (files : source.Ghosts P) (lines : source.Ghosts I) (b
   unexplained is = record {
     explained = λ ptold itold told base history over.
         let text = lines.left input in
-        let first = none_first text in
+        let first = none_due (explanations (public_part base) history) tt (counted_lines text) in
         let same = reads.sent ∙ sym (append-nil (bench.sent at)) in
         let gave_up = gives_up Explain is ptold (λ opens. told) (base, history, over) in (
           [],
-          [],
-          by_giving_up (λ (s : Status). ExplainEnds s text text []) status gave_up refl refl first first,
-          tt,
-          by_giving_up (λ (s : Status). SendsLines s [] (bench.sent at) (bench.sent later)) status gave_up same same (0, same) same,
+          by_giving_up (λ (s : Status). TalkEnds (explanations (public_part base) history) s text text []) status gave_up refl refl first first,
+          by_giving_up (λ (s : Status). SendsTexts (explanations (public_part base) history) s [] (bench.sent at) (bench.sent later)) status gave_up same same
+              (0, same) same,
         );
     explaining = λ ptold told quiet base history over.
-        still quiet (untouched_lines lines.told (public_part base) history (lines.left input) (bench.file at) (bench.sent at));
+        still quiet (nothing_meanwhile (explanations (public_part base) history) tt lines.told (counted_lines (lines.left input)) (bench.file at)
+        (bench.sent at));
     undisturbed = left_alone;
     explain_calls = λ itold told done. never_done status early done;
     explains = λ ptold itold told base history over within none. wants (gives_up Explain is ptold (λ opens. told) (base, history, over)) none;

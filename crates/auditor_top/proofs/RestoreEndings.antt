@@ -20,8 +20,9 @@ use Rattle.auditor_top.specs.declared.status.Status.TheVariants.{Done, SourceFau
 use Rattle.auditor_top.specs.Causes.{BothCause, FaultCounts, FaultCause, WordCause, FileCause, SpareCause, NothingFailed, IsDoneOrWants}
 use Rattle.auditor_top.specs.Stages.{Before, opening_journal, reading_lines}
 use Rattle.auditor_top.specs.Faults.{journal_status, restore_status, restoring_status}
+use Rattle.auditor_top.proofs.LastSteps.{IsUnrefused}
 use Rattle.auditor_top.proofs.StartEndings.{refusal_says}
-use Rattle.auditor_top.proofs.StepFaults.{both_same, end_faults, end_wants}
+use Rattle.auditor_top.proofs.StepFaults.{end_unrefused}
 use Rattle.auditor_top.proofs.StepStatuses.{EndsLastStep}
 
 -- a call of one of the benches ends it early, or that memory ran out
@@ -36,7 +37,6 @@ pub record RestoreSays {X : Type 0} (ended : Result X (End RestoreRefusal)) : Ty
   pub bench : restoring_status ended ≡ BenchFault → IsErrOf ended (Stopped stop.Bench)
   pub spare : restoring_status ended ≡ SpareFault → IsErrOf ended (Stopped stop.Spare)
   pub memory : restoring_status ended ≡ NoMemory → IsErrOf ended (Stopped stop.NoMemory)
-  pub no_input : restoring_status ended ≢ SourceFault Input
   pub done : (P : Type 0) → restoring_status ended ≡ Done → OnOk ended P → P
   pub at_journal : (P : Type 0) → Before opening_journal (restoring_status ended) P
 
@@ -50,7 +50,6 @@ restore_says (Err (Refused (restore.Main refusal))) stops = let says = refusal_s
   bench = λ is. absurd (says.no_bench is);
   spare = λ is. absurd (says.no_spare is);
   memory = λ is. absurd (says.no_memory is);
-  no_input = says.no_input;
   done = λ P is holds. absurd (says.undone is);
   at_journal = says.at_journal;
 }
@@ -84,27 +83,11 @@ restore_cause (Err (Refused (restore.Main refusal))) file spare table stops caus
     of_main refusal main = main
 restore_cause (Err (Refused (restore.Spare refusal))) file spare table stops cause = cause (restore.Spare refusal) refl
 
--- the count of the object that failed rose, and no other count changed
-pub restore_faults : {X : Type 0} (ended : Result X (End RestoreRefusal)) (before : FaultCounts) (bench spare : ℕ) → RestoreStops ended →
-    (IsErrOf ended (Stopped stop.Bench) → Rose before.bench bench) → ((IsErrOf ended (Stopped stop.Bench) → ⊥) → bench ≡ before.bench) →
-    (IsErrOf ended (Stopped stop.Spare) → Rose before.spare spare) → ((IsErrOf ended (Stopped stop.Spare) → ⊥) → spare ≡ before.spare) →
-    FaultCause (restoring_status ended) before (record before { bench = bench; spare = spare })
-restore_faults (Ok done) before bench spare stops rose same spare_rose spare_same =
-    both_same before bench spare (same (λ is. cc)) (spare_same (λ is. cc))
-restore_faults (Err end) before bench spare stops rose same spare_rose spare_same =
-    end_faults restore_status end before bench spare
-    (EndsBy-weaker end IsOfBenches IsOfBenches _ _ (λ why is. is) (λ refusal is. steady refusal) stops) rose same spare_rose spare_same
-  where
-    steady : (refusal : RestoreRefusal) → FaultCause (restore_status refusal) before before
-    steady (restore.Main refusal) = (refusal_says refusal).steady before
-    steady refusal = refl
-
--- if one can be restored and nothing failed, it is done, or there was no memory
-pub restore_wants : {X : Type 0} (ended : Result X (End RestoreRefusal)) (before after : FaultCounts) → RestoreStops ended → DoneUnlessStopped ended →
-    FaultCause (restoring_status ended) before after → NothingFailed before after → (Rose before.spare after.spare → ⊥) →
-    IsDoneOrWants (restoring_status ended)
-restore_wants (Ok done) before after stops gave rose none fine = inl refl
-restore_wants (Err end) before after stops gave rose none fine = end_wants restore_status end before after stops gave rose none fine
+-- if one can be restored it isn't refused
+pub restore_unrefused : {X : Type 0} (ended : Result X (End RestoreRefusal)) → RestoreStops ended → DoneUnlessStopped ended →
+    IsUnrefused (restoring_status ended)
+restore_unrefused (Ok done) stops gave = tt
+restore_unrefused (Err end) stops gave = end_unrefused restore_status end stops gave
 
 -- before the lines what was only read is as it was
 pub restore_at_lines : {X : Type 0} (P : Type 0) (ended : Result X (End RestoreRefusal)) → RestoreStops ended → (IsRefused ended → P) →

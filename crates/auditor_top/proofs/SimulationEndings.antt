@@ -1,8 +1,9 @@
 -- What a simulation comes to, by cases on how it ended.
-use Rattle.std.proofs.Common.{rules, ◌≡◌, ◌≢◌, ℕ, ◌^◌, ◌≤◌, List, [], length, Result, Ok, Err, refl, sym, ◌∙◌, inl, inr, ap, subst, arith, Some, OnOk}
-use Rattle.std.proofs.lemmas.List.{append-nil}
+use Rattle.std.proofs.Common.{rules, ◌≡◌, ◌≢◌, ℕ, ◌^◌, ◌≤◌, List, length, Result, Ok, Err, refl, sym, ◌∙◌, ap, subst, arith, Some, OnOk}
 use Rattle.audit_types.specs.declared.records.Answered.{Answered}
-use Rattle.bench_core.specs.Causes.{Rose}
+use Rattle.audit_types.specs.History.{Protection, Setting, Table as Guarded}
+use Rattle.bench_core.specs.declared.stops.End.{End}
+use Rattle.bench_core.specs.declared.stops.End.TheVariants.{Stopped, Refused}
 use Rattle.bench_core.specs.declared.stops.Stop.TheVariants as stop
 use Rattle.schema_json.specs.Columns.{Column, SchemaView}
 use Rattle.schema_json.specs.Reading.{schema_of}
@@ -10,22 +11,24 @@ use Rattle.set_index.specs.Groups.{Protects}
 use Rattle.set_index.specs.Indexed.{IndexView, OneListOfEntries}
 use Rattle.table_load.specs.Cells.{PublicView, whole}
 use Rattle.table_load.specs.Tables.{public_of}
-use Rattle.line_wire.specs.Lines.{CountedLine, counted_lines}
-use Rattle.question_plan.specs.Session.{Replied, bytes_of}
-use Rattle.transcript_sim.specs.declared.simulating.SimulationFault.{SimulationFault}
-use Rattle.transcript_sim.specs.declared.simulating.SimulationFault.TheVariants as verdict
-use Rattle.transcript_sim.specs.Beginning.{EndBegins, OnRefused}
+use Rattle.line_wire.specs.Lines.{counted_lines}
+use Rattle.line_wire.specs.Talks.{EndDue, EndReads, EndSends}
+use Rattle.question_plan.specs.Session.{Replied}
+use Rattle.answer_journal.specs.declared.refusals.JournalRefusal.TheVariants as journal
+use Rattle.transcript_sim.specs.declared.simulating.SimulationRefusal.{SimulationRefusal}
+use Rattle.transcript_sim.specs.declared.simulating.SimulationRefusal.TheVariants as verdict
+use Rattle.transcript_sim.specs.Beginning.{EndBegins, OnUnbegun}
 use Rattle.transcript_sim.specs.Verdicts.{AreVerdicts}
 use Rattle.transcript_sim.specs.Laws.{FirstLinesHaveVerdicts}
-use Rattle.transcript_sim.specs.Ends.{BeginVerdicts, EndVerdicts, EndSends, EndReads, SimulatesMeanwhile}
-use Rattle.audit_types.specs.History.{Protection, Setting, Table as Guarded}
+use Rattle.transcript_sim.specs.Ends.{RefusesWithin, simulation}
 use Rattle.auditor_top.specs.declared.words.Command.TheVariants as command
-use Rattle.auditor_top.specs.Faults.{simulation_status}
-use Rattle.auditor_top.specs.Ends.{SimulateEnds, SendsLines}
+use Rattle.auditor_top.specs.Faults.{journal_status, simulation_status}
+use Rattle.auditor_top.specs.Ends.{SendsTexts, SimulateEnds}
 use Rattle.auditor_top.specs.Commands.{ArePublicFilesOf}
-use Rattle.auditor_top.specs.Causes.{BeginningCause, FaultCounts, FaultCause, InputCause, NothingFailed, IsDoneOrWants, WordCause, FileCause}
+use Rattle.auditor_top.specs.Causes.{BeginningCause, InputCause, WordCause, FileCause}
 use Rattle.auditor_top.proofs.OneTable.{same_ok}
-use Rattle.auditor_top.proofs.StepFaults.{same_counts}
+use Rattle.auditor_top.proofs.LastSteps.{IsUnrefused}
+use Rattle.auditor_top.proofs.StartEndings.{refusal_says}
 use Rattle.auditor_top.specs.declared.status.Which.TheVariants.{Input}
 use Rattle.auditor_top.specs.declared.status.Status.TheVariants.{Done, SourceFault, BenchFault}
 use Rattle.auditor_top.specs.Stages.{Before, reading_lines}
@@ -56,111 +59,87 @@ pub carried_public : OneListOfEntries → (P : IndexView → Type 0) (schema tab
     ArePublicFilesOf schema table index → P shown → P index
 carried_public law P schema table shown index read files holds = subst P (same_index law schema table shown index read files) holds
 
--- ---- before the first line
-
--- there is no verdict yet
-pub none_begun : (index : IndexView) (history : List Answered) (lines : List CountedLine) → BeginVerdicts index
-    history lines []
-none_begun index history lines = ([], record { count = 0; are = refl }, tt)
-
--- and nothing was sent
-pub no_verdict : (told : Type 0) (index : IndexView) (history : List Answered) (lines : List CountedLine) (file before image
-    sent : List ℕ) →
-    image ≡ file → sent ≡ before → SimulatesMeanwhile told index history lines file before image sent
-no_verdict told index history lines file before image sent same none =
-    (same, λ t. ([], none_begun index history lines, (0, none ∙ sym (append-nil before))))
-
 -- ---- beginning with a journal
 
 -- what holds anyway, and what follows
-pub refused_too : {X P : Type 0} (ended : Result X SimulationFault) → P → OnRefused ended P
-refused_too (Err (verdict.Damaged at)) holds = holds
-refused_too (Err (verdict.OtherShape kept now)) holds = holds
-refused_too (Err (verdict.Illegal place group)) holds = holds
-refused_too ended holds = tt
+pub unbegun_too : {P : Type 0} (ended : Result (Unit {0}) (End SimulationRefusal)) → P → OnUnbegun ended P
+unbegun_too (Err (Refused (verdict.Journal why))) holds = holds
+unbegun_too ended holds = tt
 
-pub refused_so : {X P Q : Type 0} (ended : Result X SimulationFault) → (P → Q) → OnRefused ended P → OnRefused ended Q
-refused_so (Err (verdict.Damaged at)) follows holds = follows holds
-refused_so (Err (verdict.OtherShape kept now)) follows holds = follows holds
-refused_so (Err (verdict.Illegal place group)) follows holds = follows holds
-refused_so ended follows holds = tt
+pub unbegun_so : {P Q : Type 0} (ended : Result (Unit {0}) (End SimulationRefusal)) → (P → Q) → OnUnbegun ended P → OnUnbegun ended Q
+unbegun_so (Err (Refused (verdict.Journal why))) follows holds = follows holds
+unbegun_so ended follows holds = tt
 
 -- the cause of a refusal is in the journal's file, and any other end has a history to begin with
-pub simulation_cause : {X : Type 0} (ended : Result X SimulationFault) (file : List ℕ) (setting : Setting) → EndBegins ended file setting →
+pub simulation_cause : (ended : Result (Unit {0}) (End SimulationRefusal)) (file : List ℕ) (setting : Setting) → EndBegins ended file setting →
     BeginningCause (simulation_status ended) file setting
-simulation_cause (Err (verdict.Stopped stop.Bench)) file setting cause = tt
-simulation_cause (Err (verdict.Stopped stop.NoMemory)) file setting cause = tt
+simulation_cause (Err (Stopped stop.Bench)) file setting cause = tt
+simulation_cause (Err (Stopped stop.NoMemory)) file setting cause = tt
+simulation_cause (Err (Refused (verdict.Journal journal.NotMade))) file setting cause = cause
 simulation_cause ended file setting cause = cause
 
 -- what its status says by itself
-pub record SimulationSays {X : Type 0} (ended : Result X SimulationFault) : Type 1 where
+pub record SimulationSays (ended : Result (Unit {0}) (End SimulationRefusal)) : Type 1 where
   pub last : EndsLastStep (simulation_status ended)
-  pub words : ended ≢ Err (verdict.Stopped stop.Spare) → WordCause (simulation_status ended) (Some command.Simulate)
-  pub bench : simulation_status ended ≡ BenchFault → ended ≡ Err (verdict.Stopped stop.Bench)
-  pub input : simulation_status ended ≡ SourceFault Input → ended ≡ Err (verdict.Stopped stop.Input)
+  pub words : ended ≢ Err (Stopped stop.Spare) → WordCause (simulation_status ended) (Some command.Simulate)
+  pub bench : simulation_status ended ≡ BenchFault → ended ≡ Err (Stopped stop.Bench)
+  pub input : simulation_status ended ≡ SourceFault Input → ended ≡ Err (Stopped stop.Input)
   pub done : (P : Type 0) → simulation_status ended ≡ Done → OnOk ended P → P
-  pub at_lines : (P : Type 0) → OnRefused ended P → Before reading_lines (simulation_status ended) P
+  pub at_lines : (P : Type 0) → OnUnbegun ended P → Before reading_lines (simulation_status ended) P
   pub file : (file : List ℕ) (table : Guarded) → FileCause (simulation_status ended) command.Simulate file table
 
-pub simulation_says : {X : Type 0} (ended : Result X SimulationFault) → SimulationSays ended
-simulation_says (Err (verdict.Stopped stop.Input)) = search rules
+pub simulation_says : (ended : Result (Unit {0}) (End SimulationRefusal)) → SimulationSays ended
+simulation_says (Err (Stopped stop.Input)) = search rules
+simulation_says (Err (Refused (verdict.Journal refusal))) = let says = refusal_says refusal in record {
+  last = says.last;
+  words = λ alone. says.words command.Simulate refl;
+  bench = λ is. absurd (says.no_bench is);
+  input = λ is. absurd (says.no_input is);
+  done = λ P is. absurd (says.undone is);
+  at_lines = says.at_lines;
+  file = λ file table. says.file command.Simulate file table tt;
+}
 simulation_says ended = search rules
 
 -- ---- reading the transcript
 
 -- the ends of a simulation are those of the run
-pub simulation_ends : (ended : Result (Unit {0}) SimulationFault) (index : IndexView) (history : List Answered) (input left : List ℕ)
-    (verdicts : List (Replied Answered)) →
-    EndVerdicts ended index history input left verdicts → SimulateEnds (simulation_status ended) index history input left verdicts
-simulation_ends (Err (verdict.Stopped stop.Input)) index history input left verdicts are = are
-simulation_ends ended index history input left verdicts are = are
+pub simulation_ends : (ended : Result (Unit {0}) (End SimulationRefusal)) (index : IndexView) (history : List Answered) (input left : List ℕ)
+    (verdicts : List (Replied Answered)) → EndDue (simulation index history) ended input left verdicts →
+    SimulateEnds (simulation_status ended) index history input left verdicts
+simulation_ends (Err (Stopped stop.Spare)) index history input left verdicts due = absurd due
+simulation_ends (Err (Stopped stop.Input)) index history input left verdicts due = due
+simulation_ends (Err (Refused (verdict.Journal why))) index history input left verdicts due = absurd due
+simulation_ends ended index history input left verdicts due = due
 
-pub simulation_sends : (ended : Result (Unit {0}) SimulationFault) (verdicts : List (Replied Answered)) (before after : List ℕ) →
-    EndSends ended verdicts before after → SendsLines (simulation_status ended) (bytes_of verdicts) before after
-simulation_sends (Err (verdict.Stopped stop.Input)) verdicts before after sends = sends
-simulation_sends ended verdicts before after sends = sends
+pub simulation_sends : (ended : Result (Unit {0}) (End SimulationRefusal)) (index : IndexView) (history : List Answered) (verdicts : List (Replied Answered))
+    (input left before after : List ℕ) → EndDue (simulation index history) ended input left verdicts → EndSends (simulation index history) ended verdicts before after →
+    SendsTexts (simulation index history) (simulation_status ended) verdicts before after
+simulation_sends (Err (Stopped stop.Input)) index history verdicts input left before after due sends = sends
+simulation_sends (Err (Refused (verdict.Journal why))) index history verdicts input left before after due sends = absurd due
+simulation_sends ended index history verdicts input left before after due sends = sends
 
 -- how much of the input there was, by the end
-pub simulation_reads : (ended : Result (Unit {0}) SimulationFault) (before after : List ℕ) → EndReads ended before after → OnRefused ended (after ≡ before) →
-    InputCause (simulation_status ended) before after
-simulation_reads (Err (verdict.Stopped stop.Bench)) before after reads unread = tt
-simulation_reads (Err (verdict.Stopped stop.Spare)) before after reads unread = tt
-simulation_reads (Err (verdict.Stopped stop.NoMemory)) before after reads unread = tt
-simulation_reads (Err (verdict.Damaged at)) before after reads unread = unread
-simulation_reads (Err (verdict.OtherShape kept now)) before after reads unread = unread
-simulation_reads (Err (verdict.Illegal place group)) before after reads unread = unread
+pub simulation_reads : (ended : Result (Unit {0}) (End SimulationRefusal)) (before after : List ℕ) → EndReads RefusesWithin ended before after →
+    OnUnbegun ended (after ≡ before) → InputCause (simulation_status ended) before after
+simulation_reads (Err (Stopped stop.Bench)) before after reads unread = tt
+simulation_reads (Err (Stopped stop.Spare)) before after reads unread = tt
+simulation_reads (Err (Stopped stop.NoMemory)) before after reads unread = tt
+simulation_reads (Err (Refused (verdict.Journal refusal))) before after reads unread =
+    subst (λ (l : List ℕ). InputCause (journal_status refusal) before l) (sym unread) ((refusal_says refusal).input before)
 simulation_reads ended before after reads unread = reads
 
--- the count of what failed rose, and no other changed
-pub simulation_faults : (ended : Result (Unit {0}) SimulationFault) (before : FaultCounts) (input bench : ℕ)
-    → (ended ≡ Err (verdict.Stopped stop.Input) → Rose before.input input) → (ended ≢ Err (verdict.Stopped stop.Input) → input ≡ before.input)
-    → (ended ≡ Err (verdict.Stopped stop.Bench) → Rose before.bench bench) → (ended ≢ Err (verdict.Stopped stop.Bench) → bench ≡ before.bench)
-    → ended ≢ Err (verdict.Stopped stop.Spare) → FaultCause (simulation_status ended) before (record before { input = input; bench = bench })
-simulation_faults (Err (verdict.Stopped stop.Input)) before input bench input_rose input_same bench_rose bench_same alone =
-    (input_rose refl, same_counts (record before { input = input }) input bench refl (bench_same (search rules)))
-simulation_faults (Err (verdict.Stopped stop.Bench)) before input bench input_rose input_same bench_rose bench_same alone =
-    (bench_rose refl, same_counts (record before { bench = bench }) input bench (input_same (search rules)) refl)
-simulation_faults (Err (verdict.Stopped stop.Spare)) before input bench input_rose input_same bench_rose bench_same alone = absurd (alone refl)
-simulation_faults ended before input bench input_rose input_same bench_rose bench_same alone =
-    same_counts before input bench (input_same (search rules)) (bench_same (search rules))
-
--- if every reply agrees, the input is within its limit and nothing failed, it is done, or there was no memory
-pub simulation_wants : FirstLinesHaveVerdicts
-    → (ended : Result (Unit {0}) SimulationFault) (index : IndexView) (history : List Answered) (input left : List ℕ)
-    (verdicts others : List (Replied Answered)) (before after : FaultCounts)
-    → EndVerdicts ended index history input left verdicts → EndReads ended input left
-    → AreVerdicts index history (counted_lines input) others → length input ≤ 2 ^ 30 → FaultCause (simulation_status ended) before after →
-    NothingFailed before after → IsDoneOrWants (simulation_status ended)
-simulation_wants first (Ok done) index history input left verdicts others before after are reads agree within rose none = inl refl
-simulation_wants first (Err (verdict.Stopped stop.Input)) index history input left verdicts others before after are reads agree within rose none =
-    absurd (none.input rose.0)
-simulation_wants first (Err (verdict.Stopped stop.Bench)) index history input left verdicts others before after are reads agree within rose none =
-    absurd (none.bench rose.0)
-simulation_wants first (Err (verdict.Stopped stop.Limit)) index history input left verdicts others before after are reads agree within rose none =
+-- if every reply agrees and the input is within its limit it isn't refused
+pub simulation_unrefused : FirstLinesHaveVerdicts
+    → (ended : Result (Unit {0}) (End SimulationRefusal)) (index : IndexView) (history : List Answered) (input left : List ℕ)
+    (verdicts others : List (Replied Answered)) → EndDue (simulation index history) ended input left verdicts → EndReads RefusesWithin ended input left →
+    AreVerdicts index history (counted_lines input) others → length input ≤ 2 ^ 30 → IsUnrefused (simulation_status ended)
+simulation_unrefused first (Ok done) index history input left verdicts others due reads agree within = tt
+simulation_unrefused first (Err (Stopped stop.Limit)) index history input left verdicts others due reads agree within =
     absurd (omega (arith, reads, within))
-simulation_wants first (Err (verdict.Disagrees line due)) index history input left verdicts others before after are reads agree within rose none =
+simulation_unrefused first (Err (Stopped stop.Input)) index history input left verdicts others due reads agree within = tt
+simulation_unrefused first (Err (Stopped why)) index history input left verdicts others due reads agree within = tt
+simulation_unrefused first (Err (Refused (verdict.Journal why))) index history input left verdicts others due reads agree within = absurd due
+simulation_unrefused first (Err (Refused (verdict.Disagrees line called))) index history input left verdicts others due reads agree within =
     let begun = first index history (counted_lines input) others line agree in
-    absurd (are.none_with begun.0 begun.1)
-simulation_wants first (Err (verdict.Stopped stop.NoMemory)) index history input left verdicts others before after are reads agree within rose none =
-    inr refl
-simulation_wants first ended index history input left verdicts others before after are reads agree within rose none = absurd are
+    absurd (due.none_with begun.0 begun.1)

@@ -27,22 +27,13 @@ use Rattle.auditor_top.specs.Ends.{Outside, ServeEnds}
 use Rattle.auditor_top.specs.Causes.{FaultCounts, counts, FaultCause, FileCause, IsReadyFor, IsSpareFor, InputCause, NothingFailed, IsDoneOrWants, SpareCause, WordCause}
 use Rattle.auditor_top.specs.declared.status.Which.TheVariants.{Input}
 use Rattle.auditor_top.specs.Stages.{Before, opening_spare, reading_lines}
+use Rattle.auditor_top.proofs.LastSteps.{IsUnrefused}
 use Rattle.auditor_top.proofs.StepStatuses.{EndsLastStep}
 use Rattle.auditor_top.specs.Commands.{calls_spare, reads_lines}
 
 -- an answer isn't good and bad
 pub not_both : {X E : Type 0} (x : X) (e : E) → Ok x ≡ Err e → ⊥
 not_both x e is = search rules
-
--- counts of which one, or two, are as they were
-pub same_counts : (before : FaultCounts) (input bench : ℕ) → input ≡ before.input → bench ≡ before.bench →
-    record before { input = input; bench = bench } ≡ before
-same_counts before input bench is also = ap (λ (n : ℕ). record before { input = input; bench = n }) also ∙ ap (λ (n : ℕ). record before { input = n }) is
-
--- counts of the bench and of the spare that are as they were
-pub both_same : (before : FaultCounts) (bench spare : ℕ) → bench ≡ before.bench → spare ≡ before.spare → record before { bench = bench; spare = spare } ≡ before
-both_same before bench spare is also =
-    ap (λ (n : ℕ). record before { bench = n; spare = spare }) is ∙ ap (λ (n : ℕ). record before { spare = n }) also
 
 -- what is said after counts that are the same
 pub moved : (status : Status) (before : FaultCounts) (schema later_schema table later_table input bench spare : ℕ) → later_schema ≡ schema → later_table ≡ table
@@ -65,7 +56,6 @@ pub record MakingSays {X : Type 0} (ended : Result X (End There)) : Type 1 where
   pub last : EndsLastStep (making_status ended)
   pub words : WordCause (making_status ended) (Some Init)
   pub bench : making_status ended ≡ BenchFault → IsErrOf ended (Stopped stop.Bench)
-  pub no_input : making_status ended ≢ SourceFault Input
   pub no_memory : making_status ended ≢ NoMemory
   pub done : (P : Type 0) → making_status ended ≡ Done → OnOk ended P → P
   -- before the lines it ends only if a journal or another file was there
@@ -88,6 +78,7 @@ pub record StopSays {X : Type 0} (ended : Result X Stop) : Type 1 where
   pub bench : ended_status ended ≡ BenchFault → ended ≡ Err stop.Bench
   pub spare : ended_status ended ≡ SpareFault → ended ≡ Err stop.Spare
   pub input : ended_status ended ≡ SourceFault Input → ended ≡ Err stop.Input
+  pub memory : ended_status ended ≡ NoMemory → ended ≡ Err stop.NoMemory
   pub done : (P : Type 0) → ended_status ended ≡ Done → OnOk ended P → P
   pub at_lines : (P : Type 0) → Before reading_lines (ended_status ended) P
   pub at_spare : (P : Type 0) → Before opening_spare (ended_status ended) P
@@ -100,54 +91,16 @@ stop_says ended = search rules
 
 -- ---- the end of a step that may be refused
 
--- the count of what failed rose, and no other changed
-pub end_faults : {X R : Type 0} (name : R → Status) (end : End R) (before : FaultCounts) (bench spare : ℕ) →
-    EndsBy IsOfBenches (λ refusal. FaultCause (name refusal) before before) end →
-    (IsErrOf {T = X} (Err end) (Stopped stop.Bench) → Rose before.bench bench) → ((IsErrOf {T = X} (Err end) (Stopped stop.Bench) → ⊥) → bench ≡ before.bench) →
-    (IsErrOf {T = X} (Err end) (Stopped stop.Spare) → Rose before.spare spare) → ((IsErrOf {T = X} (Err end) (Stopped stop.Spare) → ⊥) → spare ≡ before.spare) →
-    FaultCause (end_status name end) before (record before { bench = bench; spare = spare })
-end_faults name (Stopped stop.Input) before bench spare by rose same spare_rose spare_same = absurd by
-end_faults name (Stopped stop.Limit) before bench spare by rose same spare_rose spare_same = absurd by
-end_faults name (Stopped stop.Bench) before bench spare by rose same spare_rose spare_same =
-    (rose refl, ap (λ (n : ℕ). record before { bench = bench; spare = n }) (spare_same (λ is. cc)))
-end_faults name (Stopped stop.Spare) before bench spare by rose same spare_rose spare_same =
-    (spare_rose refl, ap (λ (n : ℕ). record before { bench = n; spare = spare }) (same (λ is. cc)))
-end_faults name (Stopped stop.NoMemory) before bench spare by rose same spare_rose spare_same =
-    both_same before bench spare (same (λ is. cc)) (spare_same (λ is. cc))
-end_faults name (Refused refusal) before bench spare by rose same spare_rose spare_same =
-    subst (λ (after : FaultCounts). FaultCause (name refusal) before after)
-    (sym (both_same before bench spare (same (λ is. cc)) (spare_same (λ is. cc)))) by
-
--- the same of one bench
-pub bench_faults : {X R : Type 0} (name : R → Status) (end : End R) (before : FaultCounts) (bench : ℕ) →
-    EndsBy IsOfBench (λ refusal. FaultCause (name refusal) before before) end →
-    (IsErrOf {T = X} (Err end) (Stopped stop.Bench) → Rose before.bench bench) → ((IsErrOf {T = X} (Err end) (Stopped stop.Bench) → ⊥) → bench ≡ before.bench) →
-    FaultCause (end_status name end) before (record before { bench = bench })
-bench_faults {X} name end before bench by rose same =
-    end_faults {X = X} name end before bench before.spare (EndsBy-weaker end IsOfBench IsOfBenches _ _ of_benches (λ refusal is. is) by) rose same
-    (λ is. absurd (not_stopped_by end IsOfBench _ stop.Spare (λ no. no) by is)) (λ other. refl)
-
--- if what isn't refused can't be stopped, memory ran out
-pub end_wants : {R : Type 0} (name : R → Status) (end : End R) (before after : FaultCounts) → EndsBy IsOfBenches (λ _. ⊤) end → IsStop end →
-    FaultCause (end_status name end) before after → NothingFailed before after → (Rose before.spare after.spare → ⊥) →
-    IsDoneOrWants (end_status name end)
-end_wants name (Stopped stop.Input) before after by stopped rose none fine = absurd by
-end_wants name (Stopped stop.Limit) before after by stopped rose none fine = absurd by
-end_wants name (Stopped stop.Bench) before after by stopped rose none fine = absurd (none.bench rose.0)
-end_wants name (Stopped stop.Spare) before after by stopped rose none fine = absurd (fine rose.0)
-end_wants name (Stopped stop.NoMemory) before after by stopped rose none fine = inr refl
-end_wants name (Refused refusal) before after by stopped rose none fine = absurd stopped
+-- if something of the outside brought it about, other than the limit of the input, it isn't refused
+pub end_unrefused : {R : Type 0} (name : R → Status) (end : End R) → EndsBy IsOfBenches (λ _. ⊤) end → IsStop end → IsUnrefused (end_status name end)
+end_unrefused name (Stopped stop.Input) by stopped = absurd by
+end_unrefused name (Stopped stop.Limit) by stopped = absurd by
+end_unrefused name (Stopped stop.Bench) by stopped = tt
+end_unrefused name (Stopped stop.Spare) by stopped = tt
+end_unrefused name (Stopped stop.NoMemory) by stopped = tt
+end_unrefused name (Refused refusal) by stopped = absurd stopped
 
 -- ---- making a journal
-
--- the count of the bench rose if a call of it failed, and no other count changed
-pub making_faults : (making : Result (Unit {0}) (End There)) (before : FaultCounts) (bench : ℕ) → MakingStops making →
-    (IsErrOf making (Stopped stop.Bench) → Rose before.bench bench) → ((IsErrOf making (Stopped stop.Bench) → ⊥) → bench ≡ before.bench)
-    → FaultCause (making_status making) before (record before { bench = bench })
-making_faults (Ok done) before bench stops rose same = same_counts before before.input bench refl (same (λ is. cc))
-making_faults (Err end) before bench stops rose same =
-    bench_faults (λ there. AlreadyThere) end before bench
-    (EndsBy-weaker end (λ why. why ≡ stop.Bench) IsOfBench _ _ (λ why is. subst IsOfBench (sym is) tt) (λ there is. refl) stops) rose same
 
 -- a journal was made where none was there
 pub making_cause : (making : Result (Unit {0}) (End There)) (file : List ℕ) (table : Guarded) → MakingStops making → (IsAlready file → IsErr making)
@@ -157,13 +110,11 @@ making_cause (Err (Stopped why)) file table stops refused already =
     subst (λ (s : Stop). FileCause (stop_status s) Init file table) (sym stops) tt
 making_cause (Err (Refused there)) file table stops refused already = already tt
 
--- if nothing was there and the bench didn't fail, it is done
-pub making_wants : (making : Result (Unit {0}) (End There)) (before after : FaultCounts) → MakingStops making → (IsRefused making → ⊥)
-    → FaultCause (making_status making) before after → NothingFailed before after → IsDoneOrWants (making_status making)
-making_wants (Ok done) before after stops absent rose none = inl refl
-making_wants (Err (Stopped why)) before after stops absent rose none =
-    let failed = subst (λ (s : Stop). FaultCause (stop_status s) before after) stops rose in absurd (none.bench failed.0)
-making_wants (Err (Refused there)) before after stops absent rose none = absurd (absent tt)
+-- if nothing was there it wasn't refused
+pub making_unrefused : (making : Result (Unit {0}) (End There)) → MakingStops making → (IsRefused making → ⊥) → IsUnrefused (making_status making)
+making_unrefused (Ok done) stops absent = tt
+making_unrefused (Err (Stopped why)) stops absent = subst (λ (s : Stop). IsUnrefused (stop_status s)) (sym stops) tt
+making_unrefused (Err (Refused there)) stops absent = absurd (absent tt)
 
 -- if the bench didn't fail, a journal was made, or one or another file was there
 pub made_or_there : {P : Type 0} (making : Result (Unit {0}) (End There)) → MakingStops making → making_status making ≢ BenchFault → OnOk making P →
@@ -185,36 +136,6 @@ there_is (Err (Refused is)) stops undone fine = tt
 pub of_bench : {X : Type 0} (ended : Result X Stop) (why : Stop) → IfErr ended IsOfBench → ended ≡ Err why → IsOfBench why
 of_bench ended why ends is = subst (λ r. IfErr r IsOfBench) is ends
 
--- three counts that are as they were
-all_same : (before : FaultCounts) (input bench spare : ℕ) → input ≡ before.input → bench ≡ before.bench → spare ≡ before.spare →
-    record before { input = input; bench = bench; spare = spare } ≡ before
-all_same before input bench spare is also then =
-    ap (λ (n : ℕ). record before { input = n; bench = bench; spare = spare }) is ∙ both_same before bench spare also then
-
--- the count of what failed rose, and no other changed
-pub stop_faults : {X : Type 0} (ended : Result X Stop) (before : FaultCounts) (input bench spare : ℕ) →
-    (ended ≡ Err stop.Input → Rose before.input input) → (ended ≢ Err stop.Input → input ≡ before.input) →
-    (ended ≡ Err stop.Bench → Rose before.bench bench) → (ended ≢ Err stop.Bench → bench ≡ before.bench) →
-    (ended ≡ Err stop.Spare → Rose before.spare spare) → (ended ≢ Err stop.Spare → spare ≡ before.spare) →
-    FaultCause (ended_status ended) before (record before { input = input; bench = bench; spare = spare })
-stop_faults (Err stop.Input) before input bench spare input_rose input_same bench_rose bench_same spare_rose spare_same = (
-  input_rose refl,
-  ap (λ (n : ℕ). record before { input = input; bench = n; spare = spare }) (bench_same (λ is. cc))
-      ∙ ap (λ (n : ℕ). record before { input = input; spare = n }) (spare_same (λ is. cc)),
-)
-stop_faults (Err stop.Bench) before input bench spare input_rose input_same bench_rose bench_same spare_rose spare_same = (
-  bench_rose refl,
-  ap (λ (n : ℕ). record before { input = n; bench = bench; spare = spare }) (input_same (λ is. cc))
-      ∙ ap (λ (n : ℕ). record before { bench = bench; spare = n }) (spare_same (λ is. cc)),
-)
-stop_faults (Err stop.Spare) before input bench spare input_rose input_same bench_rose bench_same spare_rose spare_same = (
-  spare_rose refl,
-  ap (λ (n : ℕ). record before { input = n; bench = bench; spare = spare }) (input_same (λ is. cc))
-      ∙ ap (λ (n : ℕ). record before { bench = n; spare = spare }) (bench_same (λ is. cc)),
-)
-stop_faults ended before input bench spare input_rose input_same bench_rose bench_same spare_rose spare_same =
-    all_same before input bench spare (input_same (λ is. cc)) (bench_same (λ is. cc)) (spare_same (λ is. cc))
-
 -- how much of the input there was, by the end
 pub stop_reads : {X : Type 0} (ended : Result X Stop) (before after : List ℕ) → OnOk ended (after ≡ []) → OnOk ended (length before ≤ most_input)
     → (ended ≡ Err stop.Input → length before ≤ most_input + length after)
@@ -223,16 +144,6 @@ stop_reads (Ok done) before after read within failed limit = (read, within)
 stop_reads (Err stop.Input) before after read within failed limit = failed refl
 stop_reads (Err stop.Limit) before after read within failed limit = limit refl
 stop_reads ended before after read within failed limit = tt
-
--- if nothing failed, and the limit wasn't passed, it is done, or there was no memory
-pub stop_wants : {X : Type 0} (ended : Result X Stop) (before after : FaultCounts) → FaultCause (ended_status ended) before after
-    → NothingFailed before after → ended ≢ Err stop.Limit → ended ≢ Err stop.Spare → IsDoneOrWants (ended_status ended)
-stop_wants (Ok done) before after rose none within alone = inl refl
-stop_wants (Err stop.Input) before after rose none within alone = absurd (none.input rose.0)
-stop_wants (Err stop.Limit) before after rose none within alone = absurd (within refl)
-stop_wants (Err stop.Bench) before after rose none within alone = absurd (none.bench rose.0)
-stop_wants (Err stop.Spare) before after rose none within alone = absurd (alone refl)
-stop_wants (Err stop.NoMemory) before after rose none within alone = inr refl
 
 -- the ends of a session over one journal are those of the run
 pub session_ends : {X : Type 0} (ended : Result X Stop) (base : Database) (batch : ℕ) (history now : List Answered) (before after : Outside)

@@ -7,10 +7,12 @@ use Rattle.schema_json.specs.declared.faults.SchemaFault.TheVariants as schema_f
 use Rattle.table_load.specs.declared.faults.TableFault.{TableFault}
 use Rattle.table_load.specs.declared.faults.TableFault.TheVariants as table_fault
 use Rattle.set_index.specs.Groups.{AreSound}
+use Rattle.audit_types.specs.History.{Table as Guarded}
+use Rattle.auditor_top.specs.declared.words.Command.{Command}
 use Rattle.auditor_top.specs.declared.status.Which.TheVariants.{Schema, Table, Input}
 use Rattle.auditor_top.specs.declared.status.Status.{Status}
 use Rattle.auditor_top.specs.declared.status.Status.TheVariants.{Done, BadWords, BadSchema, BadTable, SourceFault, BenchFault, InputLimit, Disagrees, BadOnly, BadGroup, SpareFault, NoMemory}
-use Rattle.auditor_top.specs.Causes.{FaultCounts, NeverFall, SchemaCause, TableCause, GroupCause, InputCause}
+use Rattle.auditor_top.specs.Causes.{FaultCause, FaultCounts, FileCause, GroupCause, InputCause, NeverFall, SchemaCause, SpareCause, TableCause}
 use Rattle.auditor_top.specs.Ready.{EndsEarly, GivesUp}
 use Rattle.auditor_top.specs.Stages.{Stage, reading_schema, reading_table, reading_groups, opening_journal, reading_lines, is_short_of, has_passed, reached, Before, Passed}
 
@@ -40,7 +42,7 @@ never_fall before = record { schema = omega arith; table = omega arith; input = 
 -- ---- no command was taken
 
 -- a status that isn't a fault of a step
-pub record IsNoStep (status : Status) : Type 0 where
+pub record IsNoStep (status : Status) : Type 1 where
   pub own_schema : status ≢ BadSchema schema_fault.NoMemory
   pub own_table : status ≢ BadTable table_fault.NoMemory
   pub no_schema : status ≢ SourceFault Schema
@@ -49,6 +51,14 @@ pub record IsNoStep (status : Status) : Type 0 where
   pub no_bench : status ≢ BenchFault
   pub no_spare : status ≢ SpareFault
   pub undone : status ≢ Done
+  -- it says nothing of the files, the spare or the input
+  pub schema : (meant : Result SchemaView SchemaFault) → SchemaCause status meant
+  pub table : {X : Type 0} (meant : Result X TableFault) → TableCause status meant
+  pub groups : (columns : List Column) (guards : Guards) → GroupCause status columns guards
+  pub file : (command : Command) (file : List ℕ) (table : Guarded) → FileCause status command file table
+  pub spare_file : (command : Command) (file : List ℕ) → SpareCause status command file
+  pub input : (bytes : List ℕ) → InputCause status bytes bytes
+  pub faults : (before : FaultCounts) → FaultCause status before before
 
 pub bad_words_say : IsNoStep BadWords
 bad_words_say = search rules
@@ -130,9 +140,3 @@ schema_was_read status last is = absurd (subst EndsLastStep is last)
 
 pub table_was_read : {Y : Type 0} (status : Status) → EndsLastStep status → status ≡ SourceFault Table → Y
 table_was_read status last is = absurd (subst EndsLastStep is last)
-
--- ---- the lines were reached
-
--- what is said of one status is said of the same
-pub at_lines : (P : Type 0) (status other : Status) → status ≡ other → Before reading_lines other P → Before reading_lines status P
-at_lines P status other is holds = subst (λ (s : Status). Before reading_lines s P) (sym is) holds

@@ -14,7 +14,7 @@ use Rattle.schema_json.specs.Reading.{schema_of}
 use Rattle.table_load.specs.Cells.{PublicView, TableView, whole}
 use Rattle.table_load.specs.Database.{Database, base_of, secret_table, table_in}
 use Rattle.table_load.specs.Meaning.{MeansTable}
-use Rattle.table_load.specs.MeaningLaws.{read_means}
+use Rattle.table_load.specs.MeaningLaws.{means_read, read_means}
 use Rattle.table_load.specs.Tables.{table_of}
 use Rattle.set_index.specs.Groups.{Protects, IsFirstBad}
 use Rattle.set_index.specs.Indexed.{OneListOfEntries}
@@ -34,16 +34,33 @@ use Rattle.auditor_top.specs.declared.starting.NotStarted.{NotStarted}
 use Rattle.auditor_top.specs.declared.starting.NotStarted.TheVariants as began
 use Rattle.auditor_top.specs.declared.words.Command.{Command}
 use Rattle.auditor_top.specs.declared.words.Command.TheVariants.{Init, Serve, Audit, Simulate, Drill, Grow, Explain, Compact, Restore}
-use Rattle.auditor_top.specs.Faults.{index_status, journal_status, start_status, started_status}
-use Rattle.auditor_top.specs.Causes.{FaultCounts, FaultCause, FileCause, OpeningCause, counts}
-use Rattle.auditor_top.specs.Commands.{AreSoundFilesOf, ServesOver, comes_to_journal, opens_journal, opens_store, reads_files, reads_groups}
-use Rattle.auditor_top.specs.Ready.{IsGiven, Refuses}
+use Rattle.auditor_top.specs.Faults.{index_status, start_status, started_status}
+use Rattle.auditor_top.specs.Causes.{FaultCounts, FaultCause, FileCause, GroupCause, OpeningCause, SchemaCause, TableCause, counts}
+use Rattle.auditor_top.specs.Commands.{AreFilesOf, AreSoundFilesOf, ServesOver, comes_to_journal, opens_journal, opens_store, reads_files, reads_groups}
+use Rattle.auditor_top.specs.declared.status.Status.{Status}
+use Rattle.auditor_top.specs.declared.status.Status.TheVariants.{BenchFault}
+use Rattle.auditor_top.specs.Ready.{EndsEarly, IsGiven, Refuses}
 use Rattle.auditor_top.proofs.GroupRefusals.{groups_refused, group_gives_up}
-use Rattle.auditor_top.proofs.OneTable.{same_ok, one_base, table_is_ok}
-use Rattle.auditor_top.proofs.LastSteps.{groups_so, schema_so, table_so}
-use Rattle.auditor_top.proofs.StartEndings.{refusal_says, start_says}
-use Rattle.auditor_top.proofs.StepFaults.{bench_faults, moved}
-use Rattle.auditor_top.proofs.StepStatuses.{no_schema_fault, no_table_fault, past_journal, past_table, schema_was_read, table_was_read}
+use Rattle.auditor_top.proofs.OneTable.{groups_are_sound, one_base, same_ok, schema_is_ok, table_is_ok}
+use Rattle.auditor_top.proofs.StartEndings.{start_says}
+use Rattle.auditor_top.proofs.LastSteps.{told_faults}
+use Rattle.auditor_top.proofs.StepFaults.{moved}
+use Rattle.auditor_top.proofs.StepStatuses.{EndsLastStep, groups_read, no_schema_fault, no_table_fault, past_journal, past_table, schema_read, schema_was_read, table_read, table_was_read}
+
+-- the files were read, and no group has a fault
+schema_so : (status : Status) (schema table : List ℕ) (base : Database) → EndsLastStep status → AreFilesOf schema table base →
+    SchemaCause status (schema_of schema)
+schema_so status schema table base last are = schema_read status _ last (schema_is_ok _ _ are.schema_is)
+
+table_so : (status : Status) (schema table : List ℕ) (base : Database) → EndsLastStep status → AreFilesOf schema table base →
+    (meant : SchemaView) → schema_of schema ≡ Ok meant → TableCause status (table_of meant.columns table)
+table_so status schema table base last are meant is =
+    table_read status _ last (table_is_ok (λ (cs : List Column). table_of cs table) _ _ meant _ are.schema_is (means_read are.table_means) is)
+
+groups_so : OneListOfEntries → (status : Status) (schema table : List ℕ) (base : Database) → EndsLastStep status → AreSoundFilesOf schema table base →
+    (meant : SchemaView) → schema_of schema ≡ Ok meant → GroupCause status meant.columns meant.guards
+groups_so law status schema table base last are meant is =
+    groups_read status _ _ last (groups_are_sound law _ _ base.public _ base.protected meant are.files.schema_is are.entries is)
 
 -- a command that opens a store opens the journal, and refuses it as a start does
 pub opens_too : (asked : Command) → opens_store asked ≡ true → opens_journal asked ≡ true
@@ -66,6 +83,10 @@ refused_so refusal Simulate file table opens cause = absurd (false≢true opens)
 refused_so refusal (Drill number) file table opens cause = absurd (false≢true opens)
 refused_so refusal Grow file table opens cause = absurd (false≢true opens)
 refused_so refusal asked file table opens cause = cause
+
+-- a call of the bench that failed is what its status says
+bench_so : {X : Type 0} (end : End JournalRefusal) → IsErrOf {T = X} (Err end) (Stopped stop.Bench) → start_status end ≡ BenchFault
+bench_so end is = let same : end ≡ Stopped stop.Bench = cc in ap start_status same
 
 -- what is given to a command that opens a store
 pub given_history : (asked : Command) (schema table file : List ℕ) → opens_store asked ≡ true → IsGiven asked schema table file →
@@ -161,8 +182,10 @@ module _ {P B : Type 0} (files : source.Ghosts P) (bench : Ghosts B) (law : OneL
             (subst (λ (b : Database). IsLegal (table_in b) all.1) one all.2.legal));
         faults = λ input spare.
             moved status (counts (files.faults schema) (files.faults table) input (bench.faults at) spare) _ _ _ _ input (bench.faults later) spare
-            same_schema same_table (bench_faults {X = X} journal_status end _ (bench.faults later)
-            (EndsBy-weaker end IsOfBench IsOfBench _ _ (λ why is. is) (λ refusal is. (refusal_says refusal).steady _) by) tells.failed tells.steady);
+            same_schema same_table (told_faults status last _ input (bench.faults later) spare
+            (λ is. absurd (subst EndsEarly is says.early)) (λ other. refl)
+            (λ is. tells.failed (ap (λ (e : End JournalRefusal). Err e) (says.bench is))) (λ other. tells.steady (λ is. other (bench_so {X = X} end is)))
+            (λ is. absurd (subst EndsEarly is says.early)) (λ other. refl));
         schema_last = schema_was_read status last;
         table_last = table_was_read status last;
         bench_last = λ is. tells.last_call (ap (λ (e : End JournalRefusal). Err e) (says.bench is));

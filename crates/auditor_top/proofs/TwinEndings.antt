@@ -32,7 +32,7 @@ use Rattle.auditor_top.specs.Stages.{Before, opening_spare, reading_lines}
 use Rattle.auditor_top.specs.Faults.{end_status, ended_status, journal_status, twin_status}
 use Rattle.auditor_top.specs.Twins.{BothCatchUp, TwinEnds}
 use Rattle.auditor_top.proofs.StartEndings.{refusal_says}
-use Rattle.auditor_top.proofs.StepFaults.{end_faults, not_both}
+use Rattle.auditor_top.proofs.StepFaults.{not_both}
 use Rattle.auditor_top.proofs.StepStatuses.{EndsLastStep}
 
 -- ---- they weren't opened
@@ -110,19 +110,6 @@ twin_cause (Refused (twin.Main kept)) batch file spare table cause = of_main kep
     of_main kept = tt
 twin_cause (Refused (twin.Spare kept)) batch file spare table cause = cause
 twin_cause (Refused (twin.Differ place)) batch file spare table cause = cause
-
--- the count of the object that failed rose, and no other count changed
-pub twin_faults : {X : Type 0} (end : End TwinRefusal) (before : FaultCounts) (bench spare : ℕ) → TwinStops end →
-    (IsErrOf {T = X} (Err end) (Stopped stop.Bench) → Rose before.bench bench) → ((IsErrOf {T = X} (Err end) (Stopped stop.Bench) → ⊥) → bench ≡ before.bench) →
-    (IsErrOf {T = X} (Err end) (Stopped stop.Spare) → Rose before.spare spare) → ((IsErrOf {T = X} (Err end) (Stopped stop.Spare) → ⊥) → spare ≡ before.spare) →
-    FaultCause (end_status twin_status end) before (record before { bench = bench; spare = spare })
-twin_faults {X} end before bench spare stops rose same spare_rose spare_same =
-    end_faults {X = X} twin_status end before bench spare
-    (EndsBy-weaker end IsOfBenches IsOfBenches _ _ (λ why is. is) (λ refused is. steady refused) stops) rose same spare_rose spare_same
-  where
-    steady : (refused : TwinRefusal) → FaultCause (twin_status refused) before before
-    steady (twin.Main kept) = (refusal_says kept).steady before
-    steady refused = refl
 
 -- if the files keep together, a call failed or memory ran out, no line was read and nothing was sent
 pub twin_gave_up : (end : End TwinRefusal) (batch : ℕ) (base : Database) (main other whole : List Answered) (before after : Outside) (spare : List ℕ) →

@@ -16,8 +16,8 @@ use Rattle.audit_store.specs.declared.growing.GrowRefusal.TheVariants as grow
 use Rattle.set_index.specs.declared.index.IndexFault.{IndexFault}
 use Rattle.set_index.specs.declared.index.IndexFault.TheVariants as index
 use Rattle.set_index.specs.declared.index.GuardPart.TheVariants as part
-use Rattle.transcript_sim.specs.declared.simulating.SimulationFault.{SimulationFault}
-use Rattle.transcript_sim.specs.declared.simulating.SimulationFault.TheVariants as verdict
+use Rattle.transcript_sim.specs.declared.simulating.SimulationRefusal.{SimulationRefusal}
+use Rattle.transcript_sim.specs.declared.simulating.SimulationRefusal.TheVariants as verdict
 use Rattle.auditor_top.specs.declared.files.FileFault.TheVariants as file
 use Rattle.auditor_top.specs.declared.opening.OpenFault.{OpenFault}
 use Rattle.auditor_top.specs.declared.opening.OpenFault.TheVariants as opening
@@ -90,13 +90,10 @@ restore_status restore.BothLost = NotMade
 restore_status (restore.Main refusal) = journal_status refusal
 restore_status (restore.Spare refusal) = BadSpare refusal
 
--- of beginning with a journal, and reading a transcript
-abbrev pub verdict_status : SimulationFault → Status
-verdict_status (verdict.Stopped why) = stop_status why
-verdict_status (verdict.Disagrees line due) = Disagrees line due
-verdict_status (verdict.Damaged at) = Damaged at
-verdict_status (verdict.OtherShape kept now) = OtherShape kept now
-verdict_status (verdict.Illegal place group) = Illegal place group
+-- of a journal that no history is begun with, and of a transcript
+abbrev pub simulation_refused : SimulationRefusal → Status
+simulation_refused (verdict.Journal refusal) = journal_status refusal
+simulation_refused (verdict.Disagrees line due) = Disagrees line due
 
 -- of a step that only a call of the outside ends early, by how it ended: answering lines over one journal or two, explaining them, a report,
 -- a drill
@@ -115,9 +112,9 @@ growing_status (Ok done) = Done
 growing_status (Err end) = end_status grow_status end
 
 -- of a simulation, by how it ended
-abbrev pub simulation_status : {X : Type 0} → Result X SimulationFault → Status
+abbrev pub simulation_status : {X : Type 0} → Result X (End SimulationRefusal) → Status
 simulation_status (Ok done) = Done
-simulation_status (Err fault) = verdict_status fault
+simulation_status (Err end) = end_status simulation_refused end
 
 -- of a compaction, by how it ended
 abbrev pub compacting_status : {X : Type 0} → Result X (End There) → Status

@@ -9,6 +9,7 @@ pub mod Promise
 pub mod Reading
 pub mod Ready
 pub mod Runs
+pub mod Says
 pub mod Shown
 pub mod Stages
 pub mod Status

@@ -1,6 +1,5 @@
 -- What a run of each command does, by its status, and by the objects that it is handed: as they were and as they are left.
 use Rattle.std.specs.Prelude.{◌≡◌, ◌≢◌, ◌≤◌, ◌+◌, ◌⊎◌, List, [], ◌++◌, ℕ, true, false, length}
-use Rattle.std.specs.List.{concat}
 use Rattle.audit_types.specs.declared.records.Answered.{Answered}
 use Rattle.audit_types.specs.History.{IsLegal, IsUndisclosed}
 use Rattle.audit_types.specs.Widening.{over}
@@ -12,15 +11,15 @@ use Rattle.table_load.specs.Database.{Database, table_in}
 use Rattle.journal_form.specs.Journal.{StandsFor}
 use Rattle.answer_journal.specs.Make.{calls_to_make}
 use Rattle.answer_journal.specs.Moments.{IsAlready, IsMade, IsBeforeOrGrown, IsUnmadeOrWhole}
-use Rattle.line_wire.specs.Lines.{CountedLine, counted_lines, most_input}
-use Rattle.question_plan.specs.Session.{Replied, bytes_of}
+use Rattle.line_wire.specs.Lines.{counted_lines, most_input}
+use Rattle.line_wire.specs.Talks.{TalksMeanwhile}
+use Rattle.question_plan.specs.Session.{Replied}
 use Rattle.audit_session.specs.Ends.{KeepsCalls, TakesCalls}
 use Rattle.audit_session.specs.Stops.{IsFront, StopsOver}
 use Rattle.audit_session.specs.Lives.{IsLife, Run, Standing, shape_in, serves}
 use Rattle.journal_audit.specs.Reports.{SendsMeanwhile, TakesOneEach}
-use Rattle.certificate_lines.specs.Ends.{ExplainsMeanwhile}
-use Rattle.certificate_lines.specs.Explained.{AreExplained}
-use Rattle.transcript_sim.specs.Ends.{SimulatesMeanwhile}
+use Rattle.certificate_lines.specs.Explained.{explanations}
+use Rattle.transcript_sim.specs.Ends.{simulation}
 use Rattle.transcript_sim.specs.Verdicts.{AreVerdicts, exchanges}
 use Rattle.auditor_top.specs.declared.words.Command.{Command}
 use Rattle.auditor_top.specs.declared.words.Command.TheVariants.{Init, Serve, Audit, Simulate, Drill, Grow, Explain, Compact, Restore}
@@ -37,7 +36,7 @@ use Rattle.auditor_top.specs.Causes.{BeginningCause, BothCause, FaultCounts, cou
 use Rattle.auditor_top.specs.Commands.{AreFilesOf, ArePublicFilesOf, AreSoundFilesOf, GoesOnOver, GrowsOver, ServesOver, SimulatesOver, TwinsOver}
 use Rattle.auditor_top.specs.Promise.{GoesOn}
 use Rattle.auditor_top.specs.Drills.{DrillEnds}
-use Rattle.auditor_top.specs.Ends.{AuditEnds, GrowEnds, LeavesFile, ServeEnds, SimulateEnds, SendsLines, ExplainEnds, audit_over, subjects_over, outside, public_part}
+use Rattle.auditor_top.specs.Ends.{AuditEnds, GrowEnds, LeavesFile, ServeEnds, SendsTexts, SimulateEnds, TalkEnds, audit_over, subjects_over, outside, public_part}
 
 -- the objects that a run is handed
 pub record Objects (P I B : Type 0) : Type 0 where
@@ -109,11 +108,11 @@ pub record Simulating {P I B : Type 0} (files : source.Ghosts P) (lines : source
   pub simulated : files.told → lines.told → bench.told → (index : IndexView) (history : List Answered) →
       SimulatesOver (files.left old.schema) (files.left old.table) (bench.file old.bench) index history →
       (verdicts : List (Replied Answered)) × SimulateEnds status index history (lines.left old.input) (lines.left new.input) verdicts ×
-      SendsLines status (bytes_of verdicts) (bench.sent old.bench) (bench.sent new.bench)
+      SendsTexts (simulation index history) status verdicts (bench.sent old.bench) (bench.sent new.bench)
   pub simulating : files.told → bench.told → IsQuiet bench old.bench → (index : IndexView) (history : List Answered) →
       SimulatesOver (files.left old.schema) (files.left old.table) (bench.file old.bench) index history →
       LeavesOnly bench old.bench new.bench
-      (SimulatesMeanwhile lines.told index history (counted_lines (lines.left old.input)) (bench.file old.bench) (bench.sent old.bench))
+      (TalksMeanwhile lines.told (simulation index history) (counted_lines (lines.left old.input)) (bench.file old.bench) (bench.sent old.bench))
   -- each refusal of the journal has its cause in the file, and no run comes to the lines over one that gives no history
   pub cause : files.told → bench.told → (index : IndexView) →
       ArePublicFilesOf (files.left old.schema) (files.left old.table) index →
@@ -193,13 +192,14 @@ pub record Explaining {P I B : Type 0} (files : source.Ghosts P) (lines : source
   -- after this history, and that what is due to them was sent, or a front of it, at the end and at every moment
   pub explained : files.told → lines.told → bench.told → (base : Database) (history : List Answered) →
       ServesOver (files.left old.schema) (files.left old.table) (bench.file old.bench) base history →
-      (asked : List CountedLine) × (certificates : List (List ℕ)) × ExplainEnds status (lines.left old.input) (lines.left new.input) asked ×
-      AreExplained (public_part base) history asked certificates ×
-      SendsLines status (concat certificates) (bench.sent old.bench) (bench.sent new.bench)
+      (certificates : List (List ℕ)) ×
+      TalkEnds (explanations (public_part base) history) status (lines.left old.input) (lines.left new.input) certificates ×
+      SendsTexts (explanations (public_part base) history) status certificates (bench.sent old.bench) (bench.sent new.bench)
   pub explaining : files.told → bench.told → IsQuiet bench old.bench → (base : Database) (history : List Answered) →
       ServesOver (files.left old.schema) (files.left old.table) (bench.file old.bench) base history →
       LeavesOnly bench old.bench new.bench
-      (ExplainsMeanwhile lines.told (public_part base) history (lines.left old.input) (bench.file old.bench) (bench.sent old.bench))
+      (TalksMeanwhile lines.told (explanations (public_part base) history) (counted_lines (lines.left old.input)) (bench.file old.bench)
+      (bench.sent old.bench))
   -- the file stays, over whatever files
   pub undisturbed : bench.told → IsQuiet bench old.bench → LeavesOnly bench old.bench new.bench (LeavesFile (bench.file old.bench))
   -- it took two calls of the bench to open the journal, and one for each line

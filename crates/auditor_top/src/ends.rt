@@ -6,7 +6,7 @@ use crate::status::Status;
 use answer_journal::AlreadyThere;
 use audit_store::GrowRefusal;
 use bench_core::{End, Stop};
-use transcript_sim::SimulationFault;
+use transcript_sim::SimulationRefusal;
 use twin_journal::RestoreRefusal;
 
 /// The status of a last step that ended so: answering lines over one journal or two, explaining them, a report, or a drill.
@@ -31,12 +31,13 @@ pub fn made(making: Result<(), End<AlreadyThere>>) -> Status
 }
 
 /// The status of a simulation that ended so.
-pub fn judged(simulation: Result<(), SimulationFault>) -> Status
+pub fn judged(simulation: Result<(), End<SimulationRefusal>>) -> Status
     ensures { result ≡ simulation_status simulation }
 {
     match simulation {
         Ok(()) => Status::Done,
-        Err(fault) => Status::from(fault),
+        Err(End::Stopped(stop)) => Status::from(stop),
+        Err(End::Refused(refusal)) => Status::from(refusal),
     }
 }
 

@@ -7,7 +7,7 @@ use answer_journal::JournalRefusal;
 use audit_store::GrowRefusal;
 use bench_core::{End, Stop};
 use set_index::{GuardPart, IndexFault};
-use transcript_sim::SimulationFault;
+use transcript_sim::SimulationRefusal;
 use twin_journal::{RestoreRefusal, TwinRefusal};
 
 impl From<Stop> for Status {
@@ -141,19 +141,16 @@ impl From<RestoreRefusal> for Status {
     }
 }
 
-impl From<SimulationFault> for Status {
+impl From<SimulationRefusal> for Status {
     ghost use Rattle.std.specs.Prelude.{◌≡◌};
-    ghost use Rattle.auditor_top.specs.Faults.{verdict_status};
+    ghost use Rattle.auditor_top.specs.Faults.{simulation_refused};
 
-    ghost from_gives = { λ fault status. status ≡ verdict_status fault };
+    ghost from_gives = { λ refusal status. status ≡ simulation_refused refusal };
 
-    fn from(fault: SimulationFault) -> Status {
-        match fault {
-            SimulationFault::Stopped(stop) => Status::from(stop),
-            SimulationFault::Disagrees { line, due } => Status::Disagrees { line, due },
-            SimulationFault::Damaged { at } => Status::Damaged { at },
-            SimulationFault::OtherShape { kept, now } => Status::OtherShape { kept, now },
-            SimulationFault::Illegal { place, group } => Status::Illegal { place, group },
+    fn from(refusal: SimulationRefusal) -> Status {
+        match refusal {
+            SimulationRefusal::Journal(refusal) => Status::from(refusal),
+            SimulationRefusal::Disagrees { line, due } => Status::Disagrees { line, due },
         }
     }
 }

@@ -1,116 +1,110 @@
 -- What `run` says of `drill`.
-use Rattle.std.proofs.Common.{◌≡◌, ◌≤◌, ◌+◌, ℕ, List, Some, OnOk, IsErrOf, Result, refl, sym, ◌∙◌, ap, subst, map, string_bytes}
-use Rattle.table_load.specs.Database.{table_in}
+use Rattle.std.proofs.Common.{◌≡◌, List, Err, refl, sym, ap, subst, map, string_bytes}
+use Rattle.std.proofs.lemmas.Bool.{false≢true}
+use Rattle.bench_core.specs.Reports.{not_called}
+use Rattle.bench_core.specs.Stops.{IsOfBench}
+use Rattle.bench_core.specs.declared.stops.Stop.{Stop}
 use Rattle.bench_core.specs.declared.stops.Stop.TheVariants as stop
-use Rattle.drill_case.specs.Drills.{SendsSummary, SendsSummaryFront}
-use Rattle.auditor_top.specs.declared.words.Command.{Command}
-use Rattle.auditor_top.specs.declared.words.Command.TheVariants as command
-use Rattle.auditor_top.specs.declared.status.Status.{Status}
+use Rattle.auditor_top.specs.declared.ready.Ready.{Ready}
+use Rattle.auditor_top.specs.declared.ready.Ready.TheVariants as made
 use Rattle.auditor_top.specs.Words.{command_of}
-use Rattle.auditor_top.specs.Commands.{opens_journal, opens_store, reads_files, reads_groups, reads_lines, reads_secrets, calls_spare}
-use Rattle.auditor_top.specs.Causes.{FaultCause, FileCause}
-use Rattle.auditor_top.specs.Runs.{objects, faults_of, Drilling}
-use Rattle.auditor_top.specs.Stages.{reading_table, opening_spare}
-use Rattle.auditor_top.proofs.DrillEndings.{drill_says, drill_sends, drill_faults, drill_wants}
-use Rattle.auditor_top.proofs.OneCommand.{same_command, asked_for, not_asked, none_asked, lacks_step, spare_called}
-use Rattle.auditor_top.proofs.Openings.{stays}
-use Rattle.auditor_top.proofs.Refusals.{as_quiet}
-use Rattle.auditor_top.proofs.StepStatuses.{at_lines, EndsLastStep, past_journal, no_schema_fault, no_table_fault, schema_was_read, table_was_read, always_before}
-use Rattle.auditor_top.proofs.OneRunMore.{does_so, never_goes_on}
-use Rattle.auditor_top.proofs.LastSteps.{faults_so, later_so, named_so, words_so}
+use Rattle.auditor_top.specs.Causes.{FaultCause}
+use Rattle.auditor_top.specs.Faults.{ended_status}
+use Rattle.auditor_top.specs.Runs.{Drilling, Objects, faults_of, objects}
+use Rattle.auditor_top.specs.Says.{Says}
+use Rattle.auditor_top.proofs.DrillEndings.{drill_sends}
+use Rattle.auditor_top.proofs.LastSteps.{Answers, GoesOnWith, StepEnds, after_step, answers, done_or_wants, goes_with, unread_input}
+use Rattle.auditor_top.proofs.OneRunMore.{goes_on}
+use Rattle.auditor_top.proofs.StepFaults.{of_bench, stop_says}
+use Rattle.auditor_top.proofs.StopEndings.{stop_ends, stop_unrefused}
 use Rattle.auditor_top.proofs.running.run.Given.{Over}
 use Rattle.auditor_top.proofs.running.run.Goals as goal
 
--- nothing was opened
-unopened : (g : Over) (c : goal.After-ended-in-Ok-Drill g) → c.open.new.bench ≡ c.args.bench.now
-unopened g c = c.open.ensures.unopened (ap opens_store (same_command _ _ _ c.in-Ok-Drill.field-0-is c.in-Ok-Drill.ensures.asked))
+module _ (g : Over) (c : goal.After-ended-in-Ok-Drill g) where
+  abbrev old : Objects g.row.P.Denot g.row.I.Denot g.row.B.Denot
+  old = objects c.args.schema.now c.args.table.now c.args.input.now c.args.bench.now c.args.spare.now
 
-drilled_faults : (g : Over) (c : goal.After-ended-in-Ok-Drill g) → FaultCause c.ended-in-Ok-Drill.result
-    (faults_of g.P.Source g.I.Source g.B.Bench (objects c.args.schema.now c.args.table.now c.args.input.now c.args.bench.now c.args.spare.now))
-    (faults_of g.P.Source g.I.Source g.B.Bench (objects c.open.new.schema c.open.new.table c.args.input.now c.drill.new.bench c.args.spare.now))
-drilled_faults g c =
-    faults_so c.ended-in-Ok-Drill.result _ (faults_of g.P.Source g.I.Source g.B.Bench
-    (objects c.args.schema.now c.args.table.now c.args.input.now c.args.bench.now c.args.spare.now)) _
-    _ c.ended-in-Ok-Drill.ensures c.in-Ok-Drill.ensures.steady (drill_faults c.drill.result _ _ c.drill.ensures.ends c.drill.ensures.fault.failed
-    c.drill.ensures.fault.steady)
+  abbrev mid : Objects g.row.P.Denot g.row.I.Denot g.row.B.Denot
+  mid = objects c.open.new.schema c.open.new.table c.args.input.now c.open.new.bench c.args.spare.now
 
-drilling : (g : Over) (c : goal.After-ended-in-Ok-Drill g) →
-    Drilling g.P.Source g.I.Source g.B.Bench c.in-Ok-Drill.number c.ended-in-Ok-Drill.result
-    (objects c.args.schema.now c.args.table.now c.args.input.now c.args.bench.now c.args.spare.now)
-    (objects c.open.new.schema c.open.new.table c.args.input.now c.drill.new.bench c.args.spare.now)
-drilling g c =
-    let at = c.args.bench.now in
-    let later = c.drill.new.bench in
-    let ended = c.drill.result in
-    let does = c.drill.ensures in
-    let n = c.in-Ok-Drill.number in
-    let old = objects c.args.schema.now c.args.table.now c.args.input.now at c.args.spare.now in
-    let new = objects c.open.new.schema c.open.new.table c.args.input.now later c.args.spare.now in
-    let says = drill_says ended n does.ends in
-    let same = unopened g c in
-    let sent = ap g.B.Bench.sent same in
-    subst (λ (s : Status). Drilling g.P.Source g.I.Source g.B.Bench n s old new) (sym c.ended-in-Ok-Drill.ensures) (record {
-      drilled = λ told.
-          drill_sends ended n (g.B.Bench.sent at) (g.B.Bench.sent later) does.ends
-          (subst (λ (bytes : List ℕ). OnOk ended (SendsSummary n bytes (g.B.Bench.sent later))) sent (does.done told))
-          (λ is. subst (λ (bytes : List ℕ). SendsSummaryFront n bytes (g.B.Bench.sent later)) sent (does.part told is))
-          (λ is. ap g.B.Bench.sent (does.no_memory is) ∙ sent);
-      drill_calls = λ told done. subst (λ b. g.B.Bench.moment later ≡ g.B.Bench.moment b + 1) same (says.done _ done (does.ticks told));
-      drill_call = subst (λ b. g.B.Bench.moment later ≤ g.B.Bench.moment b + 1) same does.one_tick;
-      undrilled = λ is. does.no_memory (says.memory is) ∙ same;
-      drills = λ none.
-          drill_wants ended (faults_of g.P.Source g.I.Source g.B.Bench old) (faults_of g.P.Source g.I.Source g.B.Bench new) does.ends
-          (subst (λ (s : Status). FaultCause s (faults_of g.P.Source g.I.Source g.B.Bench old) (faults_of g.P.Source g.I.Source g.B.Bench new))
-          c.ended-in-Ok-Drill.ensures (drilled_faults g c)) none;
-    })
+  abbrev new : Objects g.row.P.Denot g.row.I.Denot g.row.B.Denot
+  new = objects c.open.new.schema c.open.new.table c.args.input.now c.drill.new.bench c.args.spare.now
+
+  abbrev ready : Ready
+  ready = made.Drill c.in-Ok-Drill.number
+
+  goes : GoesOnWith g.P.Source g.B.Bench (command_of (map string_bytes c.args.words.now.items)) ready old mid
+  goes =
+      let found = c.in-Ok-Drill in
+      let opening = c.open.ensures in
+      goes_with g.P.Source g.B.Bench _ _ _ ready old mid found.field-0-is found.ensures.asked c.in-Ok.ensures.command found.ensures.ready
+      found.ensures.over opening.reads found.ensures.steady opening.unread opening.unopened found.ensures.ticks
+
+  -- no stop of a source or of a spare
+  is_of_bench : (why : Stop) → c.drill.result ≡ Err why → IsOfBench why
+  is_of_bench why is = of_bench c.drill.result why c.drill.ensures.ends is
+
+  ends : StepEnds g.I.Source g.B.Bench ready (ended_status c.drill.result) mid new
+  ends =
+      let does = c.drill.ensures in
+      stop_ends g.I.Source g.B.Bench ready c.drill.result mid new (record {
+        input = λ is. absurd (is_of_bench stop.Input is);
+        limit = λ is. absurd (is_of_bench stop.Limit is);
+        other = λ is. absurd (is_of_bench stop.Spare is);
+        input_fault = unread_input g.I.Source old.input _ (is_of_bench stop.Input);
+        bench_fault = does.fault;
+        spare_fault = not_called g.B.Bench old.spare _ (is_of_bench stop.Spare);
+        file = λ told table for. tt;
+        spare_file = λ told. tt;
+        reads = λ itold reads. absurd (false≢true reads);
+        quiet = λ told quiet fine. does.quiet quiet;
+        never_written = λ told none. does.file;
+        no_lines = λ none. refl;
+        spare = λ none. refl;
+      })
+
+  says : Says g.P.Source g.I.Source g.B.Bench (command_of (map string_bytes c.args.words.now.items)) (ended_status c.drill.result) old new
+  says =
+      after_step g.P.Source g.I.Source g.B.Bench c.groups_of_a_schema.ensures.entries _ ready _ old mid.schema mid.table mid.bench new.input new.bench new.spare
+      goes ends
+
+  -- opening called nothing of the bench
+  abbrev begun : g.row.B.Denot → Objects g.row.P.Denot g.row.I.Denot g.row.B.Denot
+  begun at = objects old.schema old.table old.input at old.spare
+
+  faults : FaultCause (ended_status c.drill.result) (faults_of g.P.Source g.I.Source g.B.Bench (begun mid.bench))
+      (faults_of g.P.Source g.I.Source g.B.Bench new)
+  faults =
+      subst (λ b. FaultCause (ended_status c.drill.result) (faults_of g.P.Source g.I.Source g.B.Bench (begun b))
+      (faults_of g.P.Source g.I.Source g.B.Bench new))
+      (sym (goes.unopened refl)) says.faults
+
+  drilling : Drilling g.P.Source g.I.Source g.B.Bench c.in-Ok-Drill.number (ended_status c.drill.result) (begun mid.bench) new
+  drilling =
+      let does = c.drill.ensures in
+      let step = stop_says c.drill.result in
+      record {
+        drilled = λ told. drill_sends c.drill.result c.in-Ok-Drill.number _ _ does.ends (does.done told) (does.part told)
+            (λ is. ap g.B.Bench.sent (does.no_memory is));
+        drill_calls = λ told done. step.done _ done (does.ticks told);
+        drill_call = does.one_tick;
+        undrilled = λ is. does.no_memory (step.memory is);
+        drills = λ none.
+            done_or_wants _ _ _ (stop_unrefused c.drill.result (is_of_bench stop.Limit)) faults none
+            (λ is. absurd (is_of_bench stop.Spare (step.spare is)));
+      }
+
+  all : Answers g.P.Source g.I.Source g.B.Bench (command_of (map string_bytes c.args.words.now.items)) c.ended-in-Ok-Drill.result old new
+  all =
+      answers g.P.Source g.I.Source g.B.Bench c.groups_of_a_schema.ensures.entries _ ready _ old mid.schema mid.table mid.bench new.input new.bench new.spare
+      goes ends c.ended-in-Ok-Drill.ensures 
+      (subst (λ b. Drilling g.P.Source g.I.Source g.B.Bench c.in-Ok-Drill.number (ended_status c.drill.result) (begun b) new) (goes.unopened refl) drilling)
 
 pub drill_ends : goal.returns-in-Ok-Drill
-drill_ends g c =
-    let n = c.in-Ok-Drill.number in
-    let status = c.ended-in-Ok-Drill.result in
-    let reads = c.open.ensures.reads in
-    let file = g.B.Bench.file c.args.bench.now in
-    let same : c.in-Ok.command ≡ command.Drill n = same_command _ _ _ c.in-Ok-Drill.field-0-is c.in-Ok-Drill.ensures.asked in
-    let is_named : command_of (map string_bytes c.args.words.now.items) ≡ Some (command.Drill n) =
-    asked_for _ _ _ _ c.in-Ok.ensures.command c.in-Ok-Drill.field-0-is c.in-Ok-Drill.ensures.asked in
-    let says = drill_says c.drill.result n c.drill.ensures.ends in
-    let last = subst EndsLastStep (sym c.ended-in-Ok-Drill.ensures) says.last in
-    let words = words_so _ (command.Drill n) status _ is_named c.ended-in-Ok-Drill.ensures says.words in
-    let unread = c.open.ensures.unread (ap reads_files same) in
-    record {
-      words = words;
-      schema = λ ptold command asked reads. lacks_step reads_files _ _ command is_named asked refl reads;
-      table = λ ptold command asked reads. lacks_step reads_secrets _ _ command is_named asked refl reads;
-      public = λ ptold asked. not_asked _ _ _ is_named asked refl;
-      groups = λ ptold command asked reads. lacks_step reads_groups _ _ command is_named asked refl reads;
-      own_schema_fault = no_schema_fault status last;
-      own_table_fault = no_table_fault status last;
-      file = λ ptold told command asked base files sound.
-          named_so _ _ status _ is_named c.ended-in-Ok-Drill.ensures
-          (λ (s : Status) (k : Command). FileCause s k file (table_in base)) (says.file file (table_in base)) command asked;
-      input = λ itold command asked reads. lacks_step reads_lines _ _ command is_named asked refl reads;
-      faults = drilled_faults g c;
-      schema_last = schema_was_read status last;
-      table_last = table_was_read status last;
-      input_last = λ is. absurd (says.no_input (sym c.ended-in-Ok-Drill.ensures ∙ is));
-      bench_last = λ is. c.drill.ensures.fault.last_call (says.bench (sym c.ended-in-Ok-Drill.ensures ∙ is));
-      spare_last = spare_called _ _ status is_named refl words;
-      spare_file = λ told command asked calls. lacks_step calls_spare _ _ command is_named asked refl calls;
-      later = later_so _ _ _ c.open.ensures.later (stays _) c.drill.ensures.fault.later (stays _);
-      schema_within = λ ptold. schema_was_read status last;
-      table_within = λ ptold. table_was_read status last;
-      lives = λ ptold told command asked itold quiet base at goes. never_goes_on _ command _ _ _ _ _ at base is_named asked (λ none. none) goes;
-      does = λ command asked. does_so g.P.Source g.I.Source g.B.Bench status _ _ _ _ command is_named asked (drilling g c);
-      nothing_began = λ ptold told command asked opens. lacks_step opens_journal _ _ command is_named asked refl opens;
-      quiet = λ told quiet fine. c.drill.ensures.quiet (as_quiet g.B.Bench _ _ reads quiet);
-      before_table = always_before reading_table status unread.1;
-      before_bench = past_journal _ status last;
-      before_spare = λ other. always_before opening_spare status refl;
-      before_lines = at_lines _ _ _ c.ended-in-Ok-Drill.ensures (says.at_lines _);
-      unwritten = λ told. at_lines _ _ _ c.ended-in-Ok-Drill.ensures (says.at_lines _);
-      unread = λ none. none_asked _ _ none is_named;
-      no_files = λ command asked none. unread;
-      no_lines = λ command asked none. refl;
-      never_written = λ told command asked none. c.drill.ensures.file ∙ reads.file;
-      spare = λ command asked none. refl;
-    }
+drill_ends g c = record {
+  says = (all g c).says;
+  lives = goes_on g.P.Source g.I.Source g.B.Bench _ _ (old g c) (new g c) c.lives.ensures.longer c.one_reading.ensures c.read_words.ensures.batch
+      (all g c).does;
+  does = (all g c).does;
+  nothing_began = (all g c).nothing_began;
+}

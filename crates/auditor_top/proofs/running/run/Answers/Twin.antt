@@ -1,154 +1,274 @@
 -- What `run` says of `serve` over two journals that were opened.
-use Rattle.std.proofs.Common.{◌≡◌, ℕ, Some, refl, sym, ◌∙◌, ap, subst, arith, true, map, string_bytes}
-use Rattle.bench_core.specs.Causes.{Rose, next_count}
-use Rattle.table_load.specs.Database.{Database, table_in}
-use Rattle.auditor_top.specs.Faults.{ended_status}
-use Rattle.auditor_top.proofs.TwinEndings.{twins_cause}
-use Rattle.auditor_top.specs.declared.words.Command.{Command}
+use Rattle.std.proofs.Common.{◌≡◌, ◌+◌, ℕ, List, refl, sym, ◌∙◌, ap, subst, arith, inr, true, map, string_bytes}
+use Rattle.std.proofs.lemmas.Bool.{true≢false}
+use Rattle.audit_types.specs.History.{Protection}
+use Rattle.audit_types.specs.declared.records.Answered.{Answered}
+use Rattle.bench_core.specs.Calls.{IsQuiet, LeavesOnly}
+use Rattle.bench_core.specs.Moments.{then_tells}
+use Rattle.table_load.specs.Cells.{SecretView}
+use Rattle.table_load.specs.Database.{Database, base_of, secret_table, table_in}
+use Rattle.journal_form.specs.Journal.{StandsFor}
+use Rattle.line_wire.specs.Lines.{counted_lines}
+use Rattle.audit_store.specs.Stores.{table_of as store_table}
+use Rattle.audit_session.specs.Ends.{KeepsCalls, TakesCalls, base_over}
+use Rattle.audit_session.specs.Stops.{IsHarmless, LeavesBoth, SpareStops, StopsOver}
+use Rattle.twin_journal.specs.Twins.{CatchesUp, KeepTogether, KeepWhole, calls_to_open}
 use Rattle.auditor_top.specs.declared.words.Command.TheVariants as command
-use Rattle.auditor_top.specs.declared.status.Status.{Status}
+use Rattle.auditor_top.specs.declared.ready.Ready.{Ready}
+use Rattle.auditor_top.specs.declared.ready.Ready.TheVariants as made
 use Rattle.auditor_top.specs.Words.{command_of}
-use Rattle.auditor_top.specs.Commands.{calls_spare, reads_files, reads_lines, writes}
-use Rattle.auditor_top.specs.Causes.{BothCause, FaultCause, InputCause, SpareCause, IsReadyFor}
-use Rattle.auditor_top.specs.Stages.{Before, opening_spare}
-use Rattle.auditor_top.specs.Ends.{outside}
-use Rattle.auditor_top.specs.Runs.{objects, faults_of, TwinServing}
-use Rattle.auditor_top.proofs.OneCommand.{one_command, asked_for, not_asked, none_asked, takes_step}
-use Rattle.auditor_top.proofs.OneRunMore.{does_so, goes_on, left_of_spare, spare_goes_on}
-use Rattle.auditor_top.proofs.StepFaults.{not_both, stop_faults, stop_reads, stop_says, stop_wants}
-use Rattle.auditor_top.proofs.StepStatuses.{at_lines, EndsLastStep, past_table, past_journal, no_schema_fault, no_table_fault, schema_was_read, table_was_read}
-use Rattle.auditor_top.proofs.LastSteps.{schema_so, table_so, groups_so, words_so, named_so, file_so, faults_so, later_so, holds_over}
-use Rattle.auditor_top.proofs.Openings.{later_still}
-use Rattle.auditor_top.proofs.running.run.Answers.TwinOpened.{are, holds_legal, is_seen, quiet_started, seen, spare_quiet_started, together}
-use Rattle.auditor_top.proofs.running.run.Answers.TwinServed.{takes_calls, both_left, moments_so, served, spare_takes_calls, spare_moments_so, spare_discloses_nothing, discloses_nothing}
+use Rattle.auditor_top.specs.Causes.{BothCause, FaultCause}
+use Rattle.auditor_top.specs.Commands.{AreSoundFilesOf, TwinsOver}
+use Rattle.auditor_top.specs.Ends.{Outside, outside}
+use Rattle.auditor_top.specs.Faults.{ended_status}
+use Rattle.auditor_top.specs.Runs.{Objects, TwinServing, faults_of, objects}
+use Rattle.auditor_top.specs.Says.{Says}
+use Rattle.auditor_top.specs.Twins.{LeavesTwins, TwinEnds}
+use Rattle.auditor_top.proofs.LastSteps.{Answers, GoesOnWith, StepEnds, after_step, answers, done_or_wants, goes_with}
+use Rattle.auditor_top.proofs.OneRunMore.{goes_on, left_of_spare, spare_goes_on}
+use Rattle.auditor_top.proofs.OneTable.{one_base}
+use Rattle.auditor_top.proofs.StepFaults.{not_both, stop_reads, stop_says}
+use Rattle.auditor_top.proofs.StopEndings.{stop_ends, stop_unrefused}
+use Rattle.auditor_top.proofs.TwinEndings.{front_is_legal, twins_cause, twins_end}
+use Rattle.auditor_top.proofs.TwinSessions.{always_harmless, then_spare_stops, then_stops}
 use Rattle.auditor_top.proofs.running.run.Given.{Over}
 use Rattle.auditor_top.proofs.running.run.Goals as goal
 
-twin_faults_so : (g : Over) (c : goal.After-drop-schema-inside-in-Ok-start-3 g) → FaultCause c.ended-in-Ok-start.result
-    (faults_of g.P.Source g.I.Source g.B.Bench (objects c.args.schema.now c.args.table.now c.args.input.now c.args.bench.now c.args.spare.now))
-    (faults_of g.P.Source g.I.Source g.B.Bench
-    (objects c.open.new.schema c.open.new.table c.serve_twin.new.source c.serve_twin.new.bench c.serve_twin.new.spare))
-twin_faults_so g c =
-    let does = c.serve_twin.ensures.session in
-    let begun = c.in-Ok-start.ensures in
-    let same = begun.fault.steady (not_both _ _) in
-    let spare_same = begun.spare_fault.steady (not_both _ _) in
-    faults_so c.ended-in-Ok-start.result _ (faults_of g.P.Source g.I.Source g.B.Bench
-    (objects c.args.schema.now c.args.table.now c.args.input.now c.args.bench.now c.args.spare.now)) _
-    _ c.ended-in-Ok-start.ensures c.in-Ok-Twin.ensures.steady
-    (stop_faults c.serve_twin.result _ _ _ _ does.input does.steady
-    (λ is. subst (λ (n : ℕ). Rose n (g.B.Bench.faults c.serve_twin.new.bench)) same (does.fault.failed is)) (λ other. does.fault.steady other ∙ same)
-    (λ is. subst (λ (n : ℕ). Rose n (g.B.Bench.faults c.serve_twin.new.spare)) spare_same (c.serve_twin.ensures.spare.fault.failed is))
-    (λ other. c.serve_twin.ensures.spare.fault.steady other ∙ spare_same))
+module _ (g : Over) (c : goal.After-drop-schema-inside-in-Ok-start-3 g) where
+  abbrev old : Objects g.row.P.Denot g.row.I.Denot g.row.B.Denot
+  old = objects c.args.schema.now c.args.table.now c.args.input.now c.args.bench.now c.args.spare.now
 
-reads_so : (g : Over) (c : goal.After-drop-schema-inside-in-Ok-start-3 g) → g.I.Source.told →
-    InputCause (ended_status c.serve_twin.result) (g.I.Source.left c.args.input.now) (g.I.Source.left c.serve_twin.new.source)
-reads_so g c itold =
-    let does = c.serve_twin.ensures.session in
-    stop_reads c.serve_twin.result _ _ (does.read itold) (does.within itold) (does.input_within itold) (does.limit itold)
+  abbrev mid : Objects g.row.P.Denot g.row.I.Denot g.row.B.Denot
+  mid = objects c.open.new.schema c.open.new.table c.args.input.now c.open.new.bench c.args.spare.now
 
-is_named : (g : Over) (c : goal.After-drop-schema-inside-in-Ok-start-3 g) → command_of (map string_bytes c.args.words.now.items)
-    ≡ Some (command.Serve c.in-Ok-Twin.batch true)
-is_named g c = asked_for _ _ _ _ c.in-Ok.ensures.command c.in-Ok-Twin.field-0-is c.in-Ok-Twin.ensures.asked
+  abbrev new : Objects g.row.P.Denot g.row.I.Denot g.row.B.Denot
+  new = objects c.open.new.schema c.open.new.table c.serve_twin.new.source c.serve_twin.new.bench c.serve_twin.new.spare
 
-answering : (g : Over) (c : goal.After-drop-schema-inside-in-Ok-start-3 g) →
-    TwinServing g.P.Source g.I.Source g.B.Bench c.in-Ok-Twin.batch c.ended-in-Ok-start.result
-    (objects c.args.schema.now c.args.table.now c.args.input.now c.args.bench.now c.args.spare.now)
-    (objects c.open.new.schema c.open.new.table c.serve_twin.new.source c.serve_twin.new.bench c.serve_twin.new.spare)
-answering g c =
-    let old = objects c.args.schema.now c.args.table.now c.args.input.now c.args.bench.now c.args.spare.now in
-    let new = objects c.open.new.schema c.open.new.table c.serve_twin.new.source c.serve_twin.new.bench c.serve_twin.new.spare in
-    let n = c.in-Ok-Twin.batch in
-    let ended = c.serve_twin.result in
-    subst (λ (s : Status). TwinServing g.P.Source g.I.Source g.B.Bench n s old new) (sym c.ended-in-Ok-start.ensures) (record {
-      twins_served = served g c;
-      twin_moment = moments_so g c;
-      spare_moment = spare_moments_so g c;
-      twins_left = both_left g c;
-      spare_lives = λ ptold itold told quiet spare_quiet.
-          spare_goes_on g.P.Source g.I.Source g.B.Bench n old new c.lives.ensures.longer c.one_reading.ensures
-          (c.read_words.ensures.batch n true (is_named g c))
-          (λ base main other whole over image sent left all. left_of_spare base n main other whole (outside g.I.Source g.B.Bench old.input old.bench)
-          (outside g.I.Source g.B.Bench new.input new.bench) sent (g.B.Bench.file new.bench) image all
-          (both_left g c ptold itold told quiet spare_quiet base main other whole over (g.B.Bench.file new.bench) image
-          (g.met.B.Bench.reads new.bench told) left));
-      undisclosed = discloses_nothing g c;
-      spare_undisclosed = spare_discloses_nothing g c;
-      apart = λ ptold told quiet none. let keeps = together g c told in
-          absurd (none (seen g c) keeps.0 keeps.1 c.in-Ok-start.twin.store.history (record { files = are g c ptold; together = keeps.2 }));
-      spare_apart = λ ptold told quiet none. let keeps = together g c told in
-          absurd (none (seen g c) keeps.0 keeps.1 c.in-Ok-start.twin.store.history (record { files = are g c ptold; together = keeps.2 }));
-      cause = λ ptold told base sound.
-          subst (λ (b : Database). BothCause (ended_status ended) (command.Serve n true) (g.B.Bench.file old.bench) (g.B.Bench.file old.spare)
-          (table_in b))
-          (is_seen g c ptold base sound) (twins_cause ended n _ _ _ c.in-Ok-start.twin.store.history (together g c told));
-      spare_quiet = λ told quiet fine. c.serve_twin.ensures.spare.quiet told (spare_quiet_started g c told quiet) (λ is. fine (ap ended_status is));
-      spare_unsent = c.serve_twin.ensures.spare.sent ∙ c.in-Ok-start.ensures.spare_sent;
-      spare_unwritten = (stop_says ended).at_lines _;
-      twin_calls = takes_calls g c;
-      spare_calls = spare_takes_calls g c;
-      twins_complete = λ ptold itold told base main other whole over within none fine.
-          stop_wants ended (faults_of g.P.Source g.I.Source g.B.Bench old) (faults_of g.P.Source g.I.Source g.B.Bench new)
-          (subst (λ (s : Status). FaultCause s (faults_of g.P.Source g.I.Source g.B.Bench old) (faults_of g.P.Source g.I.Source g.B.Bench new))
-          c.ended-in-Ok-start.ensures
-          (twin_faults_so g c)) none (λ is. omega (arith, c.serve_twin.ensures.session.limit itold is, within))
-          (λ is. fine (c.serve_twin.ensures.spare.fault.failed is ∙ ap next_count (c.in-Ok-start.ensures.spare_fault.steady (not_both _ _))));
-    })
+  abbrev ready : Ready
+  ready = made.Twin c.in-Ok-Twin.index c.in-Ok-Twin.secret c.in-Ok-Twin.protected c.in-Ok-Twin.batch
+
+  goes : GoesOnWith g.P.Source g.B.Bench (command_of (map string_bytes c.args.words.now.items)) ready old mid
+  goes =
+      let found = c.in-Ok-Twin in
+      let opening = c.open.ensures in
+      goes_with g.P.Source g.B.Bench _ _ _ ready old mid found.field-0-is found.ensures.asked c.in-Ok.ensures.command found.ensures.ready
+      found.ensures.over opening.reads found.ensures.steady opening.unread opening.unopened found.ensures.ticks
+
+  -- the journals keep together, and the history is the longer one
+  together : g.B.Bench.told → KeepWhole (secret_table c.in-Ok-Twin.secret c.in-Ok-Twin.protected) (g.B.Bench.file mid.bench) (g.B.Bench.file old.spare)
+      c.in-Ok-start.twin.store.history
+  together told = c.in-Ok-start.ensures.together told told
+
+  ends : StepEnds g.I.Source g.B.Bench ready (ended_status c.serve_twin.result) mid new
+  ends =
+      let begun = c.in-Ok-start.ensures in
+      let does = c.serve_twin.ensures.session in
+      stop_ends g.I.Source g.B.Bench ready c.serve_twin.result mid new (record {
+        input = λ is. refl;
+        limit = λ is. refl;
+        other = λ is. refl;
+        input_fault = record { later = does.later; failed = does.input; last_read = does.last_read; steady = does.steady };
+        bench_fault = then_tells g.B.Bench mid.bench c.start.new.bench new.bench _ _ begun.fault (not_both _ _) does.fault;
+        spare_fault = then_tells g.B.Bench old.spare c.start.new.spare new.spare _ _ begun.spare_fault (not_both _ _) c.serve_twin.ensures.spare.fault;
+        file = λ told table for. front_is_legal (secret_table c.in-Ok-Twin.secret c.in-Ok-Twin.protected) _ _ _ (together told);
+        spare_file = λ told. tt;
+        reads = λ itold reads. stop_reads c.serve_twin.result _ _ (does.read itold) (does.within itold) (does.input_within itold) (does.limit itold);
+        quiet = λ told quiet. does.quiet told (begun.quiet told quiet (not_both _ _));
+        never_written = λ told none. absurd (true≢false none);
+        no_lines = λ none. absurd (true≢false none);
+        spare = λ none. absurd (true≢false none);
+      })
+
+  says : Says g.P.Source g.I.Source g.B.Bench (command_of (map string_bytes c.args.words.now.items)) (ended_status c.serve_twin.result) old new
+  says =
+      after_step g.P.Source g.I.Source g.B.Bench c.groups_of_a_schema.ensures.entries _ ready _ old mid.schema mid.table mid.bench new.input new.bench new.spare
+      goes ends
+
+  -- opening called nothing of the bench
+  abbrev begun : g.row.B.Denot → Objects g.row.P.Denot g.row.I.Denot g.row.B.Denot
+  begun at = objects old.schema old.table old.input at old.spare
+
+  faults : FaultCause (ended_status c.serve_twin.result) (faults_of g.P.Source g.I.Source g.B.Bench (begun mid.bench))
+      (faults_of g.P.Source g.I.Source g.B.Bench new)
+  faults =
+      subst (λ b. FaultCause (ended_status c.serve_twin.result) (faults_of g.P.Source g.I.Source g.B.Bench (begun b))
+      (faults_of g.P.Source g.I.Source g.B.Bench new))
+      (sym (goes.unopened refl)) says.faults
+
+  -- the table of the groups is every table that the files mean
+  abbrev seen : Database
+  seen = base_of c.in-Ok-Twin.index.columns c.in-Ok-Twin.index.public c.in-Ok-Twin.protected c.in-Ok-Twin.secret
+
+  are : g.P.Source.told → AreSoundFilesOf (g.P.Source.left old.schema) (g.P.Source.left old.table) seen
+  are ptold = goes.over ptold
+
+  is_seen : g.P.Source.told → (base : Database) → AreSoundFilesOf (g.P.Source.left old.schema) (g.P.Source.left old.table) base → seen ≡ base
+  is_seen ptold base sound = one_base c.groups_of_a_schema.ensures.entries _ _ seen base (are ptold) sound
+
+  -- what is given: its files, and two journals of it of which one begins the other
+  abbrev IsGiven : Database → List Answered → List Answered → List Answered → Type 0
+  IsGiven base main other whole =
+      TwinsOver (g.P.Source.left old.schema) (g.P.Source.left old.table) (g.B.Bench.file mid.bench) (g.B.Bench.file old.spare) base main other whole
+
+  keep : g.P.Source.told → (base : Database) (main other whole : List Answered) → IsGiven base main other whole →
+      KeepTogether (table_in seen) (g.B.Bench.file mid.bench) (g.B.Bench.file old.spare) main other whole
+  keep ptold base main other whole over =
+      subst (λ (b : Database). KeepTogether (table_in b) (g.B.Bench.file mid.bench) (g.B.Bench.file old.spare) main other whole)
+      (sym (is_seen ptold base over.files)) over.together
+
+  -- what the lines are answered over, which is that table
+  abbrev asked : Database
+  asked = base_over c.in-Ok-Twin.index c.in-Ok-start.twin.store
+
+  asks : asked ≡ seen
+  asks =
+      let index = c.in-Ok-Twin.index in
+      let store = c.in-Ok-start.ensures.store in
+      ap (λ (l : Protection). base_of index.columns index.public l c.in-Ok-start.twin.store.secret) store.1
+      ∙ ap (λ (s : SecretView). base_of index.columns index.public c.in-Ok-Twin.protected s) store.0
+
+  -- what the session says of it is said of every table that the files mean, and of the longer history
+  said : (P : Database → List Answered → Type 0) → g.P.Source.told → g.B.Bench.told → (base : Database) (main other whole : List Answered) →
+      IsGiven base main other whole → P asked c.in-Ok-start.twin.store.history → P base whole
+  said P ptold told base main other whole over holds =
+      subst (λ (h : List Answered). P base h) (c.in-Ok-start.ensures.longer main other whole told told (keep ptold base main other whole over))
+      (subst (λ (b : Database). P b c.in-Ok-start.twin.store.history) (asks ∙ is_seen ptold base over.files) holds)
+
+  -- until both are brought up
+  quiet_started : g.B.Bench.told → IsQuiet g.B.Bench mid.bench → IsQuiet g.B.Bench c.start.new.bench
+  quiet_started told quiet = c.in-Ok-start.ensures.quiet told quiet (not_both _ _)
+
+  spare_quiet_started : g.B.Bench.told → IsQuiet g.B.Bench old.spare → IsQuiet g.B.Bench c.start.new.spare
+  spare_quiet_started told quiet = c.in-Ok-start.ensures.spare_quiet told quiet (not_both _ _)
+
+  catching : g.P.Source.told → g.B.Bench.told → IsQuiet g.B.Bench mid.bench → (base : Database) (main other whole : List Answered) →
+      IsGiven base main other whole →
+      LeavesOnly g.B.Bench mid.bench c.start.new.bench (CatchesUp base.secret.shape main whole (g.B.Bench.sent mid.bench))
+  catching ptold told quiet base main other whole over =
+      subst (λ (b : Database). LeavesOnly g.B.Bench mid.bench c.start.new.bench (CatchesUp b.secret.shape main whole (g.B.Bench.sent mid.bench)))
+      (is_seen ptold base over.files)
+      (c.in-Ok-start.ensures.main_moments main other whole told told quiet (keep ptold base main other whole over))
+
+  spare_catching : g.P.Source.told → g.B.Bench.told → IsQuiet g.B.Bench old.spare → (base : Database) (main other whole : List Answered) →
+      IsGiven base main other whole →
+      LeavesOnly g.B.Bench old.spare c.start.new.spare (CatchesUp base.secret.shape other whole (g.B.Bench.sent old.spare))
+  spare_catching ptold told quiet base main other whole over =
+      subst (λ (b : Database). LeavesOnly g.B.Bench old.spare c.start.new.spare (CatchesUp b.secret.shape other whole (g.B.Bench.sent old.spare)))
+      (is_seen ptold base over.files)
+      (c.in-Ok-start.ensures.spare_moments main other whole told told quiet (keep ptold base main other whole over))
+
+  both_left : g.P.Source.told → g.I.Source.told → g.B.Bench.told → IsQuiet g.B.Bench mid.bench → IsQuiet g.B.Bench old.spare →
+      (base : Database) (main other whole : List Answered) → IsGiven base main other whole → (image spare : List ℕ) →
+      g.B.Bench.leaves new.bench image → g.B.Bench.leaves new.spare spare →
+      LeavesTwins base c.in-Ok-Twin.batch main other whole (outside g.I.Source g.B.Bench old.input mid.bench)
+      (outside g.I.Source g.B.Bench new.input new.bench) image spare
+  both_left ptold itold told quiet spare_quiet base main other whole over image spare left spare_left =
+      let n = c.in-Ok-Twin.batch in
+      let lines = counted_lines (g.I.Source.left old.input) in
+      let sent = g.B.Bench.sent mid.bench in
+      let later = g.B.Bench.sent new.bench in
+      inr (said (λ (b : Database) (h : List Answered). LeavesBoth b n h lines sent later image spare) ptold told base main other whole over
+      (subst (λ (bytes : List ℕ). LeavesBoth asked n c.in-Ok-start.twin.store.history lines bytes later image spare) c.in-Ok-start.ensures.sent
+      (c.serve_twin.ensures.spare.both itold told told (quiet_started told quiet) (spare_quiet_started told spare_quiet) image spare left spare_left)))
+
+  -- what is harmless for the table that was read is so for every one that the files mean
+  harmless_for : g.P.Source.told → (base : Database) → AreSoundFilesOf (g.P.Source.left old.schema) (g.P.Source.left old.table) base →
+      (started later : g.row.B.Denot) → LeavesOnly g.B.Bench started later (λ image sent. IsHarmless (store_table c.in-Ok-start.twin.store) image) →
+      LeavesOnly g.B.Bench started later (λ image sent. IsHarmless (table_in base) image)
+  harmless_for ptold base sound started later harmless =
+      let store = c.in-Ok-start.twin.store in
+      subst (λ (b : Database). LeavesOnly g.B.Bench started later (λ image sent. IsHarmless (table_in b) image)) (is_seen ptold base sound)
+      (subst (λ (s : SecretView). LeavesOnly g.B.Bench started later (λ image sent. IsHarmless (secret_table s c.in-Ok-Twin.protected) image))
+      c.in-Ok-start.ensures.store.0
+      (subst (λ (p : Protection). LeavesOnly g.B.Bench started later (λ image sent. IsHarmless (secret_table store.secret p) image))
+      c.in-Ok-start.ensures.store.1 harmless))
+
+  answering : TwinServing g.P.Source g.I.Source g.B.Bench c.in-Ok-Twin.batch (ended_status c.serve_twin.result) (begun mid.bench) new
+  answering =
+      let n = c.in-Ok-Twin.batch in
+      let ended = c.serve_twin.result in
+      let opening = c.in-Ok-start.ensures in
+      let does = c.serve_twin.ensures.session in
+      let step = stop_says ended in
+      let kept = c.in-Ok-start.twin.store.history in
+      let now = c.serve_twin.new.twin.store.history in
+      let lines = counted_lines (g.I.Source.left old.input) in
+      let started = c.start.new.bench in
+      let spare_started = c.start.new.spare in
+      let before : Outside = outside g.I.Source g.B.Bench old.input mid.bench in
+      let after : Outside = outside g.I.Source g.B.Bench new.input new.bench in
+      let spare = g.B.Bench.file new.spare in
+      let sent = g.B.Bench.sent mid.bench in
+      let spare_sent = g.B.Bench.sent old.spare in
+      record {
+        twins_served = λ ptold itold told base main other whole over.
+            said (λ (b : Database) (h : List Answered). TwinEnds n (ended_status ended) b main other h before after spare) ptold told base main other whole over
+            (subst (λ (bytes : List ℕ). TwinEnds n (ended_status ended) asked main other kept (record before { sent = bytes }) after spare) opening.sent
+            (twins_end ended asked n main other kept now (record before { sent = g.B.Bench.sent started }) after spare
+            (does.done itold told) (does.input_end itold told) (does.limit_end itold told) (does.memory_end itold told) (does.spare_end itold told)
+            (λ fine. subst (λ (s : SecretView). StandsFor after.file s.shape now) does.table.0 (does.stands told fine))
+            (λ fine spare_fine. subst (λ (s : SecretView). StandsFor spare s.shape now) does.table.0 (c.serve_twin.ensures.spare.stands told fine spare_fine))));
+        twin_moment = λ ptold itold told quiet base main other whole over.
+            then_stops g.B.Bench mid.bench started new.bench base main whole (catching ptold told quiet base main other whole over) n lines
+            (said (λ (b : Database) (h : List Answered). LeavesOnly g.B.Bench started new.bench (StopsOver b n h lines sent)) ptold told base main other whole
+            over (subst (λ (bytes : List ℕ). LeavesOnly g.B.Bench started new.bench (StopsOver asked n kept lines bytes)) opening.sent
+            (does.any_moment itold told (quiet_started told quiet))));
+        spare_moment = λ ptold itold told quiet base main other whole over.
+            then_spare_stops g.B.Bench old.spare spare_started new.spare base other whole (spare_catching ptold told quiet base main other whole over) n lines
+            (said (λ (b : Database) (h : List Answered). LeavesOnly g.B.Bench spare_started new.spare (SpareStops b n h lines spare_sent)) ptold told base main
+            other whole over (subst (λ (bytes : List ℕ). LeavesOnly g.B.Bench spare_started new.spare (SpareStops asked n kept lines bytes)) opening.spare_sent
+            (c.serve_twin.ensures.spare.moments itold told (spare_quiet_started told quiet))));
+        twins_left = both_left;
+        spare_lives = λ ptold itold told quiet spare_quiet.
+            spare_goes_on g.P.Source g.I.Source g.B.Bench n (begun mid.bench) new c.lives.ensures.longer c.one_reading.ensures
+            (c.read_words.ensures.batch n true goes.named)
+            (λ base main other whole over image bytes left all. left_of_spare base n main other whole before after bytes (g.B.Bench.file new.bench) image all
+            (both_left ptold itold told quiet spare_quiet base main other whole over (g.B.Bench.file new.bench) image
+            (g.met.B.Bench.reads new.bench told) left));
+        undisclosed = λ ptold told quiet base main other whole over.
+            always_harmless g.B.Bench mid.bench started new.bench base main whole (catching ptold told quiet base main other whole over)
+            c.stops_are_legal.ensures _ _ over.files over.together.legal
+            (harmless_for ptold base over.files started new.bench (does.legal told (quiet_started told quiet)));
+        spare_undisclosed = λ ptold told quiet base main other whole over.
+            always_harmless g.B.Bench old.spare spare_started new.spare base other whole (spare_catching ptold told quiet base main other whole over)
+            c.stops_are_legal.ensures _ _ over.files over.together.legal
+            (harmless_for ptold base over.files spare_started new.spare (c.serve_twin.ensures.spare.legal told (spare_quiet_started told quiet)));
+        apart = λ ptold told quiet none. let keeps = together told in
+            absurd (none seen keeps.0 keeps.1 kept (record { files = are ptold; together = keeps.2 }));
+        spare_apart = λ ptold told quiet none. let keeps = together told in
+            absurd (none seen keeps.0 keeps.1 kept (record { files = are ptold; together = keeps.2 }));
+        cause = λ ptold told base sound.
+            subst (λ (b : Database). BothCause (ended_status ended) (command.Serve n true) (g.B.Bench.file mid.bench) (g.B.Bench.file old.spare) (table_in b))
+            (is_seen ptold base sound) (twins_cause ended n _ _ _ kept (together told));
+        spare_quiet = λ told quiet fine. c.serve_twin.ensures.spare.quiet told (spare_quiet_started told quiet) (λ is. fine (ap ended_status is));
+        spare_unsent = c.serve_twin.ensures.spare.sent ∙ opening.spare_sent;
+        spare_unwritten = step.at_lines _;
+        twin_calls = λ ptold itold told done base main other whole over.
+            said (λ (b : Database) (h : List Answered).
+            TakesCalls b h n lines (g.B.Bench.moment mid.bench + calls_to_open main whole) (g.B.Bench.moment new.bench)) ptold told base main other whole over
+            (subst (λ (m : ℕ). TakesCalls asked kept n lines m (g.B.Bench.moment new.bench))
+            (opening.ticks main other whole told told (keep ptold base main other whole over)) (step.done _ done (does.calls itold told)));
+        spare_calls = λ ptold itold told done base main other whole over.
+            said (λ (b : Database) (h : List Answered).
+            KeepsCalls b h n lines (g.B.Bench.moment old.spare + calls_to_open other whole) (g.B.Bench.moment new.spare)) ptold told base main other whole over
+            (subst (λ (m : ℕ). KeepsCalls asked kept n lines m (g.B.Bench.moment new.spare))
+            (opening.spare_ticks main other whole told told (keep ptold base main other whole over)) (step.done _ done (c.serve_twin.ensures.spare.calls itold told)));
+        twins_complete = λ ptold itold told base main other whole over within none fine.
+            done_or_wants _ _ _ (stop_unrefused ended (λ is. omega (arith, does.limit itold is, within))) faults none (λ is. fine);
+      }
+
+  all : Answers g.P.Source g.I.Source g.B.Bench (command_of (map string_bytes c.args.words.now.items)) c.ended-in-Ok-start.result old new
+  all =
+      answers g.P.Source g.I.Source g.B.Bench c.groups_of_a_schema.ensures.entries _ ready _ old mid.schema mid.table mid.bench new.input new.bench new.spare
+      goes ends c.ended-in-Ok-start.ensures 
+      (subst (λ b. TwinServing g.P.Source g.I.Source g.B.Bench c.in-Ok-Twin.batch (ended_status c.serve_twin.result) (begun b) new) (goes.unopened refl)
+      answering)
 
 pub twin_ends : goal.returns-in-Ok-start
-twin_ends g c =
-    let status = c.ended-in-Ok-start.result in
-    let ended = c.serve_twin.result in
-    let begun = c.in-Ok-start.ensures in
-    let does = c.serve_twin.ensures.session in
-    let one = command.Serve c.in-Ok-Twin.batch true in
-    let file = g.B.Bench.file c.args.bench.now in
-    let spare = g.B.Bench.file c.args.spare.now in
-    let named = is_named g c in
-    let last = subst EndsLastStep (sym c.ended-in-Ok-start.ensures) (stop_says ended).last in
-    record {
-      words = words_so _ one status _ named c.ended-in-Ok-start.ensures ((stop_says ended).words one (λ is. refl) (λ is. refl) (λ is. refl));
-      schema = λ ptold command asked reads. schema_so status _ _ _ last (are g c ptold).files;
-      table = λ ptold command asked reads. table_so status _ _ _ last (are g c ptold).files;
-      public = λ ptold asked. not_asked _ _ _ named asked refl;
-      groups = λ ptold command asked reads. groups_so c.groups_of_a_schema.ensures.entries status _ _ _ last (are g c ptold);
-      own_schema_fault = no_schema_fault status last;
-      own_table_fault = no_table_fault status last;
-      file = λ ptold told. file_so _ one status _ named c.ended-in-Ok-start.ensures refl _ _ file (λ base sound.
-          (stop_says ended).file one file (table_in base)
-          (holds_over c.groups_of_a_schema.ensures.entries _ _ file _ base (are g c ptold) sound (holds_legal g c told)));
-      input = λ itold command asked reads.
-          subst (λ (s : Status). InputCause s (g.I.Source.left c.args.input.now) (g.I.Source.left c.serve_twin.new.source)) (sym c.ended-in-Ok-start.ensures)
-          (reads_so g c itold);
-      faults = twin_faults_so g c;
-      schema_last = schema_was_read status last;
-      table_last = table_was_read status last;
-      input_last = λ is. does.last_read ((stop_says ended).input (sym c.ended-in-Ok-start.ensures ∙ is));
-      bench_last = λ is. does.fault.last_call ((stop_says ended).bench (sym c.ended-in-Ok-start.ensures ∙ is));
-      spare_last = λ is. c.serve_twin.ensures.spare.fault.last_call ((stop_says ended).spare (sym c.ended-in-Ok-start.ensures ∙ is));
-      spare_file = λ told command asked calls. named_so _ one status _ named c.ended-in-Ok-start.ensures (λ (s : Status) (k : Command). SpareCause s k spare)
-          ((stop_says ended).spare_file one spare tt) command asked;
-      later = later_so _ _ _ c.open.ensures.later does.later (later_still _ _ _ begun.fault.later does.fault.later)
-          (later_still _ _ _ begun.spare_fault.later c.serve_twin.ensures.spare.fault.later);
-      schema_within = λ ptold. schema_was_read status last;
-      table_within = λ ptold. table_was_read status last;
-      lives = λ ptold told command asked itold quiet. goes_on g.P.Source g.I.Source g.B.Bench status _ _ c.lives.ensures.longer c.one_reading.ensures command
-          (λ batch twin is. c.read_words.ensures.batch batch twin (asked ∙ ap (λ (k : Command). Some k) is))
-          (does_so g.P.Source g.I.Source g.B.Bench status _ _ _ _ command named asked (answering g c)) ptold told itold quiet;
-      does = λ command asked. does_so g.P.Source g.I.Source g.B.Bench status _ _ _ _ command named asked (answering g c);
-      nothing_began = λ ptold told command asked opens quiet none.
-          absurd (none (seen g c) (are g c ptold)
-          (subst (λ (k : Command). IsReadyFor k file (table_in (seen g c))) (one_command _ _ command named asked) (holds_legal g c told)));
-      quiet = λ told quiet fine. does.quiet told (quiet_started g c told quiet) (λ is. fine (c.ended-in-Ok-start.ensures ∙ ap ended_status is));
-      before_table = past_table _ status last;
-      before_bench = past_journal _ status last;
-      before_spare = λ other. subst (λ (s : Status). Before opening_spare s (c.serve_twin.new.spare ≡ c.args.spare.now)) (sym c.ended-in-Ok-start.ensures)
-          ((stop_says ended).at_spare _);
-      before_lines = at_lines _ _ _ c.ended-in-Ok-start.ensures ((stop_says ended).at_lines _);
-      unwritten = λ told. at_lines _ _ _ c.ended-in-Ok-start.ensures ((stop_says ended).at_lines _);
-      unread = λ none. none_asked _ _ none named;
-      no_files = λ command asked none. takes_step reads_files _ _ _ named asked refl none;
-      no_lines = λ command asked none. takes_step reads_lines _ _ _ named asked refl none;
-      never_written = λ told command asked none. takes_step writes _ _ _ named asked refl none;
-      spare = λ command asked none. takes_step calls_spare _ _ _ named asked refl none;
-    }
+twin_ends g c = record {
+  says = (all g c).says;
+  lives = goes_on g.P.Source g.I.Source g.B.Bench _ _ (old g c) (new g c) c.lives.ensures.longer c.one_reading.ensures c.read_words.ensures.batch
+      (all g c).does;
+  does = (all g c).does;
+  nothing_began = (all g c).nothing_began;
+}

@@ -1,10 +1,12 @@
 -- What `run` says of `serve` whose two journals weren't opened.
-use Rattle.std.proofs.Common.{◌≡◌, ℕ, List, Some, refl, sym, ◌∙◌, ap, subst, inl, true, map, string_bytes}
+use Rattle.std.proofs.Common.{◌≡◌, ℕ, List, refl, sym, ◌∙◌, ap, subst, inl, true, map, string_bytes}
 use Rattle.std.specs.Prelude.{⊤}
+use Rattle.std.proofs.lemmas.Bool.{true≢false}
 use Rattle.audit_types.specs.declared.records.Answered.{Answered}
-use Rattle.bench_core.specs.Calls.{IsQuiet, IsUntouched, LeavesOnly}
+use Rattle.bench_core.specs.Calls.{IsQuiet, LeavesOnly}
 use Rattle.bench_core.specs.Moments.{weakens}
-use Rattle.table_load.specs.Database.{Database, base_of, table_in}
+use Rattle.bench_core.specs.Reports.{told_as}
+use Rattle.table_load.specs.Database.{Database, base_of, secret_table, table_in}
 use Rattle.twin_journal.specs.Twins.{CatchesUp, KeepApart, KeepTogether, TwinCause}
 use Rattle.twin_journal.specs.declared.starting.TwinRefusal.{TwinRefusal}
 use Rattle.bench_core.specs.Ends.{EndsBy, IsStop}
@@ -13,301 +15,239 @@ use Rattle.bench_core.specs.Stops.{IsOfBenches}
 use Rattle.bench_core.specs.declared.stops.End.{End}
 use Rattle.bench_core.specs.declared.stops.End.TheVariants.{Stopped}
 use Rattle.bench_core.specs.declared.stops.Stop.TheVariants as stop
+use Rattle.auditor_top.specs.declared.words.Command.TheVariants as command
+use Rattle.auditor_top.specs.declared.ready.Ready.{Ready}
+use Rattle.auditor_top.specs.declared.ready.Ready.TheVariants as made
+use Rattle.auditor_top.specs.Words.{command_of}
+use Rattle.auditor_top.specs.Causes.{BothCause, FaultCause}
+use Rattle.auditor_top.specs.Commands.{AreSoundFilesOf, TwinsOver}
 use Rattle.auditor_top.specs.Ends.{Outside, outside}
 use Rattle.auditor_top.specs.Faults.{end_status, twin_status}
+use Rattle.auditor_top.specs.Runs.{Objects, TwinServing, faults_of, objects}
+use Rattle.auditor_top.specs.Says.{Says}
 use Rattle.auditor_top.specs.Twins.{BothCatchUp}
-use Rattle.auditor_top.proofs.StepFaults.{end_wants}
-use Rattle.auditor_top.proofs.TwinEndings.{TwinSays, TwinStops, refusal, refused_status, twin_cause, twin_faults, twin_file, front_is_legal, twin_gave_up, twin_says, twin_words}
-use Rattle.auditor_top.specs.declared.words.Command.{Command}
-use Rattle.auditor_top.specs.declared.words.Command.TheVariants as command
-use Rattle.auditor_top.specs.declared.status.Status.{Status}
-use Rattle.auditor_top.specs.Words.{command_of, NamesCommand}
-use Rattle.auditor_top.specs.Commands.{AreSoundFilesOf, TwinsOver, calls_spare, opens_store, reads_files, writes}
-use Rattle.auditor_top.specs.Causes.{BothCause, FileCause, FaultCause, HoldsLegal, InputCause, SpareCause, IsReadyFor}
-use Rattle.auditor_top.specs.Stages.{Before, opening_spare}
-use Rattle.auditor_top.specs.Ready.{IsReady, IsReadyOver}
-use Rattle.auditor_top.specs.Runs.{objects, faults_of, TwinServing}
-use Rattle.auditor_top.proofs.OneCommand.{one_command, same_command, asked_for, not_asked, none_asked, takes_step}
-use Rattle.auditor_top.proofs.OneRunMore.{does_so, goes_on, left_of_spare, spare_goes_on}
+use Rattle.auditor_top.proofs.LastSteps.{Answers, GoesOnWith, StepEnds, after_step, answers, done_or_wants, goes_with, unread_input}
+use Rattle.auditor_top.proofs.OneRunMore.{goes_on, left_of_spare, spare_goes_on}
 use Rattle.auditor_top.proofs.OneTable.{one_base}
+use Rattle.auditor_top.proofs.StepFaults.{end_unrefused}
+use Rattle.auditor_top.proofs.TwinEndings.{TwinSays, front_is_legal, refusal, refused_status, twin_cause, twin_file, twin_gave_up, twin_says, twin_words}
 use Rattle.auditor_top.proofs.TwinSessions.{catching_is_harmless, left_between}
-use Rattle.auditor_top.proofs.StepStatuses.{at_lines, EndsLastStep, past_table, past_journal, no_schema_fault, no_table_fault, schema_was_read, table_was_read}
-use Rattle.auditor_top.proofs.LastSteps.{schema_so, table_so, groups_so, words_so, named_so, file_so, faults_so, later_so}
-use Rattle.auditor_top.proofs.Openings.{stays}
 use Rattle.auditor_top.proofs.running.run.Given.{Over}
 use Rattle.auditor_top.proofs.running.run.Goals as goal
 
--- the files are those of the table whose groups were made ready
-abbrev seen : (g : Over) → goal.After-drop-schema-inside-in-Ok-Twin-3 g → Database
-seen g c = base_of c.in-Ok-Twin.index.columns c.in-Ok-Twin.index.public c.in-Ok-Twin.protected c.in-Ok-Twin.secret
+module _ (g : Over) (c : goal.After-drop-schema-inside-in-Ok-Twin-3 g) where
+  abbrev old : Objects g.row.P.Denot g.row.I.Denot g.row.B.Denot
+  old = objects c.args.schema.now c.args.table.now c.args.input.now c.args.bench.now c.args.spare.now
 
-are : (g : Over) (c : goal.After-drop-schema-inside-in-Ok-Twin-3 g) → g.P.Source.told →
-    AreSoundFilesOf (g.P.Source.left c.args.schema.now) (g.P.Source.left c.args.table.now) (seen g c)
-are g c ptold = subst (IsReadyOver _ _) c.in-Ok-Twin.field-0-is (c.in-Ok-Twin.ensures.over ptold)
+  abbrev mid : Objects g.row.P.Denot g.row.I.Denot g.row.B.Denot
+  mid = objects c.open.new.schema c.open.new.table c.args.input.now c.open.new.bench c.args.spare.now
 
-is_seen : (g : Over) (c : goal.After-drop-schema-inside-in-Ok-Twin-3 g) → g.P.Source.told → (base : Database) →
-    AreSoundFilesOf (g.P.Source.left c.args.schema.now) (g.P.Source.left c.args.table.now) base → seen g c ≡ base
-is_seen g c ptold base sound = one_base c.groups_of_a_schema.ensures.entries _ _ (seen g c) base (are g c ptold) sound
+  abbrev new : Objects g.row.P.Denot g.row.I.Denot g.row.B.Denot
+  new = objects c.open.new.schema c.open.new.table c.args.input.now c.start.new.bench c.start.new.spare
 
--- the bench wasn't called before
-unopened : (g : Over) (c : goal.After-drop-schema-inside-in-Ok-Twin-3 g) → c.open.new.bench ≡ c.args.bench.now
-unopened g c = c.open.ensures.unopened (ap opens_store (same_command _ _ _ c.in-Ok-Twin.field-0-is c.in-Ok-Twin.ensures.asked))
+  abbrev ready : Ready
+  ready = made.Twin c.in-Ok-Twin.index c.in-Ok-Twin.secret c.in-Ok-Twin.protected c.in-Ok-Twin.batch
 
--- so the journals were opened as they were given
-keep : (g : Over) (c : goal.After-drop-schema-inside-in-Ok-Twin-3 g) → g.P.Source.told → (base : Database) (main other whole : List Answered) →
-    TwinsOver (g.P.Source.left c.args.schema.now) (g.P.Source.left c.args.table.now) (g.B.Bench.file c.args.bench.now)
-    (g.B.Bench.file c.args.spare.now) base main other
-    whole → KeepTogether (table_in (seen g c)) (g.B.Bench.file c.open.new.bench) (g.B.Bench.file c.args.spare.now) main other whole
-keep g c ptold base main other whole over =
-    subst (λ b. KeepTogether (table_in (seen g c)) (g.B.Bench.file b) (g.B.Bench.file c.args.spare.now) main other whole) (sym (unopened g c))
-    (subst (λ (b : Database). KeepTogether (table_in b) (g.B.Bench.file c.args.bench.now) (g.B.Bench.file c.args.spare.now) main other whole)
-    (sym (is_seen g c ptold base over.files)) over.together)
+  goes : GoesOnWith g.P.Source g.B.Bench (command_of (map string_bytes c.args.words.now.items)) ready old mid
+  goes =
+      let found = c.in-Ok-Twin in
+      let opening = c.open.ensures in
+      goes_with g.P.Source g.B.Bench _ _ _ ready old mid found.field-0-is found.ensures.asked c.in-Ok.ensures.command found.ensures.ready
+      found.ensures.over opening.reads found.ensures.steady opening.unread opening.unopened found.ensures.ticks
 
--- how the opening ended
-abbrev end : (g : Over) → goal.After-drop-schema-inside-in-Ok-Twin-3 g → End TwinRefusal
-end g c = c.in-Err-start.end
+  -- how the opening ended
+  abbrev end : End TwinRefusal
+  end = c.in-Err-start.end
 
-stops : (g : Over) (c : goal.After-drop-schema-inside-in-Ok-Twin-3 g) → TwinStops (end g c)
-stops g c = c.in-Err-start.ensures.ends
+  step : TwinSays end
+  step = twin_says end c.in-Err-start.ensures.ends
 
-says : (g : Over) (c : goal.After-drop-schema-inside-in-Ok-Twin-3 g) → TwinSays (end g c)
-says g c = twin_says (end g c) (stops g c)
+  cause : g.B.Bench.told → EndsBy IsOfBenches
+      (λ refused. TwinCause refused (g.B.Bench.file mid.bench) (g.B.Bench.file old.spare) (secret_table c.in-Ok-Twin.secret c.in-Ok-Twin.protected)) end
+  cause told =
+      by_cause end IsOfBenches _ (λ _. ⊤) c.in-Err-start.ensures.ends (λ refused is. c.in-Err-start.ensures.cause refused told told is)
 
-cause : (g : Over) (c : goal.After-drop-schema-inside-in-Ok-Twin-3 g) → g.B.Bench.told →
-    EndsBy IsOfBenches (λ refused. TwinCause refused (g.B.Bench.file c.args.bench.now) (g.B.Bench.file c.args.spare.now) (table_in (seen g c))) (end g c)
-cause g c told =
-    subst (λ b. EndsBy IsOfBenches (λ refused. TwinCause refused (g.B.Bench.file b) (g.B.Bench.file c.args.spare.now) (table_in (seen g c))) (end g c))
-    (unopened g c)
-    (by_cause (end g c) IsOfBenches _ (λ _. ⊤) (stops g c) (λ refused is. c.in-Err-start.ensures.cause refused told told is))
+  ends : StepEnds g.I.Source g.B.Bench ready (end_status twin_status end) mid new
+  ends =
+      let does = c.in-Err-start.ensures in
+      record {
+        last = step.last;
+        words = twin_words end c.in-Ok-Twin.batch does.ends;
+        file = λ told table for. twin_file end c.in-Ok-Twin.batch _ _ _ (cause told) (λ is. does.spare_second told (ap refusal is));
+        spare_file = λ told calls. step.spare_file c.in-Ok-Twin.batch _;
+        input = λ itold reads. step.input _;
+        input_fault = unread_input g.I.Source old.input _ step.no_input;
+        bench_fault = told_as g.B.Bench mid.bench new.bench _ _ (λ is. ap refused_status is) (λ is. ap refusal (step.bench is)) does.fault;
+        spare_fault = told_as g.B.Bench old.spare new.spare _ _ (λ is. ap refused_status is) (λ is. ap refusal (step.spare is)) does.spare_fault;
+        quiet = λ told quiet fine. does.quiet told quiet (λ is. fine (ap refused_status is));
+        nothing_began = λ told opens closed quiet table unready. does.untouched told told quiet
+            (λ main other whole all. unready (front_is_legal _ _ (g.B.Bench.file old.spare) whole (main, other, all)));
+        before_lines = step.at_lines _ (λ refuses. (refl, does.sent));
+        unwritten = λ told. step.at_lines _ (λ refuses. (does.reads refuses).0.file);
+        before_spare = λ calls other. step.at_spare _ (λ f is. does.main_first f (ap refusal is));
+        never_written = λ told none. absurd (true≢false none);
+        no_lines = λ none. refl;
+        spare = λ none. absurd (true≢false none);
+      }
 
--- if a call of the spare failed, the journal had been opened
-second : (g : Over) (c : goal.After-drop-schema-inside-in-Ok-Twin-3 g) → g.B.Bench.told → end g c ≡ Stopped stop.Spare →
-    HoldsLegal (g.B.Bench.file c.args.bench.now) (table_in (seen g c))
-second g c told is =
-    subst (λ b. HoldsLegal (g.B.Bench.file b) (table_in (seen g c))) (unopened g c) (c.in-Err-start.ensures.spare_second told (ap refusal is))
+  says : Says g.P.Source g.I.Source g.B.Bench (command_of (map string_bytes c.args.words.now.items)) (end_status twin_status end) old new
+  says =
+      after_step g.P.Source g.I.Source g.B.Bench c.groups_of_a_schema.ensures.entries _ ready _ old mid.schema mid.table mid.bench new.input new.bench new.spare
+      goes ends
 
-refused_faults : (g : Over) (c : goal.After-drop-schema-inside-in-Ok-Twin-3 g) → FaultCause c.from.result
-    (faults_of g.P.Source g.I.Source g.B.Bench (objects c.args.schema.now c.args.table.now c.args.input.now c.args.bench.now c.args.spare.now))
-    (faults_of g.P.Source g.I.Source g.B.Bench (objects c.open.new.schema c.open.new.table c.args.input.now c.start.new.bench c.start.new.spare))
-refused_faults g c =
-    let does = c.in-Err-start.ensures in
-    faults_so c.from.result _ (faults_of g.P.Source g.I.Source g.B.Bench
-    (objects c.args.schema.now c.args.table.now c.args.input.now c.args.bench.now c.args.spare.now)) _
-    _ c.from.ensures c.in-Ok-Twin.ensures.steady
-    (twin_faults (end g c) _ _ _ (stops g c) does.fault.failed does.fault.steady does.spare_fault.failed does.spare_fault.steady)
+  -- opening called nothing of the bench
+  abbrev begun : g.row.B.Denot → Objects g.row.P.Denot g.row.I.Denot g.row.B.Denot
+  begun at = objects old.schema old.table old.input at old.spare
 
--- what is given: the files of a table, and two journals of it of which one begins the other
-abbrev IsGiven : (g : Over) → goal.After-drop-schema-inside-in-Ok-Twin-3 g → Database → List Answered → List Answered → List Answered → Type 0
-IsGiven g c base main other whole =
-    TwinsOver (g.P.Source.left c.args.schema.now) (g.P.Source.left c.args.table.now) (g.B.Bench.file c.args.bench.now)
-    (g.B.Bench.file c.args.spare.now) base main other whole
+  faults : FaultCause (end_status twin_status end) (faults_of g.P.Source g.I.Source g.B.Bench (begun mid.bench))
+      (faults_of g.P.Source g.I.Source g.B.Bench new)
+  faults =
+      subst (λ b. FaultCause (end_status twin_status end) (faults_of g.P.Source g.I.Source g.B.Bench (begun b))
+      (faults_of g.P.Source g.I.Source g.B.Bench new))
+      (sym (goes.unopened refl)) says.faults
 
-sent_same : (g : Over) (c : goal.After-drop-schema-inside-in-Ok-Twin-3 g) → g.B.Bench.sent c.start.new.bench ≡ g.B.Bench.sent c.args.bench.now
-sent_same g c = c.in-Err-start.ensures.sent ∙ ap g.B.Bench.sent (unopened g c)
+  -- the table of the groups is every table that the files mean
+  abbrev seen : Database
+  seen = base_of c.in-Ok-Twin.index.columns c.in-Ok-Twin.index.public c.in-Ok-Twin.protected c.in-Ok-Twin.secret
 
-quiet_opened : (g : Over) (c : goal.After-drop-schema-inside-in-Ok-Twin-3 g) → IsQuiet g.B.Bench c.args.bench.now → IsQuiet g.B.Bench c.open.new.bench
-quiet_opened g c quiet = subst (λ b. IsQuiet g.B.Bench b) (sym (unopened g c)) quiet
+  are : g.P.Source.told → AreSoundFilesOf (g.P.Source.left old.schema) (g.P.Source.left old.table) seen
+  are ptold = goes.over ptold
 
-catching : (g : Over) (c : goal.After-drop-schema-inside-in-Ok-Twin-3 g) → g.P.Source.told → g.B.Bench.told → IsQuiet g.B.Bench c.args.bench.now →
-    (base : Database) (main other whole : List Answered) → IsGiven g c base main other whole →
-    LeavesOnly g.B.Bench c.args.bench.now c.start.new.bench (CatchesUp base.secret.shape main whole (g.B.Bench.sent c.args.bench.now))
-catching g c ptold told quiet base main other whole over =
-    let later = c.start.new.bench in
-    subst (λ (b : Database). LeavesOnly g.B.Bench c.args.bench.now later (CatchesUp b.secret.shape main whole (g.B.Bench.sent c.args.bench.now)))
-    (is_seen g c ptold base over.files)
-    (subst (λ b. LeavesOnly g.B.Bench b later (CatchesUp c.in-Ok-Twin.secret.shape main whole (g.B.Bench.sent b))) (unopened g c)
-    (c.in-Err-start.ensures.main_moments main other whole told told (quiet_opened g c quiet) (keep g c ptold base main other whole over)))
+  is_seen : g.P.Source.told → (base : Database) → AreSoundFilesOf (g.P.Source.left old.schema) (g.P.Source.left old.table) base → seen ≡ base
+  is_seen ptold base sound = one_base c.groups_of_a_schema.ensures.entries _ _ seen base (are ptold) sound
 
-spare_catching : (g : Over) (c : goal.After-drop-schema-inside-in-Ok-Twin-3 g) → g.P.Source.told → g.B.Bench.told → IsQuiet g.B.Bench c.args.spare.now →
-    (base : Database) (main other whole : List Answered) → IsGiven g c base main other whole →
-    LeavesOnly g.B.Bench c.args.spare.now c.start.new.spare (CatchesUp base.secret.shape other whole (g.B.Bench.sent c.args.spare.now))
-spare_catching g c ptold told quiet base main other whole over =
-    let spare = c.args.spare.now in
-    subst (λ (b : Database). LeavesOnly g.B.Bench spare c.start.new.spare (CatchesUp b.secret.shape other whole (g.B.Bench.sent spare)))
-    (is_seen g c ptold base over.files)
-    (c.in-Err-start.ensures.spare_moments main other whole told told quiet (keep g c ptold base main other whole over))
+  -- what is given: its files, and two journals of it of which one begins the other
+  abbrev IsGiven : Database → List Answered → List Answered → List Answered → Type 0
+  IsGiven base main other whole =
+      TwinsOver (g.P.Source.left old.schema) (g.P.Source.left old.table) (g.B.Bench.file mid.bench) (g.B.Bench.file old.spare) base main other whole
 
-gave : (g : Over) (c : goal.After-drop-schema-inside-in-Ok-Twin-3 g) → g.P.Source.told → g.B.Bench.told → (base : Database) (main other whole : List Answered) →
-    IsGiven g c base main other whole → IsStop (end g c)
-gave g c ptold told base main other whole over = c.in-Err-start.ensures.opens main other whole told told (keep g c ptold base main other whole over)
+  keep : g.P.Source.told → (base : Database) (main other whole : List Answered) → IsGiven base main other whole →
+      KeepTogether (table_in seen) (g.B.Bench.file mid.bench) (g.B.Bench.file old.spare) main other whole
+  keep ptold base main other whole over =
+      subst (λ (b : Database). KeepTogether (table_in b) (g.B.Bench.file mid.bench) (g.B.Bench.file old.spare) main other whole)
+      (sym (is_seen ptold base over.files)) over.together
 
--- what there is of the outside before and after
-abbrev before : (g : Over) → goal.After-drop-schema-inside-in-Ok-Twin-3 g → Outside
-before g c = outside g.I.Source g.B.Bench c.args.input.now c.args.bench.now
+  gave : g.P.Source.told → g.B.Bench.told → (base : Database) (main other whole : List Answered) → IsGiven base main other whole →
+      IsStop end
+  gave ptold told base main other whole over = c.in-Err-start.ensures.opens main other whole told told (keep ptold base main other whole over)
 
-abbrev after : (g : Over) → goal.After-drop-schema-inside-in-Ok-Twin-3 g → Outside
-after g c = outside g.I.Source g.B.Bench c.args.input.now c.start.new.bench
+  catching : g.P.Source.told → g.B.Bench.told → IsQuiet g.B.Bench mid.bench → (base : Database) (main other whole : List Answered) →
+      IsGiven base main other whole →
+      LeavesOnly g.B.Bench mid.bench new.bench (CatchesUp base.secret.shape main whole (g.B.Bench.sent mid.bench))
+  catching ptold told quiet base main other whole over =
+      subst (λ (b : Database). LeavesOnly g.B.Bench mid.bench new.bench (CatchesUp b.secret.shape main whole (g.B.Bench.sent mid.bench)))
+      (is_seen ptold base over.files)
+      (c.in-Err-start.ensures.main_moments main other whole told told quiet (keep ptold base main other whole over))
 
--- if memory ran out both files still catch up
-still_caught : (g : Over) (c : goal.After-drop-schema-inside-in-Ok-Twin-3 g) → g.P.Source.told → g.B.Bench.told →
-    (base : Database) (main other whole : List Answered) → IsGiven g c base main other whole →
-    end g c ≡ Stopped stop.NoMemory →
-    BothCatchUp base main other whole (before g c) (after g c) (g.B.Bench.file c.start.new.bench) (g.B.Bench.file c.start.new.spare)
-still_caught g c ptold told base main other whole over is =
-    let found = c.in-Err-start.ensures.no_memory main other whole told told (keep g c ptold base main other whole over) (ap refusal is) in
-    subst (λ (b : Database). BothCatchUp b main other whole (before g c) (after g c) (g.B.Bench.file c.start.new.bench) (g.B.Bench.file c.start.new.spare))
-    (is_seen g c ptold base over.files) (refl, sent_same g c, found.0, found.1)
+  spare_catching : g.P.Source.told → g.B.Bench.told → IsQuiet g.B.Bench old.spare → (base : Database) (main other whole : List Answered) →
+      IsGiven base main other whole →
+      LeavesOnly g.B.Bench old.spare new.spare (CatchesUp base.secret.shape other whole (g.B.Bench.sent old.spare))
+  spare_catching ptold told quiet base main other whole over =
+      subst (λ (b : Database). LeavesOnly g.B.Bench old.spare new.spare (CatchesUp b.secret.shape other whole (g.B.Bench.sent old.spare)))
+      (is_seen ptold base over.files)
+      (c.in-Err-start.ensures.spare_moments main other whole told told quiet (keep ptold base main other whole over))
 
--- if the spare failed all but it is as it was
-all_else_same : (g : Over) (c : goal.After-drop-schema-inside-in-Ok-Twin-3 g) → end g c ≡ Stopped stop.Spare → after g c ≡ before g c
-all_else_same g c is =
-    let same = (c.in-Err-start.ensures.spare_failed (ap refusal is)).file ∙ ap g.B.Bench.file (unopened g c) in
-    ap (λ (sent : List ℕ). record { input = g.I.Source.left c.args.input.now; sent = sent; file = g.B.Bench.file c.start.new.bench }) (sent_same g c)
-    ∙ ap (λ (file : List ℕ). record { input = g.I.Source.left c.args.input.now; sent = g.B.Bench.sent c.args.bench.now; file = file }) same
+  -- what there is of the outside before and after
+  abbrev before : Outside
+  before = outside g.I.Source g.B.Bench old.input mid.bench
 
-both_left : (g : Over) (c : goal.After-drop-schema-inside-in-Ok-Twin-3 g) → g.P.Source.told → g.B.Bench.told → IsQuiet g.B.Bench c.args.bench.now →
-    IsQuiet g.B.Bench c.args.spare.now →
-    (base : Database) (main other whole : List Answered) → IsGiven g c base main other whole → (image spare : List ℕ) →
-    g.B.Bench.leaves c.start.new.bench image → g.B.Bench.leaves c.start.new.spare spare →
-    BothCatchUp base main other whole (before g c) (after g c) image spare
-both_left g c ptold told quiet spare_quiet base main other whole over image spare left spare_left = (
-  refl,
-  sent_same g c,
-  left_between g.B.Bench c.args.bench.now c.start.new.bench base.secret.shape main whole image
-      (λ later. g.met.B.Bench.counts_now c.start.new.bench (g.B.Bench.moment c.args.bench.now) image later left)
-      (catching g c ptold told quiet base main other whole over),
-  left_between g.B.Bench c.args.spare.now c.start.new.spare base.secret.shape other whole spare
-      (λ later. g.met.B.Bench.counts_now c.start.new.spare (g.B.Bench.moment c.args.spare.now) spare later spare_left)
-      (spare_catching g c ptold told spare_quiet base main other whole over),
-)
+  abbrev after : Outside
+  after = outside g.I.Source g.B.Bench old.input new.bench
 
--- the files don't keep together
-apart : (g : Over) (c : goal.After-drop-schema-inside-in-Ok-Twin-3 g) → g.P.Source.told →
-    ((base : Database) (main other whole : List Answered) → IsGiven g c base main other whole → ⊥) →
-    KeepApart (table_in (seen g c)) (g.B.Bench.file c.open.new.bench) (g.B.Bench.file c.args.spare.now)
-apart g c ptold none main other whole all =
-    none (seen g c) main other whole (record {
-      files = are g c ptold;
-      together = subst (λ b. KeepTogether (table_in (seen g c)) (g.B.Bench.file b) (g.B.Bench.file c.args.spare.now) main other whole) (unopened g c) all;
-    })
+  -- if memory ran out both files still catch up
+  still_caught : g.P.Source.told → g.B.Bench.told → (base : Database) (main other whole : List Answered) → IsGiven base main other whole →
+      end ≡ Stopped stop.NoMemory →
+      BothCatchUp base main other whole before after (g.B.Bench.file new.bench) (g.B.Bench.file new.spare)
+  still_caught ptold told base main other whole over is =
+      let does = c.in-Err-start.ensures in
+      let found = does.no_memory main other whole told told (keep ptold base main other whole over) (ap refusal is) in
+      subst (λ (b : Database). BothCatchUp b main other whole before after (g.B.Bench.file new.bench) (g.B.Bench.file new.spare))
+      (is_seen ptold base over.files) (refl, does.sent, found.0, found.1)
 
-untouched : (g : Over) (c : goal.After-drop-schema-inside-in-Ok-Twin-3 g) → g.B.Bench.told → IsQuiet g.B.Bench c.args.bench.now →
-    KeepApart (table_in (seen g c)) (g.B.Bench.file c.open.new.bench) (g.B.Bench.file c.args.spare.now) →
-    LeavesOnly g.B.Bench c.args.bench.now c.start.new.bench (IsUntouched (g.B.Bench.file c.args.bench.now) (g.B.Bench.sent c.args.bench.now))
-untouched g c told quiet apart =
-    subst (λ b. LeavesOnly g.B.Bench b c.start.new.bench (IsUntouched (g.B.Bench.file b) (g.B.Bench.sent b))) (unopened g c)
-    (c.in-Err-start.ensures.untouched told told (quiet_opened g c quiet) apart)
+  -- if the spare failed all but it is as it was
+  all_else_same : end ≡ Stopped stop.Spare → after ≡ before
+  all_else_same is =
+      let text = g.I.Source.left old.input in
+      let same = (c.in-Err-start.ensures.spare_failed (ap refusal is)).file in
+      ap (λ (sent : List ℕ). record { input = text; sent = sent; file = g.B.Bench.file new.bench }) c.in-Err-start.ensures.sent
+      ∙ ap (λ (file : List ℕ). record { input = text; sent = g.B.Bench.sent mid.bench; file = file }) same
 
-is_named : (g : Over) (c : goal.After-drop-schema-inside-in-Ok-Twin-3 g) → command_of (map string_bytes c.args.words.now.items)
-    ≡ Some (command.Serve c.in-Ok-Twin.batch true)
-is_named g c = asked_for _ _ _ _ c.in-Ok.ensures.command c.in-Ok-Twin.field-0-is c.in-Ok-Twin.ensures.asked
+  both_left : g.P.Source.told → g.B.Bench.told → IsQuiet g.B.Bench mid.bench → IsQuiet g.B.Bench old.spare →
+      (base : Database) (main other whole : List Answered) → IsGiven base main other whole → (image spare : List ℕ) →
+      g.B.Bench.leaves new.bench image → g.B.Bench.leaves new.spare spare → BothCatchUp base main other whole before after image spare
+  both_left ptold told quiet spare_quiet base main other whole over image spare left spare_left = (
+    refl,
+    c.in-Err-start.ensures.sent,
+    left_between g.B.Bench mid.bench new.bench base.secret.shape main whole image
+        (λ later. g.met.B.Bench.counts_now new.bench (g.B.Bench.moment mid.bench) image later left)
+        (catching ptold told quiet base main other whole over),
+    left_between g.B.Bench old.spare new.spare base.secret.shape other whole spare
+        (λ later. g.met.B.Bench.counts_now new.spare (g.B.Bench.moment old.spare) spare later spare_left)
+        (spare_catching ptold told spare_quiet base main other whole over),
+  )
 
-refusing : (g : Over) (c : goal.After-drop-schema-inside-in-Ok-Twin-3 g) →
-    TwinServing g.P.Source g.I.Source g.B.Bench c.in-Ok-Twin.batch c.from.result
-    (objects c.args.schema.now c.args.table.now c.args.input.now c.args.bench.now c.args.spare.now)
-    (objects c.open.new.schema c.open.new.table c.args.input.now c.start.new.bench c.start.new.spare)
-refusing g c =
-    let at = c.args.bench.now in
-    let later = c.start.new.bench in
-    let spare = c.args.spare.now in
-    let spare_later = c.start.new.spare in
-    let old = objects c.args.schema.now c.args.table.now c.args.input.now at spare in
-    let new = objects c.open.new.schema c.open.new.table c.args.input.now later spare_later in
-    let n = c.in-Ok-Twin.batch in
-    let does = c.in-Err-start.ensures in
-    subst (λ (s : Status). TwinServing g.P.Source g.I.Source g.B.Bench n s old new) (sym c.from.ensures) (record {
-      twins_served = λ ptold itold told base main other whole over.
-          twin_gave_up (end g c) n base main other whole (before g c) (after g c) (g.B.Bench.file spare_later) (stops g c)
-          (gave g c ptold told base main other whole over) (still_caught g c ptold told base main other whole over) (all_else_same g c);
-      twin_moment = λ ptold itold told quiet base main other whole over.
-          weakens g.B.Bench at later (CatchesUp base.secret.shape main whole (g.B.Bench.sent at)) _ (λ image sent is. inl is)
-          (catching g c ptold told quiet base main other whole over);
-      spare_moment = λ ptold itold told quiet base main other whole over.
-          weakens g.B.Bench spare spare_later (CatchesUp base.secret.shape other whole (g.B.Bench.sent spare)) _ (λ image sent is. inl is)
-          (spare_catching g c ptold told quiet base main other whole over);
-      twins_left = λ ptold itold told quiet spare_quiet base main other whole over image found left left_there.
-          inl (both_left g c ptold told quiet spare_quiet base main other whole over image found left left_there);
-      spare_lives = λ ptold itold told quiet spare_quiet.
-          spare_goes_on g.P.Source g.I.Source g.B.Bench n old new c.lives.ensures.longer c.one_reading.ensures
-          (c.read_words.ensures.batch n true (is_named g c))
-          (λ base main other whole over image sent left all. left_of_spare base n main other whole (before g c) (after g c) sent
-          (g.B.Bench.file later) image all
-          (inl (both_left g c ptold told quiet spare_quiet base main other whole over (g.B.Bench.file later) image (g.met.B.Bench.reads later told) left)));
-      undisclosed = λ ptold told quiet base main other whole over image sent now was.
-          catching_is_harmless c.stops_are_legal.ensures _ _ base over.files main whole over.together.legal (g.B.Bench.sent at) image sent
-          ((catching g c ptold told quiet base main other whole over).each image sent was) now;
-      spare_undisclosed = λ ptold told quiet base main other whole over image sent now was.
-          catching_is_harmless c.stops_are_legal.ensures _ _ base over.files other whole over.together.legal (g.B.Bench.sent spare) image sent
-          ((spare_catching g c ptold told quiet base main other whole over).each image sent was) now;
-      apart = λ ptold told quiet none. untouched g c told quiet (apart g c ptold none);
-      spare_apart = λ ptold told quiet none. does.spare_untouched told told quiet (apart g c ptold none);
-      cause = λ ptold told base sound.
-          subst (λ (b : Database). BothCause (end_status twin_status (end g c)) (command.Serve n true) (g.B.Bench.file at) (g.B.Bench.file spare) (table_in b))
-          (is_seen g c ptold base sound) (twin_cause (end g c) n _ _ _ (cause g c told));
-      spare_quiet = λ told quiet fine. does.spare_quiet told quiet (λ is. fine (ap refused_status is));
-      spare_unsent = does.spare_sent;
-      spare_unwritten = (says g c).at_lines _ (λ refuses. (does.reads refuses).1.file);
-      twin_calls = λ ptold itold told done. absurd ((says g c).undone done);
-      spare_calls = λ ptold itold told done. absurd ((says g c).undone done);
-      twins_complete = λ ptold itold told base main other whole over within none fine.
-          end_wants twin_status (end g c) (faults_of g.P.Source g.I.Source g.B.Bench old) (faults_of g.P.Source g.I.Source g.B.Bench new) (stops g c)
-          (gave g c ptold told base main other whole over)
-          (subst (λ (s : Status). FaultCause s (faults_of g.P.Source g.I.Source g.B.Bench old) (faults_of g.P.Source g.I.Source g.B.Bench new)) c.from.ensures
-          (refused_faults g c)) none fine;
-    })
+  -- the files don't keep together
+  apart : g.P.Source.told → ((base : Database) (main other whole : List Answered) → IsGiven base main other whole → ⊥) →
+      KeepApart (table_in seen) (g.B.Bench.file mid.bench) (g.B.Bench.file old.spare)
+  apart ptold none main other whole all = none seen main other whole (record { files = are ptold; together = all })
 
--- over files of which the journal's isn't one of a legal history, nothing began
-nothing_began : (g : Over) (c : goal.After-drop-schema-inside-in-Ok-Twin-3 g) → g.P.Source.told → g.B.Bench.told → (asked : Command) →
-    NamesCommand c.args.words.now.items asked → IsQuiet g.B.Bench c.args.bench.now →
-    ((base : Database) → AreSoundFilesOf (g.P.Source.left c.args.schema.now) (g.P.Source.left c.args.table.now) base →
-    IsReadyFor asked (g.B.Bench.file c.args.bench.now) (table_in base) → ⊥) →
-    LeavesOnly g.B.Bench c.args.bench.now c.start.new.bench (IsUntouched (g.B.Bench.file c.args.bench.now) (g.B.Bench.sent c.args.bench.now))
-nothing_began g c ptold told asked named quiet none =
-    untouched g c told quiet (λ main other whole all. none (seen g c) (are g c ptold)
-    (subst (λ (k : Command). IsReadyFor k (g.B.Bench.file c.args.bench.now) (table_in (seen g c))) (one_command _ _ asked (is_named g c) named)
-    (subst (λ b. HoldsLegal (g.B.Bench.file b) (table_in (seen g c))) (unopened g c)
-    (front_is_legal (table_in (seen g c)) _ (g.B.Bench.file c.args.spare.now) whole (main, other, all)))))
+  refusing : TwinServing g.P.Source g.I.Source g.B.Bench c.in-Ok-Twin.batch (end_status twin_status end) (begun mid.bench) new
+  refusing =
+      let n = c.in-Ok-Twin.batch in
+      let does = c.in-Err-start.ensures in
+      let sent = g.B.Bench.sent mid.bench in
+      let spare_sent = g.B.Bench.sent old.spare in
+      record {
+        twins_served = λ ptold itold told base main other whole over.
+            twin_gave_up end n base main other whole before after (g.B.Bench.file new.spare) does.ends
+            (gave ptold told base main other whole over) (still_caught ptold told base main other whole over) all_else_same;
+        twin_moment = λ ptold itold told quiet base main other whole over.
+            weakens g.B.Bench mid.bench new.bench (CatchesUp base.secret.shape main whole sent) _ (λ image bytes is. inl is)
+            (catching ptold told quiet base main other whole over);
+        spare_moment = λ ptold itold told quiet base main other whole over.
+            weakens g.B.Bench old.spare new.spare (CatchesUp base.secret.shape other whole spare_sent) _ (λ image bytes is. inl is)
+            (spare_catching ptold told quiet base main other whole over);
+        twins_left = λ ptold itold told quiet spare_quiet base main other whole over image found left left_there.
+            inl (both_left ptold told quiet spare_quiet base main other whole over image found left left_there);
+        spare_lives = λ ptold itold told quiet spare_quiet.
+            spare_goes_on g.P.Source g.I.Source g.B.Bench n (begun mid.bench) new c.lives.ensures.longer c.one_reading.ensures
+            (c.read_words.ensures.batch n true goes.named)
+            (λ base main other whole over image bytes left all. left_of_spare base n main other whole before after bytes
+            (g.B.Bench.file new.bench) image all
+            (inl (both_left ptold told quiet spare_quiet base main other whole over (g.B.Bench.file new.bench) image
+            (g.met.B.Bench.reads new.bench told) left)));
+        undisclosed = λ ptold told quiet base main other whole over image bytes now was.
+            catching_is_harmless c.stops_are_legal.ensures _ _ base over.files main whole over.together.legal sent image bytes
+            ((catching ptold told quiet base main other whole over).each image bytes was) now;
+        spare_undisclosed = λ ptold told quiet base main other whole over image bytes now was.
+            catching_is_harmless c.stops_are_legal.ensures _ _ base over.files other whole over.together.legal spare_sent image bytes
+            ((spare_catching ptold told quiet base main other whole over).each image bytes was) now;
+        apart = λ ptold told quiet none. does.untouched told told quiet (apart ptold none);
+        spare_apart = λ ptold told quiet none. does.spare_untouched told told quiet (apart ptold none);
+        cause = λ ptold told base sound.
+            subst (λ (b : Database). BothCause (end_status twin_status end) (command.Serve n true) (g.B.Bench.file mid.bench) (g.B.Bench.file old.spare) (table_in b))
+            (is_seen ptold base sound) (twin_cause end n _ _ _ (cause told));
+        spare_quiet = λ told quiet fine. does.spare_quiet told quiet (λ is. fine (ap refused_status is));
+        spare_unsent = does.spare_sent;
+        spare_unwritten = step.at_lines _ (λ refuses. (does.reads refuses).1.file);
+        twin_calls = λ ptold itold told done. absurd (step.undone done);
+        spare_calls = λ ptold itold told done. absurd (step.undone done);
+        twins_complete = λ ptold itold told base main other whole over within none fine.
+            done_or_wants _ _ _ (end_unrefused twin_status end does.ends (gave ptold told base main other whole over)) faults none (λ is. fine);
+      }
+
+  all : Answers g.P.Source g.I.Source g.B.Bench (command_of (map string_bytes c.args.words.now.items)) c.from.result old new
+  all =
+      answers g.P.Source g.I.Source g.B.Bench c.groups_of_a_schema.ensures.entries _ ready _ old mid.schema mid.table mid.bench new.input new.bench new.spare
+      goes ends c.from.ensures 
+      (subst (λ b. TwinServing g.P.Source g.I.Source g.B.Bench c.in-Ok-Twin.batch (end_status twin_status end) (begun b) new) (goes.unopened refl)
+      refusing)
 
 pub twin_refused : goal.returns-in-Ok-Twin
-twin_refused g c =
-    let status = c.from.result in
-    let does = c.in-Err-start.ensures in
-    let one = command.Serve c.in-Ok-Twin.batch true in
-    let file = g.B.Bench.file c.args.bench.now in
-    let spare = g.B.Bench.file c.args.spare.now in
-    let named = is_named g c in
-    let last = subst EndsLastStep (sym c.from.ensures) (says g c).last in
-    record {
-      words = words_so _ one status _ named c.from.ensures (twin_words (end g c) c.in-Ok-Twin.batch (stops g c));
-      schema = λ ptold command asked reads. schema_so status _ _ _ last (are g c ptold).files;
-      table = λ ptold command asked reads. table_so status _ _ _ last (are g c ptold).files;
-      public = λ ptold asked. not_asked _ _ _ named asked refl;
-      groups = λ ptold command asked reads. groups_so c.groups_of_a_schema.ensures.entries status _ _ _ last (are g c ptold);
-      own_schema_fault = no_schema_fault status last;
-      own_table_fault = no_table_fault status last;
-      file = λ ptold told. file_so _ one status _ named c.from.ensures refl _ _ file (λ base sound.
-          subst (λ (b : Database). FileCause (end_status twin_status (end g c)) one file (table_in b)) (is_seen g c ptold base sound)
-          (twin_file (end g c) c.in-Ok-Twin.batch _ _ _ (cause g c told) (second g c told)));
-      input = λ itold command asked reads.
-          subst (λ (s : Status). InputCause s (g.I.Source.left c.args.input.now) (g.I.Source.left c.args.input.now)) (sym c.from.ensures)
-          ((says g c).input _);
-      faults = refused_faults g c;
-      schema_last = schema_was_read status last;
-      table_last = table_was_read status last;
-      input_last = λ is. absurd ((says g c).no_input (sym c.from.ensures ∙ is));
-      bench_last = λ is. does.fault.last_call (ap refusal ((says g c).bench (sym c.from.ensures ∙ is)));
-      spare_last = λ is. does.spare_fault.last_call (ap refusal ((says g c).spare (sym c.from.ensures ∙ is)));
-      spare_file = λ told command asked calls. named_so _ one status _ named c.from.ensures (λ (s : Status) (k : Command). SpareCause s k spare)
-          ((says g c).spare_file c.in-Ok-Twin.batch spare) command asked;
-      later = later_so _ _ _ c.open.ensures.later (stays _) does.fault.later does.spare_fault.later;
-      schema_within = λ ptold. schema_was_read status last;
-      table_within = λ ptold. table_was_read status last;
-      lives = λ ptold told command asked itold quiet. goes_on g.P.Source g.I.Source g.B.Bench status _ _ c.lives.ensures.longer c.one_reading.ensures command
-          (λ batch twin is. c.read_words.ensures.batch batch twin (asked ∙ ap (λ (k : Command). Some k) is))
-          (does_so g.P.Source g.I.Source g.B.Bench status _ _ _ _ command named asked (refusing g c)) ptold told itold quiet;
-      does = λ command asked. does_so g.P.Source g.I.Source g.B.Bench status _ _ _ _ command named asked (refusing g c);
-      nothing_began = λ ptold told command asked opens. nothing_began g c ptold told command asked;
-      quiet = λ told quiet fine. does.quiet told (quiet_opened g c quiet) (λ is. fine (c.from.ensures ∙ ap refused_status is));
-      before_table = past_table _ status last;
-      before_bench = past_journal _ status last;
-      before_spare = λ other. subst (λ (s : Status). Before opening_spare s (c.start.new.spare ≡ c.args.spare.now)) (sym c.from.ensures)
-          ((says g c).at_spare _ (λ f is. does.main_first f (ap refusal is)));
-      before_lines = at_lines _ _ _ c.from.ensures ((says g c).at_lines _ (λ refuses. (refl, sent_same g c)));
-      unwritten = λ told. at_lines _ _ _ c.from.ensures
-          ((says g c).at_lines _ (λ refuses. (does.reads refuses).0.file ∙ ap g.B.Bench.file (unopened g c)));
-      unread = λ none. none_asked _ _ none named;
-      no_files = λ command asked none. takes_step reads_files _ _ _ named asked refl none;
-      no_lines = λ command asked none. refl;
-      never_written = λ told command asked none. takes_step writes _ _ _ named asked refl none;
-      spare = λ command asked none. takes_step calls_spare _ _ _ named asked refl none;
-    }
+twin_refused g c = record {
+  says = (all g c).says;
+  lives = goes_on g.P.Source g.I.Source g.B.Bench _ _ (old g c) (new g c) c.lives.ensures.longer c.one_reading.ensures c.read_words.ensures.batch
+      (all g c).does;
+  does = (all g c).does;
+  nothing_began = (all g c).nothing_began;
+}
