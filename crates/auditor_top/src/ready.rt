@@ -150,7 +150,8 @@ pub fn open<P: Source, B: Bench>(
         }
         Command::Simulate => {
             let OpenedPublic { schema, public } = open_public(alloc, schema, table)?;
-            Ok(Ready::Simulate(Index::new(alloc, schema, public)?))
+            let index = Index::new(alloc, schema, public)?;
+            Ok(Ready::Simulate(index))
         }
         Command::Drill { number } => Ok(Ready::Drill(number)),
         Command::Grow => {

@@ -1,15 +1,21 @@
-use Rattle.std.proofs.Common.{◌≡◌, List, Result, Err, refl, sym, ap, subst}
+use Rattle.std.proofs.Common.{◌≡◌, ℕ, List, Result, Ok, Err, refl, sym, ap, subst, ◌∙◌}
 use Rattle.audit_types.specs.History.{Protection}
+use Rattle.audit_types.specs.declared.shapes.Shape.{Shape}
 use Rattle.drill_case.specs.Drills.{drill_protection}
 use Rattle.table_load.specs.Database.{base_of}
 use Rattle.auditor_top.specs.declared.words.Command.{Command}
 use Rattle.auditor_top.specs.declared.status.Status.{Status}
 use Rattle.auditor_top.specs.Commands.{reads_files, reads_secrets, AreSoundFilesOf, reads_groups}
+use Rattle.auditor_top.specs.Ends.{people_told}
 use Rattle.auditor_top.specs.Ready.{IsGiven, Refuses}
 use Rattle.auditor_top.proofs.FileRefusals.{files_refused, gives_up_over, gives_up_public, of_status}
 use Rattle.schema_json.specs.Columns.{Column}
+use Rattle.schema_json.specs.SecretShape.{shape_of}
+use Rattle.schema_json.specs.Reading.{schema_of}
+use Rattle.table_load.specs.Cells.{PublicView, whole}
 use Rattle.table_load.specs.MeaningLaws.{read_whole}
 use Rattle.table_load.specs.Tables.{public_of, table_of}
+use Rattle.set_index.specs.Groups.{Protects}
 use Rattle.set_index.specs.Indexed.{IndexView}
 use Rattle.set_index.specs.declared.index.IndexFault.{IndexFault}
 use Rattle.set_index.specs.declared.index.IndexFault.TheVariants as index
@@ -82,6 +88,23 @@ returns-in_err-index-in-Simulate-clause-refusal g c =
     (e.public_is ptold) bad
     (subst (λ (k : Command). IsGiven k schema table (g.B.Bench.file c.args.bench.now)) c.in-Simulate.is given)))
 
+pub returns-in_ok-index-in-Simulate-clause-over : goal.returns-in_ok-index-in-Simulate-clause-over
+returns-in_ok-index-in-Simulate-clause-over g c =
+    let opened = c.in_ok-schema-in-Simulate.field-0 in
+    let e = c.in_ok-schema-in-Simulate.ensures in
+    let made = c.in_ok-index-in-Simulate.index in
+    let a = c.in_ok-index-in-Simulate.ensures in
+    let schema = g.P.Source.left c.args.schema.now in
+    let table = g.P.Source.left c.args.table.now in
+    let guards = opened.schema.guards in
+    λ ptold. record {
+      guards = guards;
+      schema_is = subst (λ (cs : List Column). schema_of schema ≡ Ok (record { columns = cs; guards = guards })) (sym a.columns) (e.schema_is ptold);
+      public_is = subst (λ (cs : List Column). public_of cs table ≡ Ok (whole made.public)) (sym a.columns)
+          (subst (λ (p : PublicView). public_of opened.schema.columns table ≡ Ok p) (sym a.public) (e.public_is ptold));
+      entries = subst (λ (cs : List Column). Protects cs made.public guards made.protected) (sym a.columns) a.entries;
+    }
+
 -- ---- over a store, or what a store is made of
 
 pub returns-in_ok-started-in-Explain-clause-over : goal.returns-in_ok-started-in-Explain-clause-over
@@ -91,3 +114,23 @@ returns-in_ok-started-in-Explain-clause-over g c =
     λ ptold.
     subst (λ (l : Protection). AreSoundFilesOf (g.P.Source.left c.args.schema.now) (g.P.Source.left c.args.table.now)
     (base_of s.index.columns s.index.public l s.store.secret)) (sym a.entries) (a.over ptold)
+
+-- ---- over a store and the schema alone
+
+pub returns-in_ok-started-in-Audit-clause-ready : goal.returns-in_ok-started-in-Audit-clause-ready
+returns-in_ok-started-in-Audit-clause-ready g c =
+    let s = c.in_ok-started-in-Audit.started in
+    let a = c.in_ok-started-in-Audit.ensures in
+    let rows : s.index.public.rows ≡ s.store.secret.shape.rows = sym (ap (λ (shape : Shape). shape.rows) a.shape) in (
+      a.opened,
+      a.shape ∙ ap (λ (n : ℕ). shape_of s.index.columns n) rows ∙ ap (λ (cs : List Column). shape_of cs s.store.secret.shape.rows) (sym c.into_schema.ensures),
+    )
+
+pub returns-in_ok-started-in-Audit-clause-over : goal.returns-in_ok-started-in-Audit-clause-over
+returns-in_ok-started-in-Audit-clause-over g c =
+    let s = c.in_ok-started-in-Audit.started in
+    let a = c.in_ok-started-in-Audit.ensures in
+    λ ptold.
+    subst (λ (cs : List Column). (public : PublicView) × AreSoundFilesOf (g.P.Source.left c.args.schema.now) (g.P.Source.left c.args.table.now)
+    (base_of cs public s.store.protected s.store.secret) × (c.people_of-people.result ≡ people_told cs public)) (sym c.into_schema.ensures)
+    (s.index.public, a.over ptold, c.people_of-people.ensures)

@@ -6,6 +6,12 @@ use Rattle.schema_json.specs.Columns.{people_place}
 use Rattle.table_load.specs.Cells.{PublicView, counts_of}
 use Rattle.auditor_top.proofs.ready.people_of.Goals as goal
 
+pub returns-in_err-_place : goal.returns-in_err-_place
+returns-in_err-_place c =
+    let counts = counts_of c.args.index.now.columns c.args.index.now.public in
+    let none = c.in_err-_place.ensures.place ∙ ap people_place c.schema.ensures.same in
+    c.from_residual.ensures ∙ ap (option_map (λ place. people_behind counts (rows_that (λ r. true) c.args.index.now.public.rows))) none
+
 pub returns : goal.returns
 returns c =
     let columns = c.args.index.now.columns in

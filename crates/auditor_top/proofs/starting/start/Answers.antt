@@ -1,7 +1,10 @@
-use Rattle.std.proofs.Common.{◌≡◌, List, Result, Err, refl, sym, subst}
+use Rattle.std.proofs.Common.{◌≡◌, List, Result, Err, refl, sym, ap, subst, ◌∙◌}
 use Rattle.std.specs.Prelude.{⊤}
 use Rattle.audit_types.specs.declared.records.Answered.{Answered}
-use Rattle.audit_types.specs.History.{Protection, IsLegal}
+use Rattle.audit_types.specs.History.{Protection, AreProtected, IsLegal}
+use Rattle.audit_types.specs.declared.shapes.Shape.{Shape}
+use Rattle.schema_json.specs.Columns.{Column}
+use Rattle.schema_json.specs.SecretShape.{shape_of}
 use Rattle.table_load.specs.Cells.{PublicView, SecretView, whole}
 use Rattle.table_load.specs.Database.{secret_table}
 use Rattle.journal_form.specs.Journal.{StandsFor}
@@ -14,6 +17,7 @@ use Rattle.bench_core.specs.declared.stops.Stop.TheVariants as stop
 use Rattle.answer_journal.specs.declared.refusals.JournalRefusal.{JournalRefusal}
 use Rattle.audit_store.specs.Starting.{StartCause}
 use Rattle.set_index.specs.Groups.{Protects}
+use Rattle.set_index.specs.Indexed.{public_shape}
 use Rattle.auditor_top.specs.declared.starting.NotStarted.{NotStarted}
 use Rattle.auditor_top.specs.declared.starting.NotStarted.TheVariants as began
 use Rattle.auditor_top.proofs.StoreRefusals.{same_journal, same_start}
@@ -22,6 +26,16 @@ use Rattle.auditor_top.proofs.starting.start.Goals as goal
 -- the end of the opening is told as it is
 one_end : {X : Type 0} (a b : End JournalRefusal) → ◌≡◌ {A = Result X NotStarted} (Err (began.Journal a)) (Err (began.Journal b)) → a ≡ b
 one_end a b is = cc
+
+pub start-requires : goal.start-requires
+start-requires g c =
+    let opened = c.args.opened in
+    let made = c.in-Ok.grouped in
+    let does = c.in-Ok.ensures in
+    let shape : made.secret.shape ≡ public_shape made.index = ap (λ (s : SecretView). s.shape) does.same.2 ∙ c.requires.shape
+    ∙ ap (λ (cs : List Column). shape_of cs opened.table.public.rows) (sym does.same.0)
+    ∙ ap (λ (p : PublicView). shape_of made.index.columns p.rows) (sym does.same.1) in
+    record { fit = subst (λ (s : Shape). AreProtected s made.protected) (sym shape) does.fit }
 
 pub returns-in-Err-start-clause-cause : goal.returns-in-Err-start-clause-cause
 returns-in-Err-start-clause-cause g c = λ end is.
