@@ -96,8 +96,8 @@ returns-in-Err g c =
     (not_written g.B.Bench old.spare (λ image sent was. g.met.B.Bench.only_now old.spare image sent was))
     (λ number asked. absurd (false≢true (c.in-Err.ensures.taken (ap reads_files (same (command.Drill number) asked))))) in
     record {
-      says = after_refusal g.P.Source g.I.Source g.B.Bench words c.in-Ok.command status old new.schema new.table new.bench named refuses opening.reads opening.later
-          opening.unread;
+      says = after_refusal g.P.Source g.I.Source g.B.Bench words c.in-Ok.command status old new.schema new.table new.bench named refuses opening.reads
+          opening.later opening.unread;
       lives = goes_on g.P.Source g.I.Source g.B.Bench _ status old new c.lives.ensures.longer c.one_reading.ensures c.read_words.ensures.batch all;
       does = all;
       nothing_began = λ ptold told command asked opens quiet none. opening.reads.untouched quiet;
