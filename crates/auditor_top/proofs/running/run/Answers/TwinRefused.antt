@@ -35,7 +35,7 @@ use Rattle.auditor_top.proofs.TwinSessions.{catching_is_harmless, left_between}
 use Rattle.auditor_top.proofs.running.run.Given.{Over}
 use Rattle.auditor_top.proofs.running.run.Goals as goal
 
-module _ (g : Over) (c : goal.After-drop-schema-inside-in-Ok-Twin-3 g) where
+module _ (g : Over) (c : goal.After-drop-index-inside-in-Ok-Twin-7 g) where
   abbrev old : Objects g.row.P.Denot g.row.I.Denot g.row.B.Denot
   old = objects c.args.schema.now c.args.table.now c.args.input.now c.args.bench.now c.args.spare.now
 
