@@ -1,10 +1,9 @@
 -- What the end of the last step of `compact` comes to, by cases on it.
-use Rattle.std.proofs.Common.{rules, ◌≡◌, ◌≢◌, ℕ, List, Some, Result, Ok, Err, IsErr, IsErrOf, OnOk, OnErr, refl, inl, inr}
+use Rattle.std.proofs.Common.{rules, ◌≡◌, ◌≢◌, ℕ, List, Some, Result, Ok, Err, IsErr, IsErrOf, OnOk, OnErr, refl, inr}
 use Rattle.std.specs.Prelude.{⊤, IfErr}
 use Rattle.std.proofs.lemmas.Bool.{false≢true}
 use Rattle.audit_types.specs.declared.records.Answered.{Answered}
 use Rattle.audit_types.specs.History.{Table as Guarded}
-use Rattle.bench_core.specs.Causes.{Rose}
 use Rattle.audit_types.specs.declared.shapes.Shape.{Shape}
 use Rattle.answer_journal.specs.Moments.{IsMade}
 use Rattle.journal_compact.specs.Compactions.{Compacts, CompactsFront}
@@ -17,8 +16,8 @@ use Rattle.bench_core.specs.declared.stops.End.TheVariants.{Stopped, Refused}
 use Rattle.bench_core.specs.declared.stops.Stop.TheVariants as stop
 use Rattle.auditor_top.specs.declared.words.Command.TheVariants.{Compact}
 use Rattle.auditor_top.specs.declared.status.Which.TheVariants.{Input}
-use Rattle.auditor_top.specs.declared.status.Status.TheVariants.{Done, SourceFault, BenchFault, SpareFault, SpareThere, NoMemory}
-use Rattle.auditor_top.specs.Causes.{FaultCounts, FaultCause, WordCause, FileCause, SpareCause, HoldsLegal, NothingFailed, IsDoneOrWants}
+use Rattle.auditor_top.specs.declared.status.Status.TheVariants.{Done, BenchFault, SpareFault, SpareThere, NoMemory}
+use Rattle.auditor_top.specs.Causes.{WordCause, FileCause, SpareCause, HoldsLegal}
 use Rattle.auditor_top.specs.Compactions.{CompactEnds}
 use Rattle.auditor_top.specs.Stages.{Before, opening_spare, reading_lines}
 use Rattle.auditor_top.specs.Faults.{compacting_status}

@@ -1,20 +1,13 @@
 -- What the end of the last step of `drill` comes to, by cases on it.
-use Rattle.std.proofs.Common.{rules, ◌≡◌, ◌≢◌, ℕ, List, Some, Result, Ok, Err, IfErr, IsErrOf, OnOk, refl, ap, inl, inr}
-use Rattle.audit_types.specs.History.{Table as Guarded}
-use Rattle.bench_core.specs.Causes.{Rose}
+use Rattle.std.proofs.Common.{◌≡◌, ℕ, List, Result, Ok, Err, IfErr, IsErrOf, OnOk, refl}
 use Rattle.bench_core.specs.Stops.{IsOfBench}
 use Rattle.bench_core.specs.declared.stops.Stop.{Stop}
-use Rattle.bench_core.specs.declared.stops.Stop.TheVariants.{Input, Limit, Bench, Spare}
+use Rattle.bench_core.specs.declared.stops.Stop.TheVariants.{Bench}
 use Rattle.bench_core.specs.declared.stops.Stop.TheVariants as stop
 use Rattle.drill_case.specs.Drills.{SendsSummary, SendsSummaryFront}
-use Rattle.auditor_top.specs.declared.words.Command.TheVariants.{Drill}
-use Rattle.auditor_top.specs.declared.status.Which.TheVariants as which
-use Rattle.auditor_top.specs.declared.status.Status.TheVariants.{Done, SourceFault, BenchFault, NoMemory}
-use Rattle.auditor_top.specs.Causes.{FaultCounts, FaultCause, FileCause, NothingFailed, IsDoneOrWants, WordCause}
+use Rattle.auditor_top.specs.declared.status.Status.TheVariants.{NoMemory}
 use Rattle.auditor_top.specs.Drills.{DrillEnds}
 use Rattle.auditor_top.specs.Faults.{ended_status}
-use Rattle.auditor_top.specs.Stages.{Before, reading_lines}
-use Rattle.auditor_top.proofs.StepStatuses.{EndsLastStep}
 
 -- what was sent
 pub drill_sends : {X : Type 0} (ended : Result X Stop) (number : ℕ) (before after : List ℕ) → IfErr ended IsOfBench →

@@ -1,10 +1,9 @@
 -- What the end of the last step of `grow` comes to, by cases on it.
-use Rattle.std.proofs.Common.{rules, ◌≡◌, ◌≢◌, ℕ, List, Some, Result, Ok, Err, IsErrOf, OnOk, OnErr, ap, refl, inl, inr}
+use Rattle.std.proofs.Common.{rules, ◌≡◌, ◌≢◌, ℕ, List, Some, Result, Ok, Err, IsErrOf, OnOk, OnErr, ap, refl}
 use Rattle.std.specs.Prelude.{⊤, IfErr}
 use Rattle.audit_types.specs.declared.records.Answered.{Answered}
 use Rattle.audit_types.specs.History.{Table as Guarded}
 use Rattle.audit_types.specs.Widening.{widened}
-use Rattle.bench_core.specs.Causes.{Rose}
 use Rattle.table_load.specs.Database.{Database}
 use Rattle.journal_form.specs.Journal.{StandsFor}
 use Rattle.bench_core.specs.Ends.{DoneUnlessStopped, EndsBy}
@@ -13,15 +12,14 @@ use Rattle.bench_core.specs.Stops.{IsOfBench, IsOfBenches, of_benches}
 use Rattle.bench_core.specs.declared.stops.End.{End}
 use Rattle.bench_core.specs.declared.stops.End.TheVariants.{Stopped, Refused}
 use Rattle.bench_core.specs.declared.stops.Stop.TheVariants as stop
-use Rattle.answer_journal.specs.declared.refusals.JournalRefusal.{JournalRefusal}
 use Rattle.answer_journal.specs.declared.refusals.JournalRefusal.TheVariants as journal
 use Rattle.audit_store.specs.Growing.{CanGrow, GrowCause}
 use Rattle.audit_store.specs.declared.growing.GrowRefusal.{GrowRefusal}
 use Rattle.audit_store.specs.declared.growing.GrowRefusal.TheVariants as grow
 use Rattle.auditor_top.specs.declared.words.Command.TheVariants.{Grow}
 use Rattle.auditor_top.specs.declared.status.Which.TheVariants.{Input}
-use Rattle.auditor_top.specs.declared.status.Status.TheVariants.{Done, SourceFault, BenchFault}
-use Rattle.auditor_top.specs.Causes.{FaultCounts, FaultCause, WordCause, FileCause, NothingFailed, IsDoneOrWants}
+use Rattle.auditor_top.specs.declared.status.Status.TheVariants.{Done, BenchFault}
+use Rattle.auditor_top.specs.Causes.{WordCause, FileCause}
 use Rattle.auditor_top.specs.Ends.{GrowEnds}
 use Rattle.auditor_top.specs.Stages.{Before, reading_lines}
 use Rattle.auditor_top.specs.Faults.{grow_status, growing_status}

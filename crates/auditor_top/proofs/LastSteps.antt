@@ -409,7 +409,7 @@ module _ {P I B : Type 0} (files : source.Ghosts P) (lines : source.Ghosts I) (b
     -- over any other file nothing began
     pub nothing_begun : files.told → bench.told → (other : Command) → asked ≡ Some other → opens_journal other ≡ true → IsQuiet bench old.bench →
         ((base : Database) → AreSoundFilesOf (files.left old.schema) (files.left old.table) base → IsReadyFor other (bench.file old.bench) (table_in base) →
-            ⊥) →
+        ⊥) →
         LeavesOnly bench old.bench at (IsUntouched (bench.file old.bench) (bench.sent old.bench))
     nothing_begun ptold told other is opens quiet none =
         let opens_one : opens_journal one ≡ true = ap opens_journal (same other is) ∙ opens in

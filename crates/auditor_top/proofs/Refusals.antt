@@ -8,7 +8,7 @@ use Rattle.audit_types.specs.Widening.{over}
 use Rattle.bench_core.specs.declared.bench.Bench.{Ghosts}
 use Rattle.bench_core.specs.declared.source.Source as source
 use Rattle.bench_core.specs.Calls.{IsQuiet, IsUntouched, LeavesOnly, OnlyReads}
-use Rattle.bench_core.specs.Moments.{started, weakens}
+use Rattle.bench_core.specs.Moments.{weakens}
 use Rattle.set_index.specs.Indexed.{IndexView, public_setting}
 use Rattle.table_load.specs.Database.{Database, table_in}
 use Rattle.journal_form.specs.Journal.{StandsFor}

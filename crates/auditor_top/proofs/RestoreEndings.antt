@@ -1,10 +1,8 @@
 -- What the end of the last step of `restore` comes to, by cases on it.
-use Rattle.std.proofs.Common.{rules, ◌≡◌, ◌≢◌, ℕ, List, Some, Result, Ok, Err, IsErrOf, OnOk, refl, inl}
+use Rattle.std.proofs.Common.{rules, ◌≡◌, ℕ, List, Some, Result, Ok, Err, IsErrOf, OnOk, refl}
 use Rattle.std.specs.Prelude.{⊤, IfErr}
 use Rattle.audit_types.specs.History.{Table as Guarded}
-use Rattle.bench_core.specs.Causes.{Rose}
 use Rattle.bench_core.specs.Ends.{DoneUnlessStopped, EndsBy, IsRefused}
-use Rattle.bench_core.specs.EndLaws.{EndsBy-weaker}
 use Rattle.bench_core.specs.Stops.{IsOfBenches}
 use Rattle.bench_core.specs.declared.stops.End.{End}
 use Rattle.bench_core.specs.declared.stops.End.TheVariants.{Stopped, Refused}
@@ -16,8 +14,8 @@ use Rattle.twin_journal.specs.declared.restoring.RestoreRefusal.{RestoreRefusal}
 use Rattle.twin_journal.specs.declared.restoring.RestoreRefusal.TheVariants as restore
 use Rattle.auditor_top.specs.declared.words.Command.TheVariants.{Restore}
 use Rattle.auditor_top.specs.declared.status.Which.TheVariants.{Input}
-use Rattle.auditor_top.specs.declared.status.Status.TheVariants.{Done, SourceFault, BenchFault, SpareFault, NoMemory}
-use Rattle.auditor_top.specs.Causes.{BothCause, FaultCounts, FaultCause, WordCause, FileCause, SpareCause, NothingFailed, IsDoneOrWants}
+use Rattle.auditor_top.specs.declared.status.Status.TheVariants.{Done, BenchFault, SpareFault, NoMemory}
+use Rattle.auditor_top.specs.Causes.{BothCause, WordCause, FileCause, SpareCause}
 use Rattle.auditor_top.specs.Stages.{Before, opening_journal, reading_lines}
 use Rattle.auditor_top.specs.Faults.{journal_status, restore_status, restoring_status}
 use Rattle.auditor_top.proofs.LastSteps.{IsUnrefused}

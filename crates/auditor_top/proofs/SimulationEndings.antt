@@ -113,7 +113,8 @@ simulation_ends (Err (Refused (verdict.Journal why))) index history input left v
 simulation_ends ended index history input left verdicts due = due
 
 pub simulation_sends : (ended : Result (Unit {0}) (End SimulationRefusal)) (index : IndexView) (history : List Answered) (verdicts : List (Replied Answered))
-    (input left before after : List ℕ) → EndDue (simulation index history) ended input left verdicts → EndSends (simulation index history) ended verdicts before after →
+    (input left before after : List ℕ) → EndDue (simulation index history) ended input left verdicts →
+    EndSends (simulation index history) ended verdicts before after →
     SendsTexts (simulation index history) (simulation_status ended) verdicts before after
 simulation_sends (Err (Stopped stop.Input)) index history verdicts input left before after due sends = sends
 simulation_sends (Err (Refused (verdict.Journal why))) index history verdicts input left before after due sends = absurd due

@@ -1,5 +1,5 @@
 -- What the end of the opening of a journal comes to, by cases on it.
-use Rattle.std.proofs.Common.{rules, ◌≡◌, ◌≢◌, ℕ, List, Some, true, refl, sym, subst}
+use Rattle.std.proofs.Common.{rules, ◌≡◌, ◌≢◌, ℕ, List, Some, true}
 use Rattle.std.specs.Prelude.{⊤}
 use Rattle.audit_types.specs.History.{Table as Guarded}
 use Rattle.bench_core.specs.Ends.{EndsBy, IsStop}

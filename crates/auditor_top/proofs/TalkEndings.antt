@@ -1,5 +1,5 @@
 -- What sending texts for the lines of the input comes to, by cases on how it ended.
-use Rattle.std.proofs.Common.{◌≡◌, ℕ, List, [], Result, Err, refl}
+use Rattle.std.proofs.Common.{ℕ, List, [], Result, Err, refl}
 use Rattle.bench_core.specs.declared.stops.Stop.{Stop}
 use Rattle.bench_core.specs.declared.stops.Stop.TheVariants as stop
 use Rattle.line_wire.specs.Lines.{CountedLine}

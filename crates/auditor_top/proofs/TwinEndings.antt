@@ -1,16 +1,14 @@
 -- What it comes to that two journals weren't opened, and how a session over them ended, by cases on each.
-use Rattle.std.proofs.Common.{rules, ◌≡◌, ◌≢◌, ◌+◌, ◌<◌, ◌≤◌, ℕ, List, [], length, take, true, Some, Result, Ok, Err, IsErrOf, OnOk, ap, refl, sym, ◌∙◌, subst, inl, inr, arith}
+use Rattle.std.proofs.Common.{rules, ◌≡◌, ◌≢◌, ℕ, List, [], length, take, true, Some, Result, Ok, Err, OnOk, ap, refl, ◌∙◌, subst, inl, inr, arith}
 use Rattle.std.specs.Prelude.{⊤}
 use Rattle.std.proofs.lemmas.List.{take_all, take-append-le}
 use Rattle.audit_types.specs.declared.records.Answered.{Answered}
 use Rattle.audit_types.specs.History.{Table as Guarded, IsLegal}
-use Rattle.bench_core.specs.Causes.{Rose}
 use Rattle.bench_core.specs.declared.stops.Stop.{Stop}
 use Rattle.bench_core.specs.declared.stops.Stop.TheVariants as stop
 use Rattle.table_load.specs.Database.{Database}
 use Rattle.audit_core.specs.LegalFronts.{legal_front}
 use Rattle.bench_core.specs.Ends.{EndsBy, IsRefusal, IsStop}
-use Rattle.bench_core.specs.EndLaws.{EndsBy-weaker}
 use Rattle.bench_core.specs.Stops.{IsOfBenches}
 use Rattle.bench_core.specs.declared.stops.End.{End}
 use Rattle.bench_core.specs.declared.stops.End.TheVariants.{Stopped, Refused}
@@ -26,7 +24,7 @@ use Rattle.auditor_top.specs.declared.words.Command.TheVariants.{Serve}
 use Rattle.auditor_top.specs.declared.status.Which.TheVariants.{Input}
 use Rattle.auditor_top.specs.declared.status.Status.{Status}
 use Rattle.auditor_top.specs.declared.status.Status.TheVariants.{Done, SourceFault, BenchFault, SpareFault}
-use Rattle.auditor_top.specs.Causes.{BothCause, FaultCounts, FaultCause, WordCause, FileCause, HoldsLegal, InputCause, SpareCause}
+use Rattle.auditor_top.specs.Causes.{BothCause, WordCause, FileCause, HoldsLegal, InputCause, SpareCause}
 use Rattle.auditor_top.specs.Ends.{Outside}
 use Rattle.auditor_top.specs.Stages.{Before, opening_spare, reading_lines}
 use Rattle.auditor_top.specs.Faults.{end_status, ended_status, journal_status, twin_status}

@@ -1,5 +1,5 @@
 -- What `run` says of `compact`.
-use Rattle.std.proofs.Common.{◌≡◌, ℕ, List, IsErrOf, OnOk, Result, refl, sym, ◌∙◌, ap, subst, map, string_bytes, arith, inl}
+use Rattle.std.proofs.Common.{ℕ, List, IsErrOf, OnOk, refl, sym, ◌∙◌, ap, subst, map, string_bytes, arith, inl}
 use Rattle.std.proofs.lemmas.Bool.{false≢true, true≢false}
 use Rattle.audit_types.specs.declared.records.Answered.{Answered}
 use Rattle.bench_core.specs.Calls.{IsQuiet, IsUntouched, LeavesOnly}

@@ -1,5 +1,5 @@
 -- What `run` says of `drill`.
-use Rattle.std.proofs.Common.{◌≡◌, List, Err, refl, sym, ap, subst, map, string_bytes}
+use Rattle.std.proofs.Common.{◌≡◌, Err, refl, sym, ap, subst, map, string_bytes}
 use Rattle.std.proofs.lemmas.Bool.{false≢true}
 use Rattle.bench_core.specs.Reports.{not_called}
 use Rattle.bench_core.specs.Stops.{IsOfBench}
@@ -97,7 +97,7 @@ module _ (g : Over) (c : goal.After-ended-in-Ok-Drill g) where
   all : Answers g.P.Source g.I.Source g.B.Bench (command_of (map string_bytes c.args.words.now.items)) c.ended-in-Ok-Drill.result old new
   all =
       answers g.P.Source g.I.Source g.B.Bench c.groups_of_a_schema.ensures.entries _ ready _ old mid.schema mid.table mid.bench new.input new.bench new.spare
-      goes ends c.ended-in-Ok-Drill.ensures 
+      goes ends c.ended-in-Ok-Drill.ensures
       (subst (λ b. Drilling g.P.Source g.I.Source g.B.Bench c.in-Ok-Drill.number (ended_status c.drill.result) (begun b) new) (goes.unopened refl) drilling)
 
 pub drill_ends : goal.returns-in-Ok-Drill

@@ -1,6 +1,6 @@
 -- What `run` says of `explain`.
-use Rattle.std.proofs.Common.{◌≡◌, ◌+◌, ℕ, List, length, refl, sym, ◌∙◌, ap, subst, arith, map, string_bytes}
-use Rattle.std.proofs.lemmas.Bool.{false≢true, true≢false}
+use Rattle.std.proofs.Common.{◌+◌, ℕ, List, length, refl, sym, ◌∙◌, ap, subst, arith, map, string_bytes}
+use Rattle.std.proofs.lemmas.Bool.{true≢false}
 use Rattle.audit_types.specs.declared.records.Answered.{Answered}
 use Rattle.bench_core.specs.Calls.{IsQuiet, IsUntouched, LeavesOnly}
 use Rattle.bench_core.specs.Moments.{joins, still_quiet, weakens}

@@ -1,5 +1,5 @@
 -- What `run` says of `grow`.
-use Rattle.std.proofs.Common.{◌≡◌, List, ℕ, Result, refl, sym, ap, subst, map, string_bytes}
+use Rattle.std.proofs.Common.{◌≡◌, List, ℕ, refl, sym, ap, subst, map, string_bytes}
 use Rattle.std.proofs.lemmas.Bool.{false≢true, true≢false}
 use Rattle.audit_types.specs.declared.records.Answered.{Answered}
 use Rattle.audit_types.specs.Widening.{over as over_rows, widened}

@@ -1,5 +1,5 @@
 -- What `run` says of `init`.
-use Rattle.std.proofs.Common.{◌≡◌, List, [], Result, refl, sym, ◌∙◌, ap, subst, map, string_bytes}
+use Rattle.std.proofs.Common.{◌≡◌, [], refl, sym, ◌∙◌, ap, subst, map, string_bytes}
 use Rattle.std.proofs.lemmas.Bool.{false≢true, true≢false}
 use Rattle.audit_types.specs.declared.shapes.Shape.{Shape}
 use Rattle.bench_core.specs.Calls.{LeavesOnly}

@@ -1,5 +1,5 @@
 -- What `run` says of `restore`.
-use Rattle.std.proofs.Common.{◌≡◌, ◌⊎◌, List, Err, Result, refl, sym, ap, subst, map, string_bytes}
+use Rattle.std.proofs.Common.{◌≡◌, ◌⊎◌, List, refl, sym, ap, subst, map, string_bytes}
 use Rattle.std.proofs.lemmas.Bool.{false≢true, true≢false}
 use Rattle.audit_types.specs.declared.records.Answered.{Answered}
 use Rattle.audit_types.specs.History.{Table}
@@ -139,7 +139,7 @@ module _ (g : Over) (c : goal.After-restored g) where
   all : Answers g.P.Source g.I.Source g.B.Bench (command_of (map string_bytes c.args.words.now.items)) c.restored.result old new
   all =
       answers g.P.Source g.I.Source g.B.Bench c.groups_of_a_schema.ensures.entries _ ready _ old mid.schema mid.table mid.bench new.input new.bench new.spare
-      goes ends c.restored.ensures 
+      goes ends c.restored.ensures
       (subst (λ b. Restoring g.P.Source g.I.Source g.B.Bench (restoring_status c.restore.result) (begun b) new) (goes.unopened refl) restoring)
 
 pub restoration_ends : goal.returns

@@ -1,5 +1,5 @@
 -- What `run` says of `serve`.
-use Rattle.std.proofs.Common.{◌≡◌, List, refl, sym, subst, arith, ap, map, string_bytes}
+use Rattle.std.proofs.Common.{◌≡◌, List, refl, subst, arith, map, string_bytes}
 use Rattle.std.proofs.lemmas.Bool.{true≢false}
 use Rattle.audit_types.specs.declared.records.Answered.{Answered}
 use Rattle.bench_core.specs.Moments.{still_quiet}
@@ -100,7 +100,8 @@ module _ (g : Over) (c : goal.After-drop-index-inside-in-Ok-Serve-6 g) where
             (session_ends ended seen n kept c.serve.new.store.history
             (record { input = text; sent = g.B.Bench.sent opened; file = g.B.Bench.file at }) after
             (does.done itold told) (does.input_end itold told) (does.limit_end itold told) (does.memory_end itold told)
-            (λ fine. subst (λ (s : SecretView). StandsFor after.file s.shape c.serve.new.store.history) does.table.0 (does.stands told fine)) c.serve.ensures.alone);
+            (λ fine. subst (λ (s : SecretView). StandsFor after.file s.shape c.serve.new.store.history) does.table.0 (does.stands told fine))
+            c.serve.ensures.alone);
         any_moment = λ ptold itold told quiet base history over.
             stops_so g.B.Bench at opened later goes.reads seen base kept history (given ptold told base history over) n text over.stands
             (goes.reads.untouched quiet) (does.any_moment itold told (still_quiet g.B.Bench at opened goes.reads quiet));

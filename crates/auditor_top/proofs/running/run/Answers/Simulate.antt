@@ -1,5 +1,5 @@
 -- What `run` says of `simulate`.
-use Rattle.std.proofs.Common.{◌≡◌, List, Result, refl, sym, ◌∙◌, ap, subst, map, string_bytes}
+use Rattle.std.proofs.Common.{List, refl, sym, ◌∙◌, ap, subst, map, string_bytes}
 use Rattle.std.proofs.lemmas.Bool.{false≢true, true≢false}
 use Rattle.audit_types.specs.declared.records.Answered.{Answered}
 use Rattle.bench_core.specs.Calls.{LeavesOnly}
@@ -94,7 +94,7 @@ module _ (g : Over) (c : goal.After-drop-index-inside-in-Ok-Simulate-7 g) where
   verdicts : g.P.Source.told → g.I.Source.told → g.B.Bench.told → (index : IndexView) (history : List Answered) →
       SimulatesOver (g.P.Source.left old.schema) (g.P.Source.left old.table) (g.B.Bench.file mid.bench) index history →
       (verdicts : List (Replied Answered)) × EndDue (simulation index history) c.simulate.result (g.I.Source.left old.input)
-          (g.I.Source.left new.input) verdicts
+      (g.I.Source.left new.input) verdicts
       × EndSends (simulation index history) c.simulate.result verdicts (g.B.Bench.sent mid.bench) (g.B.Bench.sent new.bench)
   verdicts ptold itold told index history over =
       given (λ i. BeginsWith (g.B.Bench.file mid.bench) (public_setting i) history → (verdicts : List (Replied Answered))
@@ -137,7 +137,7 @@ module _ (g : Over) (c : goal.After-drop-index-inside-in-Ok-Simulate-7 g) where
   all : Answers g.P.Source g.I.Source g.B.Bench (command_of (map string_bytes c.args.words.now.items)) c.judged.result old new
   all =
       answers g.P.Source g.I.Source g.B.Bench c.groups_of_a_schema.ensures.entries _ ready _ old mid.schema mid.table mid.bench new.input new.bench new.spare
-      goes ends c.judged.ensures 
+      goes ends c.judged.ensures
       (subst (λ b. Simulating g.P.Source g.I.Source g.B.Bench (simulation_status c.simulate.result) (begun b) new) (goes.unopened refl) simulating)
 
 pub simulate_ends : goal.returns-in-Ok-Simulate

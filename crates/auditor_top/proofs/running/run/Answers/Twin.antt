@@ -207,7 +207,8 @@ module _ (g : Over) (c : goal.After-drop-index-inside-in-Ok-start-7 g) where
             (twins_end ended asked n main other kept now (record before { sent = g.B.Bench.sent started }) after spare
             (does.done itold told) (does.input_end itold told) (does.limit_end itold told) (does.memory_end itold told) (does.spare_end itold told)
             (λ fine. subst (λ (s : SecretView). StandsFor after.file s.shape now) does.table.0 (does.stands told fine))
-            (λ fine spare_fine. subst (λ (s : SecretView). StandsFor spare s.shape now) does.table.0 (c.serve_twin.ensures.spare.stands told fine spare_fine))));
+            (λ fine spare_fine. subst (λ (s : SecretView). StandsFor spare s.shape now) does.table.0
+            (c.serve_twin.ensures.spare.stands told fine spare_fine))));
         twin_moment = λ ptold itold told quiet base main other whole over.
             then_stops g.B.Bench mid.bench started new.bench base main whole (catching ptold told quiet base main other whole over) n lines
             (said (λ (b : Database) (h : List Answered). LeavesOnly g.B.Bench started new.bench (StopsOver b n h lines sent)) ptold told base main other whole
@@ -252,7 +253,8 @@ module _ (g : Over) (c : goal.After-drop-index-inside-in-Ok-start-7 g) where
             said (λ (b : Database) (h : List Answered).
             KeepsCalls b h n lines (g.B.Bench.moment old.spare + calls_to_open other whole) (g.B.Bench.moment new.spare)) ptold told base main other whole over
             (subst (λ (m : ℕ). KeepsCalls asked kept n lines m (g.B.Bench.moment new.spare))
-            (opening.spare_ticks main other whole told told (keep ptold base main other whole over)) (step.done _ done (c.serve_twin.ensures.spare.calls itold told)));
+            (opening.spare_ticks main other whole told told (keep ptold base main other whole over))
+            (step.done _ done (c.serve_twin.ensures.spare.calls itold told)));
         twins_complete = λ ptold itold told base main other whole over within none fine.
             done_or_wants _ _ _ (stop_unrefused ended (λ is. omega (arith, does.limit itold is, within))) faults none (λ is. fine);
       }
@@ -260,7 +262,7 @@ module _ (g : Over) (c : goal.After-drop-index-inside-in-Ok-start-7 g) where
   all : Answers g.P.Source g.I.Source g.B.Bench (command_of (map string_bytes c.args.words.now.items)) c.ended-in-Ok-start.result old new
   all =
       answers g.P.Source g.I.Source g.B.Bench c.groups_of_a_schema.ensures.entries _ ready _ old mid.schema mid.table mid.bench new.input new.bench new.spare
-      goes ends c.ended-in-Ok-start.ensures 
+      goes ends c.ended-in-Ok-start.ensures
       (subst (λ b. TwinServing g.P.Source g.I.Source g.B.Bench c.in-Ok-Twin.batch (ended_status c.serve_twin.result) (begun b) new) (goes.unopened refl)
       answering)
 

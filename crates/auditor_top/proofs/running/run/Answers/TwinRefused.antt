@@ -225,7 +225,8 @@ module _ (g : Over) (c : goal.After-drop-index-inside-in-Ok-Twin-7 g) where
         apart = λ ptold told quiet none. does.untouched told told quiet (apart ptold none);
         spare_apart = λ ptold told quiet none. does.spare_untouched told told quiet (apart ptold none);
         cause = λ ptold told base sound.
-            subst (λ (b : Database). BothCause (end_status twin_status end) (command.Serve n true) (g.B.Bench.file mid.bench) (g.B.Bench.file old.spare) (table_in b))
+            subst (λ (b : Database). BothCause (end_status twin_status end) (command.Serve n true) (g.B.Bench.file mid.bench) (g.B.Bench.file old.spare)
+            (table_in b))
             (is_seen ptold base sound) (twin_cause end n _ _ _ (cause told));
         spare_quiet = λ told quiet fine. does.spare_quiet told quiet (λ is. fine (ap refused_status is));
         spare_unsent = does.spare_sent;
@@ -239,7 +240,7 @@ module _ (g : Over) (c : goal.After-drop-index-inside-in-Ok-Twin-7 g) where
   all : Answers g.P.Source g.I.Source g.B.Bench (command_of (map string_bytes c.args.words.now.items)) c.from.result old new
   all =
       answers g.P.Source g.I.Source g.B.Bench c.groups_of_a_schema.ensures.entries _ ready _ old mid.schema mid.table mid.bench new.input new.bench new.spare
-      goes ends c.from.ensures 
+      goes ends c.from.ensures
       (subst (λ b. TwinServing g.P.Source g.I.Source g.B.Bench c.in-Ok-Twin.batch (end_status twin_status end) (begun b) new) (goes.unopened refl)
       refusing)
 
