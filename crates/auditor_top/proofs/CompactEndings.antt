@@ -15,7 +15,6 @@ use Rattle.bench_core.specs.declared.stops.End.{End}
 use Rattle.bench_core.specs.declared.stops.End.TheVariants.{Stopped, Refused}
 use Rattle.bench_core.specs.declared.stops.Stop.TheVariants as stop
 use Rattle.auditor_top.specs.declared.words.Command.TheVariants.{Compact}
-use Rattle.auditor_top.specs.declared.status.Which.TheVariants.{Input}
 use Rattle.auditor_top.specs.declared.status.Status.TheVariants.{Done, BenchFault, SpareFault, SpareThere, NoMemory}
 use Rattle.auditor_top.specs.Causes.{WordCause, FileCause, SpareCause, HoldsLegal}
 use Rattle.auditor_top.specs.Compactions.{CompactEnds}

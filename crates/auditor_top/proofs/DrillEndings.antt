@@ -5,7 +5,6 @@ use Rattle.bench_core.specs.declared.stops.Stop.{Stop}
 use Rattle.bench_core.specs.declared.stops.Stop.TheVariants.{Bench}
 use Rattle.bench_core.specs.declared.stops.Stop.TheVariants as stop
 use Rattle.drill_case.specs.Drills.{SendsSummary, SendsSummaryFront}
-use Rattle.auditor_top.specs.declared.status.Status.TheVariants.{NoMemory}
 use Rattle.auditor_top.specs.Drills.{DrillEnds}
 use Rattle.auditor_top.specs.Faults.{ended_status}
 

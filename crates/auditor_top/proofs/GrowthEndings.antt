@@ -17,7 +17,6 @@ use Rattle.audit_store.specs.Growing.{CanGrow, GrowCause}
 use Rattle.audit_store.specs.declared.growing.GrowRefusal.{GrowRefusal}
 use Rattle.audit_store.specs.declared.growing.GrowRefusal.TheVariants as grow
 use Rattle.auditor_top.specs.declared.words.Command.TheVariants.{Grow}
-use Rattle.auditor_top.specs.declared.status.Which.TheVariants.{Input}
 use Rattle.auditor_top.specs.declared.status.Status.TheVariants.{Done, BenchFault}
 use Rattle.auditor_top.specs.Causes.{WordCause, FileCause}
 use Rattle.auditor_top.specs.Ends.{GrowEnds}

@@ -13,7 +13,6 @@ use Rattle.twin_journal.specs.Restoring.{RestoreCause}
 use Rattle.twin_journal.specs.declared.restoring.RestoreRefusal.{RestoreRefusal}
 use Rattle.twin_journal.specs.declared.restoring.RestoreRefusal.TheVariants as restore
 use Rattle.auditor_top.specs.declared.words.Command.TheVariants.{Restore}
-use Rattle.auditor_top.specs.declared.status.Which.TheVariants.{Input}
 use Rattle.auditor_top.specs.declared.status.Status.TheVariants.{Done, BenchFault, SpareFault, NoMemory}
 use Rattle.auditor_top.specs.Causes.{BothCause, WordCause, FileCause, SpareCause}
 use Rattle.auditor_top.specs.Stages.{Before, opening_journal, reading_lines}
