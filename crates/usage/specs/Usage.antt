@@ -97,4 +97,4 @@ text_of Commands =
     ++ codes "\nIt works in the folder that it is started in, on schema.json, table.csv and answers.journal.\n"
     ++ codes "`auditor help COMMAND` says more of a command. To ask in words, use front/ask.py."
 text_of (Command topic) = page_of topic
-text_of Version = codes "auditor 0.13.1"
+text_of Version = codes "auditor 0.13.2"

@@ -63,7 +63,7 @@ impl fmt::Display for Shown {
                 "`auditor help COMMAND` says more of a command. To ask in words, use front/ask.py."
             ),
             Shown::Command(topic) => topic.fmt(f),
-            Shown::Version => f.write_str("auditor 0.13.1"),
+            Shown::Version => f.write_str("auditor 0.13.2"),
         }
     }
 }
