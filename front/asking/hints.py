@@ -94,7 +94,7 @@ def hint(condition, at, kinds, decimals):
     """A sentence on what is wrong there, or None. `kinds` and `decimals` are those of the columns by name."""
     place = place_of(condition, at)
     before, rest = condition[:place].rstrip(), condition[place:]
-    for rule in (end_words, mark_words, quote_words, word_words, number_words):
+    for rule in (end_words, mark_words, quote_words, word_words, wrong_number_words):
         sentence = rule(before, rest, kinds, decimals)
         if sentence:
             return sentence
@@ -171,7 +171,7 @@ def word_words(before, rest, kinds, decimals):
     return None
 
 
-def number_words(before, rest, kinds, decimals):
+def wrong_number_words(before, rest, kinds, decimals):
     """A number that isn't whole, has marks in it, is too long, stands first, or stands where a text should."""
     column = last_column(before, kinds)
     part = re.match(r"[.,](\d+)", rest)

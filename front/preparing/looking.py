@@ -157,7 +157,7 @@ def describe(title, name, tally):
         column["is"] = "leave out"
         column["seen"] = "nothing stands in it, so it is left out"
         return column
-    seen = [tally.words()] + number_words(column, tally.cells) + text_words(tally.cells)
+    seen = [tally.words()] + writing_words(column, tally.cells) + text_words(tally.cells)
     if tally.gaps:
         column["missing is"], column["missing"] = sorted(tally.gaps), choosing.OPEN
         seen.append(
@@ -170,7 +170,7 @@ def describe(title, name, tally):
     return column
 
 
-def number_words(column, numbers):
+def writing_words(column, numbers):
     """Sets how numbers are written, if most cells are numbers or dates, and says so. `numbers` counts each cell."""
     unit = unit_of(list(numbers))
     bare = collections.Counter()
