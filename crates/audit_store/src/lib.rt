@@ -7,6 +7,7 @@
 #![tactic(auto)]
 
 mod agreeing;
+mod ahead;
 mod asking;
 mod bringing;
 mod growing;
@@ -16,6 +17,7 @@ mod starting;
 mod store;
 
 pub use agreeing::agreement;
+pub use ahead::{Ahead, NoJournal};
 pub use audit_core::Outcome;
 pub use bringing::bring_up;
 pub use growing::GrowRefusal;

@@ -17,6 +17,6 @@ impl Keeper for TwinStore {
         spare: &mut S,
         asked: &[Asked],
     ) -> Result<Vec<Outcome>, Stop> {
-        self.ask_all(bench, spare, asked)
+        self.store.ask_all(&mut self.spare, bench, spare, asked)
     }
 }

@@ -144,31 +144,6 @@ impl TwinStore {
         })
     }
 
-    /// Decides up to 64 questions in order, as `Store::ask_all` does, and keeps the records of the answers as one group on the spare
-    /// and then on the bench, in four calls of each. All memory is taken before the first of them. After a refusal the store isn't
-    /// usable.
-    pub fn ask_all<B: Bench, S: Bench>(
-        &mut self,
-        bench: &mut B,
-        spare: &mut S,
-        asked: &[Asked],
-    ) -> Result<Vec<Outcome>, Stop>
-        requires usable { self.old.store.usable ≡ true }
-        requires few { length asked.now ≤ 64 }
-        requires fit { All (λ a. FitsShape self.old.store.secret.shape a.column a.rows) asked.now }
-        requires stands { B.told → IsAsLeft (B.file bench.old) self.old.store }
-        requires spare_stands { S.told → IsSpareAsLeft (S.file spare.old) self.old }
-
-        // The same as over one journal, and of the spare, which comes first.
-        ensures asks { AsksOn B.Bench self.old.store self.new.store asked.now result bench.old bench.new }
-        ensures spare { SpareAsksOn B.Bench S.Bench S.told self.old.store self.new.store self.old.spare.gate self.new.spare.gate asked.now result bench.old bench.new spare.old spare.new }
-        ensures ends { IfErr result IsOfBenches }
-        ensures is { IsStore self.new.store × IsTwin self.new }
-    {
-        self.store
-            .ask_all_twice(&mut self.spare, bench, spare, asked)
-    }
-
     /// The released records, in order.
     pub fn history(&self) -> &[Answered]
         ensures history { result.now ≡ self.now.store.history }
