@@ -65,6 +65,10 @@ module _ {B : Type 0} (bench : Ghosts B) (at : B) {store now : StoreContents} {q
         ahead = λ told spare_told quiet same. let none : ⊥ = cc in absurd none;
       })
 
+-- no spare failed
+pub not_of_spare : {X P : Type 0} {answer : Result X Stop} → answer ≡ Err stop.NoMemory → IsErrOf answer stop.Spare → P
+not_of_spare is failed = let none : ⊥ = cc in absurd none
+
 -- ---- the group was decided
 
 -- the outcomes are due to the questions, and the group has the records that they make, for a journal of the store's table and history

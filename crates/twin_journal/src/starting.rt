@@ -1,12 +1,11 @@
 //! Opening two journals of one table, and asking over both.
-ghost use Rattle.std.specs.Prelude.{◌≡◌, ◌≢◌, ◌≤◌, ◌+◌, ◌++◌, [], ⊤, List, ℕ, true, false, length, All, Err, IfOk, IfErr, OnOk, OnErr, IsErrOf};
+ghost use Rattle.std.specs.Prelude.{◌≡◌, ◌≢◌, ◌+◌, ⊤, List, true, Err, IfOk, IfErr, OnOk, IsErrOf};
 ghost use Rattle.audit_types.specs.declared.records.Answered.{Answered};
-ghost use Rattle.audit_types.specs.History.{AreProtected, FitsShape};
+ghost use Rattle.audit_types.specs.History.{AreProtected};
 ghost use Rattle.bench_core.specs.Calls.{IsQuiet, IsUntouched, LeavesOnly, OnlyReads, TellsFault};
 ghost use Rattle.bench_core.specs.Ends.{DoneUnlessStopped, EndsBy, IsRefused, RefusedUnlessStopped, refused_as, turned_end};
 ghost use Rattle.bench_core.specs.Stops.{IsOfBenches};
 ghost use Rattle.table_load.specs.Database.{secret_table};
-ghost use Rattle.audit_store.specs.Asks.{AsksOn, SpareAsksOn};
 ghost use Rattle.audit_store.specs.Stores.{IsAsLeft, IsStore};
 ghost use Rattle.answer_journal.specs.declared.refusals.JournalRefusal.{JournalRefusal};
 ghost use Rattle.twin_journal.specs.declared.starting.TwinRefusal.{TwinRefusal};
@@ -14,7 +13,7 @@ ghost use Rattle.twin_journal.specs.Twins.{CatchesUp, HoldsLegal, IsSpareAsLeft,
 
 use crate::catching::catch_up;
 use answer_journal::{Journal, JournalRefusal};
-use audit_store::{Outcome, Store};
+use audit_store::{Keeper, Outcome, Store};
 use audit_types::{Answered, Asked, Guard};
 use bench_core::{Bench, End, Stop};
 use journal_form::laws::one_reading;
@@ -152,10 +151,28 @@ impl TwinStore {
         self.store.history()
     }
 
-    /// Whether questions may be asked. After a refused `ask_all` they may not.
+    /// Whether questions may be asked. After a refused group they may not.
     pub fn usable(&self) -> bool
         ensures { result ≡ self.now.store.usable }
     {
         self.store.usable()
+    }
+}
+
+/// A twin store is spared: a group is on its spare and then in its journal before an answer is given.
+impl Keeper for TwinStore {
+    ghost spared = { Unit {0} };
+
+    ghost store = { λ t. t.store };
+
+    ghost spare_gate = { λ t. t.spare.gate };
+
+    fn ask_group<B: Bench, S: Bench>(
+        &mut self,
+        bench: &mut B,
+        spare: &mut S,
+        asked: &[Asked],
+    ) -> Result<Vec<Outcome>, Stop> {
+        self.store.ask_all(&mut self.spare, bench, spare, asked)
     }
 }

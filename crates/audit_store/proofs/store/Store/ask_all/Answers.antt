@@ -1,5 +1,5 @@
 use Rattle.std.proofs.Common.{◌≡◌, ℕ, true, List, All, refl, length, take, sym, ap, subst, ◌∙◌}
-use Rattle.std.specs.Prelude.{IfErr, IsErrOf}
+use Rattle.std.specs.Prelude.{IfErr}
 use Rattle.std.proofs.lemmas.Result.{IfOk-from_err}
 use Rattle.audit_types.specs.declared.records.Answered.{Answered}
 use Rattle.audit_types.specs.declared.records.Asked.{Asked}
@@ -16,7 +16,7 @@ use Rattle.audit_store.specs.Stores.{StoreContents}
 use Rattle.audit_store.specs.StoreLaws.{table_by, core_is_history}
 use Rattle.audit_store.specs.Twice.{group_of}
 use Rattle.audit_store.proofs.InsideStores.{kept, refused}
-use Rattle.audit_store.proofs.AskedGroups.{asked, asked_in_vain, decided, found, journal_after, over_other, spare_asked, spare_asked_in_vain, spare_is_ahead, spare_unasked, unasked, uncalled}
+use Rattle.audit_store.proofs.AskedGroups.{asked, asked_in_vain, decided, found, journal_after, not_of_spare, over_other, spare_asked, spare_asked_in_vain, spare_is_ahead, spare_unasked, unasked, uncalled}
 use Rattle.audit_store.proofs.store.Store.ask_all.Goals as goal
 
 pub invariant_of-self : goal.invariant_of-self
@@ -102,7 +102,7 @@ returns-in_err-outcomes g c =
       asks = unasked g.B.Bench c.args.bench.now same is.0;
       spare = spare_unasked g.B.Bench c.args.bench.now same g.S.Bench (g.A.Ahead.spared × g.S.Bench.told) c.args.spare.now;
       ahead = λ spared. IfOk-from_err _ _ c.from_residual.ensures.0;
-      own = of_refusal c.from_residual.result stop.NoMemory c.from_residual.ensures (λ r. IsErrOf r stop.Spare → g.A.Ahead.spared) (λ failed. let none : ⊥ = cc in absurd none);
+      own = not_of_spare same;
       untouched = λ unspared. refl;
       ends = of_refusal c.from_residual.result stop.NoMemory c.from_residual.ensures (λ r. IfErr r IsOfBenches) tt;
     }
@@ -119,7 +119,7 @@ returns-in_err-ready g c =
       asks = unasked g.B.Bench c.args.bench.now same is.0;
       spare = spare_unasked g.B.Bench c.args.bench.now same g.S.Bench (g.A.Ahead.spared × g.S.Bench.told) c.args.spare.now;
       ahead = λ spared. IfOk-from_err _ _ c.from_residual-in_err-ready.ensures.0;
-      own = of_refusal c.from_residual-in_err-ready.result stop.NoMemory c.from_residual-in_err-ready.ensures (λ r. IsErrOf r stop.Spare → g.A.Ahead.spared) (λ failed. let none : ⊥ = cc in absurd none);
+      own = not_of_spare same;
       untouched = λ unspared. refl;
       ends = of_refusal c.from_residual-in_err-ready.result stop.NoMemory c.from_residual-in_err-ready.ensures (λ r. IfErr r IsOfBenches) tt;
     }
