@@ -136,7 +136,7 @@ returns-in-Err g c =
     c.self.invariant took.outcomes took.history
     (c.history.ensures.is ∙ ap (λ (a : Audited). a.history) c.core.ensures) c.in_ok-ready.ensures.group in
     let own = ap (λ (s : StoreContents). s.journal.gate) c.self.view_is in
-    let of_other = λ spared. over_other decided_is (g.A.Ahead.journal c.args.ahead.now) (c.requires.ahead spared) in
+    let of_other = λ (spared : g.A.Ahead.spared). over_other decided_is (g.A.Ahead.journal c.args.ahead.now) (c.requires.ahead spared) in
     let is =
     refused c.self.view_is c.requires.usable c.self.invariant
     c.decide_all.new.sealed.secret c.decide_all.new.sealed.core c.decide_all.ensures.secret c.decide_all.ensures.setting i.journal
@@ -170,7 +170,7 @@ returns-in-Err-keep_ready g c =
     c.self.invariant took.outcomes took.history
     (c.history.ensures.is ∙ ap (λ (a : Audited). a.history) c.core.ensures) c.in_ok-ready.ensures.group in
     let own = ap (λ (s : StoreContents). s.journal.gate) c.self.view_is in
-    let of_other = λ spared. over_other decided_is (g.A.Ahead.journal c.args.ahead.now) (c.requires.ahead spared) in
+    let of_other = λ (spared : g.A.Ahead.spared). over_other decided_is (g.A.Ahead.journal c.args.ahead.now) (c.requires.ahead spared) in
     let is =
     refused c.self.view_is c.requires.usable c.self.invariant
     c.decide_all.new.sealed.secret c.decide_all.new.sealed.core c.decide_all.ensures.secret c.decide_all.ensures.setting c.keep_ready.new.journal
@@ -210,7 +210,7 @@ returns g c =
     (c.history.ensures.is ∙ ap (λ (a : Audited). a.history) c.core.ensures) c.in_ok-ready.ensures.group in
     let made = records_made c.args.asked.now c.in_ok-outcomes.outcomes.items in
     let own = ap (λ (s : StoreContents). s.journal.gate) c.self.view_is in
-    let of_other = λ spared. over_other decided_is (g.A.Ahead.journal c.args.ahead.now) (c.requires.ahead spared) in
+    let of_other = λ (spared : g.A.Ahead.spared). over_other decided_is (g.A.Ahead.journal c.args.ahead.now) (c.requires.ahead spared) in
     let first = c.in-Ok.ensures in
     let done = c.in-Ok-keep_ready.ensures.appended in
     let is =
