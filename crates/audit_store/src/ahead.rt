@@ -20,11 +20,7 @@ pub trait Ahead {
     ghost journal: { Self → JournalContents };
 
     /// Appends a group that is ready to it, if there is one. It takes no memory.
-    fn keep_ahead<S: Bench>(
-        &mut self,
-        spare: &mut S,
-        ready: &Option<Ready>,
-    ) -> Result<(), Failed>
+    fn keep_ahead<S: Bench>(&mut self, spare: &mut S, ready: &Option<Ready>) -> Result<(), Failed>
         requires usable { spared → (journal self.old).usable ≡ true }
         requires over { spared → IsReadyOver (journal self.old).shape ready.now }
         requires few { spared → (journal self.old).count + length (group_of ready.now) ≤ most_records }
@@ -47,11 +43,7 @@ impl Ahead for Journal {
 
     ghost journal = { λ j. j };
 
-    fn keep_ahead<S: Bench>(
-        &mut self,
-        spare: &mut S,
-        ready: &Option<Ready>,
-    ) -> Result<(), Failed> {
+    fn keep_ahead<S: Bench>(&mut self, spare: &mut S, ready: &Option<Ready>) -> Result<(), Failed> {
         keep_ready(self, spare, ready)
     }
 }

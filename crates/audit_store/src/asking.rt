@@ -152,6 +152,7 @@ pub fn keep<B: Bench>(journal: &mut Journal, bench: &mut B, group: &[Answered]) 
 
     ensures any_moment { MayAppend B.Bench journal.old group.now bench.old bench.new }
     ensures appended { OnOk result (WasAppended B.Bench journal.old journal.new group.now bench.old bench.new) }
+    ensures unasked { group.now ≡ [] → OnOk result (bench.new ≡ bench.old) }
     ensures sent { B.sent bench.new ≡ B.sent bench.old }
     ensures no_memory { IsErrOf result Stop.NoMemory → bench.new ≡ bench.old }
     ensures fault { TellsFault B.Bench bench.old bench.new (IsErrOf result Stop.Bench) }
