@@ -10,8 +10,7 @@ use Rattle.bench_core.specs.Moments.{started, joins, weakens}
 use Rattle.journal_form.specs.Journal.{StandsAt, StandsFor}
 use Rattle.answer_journal.specs.Contents.{JournalContents}
 use Rattle.answer_journal.specs.Moments.{IsBeforeOrAfter}
-use Rattle.audit_store.specs.Stores.{calls_for}
-use Rattle.audit_store.specs.Twice.{IsBroughtUp}
+use Rattle.audit_store.specs.Twice.{IsBroughtUp, MayAppend, WasAppended}
 use Rattle.audit_store.specs.StoreLaws.{four_calls}
 
 -- the first records, and those up to a later place
@@ -93,9 +92,7 @@ module _ {D : Type 0} (bench : Ghosts D) (missing : List Answered) (old : D) (fi
 
   module _ (at end : ℕ) (mid new : D) (journal next : JournalContents) (so_far : AreAppended at mid journal) (le : at ≤ end) (group : List Answered)
       (group_is : group ≡ take (end - at) (drop at missing))
-      (keeps : (history : List Answered) → bench.told → StandsAt (bench.file mid) journal.shape history journal.gate → length history ≡ journal.count →
-      IsQuiet bench mid
-      → LeavesOnly bench mid new (IsBeforeOrAfter journal.shape history group (bench.sent mid))) where
+      (keeps : MayAppend bench journal group mid new) where
     -- the history so far, as long as the journal counts
     pub as_counted : (history : List Answered) → length history ≡ first.count → length (history ++ take at missing) ≡ journal.count
     as_counted history many =
@@ -129,28 +126,24 @@ module _ {D : Type 0} (bench : Ghosts D) (missing : List Answered) (old : D) (fi
         (keeps before told (so_far.stands history told stands many) (as_counted history many) (so_far.quiet told quiet)))
 
     -- it was
-    pub one_more : end ≡ min (length missing) (at + 64) → at < length missing → next.usable ≡ true → next.shape ≡ journal.shape → next.count
-        ≡ journal.count + length group
-        → ((history : List Answered) → bench.told → StandsAt (bench.file mid) journal.shape history journal.gate → length history ≡ journal.count
-        → StandsAt (bench.file new) next.shape (history ++ group) next.gate)
-        → (bench.told → IsQuiet bench mid → IsQuiet bench new) → bench.sent new ≡ bench.sent mid → bench.faults new ≡ bench.faults mid
-        → (bench.told → bench.moment new ≡ bench.moment mid + calls_for group) → AreAppended end new next
-    one_more is inside usable shape counted done quiet sent steady ticks =
+    pub one_more : end ≡ min (length missing) (at + 64) → at < length missing → WasAppended bench journal next group mid new
+        → bench.sent new ≡ bench.sent mid → bench.faults new ≡ bench.faults mid → AreAppended end new next
+    one_more is inside appended sent steady =
         let long : length group ≡ end - at = omega (arith, ap length group_is, length-take (end - at) (drop at missing), length-drop at missing, is) in
         let some : 0 < length group = omega (arith, long, is, inside) in
         record {
           within = omega (arith, is);
-          usable = usable;
-          shape = shape ∙ so_far.shape;
-          counted = omega (arith, counted, long, so_far.counted, le);
+          usable = appended.usable;
+          shape = appended.shape ∙ so_far.shape;
+          counted = omega (arith, appended.counted, long, so_far.counted, le);
           stands = λ history told stands many.
               subst (λ (h : List Answered). StandsAt (bench.file new) next.shape h next.gate) (up_to_end history)
-              (done (history ++ take at missing) told (so_far.stands history told stands many) (as_counted history many));
+              (appended.done (history ++ take at missing) told (so_far.stands history told stands many) (as_counted history many));
           moments = one_more_moments;
-          quiet = λ told was. quiet told (so_far.quiet told was);
+          quiet = λ told was. appended.quiet told (so_far.quiet told was);
           sent = sent ∙ so_far.sent;
           steady = steady ∙ so_far.steady;
           groups = so_far.groups + 1;
           counts = next_group at end (length missing) so_far.groups so_far.counts inside is;
-          ticks = λ told. omega (arith, ticks told, four_calls group some, so_far.ticks told);
+          ticks = λ told. omega (arith, appended.ticks told, four_calls group some, so_far.ticks told);
         }

@@ -1,6 +1,6 @@
 -- What is owed of a group of questions that a store decided, at each way out of a call that keeps its records.
 use Rattle.std.proofs.Common.{◌≡◌, ℕ, ◌+◌, ◌-◌, ◌≤◌, Bool, true, Result, Ok, Err, List, [], ◌++◌, length, length-append, take, drop, refl, sym, ap, subst, ◌∙◌, arith}
-use Rattle.std.specs.Prelude.{IfOk, IsErrOf, Vec}
+use Rattle.std.specs.Prelude.{IsErrOf, Vec}
 use Rattle.std.specs.declared.alloc.Global.{Global}
 use Rattle.audit_types.specs.declared.shapes.Shape.{Shape}
 use Rattle.audit_types.specs.declared.records.Asked.{Asked}
@@ -21,7 +21,7 @@ use Rattle.audit_store.specs.Asks.{AsksOn, SpareAsksOn}
 use Rattle.audit_store.specs.Refusals.{no_refusal}
 use Rattle.audit_store.specs.Stores.{StoreContents, IsAsLeft, IsStore, IsAuditedBy, HasGroup, Keeps, calls_for, table_of}
 use Rattle.audit_store.specs.StoreLaws.{core_is_history, nothing_appended, store_in, table_by, taken_since}
-use Rattle.audit_store.specs.Twice.{IsJournalOf}
+use Rattle.audit_store.specs.Twice.{IsJournalOf, MayAppend, WasAppended}
 use Rattle.audit_store.proofs.InsideStores.{HasKept, HasRefused}
 
 -- ---- memory ran out before the first call
@@ -65,6 +65,10 @@ module _ {B : Type 0} (bench : Ghosts B) (at : B) {store now : StoreContents} {q
         ahead = λ told spare_told quiet same. let none : ⊥ = cc in absurd none;
       })
 
+-- no spare failed
+pub not_of_spare : {X P : Type 0} {answer : Result X Stop} → answer ≡ Err stop.NoMemory → IsErrOf answer stop.Spare → P
+not_of_spare is failed = let none : ⊥ = cc in absurd none
+
 -- ---- the group was decided
 
 -- the outcomes are due to the questions, and the group has the records that they make, for a journal of the store's table and history
@@ -94,25 +98,6 @@ decided {secret} {old} new {released} {journal} {usable} {store} questions outco
       same_shape = inside.0.same_shape is_usable ∙ ap (λ (s : StoreContents). s.secret.shape) view;
       counted = sym (inside.0.counted is_usable ∙ ap (λ (s : StoreContents). length s.history) view);
     }
-
--- what a crash finds in a call that was to append the group to the journal
-abbrev pub MayAppend : {D : Type 0} → Ghosts D → JournalContents → List Answered → D → D → Type 0
-MayAppend bench journal group old new =
-    (history : List Answered) → bench.told → StandsAt (bench.file old) journal.shape history journal.gate → length history ≡ journal.count → IsQuiet bench old
-    → LeavesOnly bench old new (IsBeforeOrAfter journal.shape history group (bench.sent old))
-
--- the group was appended to it
-pub record WasAppended {D : Type 0} (bench : Ghosts D) (journal after : JournalContents) (group : List Answered) (old new : D) : Type 0 where
-  pub done : (history : List Answered) → bench.told → StandsAt (bench.file old) journal.shape history journal.gate → length history ≡ journal.count
-      → StandsAt (bench.file new) after.shape (history ++ group) after.gate
-  pub written : bench.told → HasGroup journal.shape group journal.gate (bench.file old) (bench.file new)
-  pub quiet : bench.told → IsQuiet bench old → IsQuiet bench new
-  pub ticks : bench.told → bench.moment new ≡ bench.moment old + calls_for group
-  pub unasked : group ≡ [] → new ≡ old
-  pub steady : bench.faults new ≡ bench.faults old
-  pub shape : after.shape ≡ journal.shape
-  pub usable : after.usable ≡ true
-  pub counted : after.count ≡ journal.count + length group
 
 module _ {store : StoreContents} {questions : List Asked} {outcomes : List Outcome} {journal : JournalContents} {group : List Answered}
     (is : IsDecided store questions outcomes journal group) where
@@ -235,9 +220,9 @@ module _ {store : StoreContents} {questions : List Asked} (outcomes : Vec Outcom
     })
 
     -- none did
-    pub asked : {now : StoreContents} (after : JournalContents) → WasAppended bench journal after group old new
-        → HasKept store now (records_made questions outcomes.items) after → AsksOn bench store now questions (Ok outcomes) old new
-    asked {now} after appended kept = record {
+    pub asked : {now : StoreContents} (after : JournalContents) → WasAppended bench journal after group old new → bench.faults new ≡ bench.faults old
+        → (group ≡ [] → new ≡ old) → HasKept store now (records_made questions outcomes.items) after → AsksOn bench store now questions (Ok outcomes) old new
+    asked {now} after appended steady unasked kept = record {
       outcomes = is.due;
       history = kept.history;
       stands = λ told.
@@ -247,7 +232,7 @@ module _ {store : StoreContents} {questions : List Asked} (outcomes : Vec Outcom
       usable = kept.usable;
       kept = tt;
       no_memory = λ refused. no_refusal _ _ refused;
-      fault = none_failed bench old new _ appended.steady (λ refused. no_refusal _ _ refused);
+      fault = none_failed bench old new _ steady (λ refused. no_refusal _ _ refused);
       table = kept.table;
       is = kept.is;
       any_moment = λ told quiet other. keeps_group is bench old new stands may told quiet;
@@ -258,23 +243,23 @@ module _ {store : StoreContents} {questions : List Asked} (outcomes : Vec Outcom
       quiet = λ told quiet other. appended.quiet told quiet;
       sent = sent;
       ticks = λ told. ticks_made is bench old new stands after appended told;
-      unasked = λ none. appended.unasked (is.group_is ∙ none);
+      unasked = λ none. unasked (is.group_is ∙ none);
     }
 
--- ---- what became of it on the spare, which comes first
+-- ---- what became of it on the spare, which comes first, if there is one
 
-module _ {store : StoreContents} {questions : List Asked} (outcomes : Vec Outcome Global) {other : JournalContents} {group : List Answered}
-    (is : IsDecided store questions outcomes.items other group) {B S : Type 0} (bench : Ghosts B) (spare : Ghosts S) (old new : B) (before after : S)
-    (stands : spare.told → StandsAt (spare.file before) store.secret.shape store.history other.gate) {now : StoreContents}
-    (may : MayAppend spare other group before after) (sent : spare.sent after ≡ spare.sent before) (ended : JournalContents) where
+module _ {store : StoreContents} {questions : List Asked} (outcomes : Vec Outcome Global) {other : JournalContents} {group : List Answered} {Spared : Type 0}
+    (is : Spared → IsDecided store questions outcomes.items other group) {B S : Type 0} (bench : Ghosts B) (spare : Ghosts S) (old new : B) (before after : S)
+    (stands : Spared → spare.told → StandsAt (spare.file before) store.secret.shape store.history other.gate) {now : StoreContents}
+    (may : Spared → MayAppend spare other group before after) (sent : spare.sent after ≡ spare.sent before) (ended : JournalContents) where
   -- a call of it failed
   pub spare_asked_in_vain : ((Answered : Type 0) → Answered → TellsFault spare before after Answered) → new ≡ old
-      → SpareAsksOn bench spare spare.told store now other.gate ended.gate questions (Err stop.Spare) old new before after
+      → SpareAsksOn bench spare (Spared × spare.told) store now other.gate ended.gate questions (Err stop.Spare) old new before after
   spare_asked_in_vain tells uncalled = record {
     stands = λ told. tt;
     no_memory = λ no_memory. let none : ⊥ = cc in absurd none;
     fault = tells _ refl;
-    moments = λ told quiet no_memory. keeps_group is spare before after stands may told quiet;
+    moments = λ told quiet no_memory. keeps_group (is told.0) spare before after (stands told.0) (may told.0) told.1 quiet;
     written = λ told. tt;
     quiet = λ told quiet no. absurd (no refl);
     sent = sent;
@@ -284,75 +269,51 @@ module _ {store : StoreContents} {questions : List Asked} (outcomes : Vec Outcom
     ahead = λ told spare_told quiet failed. let none : ⊥ = cc in absurd none;
   }
 
-  module _ (appended : WasAppended spare other ended group before after) where
+  module _ (appended : Spared → WasAppended spare other ended group before after) (steady : spare.faults after ≡ spare.faults before) where
     -- none did, and then a call of the bench failed
     pub spare_is_ahead : ((image : List ℕ) → bench.moment old ≤ bench.moment new → bench.leaves new image
         → bench.since new (bench.moment old) image (bench.sent new))
         → (bench.told → IsQuiet bench old
         → LeavesOnly bench old new (IsBeforeOrAfter store.secret.shape store.history (records_made questions outcomes.items) (bench.sent old)))
-        → SpareAsksOn bench spare spare.told store now other.gate ended.gate questions (Err stop.Bench) old new before after
+        → SpareAsksOn bench spare (Spared × spare.told) store now other.gate ended.gate questions (Err stop.Bench) old new before after
     spare_is_ahead counts_now moments = record {
       stands = λ told. tt;
       no_memory = λ no_memory. let none : ⊥ = cc in absurd none;
-      fault = none_failed spare before after _ appended.steady (λ failed. let none : ⊥ = cc in none);
-      moments = λ told quiet no_memory. keeps_group is spare before after stands may told quiet;
+      fault = none_failed spare before after _ steady (λ failed. let none : ⊥ = cc in none);
+      moments = λ told quiet no_memory. keeps_group (is told.0) spare before after (stands told.0) (may told.0) told.1 quiet;
       written = λ told. tt;
-      quiet = λ told quiet no. appended.quiet told quiet;
+      quiet = λ told quiet no. (appended told.0).quiet told.1 quiet;
       sent = sent;
       ticks = λ told. tt;
       unasked = tt;
       first = λ failed. let none : ⊥ = cc in absurd none;
       ahead = λ told spare_told quiet failed image left. record {
         outcomes = outcomes.items;
-        due = is.due;
+        due = (is spare_told.0).due;
         spare_stands = (
           ended.gate,
-          stands_after is spare before after stands ended appended store.secret.shape
-              (store.history ++ records_made questions outcomes.items) refl refl spare_told,
+          stands_after (is spare_told.0) spare before after (stands spare_told.0) ended (appended spare_told.0) store.secret.shape
+              (store.history ++ records_made questions outcomes.items) refl refl spare_told.1,
         );
         image_stands = ((moments told quiet).each image (bench.sent new) (counts_now image (moments told quiet).later left)).1;
       };
     }
 
     -- none did, of either
-    pub spare_asked : HasKept store now (records_made questions outcomes.items) now.journal
-        → SpareAsksOn bench spare spare.told store now other.gate ended.gate questions (Ok outcomes) old new before after
-    spare_asked kept = record {
-      stands =
-          stands_after is spare before after stands ended appended now.secret.shape now.history
-          (ap (λ (s : SecretView). s.shape) kept.table.0) kept.history;
+    pub spare_asked : (records_made questions outcomes.items ≡ [] → after ≡ before) → HasKept store now (records_made questions outcomes.items) now.journal
+        → SpareAsksOn bench spare (Spared × spare.told) store now other.gate ended.gate questions (Ok outcomes) old new before after
+    spare_asked unasked kept = record {
+      stands = λ told.
+          stands_after (is told.0) spare before after (stands told.0) ended (appended told.0) now.secret.shape now.history
+          (ap (λ (s : SecretView). s.shape) kept.table.0) kept.history told.1;
       no_memory = λ refused. no_refusal _ _ refused;
-      fault = none_failed spare before after _ appended.steady (λ refused. no_refusal _ _ refused);
-      moments = λ told quiet no_memory. keeps_group is spare before after stands may told quiet;
-      written = has_made is spare before after stands ended appended;
-      quiet = λ told quiet no. appended.quiet told quiet;
+      fault = none_failed spare before after _ steady (λ refused. no_refusal _ _ refused);
+      moments = λ told quiet no_memory. keeps_group (is told.0) spare before after (stands told.0) (may told.0) told.1 quiet;
+      written = λ told. has_made (is told.0) spare before after (stands told.0) ended (appended told.0) told.1;
+      quiet = λ told quiet no. (appended told.0).quiet told.1 quiet;
       sent = sent;
-      ticks = ticks_made is spare before after stands ended appended;
-      unasked = λ none. appended.unasked (is.group_is ∙ none);
+      ticks = λ told. ticks_made (is told.0) spare before after (stands told.0) ended (appended told.0) told.1;
+      unasked = unasked;
       first = λ refused. no_refusal _ _ refused;
       ahead = λ told spare_told quiet refused. no_refusal _ _ refused;
     }
-
--- ---- no spare
-
--- a store that has none calls none
-pub no_spare : {B S : Type 0} (bench : Ghosts B) (spare : Ghosts S) (Told : Type 0) {store now : StoreContents} {gate ended : ℕ} {questions : List Asked}
-    (answer : Result (Vec Outcome Global) Stop) {old new : B} (at : S) → (Told → ⊥) → (IsErrOf answer stop.Spare → ⊥)
-    → SpareAsksOn bench spare Told store now gate ended questions answer old new at at
-no_spare bench spare Told {store} {now} {gate} {ended} {questions} answer {old} {new} at untold none = record {
-  stands = λ told. absurd (untold told);
-  no_memory = λ no_memory. refl;
-  fault = not_called spare at _ none;
-  moments = λ told. absurd (untold told);
-  written = λ told. absurd (untold told);
-  quiet = λ told. absurd (untold told);
-  sent = refl;
-  ticks = λ told. absurd (untold told);
-  unasked = as_it_was answer;
-  first = λ failed. absurd (none failed);
-  ahead = λ told spare_told. absurd (untold spare_told);
-}
-  where
-    as_it_was : (answer : Result (Vec Outcome Global) Stop) → IfOk answer (λ v. records_made questions v.items ≡ [] → at ≡ at)
-    as_it_was (Ok v) = λ none. refl
-    as_it_was (Err e) = tt

@@ -52,22 +52,3 @@ pub record SpareAsksOn {B S : Type 0} (bench : Ghosts B) (spare : Ghosts S) (Tol
   pub first : IsErrOf answer Spare → new ≡ old
   pub ahead : bench.told → Told → IsQuiet bench old → IsErrOf answer Bench → (image : List ℕ) → bench.leaves new image
       → KeptAhead (spare.file after) image (table_of store) store.history questions
-
--- what is said of the spare if one thing holds is said if another does that brings it with it
-pub told_by : {B S : Type 0} {bench : Ghosts B} {spare : Ghosts S} {Told Also : Type 0} {store now : StoreContents} {gate ended : ℕ} {questions : List Asked}
-    {answer : Result (Vec Outcome Global) Stop} {old new : B} {before after : S} → (Also → Told)
-    → SpareAsksOn bench spare Told store now gate ended questions answer old new before after
-    → SpareAsksOn bench spare Also store now gate ended questions answer old new before after
-told_by brings asks = record {
-  stands = λ also. asks.stands (brings also);
-  no_memory = asks.no_memory;
-  fault = asks.fault;
-  moments = λ also. asks.moments (brings also);
-  written = λ also. asks.written (brings also);
-  quiet = λ also. asks.quiet (brings also);
-  sent = asks.sent;
-  ticks = λ also. asks.ticks (brings also);
-  unasked = asks.unasked;
-  first = asks.first;
-  ahead = λ told also. asks.ahead told (brings also);
-}

@@ -5,14 +5,12 @@ ghost use Rattle.audit_types.specs.Limits.{most_records};
 ghost use Rattle.audit_types.specs.declared.records.Answered.{Answered};
 ghost use Rattle.audit_types.specs.History.{FitsShape, IsLegal};
 ghost use Rattle.audit_core.specs.Outcomes.{IsOutcome, AreOutcomes, record_of, records_made};
-ghost use Rattle.bench_core.specs.Calls.{IsQuiet, LeavesOnly, TellsFault};
+ghost use Rattle.bench_core.specs.Calls.{TellsFault};
 ghost use Rattle.bench_core.specs.Causes.{HasCause};
 ghost use Rattle.bench_core.specs.Stops.{IsOfBench};
 ghost use Rattle.journal_form.specs.Journal.{StandsAt};
-ghost use Rattle.answer_journal.specs.Moments.{IsBeforeOrAfter};
 ghost use Rattle.table_load.specs.Database.{secret_table};
-ghost use Rattle.audit_store.specs.Stores.{HasGroup, calls_for};
-ghost use Rattle.audit_store.specs.Twice.{IsReadyOver, group_of};
+ghost use Rattle.audit_store.specs.Twice.{IsReadyOver, MayAppend, WasAppended, group_of};
 
 use crate::sealed::Sealed;
 use answer_journal::{Journal, Ready};
@@ -126,24 +124,19 @@ pub fn keep_ready<B: Bench>(
     requires few { journal.old.count + length (group_of ready.now) ≤ most_records }
     requires stands { B.told → (history : List Answered) × StandsAt (B.file bench.old) journal.old.shape history journal.old.gate × (length history ≡ journal.old.count) }
 
-    ensures any_moment { (history : List Answered) → B.told → StandsAt (B.file bench.old) journal.old.shape history journal.old.gate → length history ≡ journal.old.count → IsQuiet B.Bench bench.old
-        → LeavesOnly B.Bench bench.old bench.new (IsBeforeOrAfter journal.old.shape history (group_of ready.now) (B.sent bench.old)) }
-    ensures done { (history : List Answered) → B.told → StandsAt (B.file bench.old) journal.old.shape history journal.old.gate → length history ≡ journal.old.count
-        → OnOk result (StandsAt (B.file bench.new) journal.new.shape (history ++ group_of ready.now) journal.new.gate) }
-    ensures written { B.told → OnOk result (HasGroup journal.old.shape (group_of ready.now) journal.old.gate (B.file bench.old) (B.file bench.new)) }
-    ensures quiet { B.told → IsQuiet B.Bench bench.old → OnOk result (IsQuiet B.Bench bench.new) }
-    ensures sent { B.sent bench.new ≡ B.sent bench.old }
-    ensures ticks { B.told → OnOk result (B.moment bench.new ≡ B.moment bench.old + calls_for (group_of ready.now)) }
+    ensures any_moment { MayAppend B.Bench journal.old (group_of ready.now) bench.old bench.new }
+    ensures appended { OnOk result (WasAppended B.Bench journal.old journal.new (group_of ready.now) bench.old bench.new) }
     ensures unasked { group_of ready.now ≡ [] → OnOk result (bench.new ≡ bench.old) }
+    ensures sent { B.sent bench.new ≡ B.sent bench.old }
     ensures cause { HasCause (B.faults bench.old) (B.faults bench.new) result }
     ensures last_call { OnErr result (B.last_failed bench.new ≡ true) }
-
     ensures shape { journal.new.shape ≡ journal.old.shape }
-    ensures usable { OnOk result (journal.new.usable ≡ true) }
-    ensures counted { OnOk result (journal.new.count ≡ journal.old.count + length (group_of ready.now)) }
 {
     match ready {
-        Some(ready) => journal.append_ready(bench, ready),
+        Some(ready) => {
+            journal.append_ready(bench, ready)?;
+            Ok(())
+        }
         None => Ok(()),
     }
 }
@@ -157,22 +150,14 @@ pub fn keep<B: Bench>(journal: &mut Journal, bench: &mut B, group: &[Answered]) 
     requires few { journal.old.count + length group.now ≤ most_records }
     requires stands { B.told → (history : List Answered) × StandsAt (B.file bench.old) journal.old.shape history journal.old.gate × (length history ≡ journal.old.count) }
 
-    ensures any_moment { (history : List Answered) → B.told → StandsAt (B.file bench.old) journal.old.shape history journal.old.gate → length history ≡ journal.old.count → IsQuiet B.Bench bench.old
-        → LeavesOnly B.Bench bench.old bench.new (IsBeforeOrAfter journal.old.shape history group.now (B.sent bench.old)) }
-    ensures done { (history : List Answered) → B.told → StandsAt (B.file bench.old) journal.old.shape history journal.old.gate → length history ≡ journal.old.count
-        → OnOk result (StandsAt (B.file bench.new) journal.new.shape (history ++ group.now) journal.new.gate) }
-    ensures written { B.told → OnOk result (HasGroup journal.old.shape group.now journal.old.gate (B.file bench.old) (B.file bench.new)) }
-    ensures quiet { B.told → IsQuiet B.Bench bench.old → OnOk result (IsQuiet B.Bench bench.new) }
-    ensures sent { B.sent bench.new ≡ B.sent bench.old }
-    ensures ticks { B.told → OnOk result (B.moment bench.new ≡ B.moment bench.old + calls_for group.now) }
+    ensures any_moment { MayAppend B.Bench journal.old group.now bench.old bench.new }
+    ensures appended { OnOk result (WasAppended B.Bench journal.old journal.new group.now bench.old bench.new) }
     ensures unasked { group.now ≡ [] → OnOk result (bench.new ≡ bench.old) }
+    ensures sent { B.sent bench.new ≡ B.sent bench.old }
     ensures no_memory { IsErrOf result Stop.NoMemory → bench.new ≡ bench.old }
     ensures fault { TellsFault B.Bench bench.old bench.new (IsErrOf result Stop.Bench) }
-    ensures ends { IfErr result IsOfBench }
-
     ensures shape { journal.new.shape ≡ journal.old.shape }
-    ensures usable { OnOk result (journal.new.usable ≡ true) }
-    ensures counted { OnOk result (journal.new.count ≡ journal.old.count + length group.now) }
+    ensures ends { IfErr result IsOfBench }
 {
     let ready = made_ready(journal, group)?;
     keep_ready(journal, bench, &ready)?;

@@ -6,6 +6,7 @@ ghost use Rattle.journal_form.specs.Journal.{StandsAt};
 ghost use Rattle.audit_store.specs.Asks.{AsksOn, SpareAsksOn};
 ghost use Rattle.audit_store.specs.Stores.{StoreContents, IsAsLeft};
 
+use crate::ahead::NoJournal;
 use crate::store::Store;
 use audit_core::Outcome;
 use audit_types::Asked;
@@ -57,9 +58,9 @@ impl Keeper for Store {
     fn ask_group<B: Bench, S: Bench>(
         &mut self,
         bench: &mut B,
-        _spare: &mut S,
+        spare: &mut S,
         asked: &[Asked],
     ) -> Result<Vec<Outcome>, Stop> {
-        self.ask_all(bench, asked)
+        self.ask_all(&mut NoJournal, bench, spare, asked)
     }
 }

@@ -18,6 +18,7 @@ ghost use Rattle.table_load.specs.Database.{secret_table};
 ghost use Rattle.audit_store.specs.Starting.{StartCause};
 ghost use Rattle.answer_journal.specs.declared.refusals.JournalRefusal.{JournalRefusal};
 
+use crate::ahead::Ahead;
 use crate::asking::{decide_all, keep_ready, made_ready};
 use crate::bringing::{bring_up, take_all};
 use crate::growing::{GrowRefusal, may_grow, of_journal};
@@ -135,61 +136,39 @@ impl Store {
     }
 
     /// Decides up to 64 questions in order, each after the history and the answers before it in the group. The records of
-    /// the answers are in the journal before an answer is given: they are appended as one group, in four calls of the
-    /// bench, and all memory is taken before the first of them. After a refusal the store isn't usable.
-    pub fn ask_all<B: Bench>(
+    /// the answers are kept before an answer is given: they are appended as one group to the other journal, if there is one, and then
+    /// to the store's own, in four calls of each bench. All memory is taken before the first of them. After a refusal the store
+    /// isn't usable.
+    pub fn ask_all<A: Ahead, B: Bench, S: Bench>(
         &mut self,
-        bench: &mut B,
-        asked: &[Asked],
-    ) -> Result<Vec<Outcome>, Stop>
-        requires usable { self.old.usable ≡ true }
-        requires few { length asked.now ≤ 64 }
-        requires fit { All (λ a. FitsShape self.old.secret.shape a.column a.rows) asked.now }
-        requires stands { B.told → IsAsLeft (B.file bench.old) self.old }
-
-        // One outcome for each question, and their records are kept. A crash at any moment leaves the history before, or that with the
-        // records of the group; after a refusal the history is as it was.
-        ensures asks { AsksOn B.Bench self.old self.new asked.now result bench.old bench.new }
-        ensures ends { IfErr result IsOfBench }
-    {
-        self.usable = false;
-        let outcomes = decide_all(self.alloc, &mut self.sealed, asked)?;
-        let group = &self.sealed.core().history()[self.released as usize..];
-        let ready = made_ready(&self.journal, group)?;
-        keep_ready(&mut self.journal, bench, &ready)?;
-        self.released = self.sealed.core().history().len() as u32;
-        self.usable = true;
-        Ok(outcomes)
-    }
-
-    /// Decides questions as `ask_all` does, for a table with another journal of the same history on a spare: the records of the answers
-    /// are appended as one group to the other journal, and then to the store's own, in four calls of each bench. All memory is taken
-    /// before the first of them. After a refusal the store isn't usable.
-    pub fn ask_all_twice<B: Bench, S: Bench>(
-        &mut self,
-        other: &mut Journal,
+        ahead: &mut A,
         bench: &mut B,
         spare: &mut S,
         asked: &[Asked],
     ) -> Result<Vec<Outcome>, Stop>
         requires usable { self.old.usable ≡ true }
-        requires other { IsJournalOf self.old.secret.shape self.old.history other.old }
+        requires ahead { A.spared → IsJournalOf self.old.secret.shape self.old.history (A.journal ahead.old) }
         requires few { length asked.now ≤ 64 }
         requires fit { All (λ a. FitsShape self.old.secret.shape a.column a.rows) asked.now }
         requires stands { B.told → IsAsLeft (B.file bench.old) self.old }
-        requires spare_stands { S.told → StandsAt (S.file spare.old) self.old.secret.shape self.old.history other.old.gate }
+        requires spare_stands { A.spared → S.told → StandsAt (S.file spare.old) self.old.secret.shape self.old.history (A.journal ahead.old).gate }
 
-        // The same as over one journal, and of the spare, which comes first. The other journal is that of the new history, too.
+        // One outcome for each question, and their records are kept. A crash at any moment leaves the history before, or that with the
+        // records of the group; after a refusal the history is as it was.
         ensures asks { AsksOn B.Bench self.old self.new asked.now result bench.old bench.new }
-        ensures spare { SpareAsksOn B.Bench S.Bench S.told self.old self.new other.old.gate other.new.gate asked.now result bench.old bench.new spare.old spare.new }
-        ensures other { OnOk result (IsJournalOf self.new.secret.shape self.new.history other.new) }
+
+        // The same of the spare, if there is one, which comes first. Else it isn't called.
+        ensures spare { SpareAsksOn B.Bench S.Bench (A.spared × S.told) self.old self.new (A.journal ahead.old).gate (A.journal ahead.new).gate asked.now result bench.old bench.new spare.old spare.new }
+        ensures ahead { A.spared → OnOk result (IsJournalOf self.new.secret.shape self.new.history (A.journal ahead.new)) }
+        ensures own { IsErrOf result Stop.Spare → A.spared }
+        ensures untouched { (A.spared → ⊥) → spare.new ≡ spare.old }
         ensures ends { IfErr result IsOfBenches }
     {
         self.usable = false;
         let outcomes = decide_all(self.alloc, &mut self.sealed, asked)?;
         let group = &self.sealed.core().history()[self.released as usize..];
         let ready = made_ready(&self.journal, group)?;
-        match keep_ready(other, spare, &ready) {
+        match ahead.keep_ahead(spare, &ready) {
             Ok(()) => {}
             Err(Failed) => return Err(Stop::Spare),
         }

@@ -1,12 +1,11 @@
 //! Two journals of one table's answers: each group is kept on a spare, and then on the bench.
 //!
-//! `TwinStore::start` opens both, and brings the shorter one up to the longer; `serve_twin` answers lines over them, by
-//! `TwinStore::ask_all`, which keeps each group on both before it gives an answer; `restore` writes a lost journal anew from the other.
+//! `TwinStore::start` opens both, and brings the shorter one up to the longer; `serve_twin` answers lines over them, and keeps each group on
+//! both before it sends a reply; `restore` writes a lost journal anew from the other.
 #![tactic(auto)]
 
 mod catching;
 mod copying;
-mod keeping;
 pub mod laws;
 mod restoring;
 mod serving;

@@ -1,12 +1,11 @@
 //! Opening two journals of one table, and asking over both.
-ghost use Rattle.std.specs.Prelude.{◌≡◌, ◌≢◌, ◌≤◌, ◌+◌, ◌++◌, [], ⊤, List, ℕ, true, false, length, All, Err, IfOk, IfErr, OnOk, OnErr, IsErrOf};
+ghost use Rattle.std.specs.Prelude.{◌≡◌, ◌≢◌, ◌+◌, ⊤, List, true, Err, IfOk, IfErr, OnOk, IsErrOf};
 ghost use Rattle.audit_types.specs.declared.records.Answered.{Answered};
-ghost use Rattle.audit_types.specs.History.{AreProtected, FitsShape};
+ghost use Rattle.audit_types.specs.History.{AreProtected};
 ghost use Rattle.bench_core.specs.Calls.{IsQuiet, IsUntouched, LeavesOnly, OnlyReads, TellsFault};
 ghost use Rattle.bench_core.specs.Ends.{DoneUnlessStopped, EndsBy, IsRefused, RefusedUnlessStopped, refused_as, turned_end};
 ghost use Rattle.bench_core.specs.Stops.{IsOfBenches};
 ghost use Rattle.table_load.specs.Database.{secret_table};
-ghost use Rattle.audit_store.specs.Asks.{AsksOn, SpareAsksOn};
 ghost use Rattle.audit_store.specs.Stores.{IsAsLeft, IsStore};
 ghost use Rattle.answer_journal.specs.declared.refusals.JournalRefusal.{JournalRefusal};
 ghost use Rattle.twin_journal.specs.declared.starting.TwinRefusal.{TwinRefusal};
@@ -14,7 +13,7 @@ ghost use Rattle.twin_journal.specs.Twins.{CatchesUp, HoldsLegal, IsSpareAsLeft,
 
 use crate::catching::catch_up;
 use answer_journal::{Journal, JournalRefusal};
-use audit_store::{Outcome, Store};
+use audit_store::{Keeper, Outcome, Store};
 use audit_types::{Answered, Asked, Guard};
 use bench_core::{Bench, End, Stop};
 use journal_form::laws::one_reading;
@@ -144,31 +143,6 @@ impl TwinStore {
         })
     }
 
-    /// Decides up to 64 questions in order, as `Store::ask_all` does, and keeps the records of the answers as one group on the spare
-    /// and then on the bench, in four calls of each. All memory is taken before the first of them. After a refusal the store isn't
-    /// usable.
-    pub fn ask_all<B: Bench, S: Bench>(
-        &mut self,
-        bench: &mut B,
-        spare: &mut S,
-        asked: &[Asked],
-    ) -> Result<Vec<Outcome>, Stop>
-        requires usable { self.old.store.usable ≡ true }
-        requires few { length asked.now ≤ 64 }
-        requires fit { All (λ a. FitsShape self.old.store.secret.shape a.column a.rows) asked.now }
-        requires stands { B.told → IsAsLeft (B.file bench.old) self.old.store }
-        requires spare_stands { S.told → IsSpareAsLeft (S.file spare.old) self.old }
-
-        // The same as over one journal, and of the spare, which comes first.
-        ensures asks { AsksOn B.Bench self.old.store self.new.store asked.now result bench.old bench.new }
-        ensures spare { SpareAsksOn B.Bench S.Bench S.told self.old.store self.new.store self.old.spare.gate self.new.spare.gate asked.now result bench.old bench.new spare.old spare.new }
-        ensures ends { IfErr result IsOfBenches }
-        ensures is { IsStore self.new.store × IsTwin self.new }
-    {
-        self.store
-            .ask_all_twice(&mut self.spare, bench, spare, asked)
-    }
-
     /// The released records, in order.
     pub fn history(&self) -> &[Answered]
         ensures history { result.now ≡ self.now.store.history }
@@ -177,10 +151,28 @@ impl TwinStore {
         self.store.history()
     }
 
-    /// Whether questions may be asked. After a refused `ask_all` they may not.
+    /// Whether questions may be asked. After a refused group they may not.
     pub fn usable(&self) -> bool
         ensures { result ≡ self.now.store.usable }
     {
         self.store.usable()
+    }
+}
+
+/// A twin store is spared: a group is on its spare and then in its journal before an answer is given.
+impl Keeper for TwinStore {
+    ghost spared = { Unit {0} };
+
+    ghost store = { λ t. t.store };
+
+    ghost spare_gate = { λ t. t.spare.gate };
+
+    fn ask_group<B: Bench, S: Bench>(
+        &mut self,
+        bench: &mut B,
+        spare: &mut S,
+        asked: &[Asked],
+    ) -> Result<Vec<Outcome>, Stop> {
+        self.store.ask_all(&mut self.spare, bench, spare, asked)
     }
 }

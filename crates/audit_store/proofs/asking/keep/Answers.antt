@@ -1,10 +1,9 @@
-use Rattle.std.proofs.Common.{List, ◌++◌, subst}
+use Rattle.std.proofs.Common.{List, subst}
 use Rattle.audit_types.specs.declared.records.Answered.{Answered}
-use Rattle.journal_form.specs.Journal.{StandsAt}
+use Rattle.audit_store.specs.Twice.{WasAppended}
 use Rattle.audit_store.proofs.asking.keep.Goals as goal
 
-pub returns-clause-done : goal.returns-clause-done
-returns-clause-done g c = λ history told stands many.
-    let now = c.keep_ready.new.journal in
-    subst (λ (group : List Answered). StandsAt (g.B.Bench.file c.keep_ready.new.bench) now.shape (history ++ group) now.gate) c.in_ok-ready.ensures.group
-    (c.in_ok-keep_ready.ensures.done history told stands many)
+pub returns-clause-appended : goal.returns-clause-appended
+returns-clause-appended g c =
+    subst (λ (group : List Answered). WasAppended g.B.Bench c.args.journal.now c.keep_ready.new.journal group c.args.bench.now c.keep_ready.new.bench)
+    c.in_ok-ready.ensures.group c.in_ok-keep_ready.ensures.appended

@@ -20,5 +20,4 @@ loop-at-preserved g c =
     one_more g.B.Bench c.args.missing.now c.args.bench.now c.args.journal.now c.loop-at.at c.min-end.result c.loop-at.bench c.keep.new.bench
     c.loop-at.journal c.keep.new.journal c.loop-at.invariant (omega (arith, c.min-end.ensures, c.loop-at.invariant.within))
     (take (c.min-end.result - c.loop-at.at) (drop c.loop-at.at c.args.missing.now)) refl c.keep.ensures.any_moment
-    c.min-end.ensures c.loop-at-test.true kept.usable kept.shape kept.counted kept.done kept.quiet c.keep.ensures.sent
-    (kept.fault.steady (λ is. no_refusal _ _ is)) kept.ticks
+    c.min-end.ensures c.loop-at-test.true kept.appended c.keep.ensures.sent (kept.fault.steady (λ is. no_refusal _ _ is))
