@@ -8,8 +8,8 @@ use Rattle.bench_core.specs.Stops.{IsOfBench}
 use Rattle.bench_core.specs.declared.stops.Stop.TheVariants as stop
 use Rattle.audit_core.specs.Audited.{Audited}
 use Rattle.audit_core.specs.Outcomes.{records_made}
-use Rattle.audit_store.specs.Stores.{StoreContents}
-use Rattle.audit_store.specs.StoreLaws.{table_by, core_is_history}
+use Rattle.audit_store.specs.Stores.{StoreContents, table_by}
+use Rattle.audit_store.specs.StoreLaws.{core_is_history}
 use Rattle.audit_store.specs.Twice.{group_of}
 use Rattle.audit_store.proofs.InsideStores.{kept, refused}
 use Rattle.audit_store.proofs.AskedGroups.{WasAppended, asked, asked_in_vain, decided, unasked}

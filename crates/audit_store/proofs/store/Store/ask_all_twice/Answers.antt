@@ -11,8 +11,8 @@ use Rattle.audit_core.specs.Audited.{Audited}
 use Rattle.audit_core.specs.Outcomes.{records_made}
 use Rattle.table_load.specs.Cells.{SecretView}
 use Rattle.journal_form.specs.Journal.{StandsAt}
-use Rattle.audit_store.specs.Stores.{StoreContents}
-use Rattle.audit_store.specs.StoreLaws.{table_by, core_is_history}
+use Rattle.audit_store.specs.Stores.{StoreContents, table_by}
+use Rattle.audit_store.specs.StoreLaws.{core_is_history}
 use Rattle.audit_store.specs.Twice.{group_of}
 use Rattle.audit_store.proofs.InsideStores.{kept, refused}
 use Rattle.audit_store.proofs.AskedGroups.{WasAppended, asked, asked_in_vain, decided, found, journal_after, over_other, spare_asked, spare_asked_in_vain, spare_is_ahead, spare_unasked, unasked, uncalled}
