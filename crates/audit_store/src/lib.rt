@@ -1,9 +1,9 @@
 //! The store: the secrets of a table, its protected groups, what was released, and the journal behind it.
 //!
-//! `Store::start` opens a journal and tests that it is that of the table; `Store::ask_all` decides questions and keeps
-//! what it answers. A store's history is legal, so it discloses no secret, and no total of a protected group. Its secrets are read of a
-//! released question alone. `Store::grow` takes the journal of a table to the rows that came at its end. `Store::open_other`, `bring_up`
-//! and `Store::ask_all_twice` do for a table with a second journal what the others do for one.
+//! `Guarded` are the secrets with what is guarded of them. `Store::start` opens a journal and tests that it is that of their table;
+//! `Store::ask_all` decides questions and keeps what it answers. A store's history is legal, so it discloses no secret, and no total of a
+//! protected group. Its secrets are read of a released question alone. `Store::grow` takes the journal of a table to the rows that came at
+//! its end. `Store::open_other`, `bring_up` and `Store::ask_all_twice` do for a table with a second journal what the others do for one.
 #![tactic(auto)]
 
 mod agreeing;

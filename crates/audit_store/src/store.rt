@@ -19,8 +19,8 @@ ghost use Rattle.answer_journal.specs.declared.refusals.JournalRefusal.{JournalR
 
 use crate::asking::{decide_all, keep_ready, made_ready};
 use crate::bringing::{bring_up, take_all};
-use crate::guarded::Guarded;
 use crate::growing::{GrowRefusal, may_grow, of_journal};
+use crate::guarded::Guarded;
 use crate::sealed::Sealed;
 use crate::starting::opened;
 use answer_journal::{Journal, JournalRefusal};

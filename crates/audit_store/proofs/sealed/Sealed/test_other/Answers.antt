@@ -20,7 +20,8 @@ pub returns-then-agreement-list-clause-ok : goal.returns-then-agreement-list-cla
 returns-then-agreement-list-clause-ok c =
     let list = c.args.list.now in
     let known = c.args.self.now.core.history in
-    let table = table_by c.args.self.now.secret c.args.self.now.core in
+    let secret = c.args.self.now.secret in
+    let table = table_by secret c.args.self.now.core in
     let whole : take c.agreement.result known ≡ list = ap (take c.agreement.result) (sym c.history.ensures.is) ∙ c.agreement.ensures.same
     ∙ ap (λ n. take n list) c.if-agreement-list.true ∙ take-length list in
     (search rules, subst (λ (h : List Answered). IsLegal table h) whole (legal_front table known c.agreement.result c.requires.legal))
@@ -36,10 +37,11 @@ pub returns-in_err-audited-clause-opens : goal.returns-in_err-audited-clause-ope
 returns-in_err-audited-clause-opens c = λ same legal.
     let end = c.in_err-audited.field-0.0 in
     let list = c.args.list.now in
-    let table = table_by c.args.self.now.secret c.args.self.now.core in
+    let secret = c.args.self.now.secret in
+    let table = table_by secret c.args.self.now.core in
     let groups : c.in-Ok.protected ≡ c.args.self.now.core.setting.protected = search rules in
     let found = subst (λ (s : Shape). EndsBy IsOfMemory (λ refusal. HistoryCause refusal s list table) end) (sym same)
-    (subst (λ (p : Protection). EndsBy IsOfMemory (λ refusal. HistoryCause refusal c.args.self.now.secret.shape list (secret_table c.args.self.now.secret p)) end) groups
+    (subst (λ (p : Protection). EndsBy IsOfMemory (λ refusal. HistoryCause refusal secret.shape list (secret_table secret p)) end) groups
     c.in_err-audited.ensures.err) in
     of_refusal c.from_residual.result end c.from_residual.ensures DoneUnlessStopped
     (stopped_of_none end IsOfMemory _ (λ refusal cause. legal_has_no_cause c.args.kept.now list table refusal same legal cause) found)
@@ -48,11 +50,12 @@ pub returns-in_err-audited-clause-due : goal.returns-in_err-audited-clause-due
 returns-in_err-audited-clause-due c = λ due cause.
     let end = c.in_err-audited.field-0.0 in
     let list = c.args.list.now in
-    let table = table_by c.args.self.now.secret c.args.self.now.core in
+    let secret = c.args.self.now.secret in
+    let table = table_by secret c.args.self.now.core in
     let same : c.args.kept.now ≡ c.args.self.now.secret.shape = search rules in
     let groups : c.in-Ok.protected ≡ c.args.self.now.core.setting.protected = search rules in
     let found = subst (λ (s : Shape). EndsBy IsOfMemory (λ refusal. HistoryCause refusal s list table) end) (sym same)
-    (subst (λ (p : Protection). EndsBy IsOfMemory (λ refusal. HistoryCause refusal c.args.self.now.secret.shape list (secret_table c.args.self.now.secret p)) end) groups
+    (subst (λ (p : Protection). EndsBy IsOfMemory (λ refusal. HistoryCause refusal secret.shape list (secret_table secret p)) end) groups
     c.in_err-audited.ensures.err) in
     of_refusal c.from_residual.result end c.from_residual.ensures (RefusedUnlessStopped due)
     (due_of_one end IsOfMemory _ due (λ refusal other. one_cause c.args.kept.now list table due refusal cause other) found)
