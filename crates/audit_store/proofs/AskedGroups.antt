@@ -19,8 +19,8 @@ use Rattle.answer_journal.specs.Contents.{JournalContents}
 use Rattle.answer_journal.specs.Moments.{IsBeforeOrAfter}
 use Rattle.audit_store.specs.Asks.{AsksOn, SpareAsksOn}
 use Rattle.audit_store.specs.Refusals.{no_refusal}
-use Rattle.audit_store.specs.Stores.{StoreContents, IsAsLeft, IsStore, IsAuditedBy, HasGroup, Keeps, calls_for, table_of}
-use Rattle.audit_store.specs.StoreLaws.{core_is_history, nothing_appended, store_in, table_by, taken_since}
+use Rattle.audit_store.specs.Stores.{StoreContents, IsAsLeft, IsStore, IsAuditedBy, HasGroup, Keeps, calls_for, table_by, table_of}
+use Rattle.audit_store.specs.StoreLaws.{core_is_history, nothing_appended, store_in, taken_since}
 use Rattle.audit_store.specs.Twice.{IsJournalOf, MayAppend, WasAppended}
 use Rattle.audit_store.proofs.InsideStores.{HasKept, HasRefused}
 

@@ -5,8 +5,8 @@ use Rattle.audit_types.specs.History.{IsLegal, Setting}
 use Rattle.audit_core.specs.Audited.{Audited}
 use Rattle.table_load.specs.Cells.{SecretView}
 use Rattle.answer_journal.specs.Contents.{JournalContents}
-use Rattle.audit_store.specs.Stores.{StoreContents, IsStore, IsAuditedBy}
-use Rattle.audit_store.specs.StoreLaws.{kept_store, more_released, refused_store, still_released, store_in, table_by}
+use Rattle.audit_store.specs.Stores.{StoreContents, IsStore, IsAuditedBy, table_by}
+use Rattle.audit_store.specs.StoreLaws.{kept_store, more_released, refused_store, still_released, store_in}
 
 -- after a refusal the store has its table and its history, and isn't usable
 pub record HasRefused (store now : StoreContents) : Type 0 where

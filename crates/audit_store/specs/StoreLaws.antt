@@ -1,4 +1,4 @@
--- Laws of stores: what they show of their cores and journals, and that a recovered one, one that kept a group and one that refused one are
+-- Laws of stores: what they show of their cores and journals, and that one that was opened, one that kept a group and one that refused one are
 -- stores.
 use Rattle.std.proofs.Common.{◌≡◌, ℕ, ◌+◌, ◌<◌, ◌≤◌, Bool, true, false, List, [], ◌∷◌, refl, ◌-◌, ◌++◌, length, length-append, length-take, length-drop, take, drop, sym, ap, subst, ◌∙◌, arith, inl, Result, Ok, Err}
 use Rattle.std.specs.Prelude.{OnErr}
@@ -15,8 +15,8 @@ use Rattle.bench_core.specs.Moments.{started}
 use Rattle.journal_form.specs.Journal.{StandsAt, StandsFor}
 use Rattle.answer_journal.specs.Moments.{IsBeforeOrAfter}
 use Rattle.answer_journal.specs.Contents.{JournalContents}
-use Rattle.audit_store.specs.Stores.{StoreContents, IsStore, IsAuditedBy, calls_for}
-use Rattle.audit_store.specs.Starting.{Recovers}
+use Rattle.audit_store.specs.Stores.{StoreContents, IsStore, IsAuditedBy, calls_for, table_by}
+use Rattle.audit_store.specs.Starting.{IsSealed}
 use Rattle.table_load.specs.Database.{secret_table}
 
 -- while a store is usable the records of its core are its history
@@ -58,37 +58,28 @@ abbrev pub store_in : SecretView → Audited → ℕ → JournalContents → Boo
 store_in secret core released journal usable =
     record { secret = secret; protected = core.setting.protected; history = take released core.history; journal = journal; usable = usable }
 
--- the table of a core over these secrets
-abbrev pub table_by : SecretView → Audited → Table
-table_by secret core = secret_table secret core.setting.protected
-
-module _ (secret : SecretView) (protected : Protection) (journal : JournalContents) (core : Audited) (found : Recovers secret protected journal core) where
-  all_released : take journal.count core.history ≡ core.history
-  all_released = ap (λ n. take n core.history) found.counted ∙ take-length core.history
-
-  -- its groups are those that were given
-  pub recovered_groups : core.setting.protected ≡ protected
-  recovered_groups = ap (λ (s : Setting). s.protected) found.same_setting
-
-  -- what was recovered is a store, all of whose records are released
-  pub recovered_store : AreProtected secret.shape protected →
-      IsStore (store_in secret core journal.count journal true) × IsAuditedBy (table_by secret core) core journal.count true
-  recovered_store fit = (
-    record {
-      numbers = found.numbers;
-      fit = subst (λ (p : Protection). AreProtected secret.shape p) (sym recovered_groups) fit;
-      legal = subst (λ (p : Protection). IsLegal (secret_table secret p) (take journal.count core.history)) (sym recovered_groups)
-          (subst (λ (h : List Answered). IsLegal (secret_table secret protected) h) (sym all_released) found.legal);
-      journal_usable = λ _. found.usable;
-      same_shape = λ _. found.same_shape;
-      counted = λ _. found.counted ∙ ap length (sym all_released);
-    },
-    record {
-      same_setting = found.same_setting ∙ ap (λ (p : Protection). setting_of secret.shape p) (sym recovered_groups);
-      within = omega (arith, found.counted);
-      all = λ _. found.counted;
-    },
-  )
+-- a journal of the same history and what is sealed make a store, all of whose records are released
+pub sealed_store : (table : Table) (history : List Answered) (secret : SecretView) (core : Audited) (journal : JournalContents) →
+    IsSealed table history secret core → journal.usable ≡ true → journal.shape ≡ table.setting.shape → journal.count ≡ length history →
+    IsStore (store_in secret core journal.count journal true) × IsAuditedBy (table_by secret core) core journal.count true
+sealed_store table history secret core journal is usable same_shape counted =
+    let all : journal.count ≡ length core.history = counted ∙ ap length (sym is.same_history) in
+    let whole : take journal.count core.history ≡ core.history = ap (λ n. take n core.history) all ∙ take-length core.history in (
+      record {
+        numbers = is.numbers;
+        fit = subst (λ (t : Table). AreProtected t.setting.shape t.setting.protected) (sym is.same_table) is.fit;
+        legal = subst (λ (t : Table). IsLegal t (take journal.count core.history)) (sym is.same_table)
+            (subst (λ (h : List Answered). IsLegal table h) (sym (whole ∙ is.same_history)) is.legal);
+        journal_usable = λ _. usable;
+        same_shape = λ _. same_shape ∙ ap (λ (t : Table). t.setting.shape) (sym is.same_table);
+        counted = λ _. all ∙ ap length (sym whole);
+      },
+      record {
+        same_setting = is.same_setting ∙ ap (λ (t : Table). t.setting) (sym is.same_table);
+        within = omega (arith, all);
+        all = λ _. all;
+      },
+    )
 
 -- a core that goes on over the same setting audits the same table
 same_table : (secret : SecretView) (old new : Audited) → new.setting ≡ old.setting → old.setting ≡ (table_by secret old).setting

@@ -29,6 +29,14 @@ pub record StoreContents : Type 0 where
 abbrev pub table_of : StoreContents → Table
 table_of store = secret_table store.secret store.protected
 
+-- the secrets of a table
+abbrev pub secrets_of : Table → SecretView
+secrets_of table = record { shape = table.setting.shape; lists = table.secrets }
+
+-- the table of a core over these secrets
+abbrev pub table_by : SecretView → Audited → Table
+table_by secret core = secret_table secret core.setting.protected
+
 -- what is true of every store: its history is legal, and while it is usable its journal is that of its table and history
 pub record IsStore (store : StoreContents) : Type 0 where
   pub numbers : IsSecret store.secret

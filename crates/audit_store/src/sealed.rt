@@ -1,7 +1,8 @@
 //! What is guarded, behind the audit that decides what may be told of it.
-ghost use Rattle.std.specs.Prelude.{◌≡◌, ◌+◌, ◌++◌, [], ◌∷◌, ⊤, List, OnOk, OnErr, IfOk, IfErr, Err, IsErrOf};
+ghost use Rattle.std.specs.Prelude.{◌≡◌, ◌≤◌, ◌+◌, ◌++◌, [], ◌∷◌, ⊤, List, length, All, OnOk, OnErr, IfOk, IfErr, Err, IsErrOf};
 ghost use Rattle.audit_types.specs.declared.records.Answered.{Answered};
 ghost use Rattle.audit_types.specs.declared.records.Verdict.TheVariants.{Released};
+ghost use Rattle.audit_types.specs.Limits.{most_records};
 ghost use Rattle.audit_types.specs.Judgement.{IsWithinWidth};
 ghost use Rattle.audit_types.specs.History.{FitsShape, IsLegal, IsPossibleHistory, IsDecisionAfter, known_of, setting_of, list_of};
 ghost use Rattle.audit_types.specs.Shapes.{kind_at};
@@ -9,14 +10,15 @@ ghost use Rattle.audit_types.specs.Truth.{truth};
 ghost use Rattle.answer_journal.specs.declared.refusals.JournalRefusal.{JournalRefusal};
 ghost use Rattle.bench_core.specs.Calls.{OnlyReads, TellsFault};
 ghost use Rattle.bench_core.specs.Ends.{DoneUnlessStopped, EndsBy, RefusedUnlessStopped};
-ghost use Rattle.bench_core.specs.Stops.{IsOfBench};
+ghost use Rattle.bench_core.specs.Stops.{IsOfBench, IsOfMemory};
 ghost use Rattle.journal_form.specs.Journal.{StandsAt, StandsFor};
 ghost use Rattle.table_load.specs.Cells.{IsSecret};
-ghost use Rattle.table_load.specs.Database.{secret_table};
-ghost use Rattle.audit_store.specs.Starting.{StartCause};
+ghost use Rattle.audit_store.specs.Starting.{HistoryCause, StartCause};
+ghost use Rattle.audit_store.specs.Stores.{table_by};
 ghost use Rattle.audit_store.specs.Twice.{IsJournalOf};
 
-use crate::starting::recover_other;
+use crate::agreeing::agreement;
+use crate::starting::audited;
 use answer_journal::{Journal, JournalRefusal};
 use audit_core::Core;
 use audit_types::{Answered, Asked, NoMemory, Shape, Verdict};
@@ -87,24 +89,56 @@ impl Sealed<Secret> {
         self.secret.truth(asked.column, &asked.rows)
     }
 
-    /// Opens another journal of the table, and tests it as `recover_other` does: the secrets are read of its records.
+    // Tests that the history of a journal of this shape is that of the table. One with which the history of the audit begins, which is
+    // legal, isn't tested again.
+    fn test_other(
+        &self,
+        alloc: Global,
+        kept: &Shape,
+        list: &[Answered],
+    ) -> Result<(), End<JournalRefusal>>
+        requires setting { self.now.core.setting ≡ setting_of self.now.secret.shape self.now.core.setting.protected }
+        requires legal { IsLegal (table_by self.now.secret self.now.core) self.now.core.history }
+        requires few { length list.now ≤ most_records }
+        requires fit { All (λ r. FitsShape kept.now r.column r.rows) list.now }
+        ensures ok { OnOk result ((kept.now ≡ self.now.secret.shape) × IsLegal (table_by self.now.secret self.now.core) list.now) }
+        ensures err { IfErr result (EndsBy IsOfMemory (λ refusal. HistoryCause refusal kept.now list.now (table_by self.now.secret self.now.core))) }
+        ensures due { (refusal : JournalRefusal) → HistoryCause refusal kept.now list.now (table_by self.now.secret self.now.core) → RefusedUnlessStopped refusal result }
+        ensures opens { kept.now ≡ self.now.secret.shape → IsLegal (table_by self.now.secret self.now.core) list.now → DoneUnlessStopped result }
+    {
+        let now = self.secret.shape();
+        if *kept != now {
+            return Err(End::Refused(JournalRefusal::OtherShape { kept: *kept, now }));
+        }
+        if agreement(self.core.history(), list) == list.len() {
+            return Ok(());
+        }
+        let Ok(protected) = self.core.protected().copy(alloc) else {
+            return Err(End::Stopped(Stop::NoMemory));
+        };
+        audited(alloc, &self.secret, protected, list)?;
+        Ok(())
+    }
+
+    /// Opens another journal of the table, and tests it as a store's own is tested: the refusals come in the same order. Records with
+    /// which the history of the audit begins are legal, and not tested again.
     pub fn open_other<B: Bench>(
         &self,
         alloc: Global,
         spare: &mut B,
     ) -> Result<(Journal, Vec<Answered>), End<JournalRefusal>>
         requires setting { self.now.core.setting ≡ setting_of self.now.secret.shape self.now.core.setting.protected }
-        requires legal { IsLegal (secret_table self.now.secret self.now.core.setting.protected) self.now.core.history }
+        requires legal { IsLegal (table_by self.now.secret self.now.core) self.now.core.history }
 
         // It is that of the file's history, which is legal.
         ensures journal { IfOk result (λ found. IsJournalOf self.now.secret.shape found.1.items found.0) }
-        ensures legal { IfOk result (λ found. IsLegal (secret_table self.now.secret self.now.core.setting.protected) found.1.items) }
+        ensures legal { IfOk result (λ found. IsLegal (table_by self.now.secret self.now.core) found.1.items) }
         ensures stands { B.told → IfOk result (λ found. StandsAt (B.file spare.old) self.now.secret.shape found.1.items found.0.gate) }
 
         // Each refusal has its cause in the file, and each cause has its refusal; a legal history is never refused.
-        ensures cause { (refusal : JournalRefusal) → B.told → result ≡ Err (End.Refused refusal) → StartCause refusal (B.file spare.old) (secret_table self.now.secret self.now.core.setting.protected) }
-        ensures due { (refusal : JournalRefusal) → B.told → StartCause refusal (B.file spare.old) (secret_table self.now.secret self.now.core.setting.protected) → RefusedUnlessStopped refusal result }
-        ensures opens { (history : List Answered) → B.told → StandsFor (B.file spare.old) self.now.secret.shape history → IsLegal (secret_table self.now.secret self.now.core.setting.protected) history → DoneUnlessStopped result }
+        ensures cause { (refusal : JournalRefusal) → B.told → result ≡ Err (End.Refused refusal) → StartCause refusal (B.file spare.old) (table_by self.now.secret self.now.core) }
+        ensures due { (refusal : JournalRefusal) → B.told → StartCause refusal (B.file spare.old) (table_by self.now.secret self.now.core) → RefusedUnlessStopped refusal result }
+        ensures opens { (history : List Answered) → B.told → StandsFor (B.file spare.old) self.now.secret.shape history → IsLegal (table_by self.now.secret self.now.core) history → DoneUnlessStopped result }
 
         // Nothing is written and nothing sent.
         ensures reads { OnlyReads B.Bench spare.old spare.new }
@@ -112,6 +146,8 @@ impl Sealed<Secret> {
         ensures fault { TellsFault B.Bench spare.old spare.new (IsErrOf result (End.Stopped Stop.Bench)) }
         ensures ends { IfErr result (EndsBy IsOfBench (λ _. ⊤)) }
     {
-        recover_other(alloc, &self.secret, &self.core, spare)
+        let (journal, list) = Journal::read_back(alloc, spare)?;
+        self.test_other(alloc, &journal.shape(), &list)?;
+        Ok((journal, list))
     }
 }

@@ -1,28 +1,25 @@
 //! Opening the journal of a table.
-ghost use Rattle.std.specs.Prelude.{◌≡◌, ◌<◌, ◌≤◌, ◌+◌, ⊤, true, false, Ok, List, length, All, IfOk, IfErr, OnOk, IsErrOf};
+ghost use Rattle.std.specs.Prelude.{◌≡◌, ◌<◌, ◌≤◌, true, false, Ok, length, All, IfOk, IfErr, OnOk};
 ghost use Rattle.audit_types.specs.Limits.{most_records};
 ghost use Rattle.audit_types.specs.History.{Protection, FitsShape, AreProtected, IsLegal, IsPossibleHistory, IsDecisionAfter, IsJudgementAfter, setting_of};
 ghost use Rattle.audit_types.specs.declared.records.Answered.{Answered};
 ghost use Rattle.audit_types.specs.declared.records.Verdict.TheVariants.{Released};
 ghost use Rattle.audit_types.specs.Minima.{as_it_stands};
 ghost use Rattle.audit_types.specs.Shapes.{columns, is_least};
-ghost use Rattle.bench_core.specs.Calls.{OnlyReads, TellsFault};
 ghost use Rattle.bench_core.specs.Ends.{DoneUnlessStopped, EndsBy, RefusedUnlessStopped};
-ghost use Rattle.bench_core.specs.Stops.{IsOfBench, IsOfMemory};
-ghost use Rattle.journal_form.specs.Journal.{StandsAt, StandsFor};
+ghost use Rattle.bench_core.specs.Stops.{IsOfMemory};
 ghost use Rattle.answer_journal.specs.declared.refusals.JournalRefusal.{JournalRefusal};
-ghost use Rattle.audit_store.specs.Starting.{AreTrue, HistoryCause, Recovers, StartCause, TellsIllegal};
-ghost use Rattle.audit_store.specs.Twice.{IsJournalOf};
-ghost use Rattle.table_load.specs.Cells.{IsSecret};
+ghost use Rattle.audit_store.specs.Starting.{AreTrue, HistoryCause, IsSealed, TellsIllegal};
 ghost use Rattle.table_load.specs.Database.{secret_table};
 
-use crate::agreeing::agreement;
-use answer_journal::{Journal, JournalRefusal};
+use crate::guarded::Guarded;
+use crate::sealed::Sealed;
+use answer_journal::JournalRefusal;
 use audit_core::Core;
 use audit_core::laws::released_records;
 use audit_types::laws::true_answers;
 use audit_types::{Answered, Asked, Guard, NoMemory, Shape, Verdict};
-use bench_core::{Bench, End, Stop};
+use bench_core::End;
 use std::alloc::Global;
 use sum_basis::laws::sets_have_one_form;
 use table_load::Secret;
@@ -151,120 +148,26 @@ pub fn audited(
     }
 }
 
-// Tests that the history of a journal of this shape is that of the secrets' table.
-fn opened(
+/// Tests that the history of a journal of this shape is that of the table, and seals the secrets with the audit of it.
+pub fn opened(
     alloc: Global,
-    secret: &Secret,
-    protected: Guard,
+    guarded: Guarded,
     kept: &Shape,
     list: &[Answered],
-) -> Result<Core, End<JournalRefusal>>
-    requires groups { AreProtected secret.now.shape protected }
+) -> Result<Sealed<Secret>, End<JournalRefusal>>
     requires few { length list.now ≤ most_records }
     requires fit { All (λ r. FitsShape kept.now r.column r.rows) list.now }
-    ensures ok { IfOk result (λ core. (core ≡ record { setting = setting_of secret.now.shape protected; history = list.now }) × IsLegal (secret_table secret.now protected) list.now) }
-    ensures same { OnOk result ((kept.now ≡ secret.now.shape) × IsSecret secret.now) }
-    ensures err { IfErr result (EndsBy IsOfMemory (λ refusal. HistoryCause refusal kept.now list.now (secret_table secret.now protected))) }
-    ensures due { (refusal : JournalRefusal) → HistoryCause refusal kept.now list.now (secret_table secret.now protected) → RefusedUnlessStopped refusal result }
-    ensures opens { kept.now ≡ secret.now.shape → IsLegal (secret_table secret.now protected) list.now → DoneUnlessStopped result }
+    ensures ok { IfOk result (λ sealed. IsSealed guarded list.now sealed.secret sealed.core) }
+    ensures same { OnOk result (kept.now ≡ guarded.setting.shape) }
+    ensures err { IfErr result (EndsBy IsOfMemory (λ refusal. HistoryCause refusal kept.now list.now guarded)) }
+    ensures due { (refusal : JournalRefusal) → HistoryCause refusal kept.now list.now guarded → RefusedUnlessStopped refusal result }
+    ensures opens { kept.now ≡ guarded.setting.shape → IsLegal guarded list.now → DoneUnlessStopped result }
 {
-    let now = secret.shape();
+    let now = guarded.shape();
     if *kept != now {
         return Err(End::Refused(JournalRefusal::OtherShape { kept: *kept, now }));
     }
-    audited(alloc, secret, protected, list)
-}
-
-/// Reads the journal of a table back, and tests that it is that of the table: a store of it goes on from what is answered. The refusals
-/// come in the order of `JournalRefusal`. The groups are dropped with a refusal. The file isn't written.
-pub fn recover<B: Bench>(
-    alloc: Global,
-    secret: &Secret,
-    protected: Guard,
-    bench: &mut B,
-) -> Result<(Journal, Core), End<JournalRefusal>>
-    requires fit { AreProtected secret.now.shape protected }
-
-    // The core's history is that of the file, and it is legal.
-    ensures recovers { IfOk result (λ found. Recovers secret.now protected found.0 found.1) }
-    ensures stands { B.told → IfOk result (λ found. StandsAt (B.file bench.old) secret.now.shape found.1.history found.0.gate) }
-
-    // Each refusal has its cause in the file, and each cause has its refusal; a legal history is never refused.
-    ensures cause { (refusal : JournalRefusal) → B.told → result ≡ Err (End.Refused refusal) → StartCause refusal (B.file bench.old) (secret_table secret.now protected) }
-    ensures due { (refusal : JournalRefusal) → B.told → StartCause refusal (B.file bench.old) (secret_table secret.now protected) → RefusedUnlessStopped refusal result }
-    ensures opens { (history : List Answered) → B.told → StandsFor (B.file bench.old) secret.now.shape history → IsLegal (secret_table secret.now protected) history → DoneUnlessStopped result }
-
-    // Nothing is written and nothing sent.
-    ensures reads { OnlyReads B.Bench bench.old bench.new }
-    ensures ticks { B.told → OnOk result (B.moment bench.new ≡ B.moment bench.old + 2) }
-    ensures fault { TellsFault B.Bench bench.old bench.new (IsErrOf result (End.Stopped Stop.Bench)) }
-    ensures ends { IfErr result (EndsBy IsOfBench (λ _. ⊤)) }
-{
-    let (journal, list) = Journal::read_back(alloc, bench)?;
-    let core = opened(alloc, secret, protected, &journal.shape(), &list)?;
-    Ok((journal, core))
-}
-
-/// Tests that the history of a journal of this shape is that of the secrets' table. One with which the core's history begins, which is
-/// legal, isn't tested again.
-pub fn test_other(
-    alloc: Global,
-    secret: &Secret,
-    core: &Core,
-    kept: &Shape,
-    list: &[Answered],
-) -> Result<(), End<JournalRefusal>>
-    requires setting { core.now.setting ≡ setting_of secret.now.shape core.now.setting.protected }
-    requires legal { IsLegal (secret_table secret.now core.now.setting.protected) core.now.history }
-    requires few { length list.now ≤ most_records }
-    requires fit { All (λ r. FitsShape kept.now r.column r.rows) list.now }
-    ensures ok { OnOk result ((kept.now ≡ secret.now.shape) × IsLegal (secret_table secret.now core.now.setting.protected) list.now) }
-    ensures err { IfErr result (EndsBy IsOfMemory (λ refusal. HistoryCause refusal kept.now list.now (secret_table secret.now core.now.setting.protected))) }
-    ensures due { (refusal : JournalRefusal) → HistoryCause refusal kept.now list.now (secret_table secret.now core.now.setting.protected) → RefusedUnlessStopped refusal result }
-    ensures opens { kept.now ≡ secret.now.shape → IsLegal (secret_table secret.now core.now.setting.protected) list.now → DoneUnlessStopped result }
-{
-    let now = secret.shape();
-    if *kept != now {
-        return Err(End::Refused(JournalRefusal::OtherShape { kept: *kept, now }));
-    }
-    if agreement(core.history(), list) == list.len() {
-        return Ok(());
-    }
-    let Ok(protected) = core.protected().copy(alloc) else {
-        return Err(End::Stopped(Stop::NoMemory));
-    };
-    audited(alloc, secret, protected, list)?;
-    Ok(())
-}
-
-/// Opens another journal of the table of a core, and tests it as `recover` does. Records with which the core's history begins are
-/// legal, and not tested again.
-pub fn recover_other<B: Bench>(
-    alloc: Global,
-    secret: &Secret,
-    core: &Core,
-    bench: &mut B,
-) -> Result<(Journal, Vec<Answered>), End<JournalRefusal>>
-    requires setting { core.now.setting ≡ setting_of secret.now.shape core.now.setting.protected }
-    requires legal { IsLegal (secret_table secret.now core.now.setting.protected) core.now.history }
-
-    // It is that of the file's history, which is legal.
-    ensures journal { IfOk result (λ found. IsJournalOf secret.now.shape found.1.items found.0) }
-    ensures legal { IfOk result (λ found. IsLegal (secret_table secret.now core.now.setting.protected) found.1.items) }
-    ensures stands { B.told → IfOk result (λ found. StandsAt (B.file bench.old) secret.now.shape found.1.items found.0.gate) }
-
-    // Each refusal has its cause in the file, and each cause has its refusal; a legal history is never refused.
-    ensures cause { (refusal : JournalRefusal) → B.told → result ≡ Err (End.Refused refusal) → StartCause refusal (B.file bench.old) (secret_table secret.now core.now.setting.protected) }
-    ensures due { (refusal : JournalRefusal) → B.told → StartCause refusal (B.file bench.old) (secret_table secret.now core.now.setting.protected) → RefusedUnlessStopped refusal result }
-    ensures opens { (history : List Answered) → B.told → StandsFor (B.file bench.old) secret.now.shape history → IsLegal (secret_table secret.now core.now.setting.protected) history → DoneUnlessStopped result }
-
-    // Nothing is written and nothing sent.
-    ensures reads { OnlyReads B.Bench bench.old bench.new }
-    ensures ticks { B.told → OnOk result (B.moment bench.new ≡ B.moment bench.old + 2) }
-    ensures fault { TellsFault B.Bench bench.old bench.new (IsErrOf result (End.Stopped Stop.Bench)) }
-    ensures ends { IfErr result (EndsBy IsOfBench (λ _. ⊤)) }
-{
-    let (journal, list) = Journal::read_back(alloc, bench)?;
-    test_other(alloc, secret, core, &journal.shape(), &list)?;
-    Ok((journal, list))
+    let (secret, protected) = guarded.apart();
+    let core = audited(alloc, &secret, protected, list)?;
+    Ok(Sealed::new(secret, core))
 }

@@ -1,7 +1,7 @@
 //! The store.
 ghost use Rattle.std.specs.Prelude.{◌≡◌, ◌≢◌, ◌≤◌, ◌+◌, ◌++◌, [], ⊤, ℕ, List, true, false, length, take, All, IfOk, IfErr, OnOk, OnErr, IsErrOf, Err};
 ghost use Rattle.audit_types.specs.declared.records.Answered.{Answered};
-ghost use Rattle.audit_types.specs.History.{FitsShape, AreProtected, IsLegal, setting_of};
+ghost use Rattle.audit_types.specs.History.{FitsShape, IsLegal, setting_of};
 ghost use Rattle.bench_core.specs.Calls.{IsQuiet, LeavesOnly, IsUntouched, OnlyReads, TellsFault};
 ghost use Rattle.bench_core.specs.Ends.{DoneUnlessStopped, EndsBy, RefusedUnlessStopped};
 ghost use Rattle.bench_core.specs.Stops.{IsOfBench, IsOfBenches};
@@ -14,7 +14,6 @@ ghost use Rattle.audit_store.specs.declared.growing.GrowRefusal.{GrowRefusal};
 ghost use Rattle.audit_store.specs.Stores.{IsAsLeft, IsStore, table_of};
 ghost use Rattle.audit_store.specs.Twice.{IsBroughtUp, IsJournalOf, StandsWithSome, calls_to_bring_up};
 ghost use Rattle.table_load.specs.Cells.{IsSecret};
-ghost use Rattle.table_load.specs.Database.{secret_table};
 ghost use Rattle.audit_store.specs.Starting.{StartCause};
 ghost use Rattle.answer_journal.specs.declared.refusals.JournalRefusal.{JournalRefusal};
 
@@ -22,8 +21,9 @@ use crate::ahead::Ahead;
 use crate::asking::{decide_all, keep_ready, made_ready};
 use crate::bringing::{bring_up, take_all};
 use crate::growing::{GrowRefusal, may_grow, of_journal};
+use crate::guarded::Guarded;
 use crate::sealed::Sealed;
-use crate::starting::recover;
+use crate::starting::opened;
 use answer_journal::{Journal, JournalRefusal};
 use audit_core::{Core, Outcome};
 use audit_types::{Answered, Asked, Guard, Shape};
@@ -60,20 +60,17 @@ impl Store {
     /// `JournalRefusal`. The secrets and the groups are dropped with a refusal. The file isn't written.
     pub fn start<B: Bench>(
         alloc: Global,
-        secret: Secret,
-        protected: Guard,
+        guarded: Guarded,
         bench: &mut B,
     ) -> Result<Store, End<JournalRefusal>>
-        requires fit { AreProtected secret.shape protected }
-
         // The store is that of the file's history, which is legal.
-        ensures store { IfOk result (λ store. (store.secret ≡ secret) × (store.protected ≡ protected) × (store.usable ≡ true) × IsStore store) }
+        ensures store { IfOk result (λ store. (table_of store ≡ guarded) × (store.usable ≡ true) × IsStore store) }
         ensures stands { B.told → IfOk result (λ store. IsAsLeft (B.file bench.old) store) }
 
         // Each refusal has its cause in the file, and each cause has its refusal; a legal history is never refused.
-        ensures cause { (refusal : JournalRefusal) → B.told → result ≡ Err (End.Refused refusal) → StartCause refusal (B.file bench.old) (secret_table secret protected) }
-        ensures due { (refusal : JournalRefusal) → B.told → StartCause refusal (B.file bench.old) (secret_table secret protected) → RefusedUnlessStopped refusal result }
-        ensures opens { (history : List Answered) → B.told → StandsFor (B.file bench.old) secret.shape history → IsLegal (secret_table secret protected) history → DoneUnlessStopped result }
+        ensures cause { (refusal : JournalRefusal) → B.told → result ≡ Err (End.Refused refusal) → StartCause refusal (B.file bench.old) guarded }
+        ensures due { (refusal : JournalRefusal) → B.told → StartCause refusal (B.file bench.old) guarded → RefusedUnlessStopped refusal result }
+        ensures opens { (history : List Answered) → B.told → StandsFor (B.file bench.old) guarded.setting.shape history → IsLegal guarded history → DoneUnlessStopped result }
 
         // Nothing is written and nothing sent.
         ensures reads { OnlyReads B.Bench bench.old bench.new }
@@ -81,10 +78,11 @@ impl Store {
         ensures fault { TellsFault B.Bench bench.old bench.new (IsErrOf result (End.Stopped Stop.Bench)) }
         ensures ends { IfErr result (EndsBy IsOfBench (λ _. ⊤)) }
     {
-        let (journal, core) = recover(alloc, &secret, protected, bench)?;
+        let (journal, list) = Journal::read_back(alloc, bench)?;
+        let sealed = opened(alloc, guarded, &journal.shape(), &list)?;
         Ok(Store {
             alloc,
-            sealed: Sealed::new(secret, core),
+            sealed,
             released: journal.count(),
             journal,
             usable: true,
@@ -95,25 +93,22 @@ impl Store {
     /// the order of `GrowRefusal`, and of `JournalRefusal`. All memory is taken before the first write. The secrets and the groups are dropped in every case.
     pub fn grow<B: Bench>(
         alloc: Global,
-        secret: Secret,
-        protected: Guard,
+        guarded: Guarded,
         bench: &mut B,
     ) -> Result<(), End<GrowRefusal>>
-        requires fit { AreProtected secret.shape protected }
-
         // Each refusal has its cause in the file, and each cause has its refusal; a history that is legal over all rows is never
         // refused.
-        ensures cause { (refusal : GrowRefusal) → B.told → result ≡ Err (End.Refused refusal) → GrowCause refusal (B.file bench.old) (secret_table secret protected) }
-        ensures due { (refusal : GrowRefusal) → B.told → GrowCause refusal (B.file bench.old) (secret_table secret protected) → RefusedUnlessStopped refusal result }
-        ensures grows { B.told → CanGrow (B.file bench.old) (secret_table secret protected) → DoneUnlessStopped result }
+        ensures cause { (refusal : GrowRefusal) → B.told → result ≡ Err (End.Refused refusal) → GrowCause refusal (B.file bench.old) guarded }
+        ensures due { (refusal : GrowRefusal) → B.told → GrowCause refusal (B.file bench.old) guarded → RefusedUnlessStopped refusal result }
+        ensures grows { B.told → CanGrow (B.file bench.old) guarded → DoneUnlessStopped result }
 
         // The file then stands for the history over all rows. A crash at any moment leaves it over the old rows, or over all.
-        ensures done { B.told → OnOk result ((grown : CanGrow (B.file bench.old) (secret_table secret protected)) × StandsFor (B.file bench.new) secret.shape (widened secret.shape.rows grown.history)) }
-        ensures any_moment { B.told → IsQuiet B.Bench bench.old → (grown : CanGrow (B.file bench.old) (secret_table secret protected))
-            → LeavesOnly B.Bench bench.old bench.new (IsBeforeOrGrown (over grown.rows secret.shape) grown.history secret.shape.rows (B.sent bench.old)) }
+        ensures done { B.told → OnOk result ((grown : CanGrow (B.file bench.old) guarded) × StandsFor (B.file bench.new) guarded.setting.shape (widened guarded.setting.shape.rows grown.history)) }
+        ensures any_moment { B.told → IsQuiet B.Bench bench.old → (grown : CanGrow (B.file bench.old) guarded)
+            → LeavesOnly B.Bench bench.old bench.new (IsBeforeOrGrown (over grown.rows guarded.setting.shape) grown.history guarded.setting.shape.rows (B.sent bench.old)) }
 
         // If it can't grow, nothing is written, at any moment; nor if memory runs out.
-        ensures untouched { B.told → IsQuiet B.Bench bench.old → (CanGrow (B.file bench.old) (secret_table secret protected) → ⊥)
+        ensures untouched { B.told → IsQuiet B.Bench bench.old → (CanGrow (B.file bench.old) guarded → ⊥)
             → LeavesOnly B.Bench bench.old bench.new (IsUntouched (B.file bench.old) (B.sent bench.old)) }
         ensures kept { OnErr result (result ≢ Err (End.Stopped Stop.Bench) → B.file bench.new ≡ B.file bench.old) }
         ensures quiet { B.told → IsQuiet B.Bench bench.old → result ≢ Err (End.Stopped Stop.Bench) → IsQuiet B.Bench bench.new }
@@ -126,8 +121,8 @@ impl Store {
         match Journal::read_back(alloc, bench) {
             Ok((mut journal, mut list)) => {
                 let kept = journal.shape();
-                may_grow(alloc, &secret, protected, &kept, &mut list)?;
-                let rows = secret.shape().rows;
+                let rows = guarded.shape().rows;
+                may_grow(alloc, guarded, &kept, &mut list)?;
                 journal.append_growth(bench, rows)?;
                 Ok(())
             }

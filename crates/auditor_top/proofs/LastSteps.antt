@@ -39,12 +39,12 @@ use Rattle.auditor_top.proofs.StepStatuses.{EndsLastStep, always_before, before_
 -- the table that it audits; one that makes no group ready says the same of every table
 abbrev pub table_for : Ready → Table → Table
 table_for (Serve index store batch) any = secret_table store.secret store.protected
-table_for (Twin index secret protected batch) any = secret_table secret protected
+table_for (Twin index guarded batch) any = guarded
 table_for (Audit schema people store) any = secret_table store.secret store.protected
-table_for (Grow secret protected) any = secret_table secret protected
+table_for (Grow guarded) any = guarded
 table_for (Explain index store) any = secret_table store.secret index.protected
 table_for (Compact store) any = secret_table store.secret store.protected
-table_for (Restore secret protected) any = secret_table secret protected
+table_for (Restore guarded) any = guarded
 table_for ready any = any
 
 -- it is the one that the files mean
@@ -58,24 +58,24 @@ module _ (law : OneListOfEntries) {B : Type 0} (bench : Ghosts B) (now : B) (sch
       OnTrue (reads_groups (command_for ready)) (Protects base.columns base.public files.guards base.protected) →
       table_for ready (table_in base) ≡ table_in base
   same_table (Serve index store batch) is over base files entries = one_table _ base over files entries
-  same_table (Twin index secret protected batch) is over base files entries = one_table _ base over files entries
+  same_table (Twin index guarded batch) is over base files entries = one_table _ base over files entries
   same_table (Audit read people store) is over base files entries = one_table _ base over.1 files entries
-  same_table (Grow secret protected) is over base files entries = one_table _ base over.2 files entries
+  same_table (Grow guarded) is over base files entries = one_table _ base over.2 files entries
   same_table (Explain index store) is over base files entries = one_table _ base over files entries
   same_table (Compact store) is over base files entries = one_table _ base over.2 files entries
-  same_table (Restore secret protected) is over base files entries = one_table _ base over.2 files entries
+  same_table (Restore guarded) is over base files entries = one_table _ base over.2 files entries
   same_table ready is over base files entries = refl
 
   -- of one that opens a journal there is one
   pub a_table : (ready : Ready) → IsReady bench now ready → IsReadyOver schema table ready → opens_journal (command_for ready) ≡ true →
       (base : Database) × AreSoundFilesOf schema table base × ((any : Table) → table_for ready any ≡ table_in base)
   a_table (Serve index store batch) is over opens = (_, over, λ any. refl)
-  a_table (Twin index secret protected batch) is over opens = (_, over, λ any. refl)
+  a_table (Twin index guarded batch) is over opens = (_, over, λ any. refl)
   a_table (Audit read people store) is over opens = (_, over.1, λ any. refl)
-  a_table (Grow secret protected) is over opens = (_, over.2, λ any. refl)
+  a_table (Grow guarded) is over opens = (_, over.2, λ any. refl)
   a_table (Explain index store) is over opens = (_, over, λ any. refl)
   a_table (Compact store) is over opens = (_, over.2, λ any. refl)
-  a_table (Restore secret protected) is over opens = (_, over.2, λ any. refl)
+  a_table (Restore guarded) is over opens = (_, over.2, λ any. refl)
   a_table (Init shape) is over opens = absurd (false≢true opens)
   a_table (Simulate index) is over opens = absurd (false≢true opens)
   a_table (Drill number) is over opens = absurd (false≢true opens)
@@ -107,7 +107,7 @@ are_read law schema table (Init shape) over = files_read command.Init schema tab
     (λ reads. absurd (false≢true reads))
 are_read law schema table (Serve index store batch) over = sound_read law (command.Serve batch false) schema table _ over
     (λ is. absurd (true≢false (ap reads_secrets is)))
-are_read law schema table (Twin index secret protected batch) over = sound_read law (command.Serve batch true) schema table _ over
+are_read law schema table (Twin index guarded batch) over = sound_read law (command.Serve batch true) schema table _ over
     (λ is. absurd (true≢false (ap reads_secrets is)))
 are_read law schema table (Audit read people store) over = sound_read law command.Audit schema table _ over.1 (λ is. absurd (true≢false (ap reads_secrets is)))
 are_read law schema table (Simulate index) over = record {
@@ -123,10 +123,10 @@ are_read law schema table (Drill number) over =
       public_ok = λ is. absurd (false≢true (ap reads_files is));
       groups_ok = λ reads. absurd (false≢true reads);
     }
-are_read law schema table (Grow secret protected) over = sound_read law command.Grow schema table _ over.2 (λ is. absurd (true≢false (ap reads_secrets is)))
+are_read law schema table (Grow guarded) over = sound_read law command.Grow schema table _ over.2 (λ is. absurd (true≢false (ap reads_secrets is)))
 are_read law schema table (Explain index store) over = sound_read law command.Explain schema table _ over (λ is. absurd (true≢false (ap reads_secrets is)))
 are_read law schema table (Compact store) over = sound_read law command.Compact schema table _ over.2 (λ is. absurd (true≢false (ap reads_secrets is)))
-are_read law schema table (Restore secret protected) over = sound_read law command.Restore schema table _ over.2
+are_read law schema table (Restore guarded) over = sound_read law command.Restore schema table _ over.2
     (λ is. absurd (true≢false (ap reads_secrets is)))
 
 -- ---- a store that was opened
@@ -148,8 +148,8 @@ ready_for bench now (Audit read people store) any is told opens = holds bench no
 ready_for bench now (Explain index store) any is told opens = holds_beside bench now store index.protected is.2 is.0 told
 ready_for bench now (Compact store) any is told opens = holds bench now store is told
 ready_for bench now (Init shape) any is told opens = absurd (false≢true opens)
-ready_for bench now (Twin index secret protected batch) any is told opens = absurd (false≢true opens)
-ready_for bench now (Grow secret protected) any is told opens = absurd (false≢true opens)
+ready_for bench now (Twin index guarded batch) any is told opens = absurd (false≢true opens)
+ready_for bench now (Grow guarded) any is told opens = absurd (false≢true opens)
 ready_for bench now ready any is told opens = tt
 
 -- what it stands for, as the opening found it

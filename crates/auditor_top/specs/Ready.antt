@@ -5,7 +5,7 @@ use Rattle.audit_types.specs.Shapes.{IsShape}
 use Rattle.bench_core.specs.declared.bench.Bench.{Ghosts}
 use Rattle.bench_core.specs.declared.source.Source as source
 use Rattle.std.specs.Bool.{OnTrue}
-use Rattle.audit_types.specs.History.{AreProtected}
+use Rattle.audit_types.specs.History.{Table as Guarded}
 use Rattle.schema_json.specs.Columns.{Column, SchemaView}
 use Rattle.schema_json.specs.Reading.{schema_of, most_schema}
 use Rattle.schema_json.specs.SecretShape.{shape_of}
@@ -17,7 +17,7 @@ use Rattle.set_index.specs.Indexed.{IndexView, public_shape}
 use Rattle.table_load.specs.Reading.{most_table}
 use Rattle.table_load.specs.Tables.{table_of, public_of}
 use Rattle.table_load.specs.declared.faults.TableFault.TheVariants as table_fault
-use Rattle.audit_store.specs.Stores.{StoreContents, IsStore, IsAsLeft}
+use Rattle.audit_store.specs.Stores.{StoreContents, IsStore, IsAsLeft, secrets_of}
 use Rattle.audit_session.specs.Ends.{base_over}
 use Rattle.auditor_top.specs.declared.ready.Ready.{Ready}
 use Rattle.auditor_top.specs.declared.ready.Ready.TheVariants.{Init, Serve, Twin, Audit, Simulate, Drill, Grow, Explain, Compact, Restore}
@@ -50,14 +50,14 @@ IsGiven command.Restore schema table file = (base : Database) × AreSoundFilesOf
 abbrev pub command_for : Ready → Command
 command_for (Init shape) = command.Init
 command_for (Serve index store batch) = command.Serve batch false
-command_for (Twin index secret protected batch) = command.Serve batch true
+command_for (Twin index guarded batch) = command.Serve batch true
 command_for (Audit schema people store) = command.Audit
 command_for (Simulate index) = command.Simulate
 command_for (Drill number) = command.Drill number
-command_for (Grow secret protected) = command.Grow
+command_for (Grow guarded) = command.Grow
 command_for (Explain index store) = command.Explain
 command_for (Compact store) = command.Compact
-command_for (Restore secret protected) = command.Restore
+command_for (Restore guarded) = command.Restore
 
 -- a store that was just opened: the journal's file is as it left it
 pub record IsOpened {B : Type 0} (bench : Ghosts B) (now : B) (store : StoreContents) : Type 0 where
@@ -69,35 +69,38 @@ pub record IsOpened {B : Type 0} (bench : Ghosts B) (now : B) (store : StoreCont
 abbrev pub IsReady : {B : Type 0} → Ghosts B → B → Ready → Type 0
 IsReady bench now (Init shape) = IsShape shape
 IsReady bench now (Serve index store batch) = IsOpened bench now store × (store.secret.shape ≡ public_shape index)
-IsReady bench now (Twin index secret protected batch) = AreProtected secret.shape protected × (secret.shape ≡ public_shape index)
+IsReady bench now (Twin index guarded batch) = guarded.setting.shape ≡ public_shape index
 IsReady bench now (Audit schema people store) = IsOpened bench now store × (store.secret.shape ≡ shape_of schema.columns store.secret.shape.rows)
 IsReady bench now (Simulate index) = Unit {0}
 IsReady bench now (Drill number) = Unit {0}
-IsReady bench now (Grow secret protected) = AreProtected secret.shape protected
+IsReady bench now (Grow guarded) = Unit {0}
 IsReady bench now (Explain index store) =
     IsOpened bench now store × (store.secret.shape ≡ public_shape index) × (index.protected ≡ store.protected)
 IsReady bench now (Compact store) = IsOpened bench now store
-IsReady bench now (Restore secret protected) = AreProtected secret.shape protected
+IsReady bench now (Restore guarded) = Unit {0}
+
+-- the columns and the public part of a table, around its secrets and what is guarded of them
+abbrev pub base_around : List Column → PublicView → Guarded → Database
+base_around columns public guarded = base_of columns public guarded.setting.protected (secrets_of guarded)
 
 -- its parts are what the files mean
 abbrev pub IsReadyOver : List ℕ → List ℕ → Ready → Type 0
 IsReadyOver schema_file table_file (Init shape) = (base : Database) × AreFilesOf schema_file table_file base × (shape ≡ base.secret.shape)
 IsReadyOver schema_file table_file (Serve index store batch) = AreSoundFilesOf schema_file table_file (base_over index store)
-IsReadyOver schema_file table_file (Twin index secret protected batch) =
-    AreSoundFilesOf schema_file table_file (base_of index.columns index.public protected secret)
+IsReadyOver schema_file table_file (Twin index guarded batch) = AreSoundFilesOf schema_file table_file (base_around index.columns index.public guarded)
 IsReadyOver schema_file table_file (Audit schema people store) =
     (public : PublicView) × AreSoundFilesOf schema_file table_file (base_of schema.columns public store.protected store.secret) ×
     (people ≡ people_told schema.columns public)
 IsReadyOver schema_file table_file (Simulate index) = ArePublicFilesOf schema_file table_file index
 IsReadyOver schema_file table_file (Drill number) = Unit {0}
-IsReadyOver schema_file table_file (Grow secret protected) =
-    (columns : List Column) × (public : PublicView) × AreSoundFilesOf schema_file table_file (base_of columns public protected secret)
+IsReadyOver schema_file table_file (Grow guarded) =
+    (columns : List Column) × (public : PublicView) × AreSoundFilesOf schema_file table_file (base_around columns public guarded)
 IsReadyOver schema_file table_file (Explain index store) =
     AreSoundFilesOf schema_file table_file (base_of index.columns index.public index.protected store.secret)
 IsReadyOver schema_file table_file (Compact store) =
     (columns : List Column) × (public : PublicView) × AreSoundFilesOf schema_file table_file (base_of columns public store.protected store.secret)
-IsReadyOver schema_file table_file (Restore secret protected) =
-    (columns : List Column) × (public : PublicView) × AreSoundFilesOf schema_file table_file (base_of columns public protected secret)
+IsReadyOver schema_file table_file (Restore guarded) =
+    (columns : List Column) × (public : PublicView) × AreSoundFilesOf schema_file table_file (base_around columns public guarded)
 
 -- ---- the statuses
 

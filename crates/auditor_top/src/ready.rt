@@ -1,40 +1,37 @@
 //! What each command goes on with: its files are read, and its journal is opened.
 ghost use Rattle.std.specs.Prelude.{◌≡◌, ◌≤◌, ◌+◌, true, false, IfOk, IfErr, IsOk, OnOk};
-ghost use Rattle.audit_types.specs.History.{AreProtected};
 ghost use Rattle.bench_core.specs.Calls.{OnlyReads};
-ghost use Rattle.table_load.specs.Database.{base_of};
 ghost use Rattle.set_index.specs.Indexed.{public_shape};
 ghost use Rattle.audit_session.specs.Ends.{base_over};
 ghost use Rattle.auditor_top.specs.Commands.{AreSoundFilesOf, opens_journal, opens_store, reads_files};
 ghost use Rattle.auditor_top.specs.Ends.{people_told};
-ghost use Rattle.auditor_top.specs.Ready.{IsOpened, IsReady, IsReadyOver, Refuses, command_for};
+ghost use Rattle.auditor_top.specs.Ready.{IsOpened, IsReady, IsReadyOver, Refuses, base_around, command_for};
 
 use crate::opening::{OpenedPublic, open_public, open_table};
 use crate::starting::{ReadyTable, Started, make_ready, start};
 use crate::status::Status;
 use crate::words::Command;
-use audit_store::Store;
-use audit_types::{Guard, RowSet, Shape};
+use audit_store::{Guarded, Store};
+use audit_types::{RowSet, Shape};
 use bench_core::{Bench, Source};
 use schema_json::Schema;
 use set_index::{Index, groups_of_a_schema};
 use std::alloc::Global;
-use table_load::Secret;
 
 /// What a command goes on with: of a table what was opened, and of the arguments the batch or the number.
 #[derive(Drop)]
 pub enum Ready {
     Init(Shape),
     Serve(Index, Store, u8),
-    Twin(Index, Secret, Guard, u8),
+    Twin(Index, Guarded, u8),
     // With how many people the rows stand for, if the schema counts them.
     Audit(Schema, Option<u64>, Store),
     Simulate(Index),
     Drill(u32),
-    Grow(Secret, Guard),
+    Grow(Guarded),
     Explain(Index, Store),
     Compact(Store),
-    Restore(Secret, Guard),
+    Restore(Guarded),
 }
 
 // Reads the files of a command that stands on a store, makes the groups ready, and opens the journal.
@@ -79,10 +76,9 @@ fn open_groups<P: Source, B: Bench>(
 
     // What is made ready is that of the files.
     ensures over { P.told → IfOk result (λ made. AreSoundFilesOf (P.left schema.old) (P.left table.old)
-        (base_of made.index.columns made.index.public made.protected made.secret)) }
-    ensures fit { IfOk result (λ made. AreProtected made.secret.shape made.protected) }
-    ensures shape { IfOk result (λ made. made.secret.shape ≡ public_shape made.index) }
-    ensures entries { IfOk result (λ made. made.index.protected ≡ made.protected) }
+        (base_around made.index.columns made.index.public made.guarded)) }
+    ensures shape { IfOk result (λ made. made.guarded.setting.shape ≡ public_shape made.index) }
+    ensures entries { IfOk result (λ made. made.index.protected ≡ made.guarded.setting.protected) }
     ensures steady { OnOk result ((P.faults schema.new ≡ P.faults schema.old) × (P.faults table.new ≡ P.faults table.old)) }
 
     // A refusal has its cause.
@@ -141,7 +137,7 @@ pub fn open<P: Source, B: Bench>(
         }
         Command::Serve { batch, twin: true } => {
             let made = open_groups(alloc, command, schema, table, bench)?;
-            Ok(Ready::Twin(made.index, made.secret, made.protected, batch))
+            Ok(Ready::Twin(made.index, made.guarded, batch))
         }
         Command::Audit => {
             let started = open_store(alloc, command, schema, table, bench)?;
@@ -156,7 +152,7 @@ pub fn open<P: Source, B: Bench>(
         Command::Drill { number } => Ok(Ready::Drill(number)),
         Command::Grow => {
             let made = open_groups(alloc, command, schema, table, bench)?;
-            Ok(Ready::Grow(made.secret, made.protected))
+            Ok(Ready::Grow(made.guarded))
         }
         Command::Explain => {
             let started = open_store(alloc, command, schema, table, bench)?;
@@ -167,7 +163,7 @@ pub fn open<P: Source, B: Bench>(
         )),
         Command::Restore => {
             let made = open_groups(alloc, command, schema, table, bench)?;
-            Ok(Ready::Restore(made.secret, made.protected))
+            Ok(Ready::Restore(made.guarded))
         }
     }
 }

@@ -82,9 +82,7 @@ pub fn run<P: Source, I: Source, B: Bench>(
         Ok(Ready::Serve(index, mut store, batch)) => ended(audit_session::serve(
             alloc, &index, &mut store, input, bench, batch,
         )),
-        Ok(Ready::Twin(index, secret, protected, batch)) => match TwinStore::start(
-            alloc, secret, protected, bench, spare,
-        ) {
+        Ok(Ready::Twin(index, guarded, batch)) => match TwinStore::start(alloc, guarded, bench, spare) {
             Ok(mut twin) => ended(serve_twin(alloc, &index, &mut twin, input, bench, spare, batch)),
             Err(end) => Status::from(end),
         },
@@ -93,13 +91,11 @@ pub fn run<P: Source, I: Source, B: Bench>(
         }
         Ok(Ready::Simulate(index)) => judged(transcript_sim::simulate(alloc, &index, input, bench)),
         Ok(Ready::Drill(number)) => ended(drill(alloc, number, bench)),
-        Ok(Ready::Grow(secret, protected)) => grown(Store::grow(alloc, secret, protected, bench)),
+        Ok(Ready::Grow(guarded)) => grown(Store::grow(alloc, guarded, bench)),
         Ok(Ready::Explain(index, store)) => ended(certificate_lines::explain(
             alloc, &index, &store, input, bench,
         )),
         Ok(Ready::Compact(store)) => compacted(compact(alloc, &store, bench, spare)),
-        Ok(Ready::Restore(secret, protected)) => restored(restore(
-            alloc, secret, protected, bench, spare,
-        )),
+        Ok(Ready::Restore(guarded)) => restored(restore(alloc, guarded, bench, spare)),
     }
 }

@@ -1,7 +1,7 @@
 //! What every command over a journal stands on, besides the files: the schema's groups are ready, and the journal is open.
 ghost use Rattle.std.specs.Prelude.{◌≡◌, ◌+◌, ⊤, ℕ, List, true, IfOk, OnOk, IsErrOf, Err};
 ghost use Rattle.audit_types.specs.declared.records.Answered.{Answered};
-ghost use Rattle.audit_types.specs.History.{Protection, IsLegal, AreProtected};
+ghost use Rattle.audit_types.specs.History.{Protection, IsLegal};
 ghost use Rattle.bench_core.specs.Calls.{OnlyReads, TellsFault};
 ghost use Rattle.schema_json.specs.SecretShape.{shape_of};
 ghost use Rattle.table_load.specs.Cells.{FitsSchema, PublicView, whole};
@@ -10,7 +10,6 @@ ghost use Rattle.journal_form.specs.Journal.{StandsFor};
 ghost use Rattle.audit_store.specs.Starting.{StartCause};
 ghost use Rattle.audit_store.specs.Stores.{IsStore, IsAsLeft};
 ghost use Rattle.set_index.specs.Groups.{Protects, IsFirstBad};
-ghost use Rattle.set_index.specs.Indexed.{public_shape};
 ghost use Rattle.set_index.specs.declared.index.GuardPart.{GuardPart};
 ghost use Rattle.set_index.specs.declared.index.IndexFault.{IndexFault};
 ghost use Rattle.answer_journal.specs.declared.refusals.JournalRefusal.{JournalRefusal};
@@ -20,12 +19,11 @@ ghost use Rattle.bench_core.specs.declared.stops.End.{End};
 
 use crate::opening::Opened;
 use answer_journal::JournalRefusal;
-use audit_store::Store;
-use audit_types::Guard;
+use audit_store::{Guarded, Store};
 use bench_core::{Bench, End, Stop};
 use set_index::{Index, IndexFault, groups_of_a_schema};
 use std::alloc::Global;
-use table_load::{Secret, Table};
+use table_load::Table;
 
 /// The public part of a table, ready to be asked, and the store of its secrets.
 #[derive(Drop)]
@@ -34,12 +32,11 @@ pub struct Started {
     pub store: Store,
 }
 
-/// The public part of a table, ready to be asked, its secrets, and what is guarded of them.
+/// The public part of a table, ready to be asked, and its secrets, with what is guarded of them.
 #[derive(Drop)]
 pub struct ReadyTable {
     pub index: Index,
-    pub secret: Secret,
-    pub protected: Guard,
+    pub guarded: Guarded,
 }
 
 /// Why no store was started over a table.
@@ -54,10 +51,10 @@ pub enum NotStarted {
 /// Makes the groups of a table's schema ready.
 pub fn make_ready(alloc: Global, opened: Opened) -> Result<ReadyTable, IndexFault>
     requires fits { FitsSchema opened.schema.columns opened.table.public }
-    ensures same { IfOk result (λ made. (made.index.columns ≡ opened.schema.columns) × (whole made.index.public ≡ opened.table.public) × (made.secret ≡ opened.table.secret)
-        × (made.index.protected ≡ made.protected)) }
-    ensures fit { IfOk result (λ made. AreProtected (public_shape made.index) made.protected) }
-    ensures entries { IfOk result (λ made. Protects opened.schema.columns made.index.public opened.schema.guards made.protected) }
+    requires shape { opened.table.secret.shape ≡ shape_of opened.schema.columns opened.table.public.rows }
+    ensures same { IfOk result (λ made. (made.index.columns ≡ opened.schema.columns) × (whole made.index.public ≡ opened.table.public)
+        × (made.guarded ≡ secret_table opened.table.secret made.index.protected)) }
+    ensures entries { IfOk result (λ made. Protects opened.schema.columns made.index.public opened.schema.guards made.index.protected) }
     ensures bad { (part : GuardPart) → result ≡ Err (IndexFault.Bad part) → IsFirstBad opened.schema.columns opened.schema.guards part }
 {
     let Opened { schema, table } = opened;
@@ -69,8 +66,7 @@ pub fn make_ready(alloc: Global, opened: Opened) -> Result<ReadyTable, IndexFaul
     match index.protected().copy(alloc) {
         Ok(protected) => Ok(ReadyTable {
             index,
-            secret,
-            protected,
+            guarded: Guarded::new(secret, protected),
         }),
         Err(_) => Err(IndexFault::NoMemory),
     }
@@ -102,15 +98,11 @@ pub fn start<B: Bench>(alloc: Global, opened: Opened, bench: &mut B) -> Result<S
     ensures fault { TellsFault B.Bench bench.old bench.new (IsErrOf result (NotStarted.Journal (End.Stopped Stop.Bench))) }
 {
     groups_of_a_schema();
-    let ReadyTable {
-        index,
-        secret,
-        protected,
-    } = match make_ready(alloc, opened) {
+    let ReadyTable { index, guarded } = match make_ready(alloc, opened) {
         Ok(grouped) => grouped,
         Err(fault) => return Err(NotStarted::Groups(fault)),
     };
-    match Store::start(alloc, secret, protected, bench) {
+    match Store::start(alloc, guarded, bench) {
         Ok(store) => Ok(Started { index, store }),
         Err(end) => Err(NotStarted::Journal(end)),
     }

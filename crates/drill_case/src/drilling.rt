@@ -23,7 +23,7 @@ use crate::lines::drill_lines;
 use crate::summaries::summary;
 use crate::tables::{drill_schema, drill_table};
 use answer_journal::{AlreadyThere, Journal};
-use audit_store::Store;
+use audit_store::{Guarded, Store};
 use audit_types::{NoMemory, Shape};
 use bench_core::{Bench, End, MemoryBench, Room, SteadySource, Stop};
 use schema_json::Schema;
@@ -93,7 +93,7 @@ fn answer(
 {
     journal_form::laws::one_reading();
     let protected = index.protected().copy(alloc)?;
-    match Store::start(alloc, secret, protected, bench) {
+    match Store::start(alloc, Guarded::new(secret, protected), bench) {
         Ok(mut store) => answer_over(alloc, index, &mut store, lines, bench),
         Err(End::Stopped(_)) => Err(NoMemory),
         Err(End::Refused(_)) => unreachable!(),

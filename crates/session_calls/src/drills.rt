@@ -9,7 +9,7 @@ ghost use Rattle.audit_store.specs.Stores.{IsAsLeft};
 
 use answer_journal::Journal;
 use audit_session::serve;
-use audit_store::Store;
+use audit_store::{Guarded, Store};
 use audit_types::{NoMemory, Shape};
 use bench_core::{MemoryBench, Room, SteadySource};
 use drill_case::{drill_lines, drill_schema, drill_table};
@@ -63,7 +63,7 @@ fn start(
     make(bench, &secret.shape())?;
     let lines = drill_lines(alloc, number)?;
     let protected = index.protected().copy(alloc)?;
-    match Store::start(alloc, secret, protected, bench) {
+    match Store::start(alloc, Guarded::new(secret, protected), bench) {
         Ok(mut store) => serve_lines(alloc, index, &mut store, lines, bench),
         Err(_) => Err(NoMemory),
     }

@@ -4,7 +4,7 @@ ghost use Rattle.schema_json.specs.SecretShape.{shape_of};
 
 use crate::people::people;
 use crate::staff::{TABLE, staff};
-use audit_store::Store;
+use audit_store::{Guarded, Store};
 use audit_types::{Answered, Askers, CountedRows, Guard, MOST_REACH, MOST_WIDTH};
 use bench_core::{MemoryBench, Room};
 use journal_audit::audit;
@@ -44,12 +44,8 @@ fn send_report(
     requires { secret.shape ≡ shape_of schema.now.columns secret.shape.rows }
 {
     let rows = CountedRows::new(secret.shape().rows, Vec::new(alloc), 2, Askers::Outside);
-    match Store::start(
-        alloc,
-        secret,
-        Guard::new(Vec::new(alloc), rows, MOST_WIDTH, MOST_REACH),
-        bench,
-    ) {
+    let protected = Guard::new(Vec::new(alloc), rows, MOST_WIDTH, MOST_REACH);
+    match Store::start(alloc, Guarded::new(secret, protected), bench) {
         Ok(store) => audit(alloc, schema, &store, None, bench).ok(),
         Err(_) => None,
     }

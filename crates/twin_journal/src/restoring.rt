@@ -1,12 +1,10 @@
 //! Writing a lost journal anew.
 ghost use Rattle.std.specs.Prelude.{◌≡◌, ◌≢◌, ◌⊎◌, ◌↔◌, ◌+◌, ⊤, List, ℕ, true, Err, IfErr, IfOk, OnOk, OnErr, IsErrOf, IsTrue};
 ghost use Rattle.audit_types.specs.declared.records.Answered.{Answered};
-ghost use Rattle.audit_types.specs.History.{AreProtected};
 ghost use Rattle.bench_core.specs.Causes.{HasCause};
 ghost use Rattle.bench_core.specs.Calls.{IsQuiet, IsUntouched, LeavesOnly, OnlyReads, TellsFault};
 ghost use Rattle.answer_journal.specs.Make.{calls_to_look};
 ghost use Rattle.answer_journal.specs.Moments.{IsMade, IsUnmadeOrWhole};
-ghost use Rattle.table_load.specs.Database.{secret_table};
 ghost use Rattle.bench_core.specs.Ends.{DoneUnlessStopped, EndsBy, IsRefused, RefusedUnlessStopped, refused_as, turned_end};
 ghost use Rattle.bench_core.specs.Stops.{IsOfBenches};
 ghost use Rattle.twin_journal.specs.declared.restoring.RestoreRefusal.{RestoreRefusal};
@@ -14,11 +12,10 @@ ghost use Rattle.twin_journal.specs.Restoring.{CanRestore, IsLost, IsLostOf, Res
 
 use crate::copying::copy_journal;
 use answer_journal::{JournalRefusal, look};
-use audit_types::Guard;
+use audit_store::Guarded;
 use bench_core::{Bench, End, Failed, Stop};
 use journal_form::laws::one_reading;
 use std::alloc::Global;
-use table_load::Secret;
 
 /// Why nothing was restored.
 #[derive(Clone, Copy)]
@@ -65,35 +62,32 @@ fn is_made<B: Bench>(bench: &mut B) -> Result<bool, Failed>
 /// stopped it, it may be called again.
 pub fn restore<B: Bench, S: Bench>(
     alloc: Global,
-    secret: Secret,
-    protected: Guard,
+    guarded: Guarded,
     bench: &mut B,
     spare: &mut S,
 ) -> Result<(), End<RestoreRefusal>>
-    requires fit { AreProtected secret.shape protected }
-
     // Both files then stand for the history of the one that wasn't lost, and for nothing that the other doesn't.
     ensures done { B.told → S.told → OnOk result ((history : List Answered)
-        × (Restored (secret_table secret protected) (S.file spare.old) (B.file bench.old) (S.file spare.new) (B.file bench.new) history
-        ⊎ Restored (secret_table secret protected) (B.file bench.old) (S.file spare.old) (B.file bench.new) (S.file spare.new) history)) }
+        × (Restored guarded (S.file spare.old) (B.file bench.old) (S.file spare.new) (B.file bench.new) history
+        ⊎ Restored guarded (B.file bench.old) (S.file spare.old) (B.file bench.new) (S.file spare.new) history)) }
     ensures alike { B.told → S.told → OnOk result (StandForTheSame (B.file bench.new) (S.file spare.new)) }
 
     // Each refusal has its cause in the files, and each cause has its refusal; if one can be restored it is never refused.
-    ensures cause { (refusal : RestoreRefusal) → B.told → S.told → result ≡ Err (End.Refused refusal) → RestoreCause refusal (B.file bench.old) (S.file spare.old) (secret_table secret protected) }
-    ensures due { (refusal : RestoreRefusal) → B.told → S.told → RestoreCause refusal (B.file bench.old) (S.file spare.old) (secret_table secret protected) → RefusedUnlessStopped refusal result }
-    ensures restores { B.told → S.told → CanRestore (secret_table secret protected) (B.file bench.old) (S.file spare.old) → DoneUnlessStopped result }
+    ensures cause { (refusal : RestoreRefusal) → B.told → S.told → result ≡ Err (End.Refused refusal) → RestoreCause refusal (B.file bench.old) (S.file spare.old) guarded }
+    ensures due { (refusal : RestoreRefusal) → B.told → S.told → RestoreCause refusal (B.file bench.old) (S.file spare.old) guarded → RefusedUnlessStopped refusal result }
+    ensures restores { B.told → S.told → CanRestore guarded (B.file bench.old) (S.file spare.old) → DoneUnlessStopped result }
 
     // At every moment the lost file isn't made, or stands for the kept history. A made one stays, and so do both if none can be
     // restored.
-    ensures main_moments { (history : List Answered) → B.told → S.told → IsQuiet B.Bench bench.old → IsLostOf (secret_table secret protected) (B.file bench.old) (S.file spare.old) history
-        → LeavesOnly B.Bench bench.old bench.new (IsUnmadeOrWhole secret.shape history (B.sent bench.old)) }
-    ensures spare_moments { (history : List Answered) → B.told → S.told → IsQuiet S.Bench spare.old → IsLostOf (secret_table secret protected) (S.file spare.old) (B.file bench.old) history
-        → LeavesOnly S.Bench spare.old spare.new (IsUnmadeOrWhole secret.shape history (S.sent spare.old)) }
+    ensures main_moments { (history : List Answered) → B.told → S.told → IsQuiet B.Bench bench.old → IsLostOf guarded (B.file bench.old) (S.file spare.old) history
+        → LeavesOnly B.Bench bench.old bench.new (IsUnmadeOrWhole guarded.setting.shape history (B.sent bench.old)) }
+    ensures spare_moments { (history : List Answered) → B.told → S.told → IsQuiet S.Bench spare.old → IsLostOf guarded (S.file spare.old) (B.file bench.old) history
+        → LeavesOnly S.Bench spare.old spare.new (IsUnmadeOrWhole guarded.setting.shape history (S.sent spare.old)) }
     ensures main_kept { B.told → IsQuiet B.Bench bench.old → IsMade (B.file bench.old) → LeavesOnly B.Bench bench.old bench.new (IsUntouched (B.file bench.old) (B.sent bench.old)) }
     ensures spare_kept { S.told → IsQuiet S.Bench spare.old → IsMade (S.file spare.old) → LeavesOnly S.Bench spare.old spare.new (IsUntouched (S.file spare.old) (S.sent spare.old)) }
-    ensures untouched { B.told → S.told → IsQuiet B.Bench bench.old → (CanRestore (secret_table secret protected) (B.file bench.old) (S.file spare.old) → ⊥)
+    ensures untouched { B.told → S.told → IsQuiet B.Bench bench.old → (CanRestore guarded (B.file bench.old) (S.file spare.old) → ⊥)
         → LeavesOnly B.Bench bench.old bench.new (IsUntouched (B.file bench.old) (B.sent bench.old)) }
-    ensures spare_untouched { B.told → S.told → IsQuiet S.Bench spare.old → (CanRestore (secret_table secret protected) (B.file bench.old) (S.file spare.old) → ⊥)
+    ensures spare_untouched { B.told → S.told → IsQuiet S.Bench spare.old → (CanRestore guarded (B.file bench.old) (S.file spare.old) → ⊥)
         → LeavesOnly S.Bench spare.old spare.new (IsUntouched (S.file spare.old) (S.sent spare.old)) }
     ensures reads { IsRefused result → OnlyReads B.Bench bench.old bench.new × OnlyReads S.Bench spare.old spare.new }
     ensures no_memory { IsErrOf result (End.Stopped Stop.NoMemory) → OnlyReads B.Bench bench.old bench.new × OnlyReads S.Bench spare.old spare.new }
@@ -118,12 +112,12 @@ pub fn restore<B: Bench, S: Bench>(
         if spare_is_made {
             return Err(End::Refused(RestoreRefusal::NothingLost));
         }
-        return copy_journal(alloc, secret, protected, bench, spare);
+        return copy_journal(alloc, guarded, bench, spare);
     }
     if !spare_is_made {
         return Err(End::Refused(RestoreRefusal::BothLost));
     }
-    match copy_journal(alloc, secret, protected, spare, bench) {
+    match copy_journal(alloc, guarded, spare, bench) {
         Ok(()) => Ok(()),
         Err(end) => Err(turned(end)),
     }

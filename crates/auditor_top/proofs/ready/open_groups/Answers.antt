@@ -1,22 +1,19 @@
 use Rattle.std.proofs.Common.{◌≡◌, List, Result, Err, sym, ◌∙◌, ap, subst}
 use Rattle.schema_json.specs.Columns.{Column}
 use Rattle.schema_json.specs.SecretShape.{shape_of}
-use Rattle.audit_types.specs.History.{AreProtected}
-use Rattle.audit_types.specs.declared.shapes.Shape.{Shape}
-use Rattle.table_load.specs.Cells.{PublicView, SecretView}
-use Rattle.table_load.specs.Database.{base_of}
+use Rattle.audit_types.specs.History.{Table as Guarded}
+use Rattle.table_load.specs.Cells.{PublicView}
 use Rattle.table_load.specs.Loaded.{table_view}
 use Rattle.table_load.specs.Meaning.{MeansTable}
 use Rattle.table_load.specs.MeaningLaws.{read_means}
 use Rattle.table_load.specs.Tables.{table_of}
-use Rattle.set_index.specs.Indexed.{public_shape}
 use Rattle.set_index.specs.declared.index.IndexFault.{IndexFault}
 use Rattle.set_index.specs.declared.index.IndexFault.TheVariants as index
 use Rattle.set_index.specs.declared.index.GuardPart.{GuardPart}
 use Rattle.auditor_top.specs.declared.starting.ReadyTable.{ReadyTable}
 use Rattle.auditor_top.specs.declared.status.Status.{Status}
 use Rattle.auditor_top.specs.Commands.{AreSoundFilesOf}
-use Rattle.auditor_top.specs.Ready.{Refuses}
+use Rattle.auditor_top.specs.Ready.{Refuses, base_around}
 use Rattle.auditor_top.proofs.FileRefusals.{files_refused, gives_up_over, of_status}
 use Rattle.auditor_top.proofs.GroupRefusals.{groups_refused, growth_gives_up}
 use Rattle.auditor_top.proofs.OneTable.{table_is_ok}
@@ -67,15 +64,12 @@ returns g c =
     let e = c.in_ok-opened.ensures in
     let made = c.in_ok-make_ready.field-0 in
     let a = c.in_ok-make_ready.ensures in
-    let shape : made.secret.shape ≡ public_shape made.index = ap (λ (v : SecretView). v.shape) a.same.2 ∙ e.shape
-    ∙ ap (λ (cs : List Column). shape_of cs opened.table.public.rows) (sym a.same.0)
-    ∙ ap (λ (p : PublicView). shape_of made.index.columns p.rows) (sym a.same.1) in
+    let base = λ (cs : List Column) (t : Guarded). AreSoundFilesOf (g.P.Source.left c.args.schema.now) (g.P.Source.left c.args.table.now)
+    (base_around cs made.index.public t) in
     record {
       over = λ ptold.
-          subst (λ (cs : List Column). AreSoundFilesOf (g.P.Source.left c.args.schema.now) (g.P.Source.left c.args.table.now)
-          (base_of cs made.index.public made.protected made.secret)) (sym a.same.0)
-          (subst (λ (v : SecretView). AreSoundFilesOf (g.P.Source.left c.args.schema.now) (g.P.Source.left c.args.table.now)
-          (base_of opened.schema.columns made.index.public made.protected v)) (sym a.same.2)
+          subst (λ (cs : List Column). base cs made.guarded) (sym a.same.0)
+          (subst (λ (t : Guarded). base opened.schema.columns t) (sym a.same.2)
           (record {
             files = record {
               guards = opened.schema.guards;
@@ -85,9 +79,9 @@ returns g c =
             };
             entries = a.entries;
           }));
-      fit = subst (λ (s : Shape). AreProtected s made.protected) (sym shape) a.fit;
-      shape = shape;
-      entries = a.same.3;
+      shape = ap (λ (t : Guarded). t.setting.shape) a.same.2 ∙ e.shape ∙ ap (λ (cs : List Column). shape_of cs opened.table.public.rows) (sym a.same.0)
+          ∙ ap (λ (p : PublicView). shape_of made.index.columns p.rows) (sym a.same.1);
+      entries = ap (λ (t : Guarded). t.setting.protected) (sym a.same.2);
       steady = e.steady;
       refusal = tt;
       later = e.later;

@@ -1,7 +1,7 @@
 use Rattle.std.proofs.Common.{◌≡◌, List, Result, Err, sym, ap, subst, ◌∙◌}
 use Rattle.std.specs.Prelude.{⊤}
 use Rattle.audit_types.specs.declared.records.Answered.{Answered}
-use Rattle.audit_types.specs.History.{Protection, AreProtected, IsLegal}
+use Rattle.audit_types.specs.History.{Protection, IsLegal, Table as Guarded}
 use Rattle.audit_types.specs.declared.shapes.Shape.{Shape}
 use Rattle.schema_json.specs.Columns.{Column}
 use Rattle.schema_json.specs.SecretShape.{shape_of}
@@ -27,21 +27,11 @@ use Rattle.auditor_top.proofs.starting.start.Goals as goal
 one_end : {X : Type 0} (a b : End JournalRefusal) → ◌≡◌ {A = Result X NotStarted} (Err (began.Journal a)) (Err (began.Journal b)) → a ≡ b
 one_end a b is = cc
 
-pub start-requires : goal.start-requires
-start-requires g c =
-    let opened = c.args.opened in
-    let made = c.in-Ok.grouped in
-    let does = c.in-Ok.ensures in
-    let shape : made.secret.shape ≡ public_shape made.index = ap (λ (s : SecretView). s.shape) does.same.2 ∙ c.requires.shape
-    ∙ ap (λ (cs : List Column). shape_of cs opened.table.public.rows) (sym does.same.0)
-    ∙ ap (λ (p : PublicView). shape_of made.index.columns p.rows) (sym does.same.1) in
-    record { fit = subst (λ (s : Shape). AreProtected s made.protected) (sym shape) does.fit }
-
 pub returns-in-Err-start-clause-cause : goal.returns-in-Err-start-clause-cause
 returns-in-Err-start-clause-cause g c = λ end is.
     let opened = c.args.opened in
     let made = c.in-Ok.ensures in
-    let entries : Protection = c.in-Ok.grouped.protected in
+    let entries : Protection = c.in-Ok.grouped.index.protected in
     let found = c.in-Err-start.end in
     subst (λ (e : End JournalRefusal). (public : PublicView) × (protected : Protection) × (whole public ≡ opened.table.public) ×
     Protects opened.schema.columns public opened.schema.guards protected ×
@@ -53,11 +43,11 @@ returns-in-Err-start-clause-cause g c = λ end is.
       made.same.1,
       c.in-Ok.ensures.entries,
       λ told. (
-        subst (λ (s : SecretView). EndsBy IsOfBench (λ refusal. StartCause refusal (g.B.Bench.file c.args.bench.now) (secret_table s entries)) found)
+        subst (λ (t : Guarded). EndsBy IsOfBench (λ refusal. StartCause refusal (g.B.Bench.file c.args.bench.now) t) found)
             made.same.2 (by_cause found IsOfBench _ (λ _. ⊤) c.in-Err-start.ensures.ends (λ refusal given. c.in-Err-start.ensures.cause refusal told given)),
         λ history stands legal. c.in-Err-start.ensures.opens history told
-            (subst (λ (s : SecretView). StandsFor (g.B.Bench.file c.args.bench.now) s.shape history) (sym made.same.2) stands)
-            (subst (λ (s : SecretView). IsLegal (secret_table s entries) history) (sym made.same.2) legal),
+            (subst (λ (t : Guarded). StandsFor (g.B.Bench.file c.args.bench.now) t.setting.shape history) (sym made.same.2) stands)
+            (subst (λ (t : Guarded). IsLegal t history) (sym made.same.2) legal),
       ),
     )
 

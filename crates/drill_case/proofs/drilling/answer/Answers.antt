@@ -1,11 +1,11 @@
 use Rattle.std.proofs.Common.{◌≡◌, refl, ℕ, List, [], Result, Ok, Err, OnOk, ap, sym, ◌∙◌, subst}
 use Rattle.audit_types.specs.declared.records.Answered.{Answered}
 use Rattle.audit_types.specs.declared.shapes.Shape.{Shape}
-use Rattle.audit_types.specs.History.{Protection, AreProtected}
-use Rattle.table_load.specs.Cells.{SecretView}
+use Rattle.audit_types.specs.History.{Protection, Table, AreProtected}
 use Rattle.bench_core.specs.BenchContents.{file_of, sent_of}
 use Rattle.bench_core.specs.Ends.{IsStop}
-use Rattle.audit_store.specs.Stores.{IsAsLeft}
+use Rattle.journal_form.specs.Journal.{StandsFor}
+use Rattle.audit_store.specs.Stores.{IsAsLeft, secrets_of, table_of}
 use Rattle.line_wire.specs.Lines.{counted_lines}
 use Rattle.audit_session.specs.Ends.{Serves}
 use Rattle.table_load.specs.Database.{base_of, secret_table}
@@ -18,16 +18,16 @@ up_to_some : {T E : Type 0} (r : Result T E) (last : List Answered) (UpTo : List
 up_to_some (Ok done) last UpTo is = (last, is)
 up_to_some (Err fault) last UpTo is = tt
 
-pub start-requires : goal.start-requires
-start-requires c = record {
+pub new-requires : goal.new-requires
+new-requires c = record {
   fit = subst (λ (protected : Protection). AreProtected c.args.secret.shape protected) (sym (c.in_ok-protected.ensures ∙ c.protected.ensures.same))
       (subst (λ (shape : Shape). AreProtected shape c.args.index.now.protected) (sym c.requires.shape) c.protected.ensures.fit);
 }
 
 pub answer_over-requires : goal.answer_over-requires
 answer_over-requires c = record {
-  usable = c.in-Ok.ensures.store.2;
-  shape = ap (λ (secret : SecretView). secret.shape) c.in-Ok.ensures.store.0 ∙ c.requires.shape;
+  usable = c.in-Ok.ensures.store.1;
+  shape = ap (λ (t : Table). t.setting.shape) (c.in-Ok.ensures.store.0 ∙ c.new.ensures) ∙ c.requires.shape;
   stands = subst (λ (file : List ℕ). IsAsLeft file c.in-Ok.store) (sym c.start.ensures.reads.file) (c.in-Ok.ensures.stands (tt {0}));
   short = c.requires.short;
 }
@@ -44,18 +44,19 @@ returns-in-Ok c =
     let after = sent_of c.answer_over.new.bench in
     let lines = counted_lines c.args.lines.items in
     let table = base_of c.args.index.now.columns c.args.index.now.public in
-    let kept = c.in-Ok.ensures.store.1 ∙ c.in_ok-protected.ensures ∙ c.protected.ensures.same in
+    let kept = c.in_ok-protected.ensures ∙ c.protected.ensures.same in
+    let same : table_of store ≡ secret_table c.args.secret c.args.index.now.protected =
+    c.in-Ok.ensures.store.0 ∙ c.new.ensures ∙ ap (λ (protected : Protection). secret_table c.args.secret protected) kept in
     up_to_some result last
     (λ (last : List Answered). Serves (table c.args.index.now.protected c.args.secret) [] lines last before after)
     (subst (λ (history : List Answered). OnOk result (Serves (table c.args.index.now.protected c.args.secret) history lines last before after)) past
-    (subst (λ (secret : SecretView). OnOk result (Serves (table c.args.index.now.protected secret) store.history lines last before after))
-    c.in-Ok.ensures.store.0
-    (subst (λ (protected : Protection). OnOk result (Serves (table protected store.secret) store.history lines last before after)) kept
+    (subst (λ (t : Table). OnOk result (Serves (table t.setting.protected (secrets_of t)) store.history lines last before after)) same
     (subst (λ (before : List ℕ). OnOk result (Serves (table store.protected store.secret) store.history lines last before after))
-    c.start.ensures.reads.sent c.answer_over.ensures))))
+    c.start.ensures.reads.sent c.answer_over.ensures)))
 
 -- a journal that stands for a legal history isn't refused
 pub unreachable-requires : goal.unreachable-requires
 unreachable-requires c =
-    let table = secret_table c.args.secret c.in_ok-protected.protected in
-    subst IsStop c.in-Err-Refused.field-0-is (c.in-Err-Refused.ensures.opens [] (tt {0}) c.requires.stands (nothing_is_legal table))
+    let table = c.new.result in
+    let stands = subst (λ (t : Table). StandsFor (file_of c.args.bench.now) t.setting.shape []) (sym c.new.ensures) c.requires.stands in
+    subst IsStop c.in-Err-Refused.field-0-is (c.in-Err-Refused.ensures.opens [] (tt {0}) stands (nothing_is_legal table))

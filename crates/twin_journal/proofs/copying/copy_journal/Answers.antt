@@ -42,7 +42,7 @@ err end = Err end
 
 pub returns-in-Err : goal.returns-in-Err
 returns-in-Err g c =
-    let table = secret_table c.args.secret c.args.protected in
+    let table = c.args.guarded in
     let file = g.K.Bench.file c.args.kept.now in
     let lost = c.args.lost.now in
     let end = c.in-Err.end in
@@ -65,7 +65,7 @@ returns-in-Err g c =
           subst (λ (e : End RestoreRefusal). IsStop e) (sym is) (renamed_stopped Main end (does.opens history told kept.stands kept.legal));
       already = λ told given. IfErr-at_err (EndsBy IsOfBench IsOfKept) given by;
       moments = λ history told lost_told quiet kept.
-          read_lost g.L.Bench lost lost c.args.secret.shape history unwritten quiet (c.requires.lost lost_told);
+          read_lost g.L.Bench lost lost table.setting.shape history unwritten quiet (c.requires.lost lost_told);
       apart = λ told none. refl;
       refused = λ refusal given. refl;
       already_reads = λ given. unwritten;
@@ -83,20 +83,19 @@ returns-in-Err g c =
 
 pub returns-in-Ok-write_whole : goal.returns-in-Ok-write_whole
 returns-in-Ok-write_whole g c =
-    let table = secret_table c.args.secret c.args.protected in
+    let table = c.args.guarded in
     let file = g.K.Bench.file c.args.kept.now in
     let lost = c.args.lost.now in
     let new = c.write_whole.new.bench in
     let store = c.in-Ok.store in
     let opened = c.in-Ok.ensures in
     let is = opened.store in
-    let same : store.secret.shape ≡ c.args.secret.shape = ap (λ (s : SecretView). s.shape) is.0 in
-    let shape : c.shape-shape.result ≡ c.args.secret.shape = c.shape-shape.ensures.shape ∙ same in
-    let stands : g.K.Bench.told → StandsFor file c.args.secret.shape store.history = λ told.
+    let same : store.secret.shape ≡ table.setting.shape = ap (λ (t : Table). t.setting.shape) is.0 in
+    let shape : c.shape-shape.result ≡ table.setting.shape = c.shape-shape.ensures.shape ∙ same in
+    let stands : g.K.Bench.told → StandsFor file table.setting.shape store.history = λ told.
     (store.journal.gate, subst (λ (s : Shape). StandsAt file s store.history store.journal.gate) same (opened.stands told)) in
-    let same_table : table_of store ≡ table = ap (λ (s : SecretView). secret_table s store.protected) is.0
-    ∙ ap (λ (p : Protection). secret_table c.args.secret p) is.1 in
-    let legal : IsLegal table store.history = subst (λ (t : Table). IsLegal t store.history) same_table is.3.legal in
+    let same_table : table_of store ≡ table = is.0 in
+    let legal : IsLegal table store.history = subst (λ (t : Table). IsLegal t store.history) same_table is.2.legal in
     record {
       done = λ told lost_told.
           let written = c.in-Ok-write_whole.ensures in
@@ -116,7 +115,7 @@ returns-in-Ok-write_whole g c =
       already = λ told answered. no_refusal _ _ answered;
       moments = λ history told lost_told quiet kept.
           let list = c.history.ensures.history ∙ sym (kept_for_one c.one_reading.ensures table file history store.history kept (stands told)) in
-          wholes_of g.L.Bench lost new _ c.args.secret.shape _ history shape list
+          wholes_of g.L.Bench lost new _ table.setting.shape _ history shape list
           (c.write_whole.ensures.any_moment lost_told (c.requires.lost lost_told) quiet);
       apart = λ told none. absurd (none store.history (record { stands = stands told; legal = legal }));
       refused = λ refusal answered. let none : ⊥ = cc in absurd none;
@@ -141,20 +140,19 @@ lost_is_made (Refused there) answer is given = tt
 
 pub returns : goal.returns
 returns g c =
-    let table = secret_table c.args.secret c.args.protected in
+    let table = c.args.guarded in
     let file = g.K.Bench.file c.args.kept.now in
     let lost = c.args.lost.now in
     let new = c.write_whole.new.bench in
     let store = c.in-Ok.store in
     let opened = c.in-Ok.ensures in
     let is = opened.store in
-    let same : store.secret.shape ≡ c.args.secret.shape = ap (λ (s : SecretView). s.shape) is.0 in
-    let shape : c.shape-shape.result ≡ c.args.secret.shape = c.shape-shape.ensures.shape ∙ same in
-    let stands : g.K.Bench.told → StandsFor file c.args.secret.shape store.history = λ told.
+    let same : store.secret.shape ≡ table.setting.shape = ap (λ (t : Table). t.setting.shape) is.0 in
+    let shape : c.shape-shape.result ≡ table.setting.shape = c.shape-shape.ensures.shape ∙ same in
+    let stands : g.K.Bench.told → StandsFor file table.setting.shape store.history = λ told.
     (store.journal.gate, subst (λ (s : Shape). StandsAt file s store.history store.journal.gate) same (opened.stands told)) in
-    let same_table : table_of store ≡ table = ap (λ (s : SecretView). secret_table s store.protected) is.0
-    ∙ ap (λ (p : Protection). secret_table c.args.secret p) is.1 in
-    let legal : IsLegal table store.history = subst (λ (t : Table). IsLegal t store.history) same_table is.3.legal in
+    let same_table : table_of store ≡ table = is.0 in
+    let legal : IsLegal table store.history = subst (λ (t : Table). IsLegal t store.history) same_table is.2.legal in
     let end = c.in-Err-write_whole.end in
     let does = c.in-Err-write_whole.ensures in
     let answer = c.of_lost.result in
@@ -173,7 +171,7 @@ returns g c =
       already = λ told given. c.requires.lost told (does.already told (lost_is_made end answer turns given));
       moments = λ history told lost_told quiet kept.
           let list = c.history.ensures.history ∙ sym (kept_for_one c.one_reading.ensures table file history store.history kept (stands told)) in
-          wholes_of g.L.Bench lost new _ c.args.secret.shape _ history shape list
+          wholes_of g.L.Bench lost new _ table.setting.shape _ history shape list
           (c.write_whole.ensures.any_moment lost_told (c.requires.lost lost_told) quiet);
       apart = λ told none. absurd (none store.history (record { stands = stands told; legal = legal }));
       refused = λ refusal given. absurd (IfErr-at_err (EndsBy IsOfSpare IsOfLost) given by);

@@ -42,7 +42,7 @@ uncopied end = Err end
 
 pub returns-in_err-main_is_made : goal.returns-in_err-main_is_made
 returns-in_err-main_is_made g c =
-    let table = secret_table c.args.secret c.args.protected in
+    let table = c.args.guarded in
     let file = g.B.Bench.file c.args.bench.now in
     let spare = g.S.Bench.file c.args.spare.now in
     let looked = c.is_made.new.bench in
@@ -57,9 +57,9 @@ returns-in_err-main_is_made g c =
       cause = λ refusal told spare_told given. absurd (IfErr-at_err (EndsBy IsOfBenches (λ _. ⊥)) (sym same ∙ given) tt);
       due = λ due told spare_told cause. of_refusal answer (Stopped stop.Bench) refuses (RefusedUnlessStopped due) tt;
       restores = λ told spare_told can. of_refusal answer (Stopped stop.Bench) refuses DoneUnlessStopped tt;
-      main_moments = λ history told spare_told quiet is. read_lost g.B.Bench c.args.bench.now looked c.args.secret.shape history reads quiet is.unmade;
+      main_moments = λ history told spare_told quiet is. read_lost g.B.Bench c.args.bench.now looked table.setting.shape history reads quiet is.unmade;
       spare_moments = λ history told spare_told quiet is.
-          read_lost g.S.Bench c.args.spare.now c.args.spare.now c.args.secret.shape history unwritten quiet is.unmade;
+          read_lost g.S.Bench c.args.spare.now c.args.spare.now table.setting.shape history unwritten quiet is.unmade;
       main_kept = λ told quiet made. reads.untouched quiet;
       spare_kept = λ told quiet made. unwritten.untouched quiet;
       untouched = λ told spare_told quiet none. reads.untouched quiet;
@@ -80,7 +80,7 @@ returns-in_err-main_is_made g c =
 
 pub returns-in-Err : goal.returns-in-Err
 returns-in-Err g c =
-    let table = secret_table c.args.secret c.args.protected in
+    let table = c.args.guarded in
     let file = g.B.Bench.file c.args.bench.now in
     let spare = g.S.Bench.file c.args.spare.now in
     let looked = c.is_made.new.bench in
@@ -93,9 +93,9 @@ returns-in-Err g c =
       cause = λ refusal told spare_told given. let none : ⊥ = cc in absurd none;
       due = λ due told spare_told cause. tt;
       restores = λ told spare_told can. tt;
-      main_moments = λ history told spare_told quiet is. read_lost g.B.Bench c.args.bench.now looked c.args.secret.shape history reads quiet is.unmade;
+      main_moments = λ history told spare_told quiet is. read_lost g.B.Bench c.args.bench.now looked table.setting.shape history reads quiet is.unmade;
       spare_moments = λ history told spare_told quiet is.
-          read_lost g.S.Bench c.args.spare.now spare_looked c.args.secret.shape history spare_reads quiet is.unmade;
+          read_lost g.S.Bench c.args.spare.now spare_looked table.setting.shape history spare_reads quiet is.unmade;
       main_kept = λ told quiet made. reads.untouched quiet;
       spare_kept = λ told quiet made. spare_reads.untouched quiet;
       untouched = λ told spare_told quiet none. reads.untouched quiet;
@@ -116,7 +116,7 @@ returns-in-Err g c =
 
 pub returns-then-spare_is_made : goal.returns-then-spare_is_made
 returns-then-spare_is_made g c =
-    let table = secret_table c.args.secret c.args.protected in
+    let table = c.args.guarded in
     let file = g.B.Bench.file c.args.bench.now in
     let spare = g.S.Bench.file c.args.spare.now in
     let looked = c.is_made.new.bench in
@@ -133,9 +133,9 @@ returns-then-spare_is_made g c =
       due = λ due told spare_told cause. both_made_due table file spare (made told) (spare_made spare_told) due cause;
       restores = λ told spare_told can.
           elim can.1 [ inl is ↦ is.unmade (spare_made spare_told) | inr is ↦ is.unmade (made told) ];
-      main_moments = λ history told spare_told quiet is. read_lost g.B.Bench c.args.bench.now looked c.args.secret.shape history reads quiet is.unmade;
+      main_moments = λ history told spare_told quiet is. read_lost g.B.Bench c.args.bench.now looked table.setting.shape history reads quiet is.unmade;
       spare_moments = λ history told spare_told quiet is.
-          read_lost g.S.Bench c.args.spare.now spare_looked c.args.secret.shape history spare_reads quiet is.unmade;
+          read_lost g.S.Bench c.args.spare.now spare_looked table.setting.shape history spare_reads quiet is.unmade;
       main_kept = λ told quiet made. reads.untouched quiet;
       spare_kept = λ told quiet made. spare_reads.untouched quiet;
       untouched = λ told spare_told quiet none. reads.untouched quiet;
@@ -156,7 +156,7 @@ returns-then-spare_is_made g c =
 
 pub returns-then-not-spare_is_made : goal.returns-then-not-spare_is_made
 returns-then-not-spare_is_made g c =
-    let table = secret_table c.args.secret c.args.protected in
+    let table = c.args.guarded in
     let file = g.B.Bench.file c.args.bench.now in
     let spare = g.S.Bench.file c.args.spare.now in
     let looked = c.is_made.new.bench in
@@ -173,14 +173,14 @@ returns-then-not-spare_is_made g c =
           let same : BothLost ≡ refusal = cc in subst (λ (r : RestoreRefusal). RestoreCause r file spare table) same (unmade told, spare_unmade spare_told);
       due = λ due told spare_told cause. both_lost_due table file spare (unmade told) (spare_unmade spare_told) due cause;
       restores = λ told spare_told can.
-          let shape = c.args.secret.shape in
+          let shape = table.setting.shape in
           elim can.1 [
             | inl is ↦ unmade told (stands_is_made file shape can.0 is.stands)
             | inr is ↦ spare_unmade spare_told (stands_is_made spare shape can.0 is.stands)
           ];
-      main_moments = λ history told spare_told quiet is. read_lost g.B.Bench c.args.bench.now looked c.args.secret.shape history reads quiet is.unmade;
+      main_moments = λ history told spare_told quiet is. read_lost g.B.Bench c.args.bench.now looked table.setting.shape history reads quiet is.unmade;
       spare_moments = λ history told spare_told quiet is.
-          read_lost g.S.Bench c.args.spare.now spare_looked c.args.secret.shape history spare_reads quiet is.unmade;
+          read_lost g.S.Bench c.args.spare.now spare_looked table.setting.shape history spare_reads quiet is.unmade;
       main_kept = λ told quiet made. reads.untouched quiet;
       spare_kept = λ told quiet made. spare_reads.untouched quiet;
       untouched = λ told spare_told quiet none. reads.untouched quiet;
@@ -201,7 +201,7 @@ returns-then-not-spare_is_made g c =
 
 pub returns-then-main_is_made : goal.returns-then-main_is_made
 returns-then-main_is_made g c =
-    let table = secret_table c.args.secret c.args.protected in
+    let table = c.args.guarded in
     let file = g.B.Bench.file c.args.bench.now in
     let spare = g.S.Bench.file c.args.spare.now in
     let looked = c.is_made.new.bench in
@@ -225,14 +225,14 @@ returns-then-main_is_made g c =
     record {
       done = λ told spare_told.
           on_ok_weaker answer (λ copied.
-          let whole = subst (λ (f : List ℕ). HoldsWhole c.args.secret.shape copied.0 f (g.S.Bench.file lost_new)) spare_reads.file copied.3 in
+          let whole = subst (λ (f : List ℕ). HoldsWhole table.setting.shape copied.0 f (g.S.Bench.file lost_new)) spare_reads.file copied.3 in
           (copied.0, inl (record { was = lost_of copied.0 spare_told copied.1; same = all_reads.file; stands = copied.2; whole = whole })))
           (does.done told spare_told);
       alike = λ told spare_told.
           on_ok_weaker answer (λ copied.
           let is = lost_of copied.0 spare_told copied.1 in
-          let stands = subst (λ (f : List ℕ). StandsFor f c.args.secret.shape copied.0) (sym all_reads.file) is.stands in
-          stand_alike c.one_reading.ensures (g.B.Bench.file kept_new) (g.S.Bench.file lost_new) c.args.secret.shape copied.0 stands copied.2)
+          let stands = subst (λ (f : List ℕ). StandsFor f table.setting.shape copied.0) (sym all_reads.file) is.stands in
+          stand_alike c.one_reading.ensures (g.B.Bench.file kept_new) (g.S.Bench.file lost_new) table.setting.shape copied.0 stands copied.2)
           (does.done told spare_told);
       cause = λ refusal told spare_told given.
           main_refused table file spare refusal (IfErr-at_err (EndsBy IsOfBenches IsOfCopy) given does.ends)
@@ -245,7 +245,7 @@ returns-then-main_is_made g c =
           elim can.1 [ inl is ↦ does.copies can.0 told spare_told (kept_of can.0 is) | inr is ↦ absurd (is.unmade (made told)) ];
       main_moments = λ history told spare_told quiet is. absurd (is.unmade (made told));
       spare_moments = λ history told spare_told quiet is.
-          read_and_write g.S.Bench c.args.spare.now spare_looked c.args.secret.shape history spare_reads quiet is.unmade lost_new
+          read_and_write g.S.Bench c.args.spare.now spare_looked table.setting.shape history spare_reads quiet is.unmade lost_new
           (λ still. does.moments history told spare_told still (kept_of history is));
       main_kept = λ told quiet made. all_reads.untouched quiet;
       spare_kept = λ told quiet made. absurd (spare_unmade told made);
@@ -286,7 +286,7 @@ returns-then-main_is_made g c =
 
 pub returns-in-Ok-copy_journal : goal.returns-in-Ok-copy_journal
 returns-in-Ok-copy_journal g c =
-    let table = secret_table c.args.secret c.args.protected in
+    let table = c.args.guarded in
     let file = g.B.Bench.file c.args.bench.now in
     let spare = g.S.Bench.file c.args.spare.now in
     let looked = c.is_made.new.bench in
@@ -302,13 +302,13 @@ returns-in-Ok-copy_journal g c =
       done = λ told spare_told.
           let copied = c.in-Ok-copy_journal.ensures.done spare_told told in
           let is = is_lost_of table file spare (g.S.Bench.file spare_looked) copied.0 spare_reads.file (unmade told) copied.1 in
-          let whole = subst (λ (f : List ℕ). HoldsWhole c.args.secret.shape copied.0 f (g.B.Bench.file lost_new)) reads.file copied.3 in
+          let whole = subst (λ (f : List ℕ). HoldsWhole table.setting.shape copied.0 f (g.B.Bench.file lost_new)) reads.file copied.3 in
           (copied.0, inr (record { was = is; same = all_reads.file; stands = copied.2; whole = whole }));
       alike = λ told spare_told.
           let copied = c.in-Ok-copy_journal.ensures.done spare_told told in
           let is = is_lost_of table file spare (g.S.Bench.file spare_looked) copied.0 spare_reads.file (unmade told) copied.1 in
-          let stands = subst (λ (f : List ℕ). StandsFor f c.args.secret.shape copied.0) (sym all_reads.file) is.stands in
-          stand_alike c.one_reading.ensures (g.B.Bench.file lost_new) (g.S.Bench.file kept_new) c.args.secret.shape copied.0 copied.2 stands;
+          let stands = subst (λ (f : List ℕ). StandsFor f table.setting.shape copied.0) (sym all_reads.file) is.stands in
+          stand_alike c.one_reading.ensures (g.B.Bench.file lost_new) (g.S.Bench.file kept_new) table.setting.shape copied.0 copied.2 stands;
       cause = λ refusal told spare_told given. let none : ⊥ = cc in absurd none;
       due = λ due told spare_told.
           spare_is_due table file spare (λ (r : RestoreRefusal). ⊥) (unmade told) (spare_made spare_told)
@@ -316,7 +316,7 @@ returns-in-Ok-copy_journal g c =
           (subst (λ (x : List ℕ). StartCause kept x table) (sym spare_reads.file) cause)) due;
       restores = λ told spare_told can. tt;
       main_moments = λ history told spare_told quiet is.
-          read_and_write g.B.Bench c.args.bench.now looked c.args.secret.shape history reads quiet is.unmade lost_new
+          read_and_write g.B.Bench c.args.bench.now looked table.setting.shape history reads quiet is.unmade lost_new
           (λ still. c.copy_journal-2.ensures.moments history spare_told told still
           (is_kept table file spare (g.S.Bench.file spare_looked) history spare_reads.file is));
       spare_moments = λ history told spare_told quiet is. absurd (is.unmade (spare_made spare_told));
@@ -354,7 +354,7 @@ returns-in-Ok-copy_journal g c =
 
 pub returns-in-Err-copy_journal : goal.returns-in-Err-copy_journal
 returns-in-Err-copy_journal g c =
-    let table = secret_table c.args.secret c.args.protected in
+    let table = c.args.guarded in
     let file = g.B.Bench.file c.args.bench.now in
     let spare = g.S.Bench.file c.args.spare.now in
     let looked = c.is_made.new.bench in
@@ -397,7 +397,7 @@ returns-in-Err-copy_journal g c =
             | inl is ↦ absurd (is.unmade (spare_made spare_told))
           ])));
       main_moments = λ history told spare_told quiet is.
-          read_and_write g.B.Bench c.args.bench.now looked c.args.secret.shape history reads quiet is.unmade lost_new
+          read_and_write g.B.Bench c.args.bench.now looked table.setting.shape history reads quiet is.unmade lost_new
           (λ still. c.copy_journal-2.ensures.moments history spare_told told still (kept_of history is));
       spare_moments = λ history told spare_told quiet is. absurd (is.unmade (spare_made spare_told));
       main_kept = λ told quiet made. absurd (unmade told made);

@@ -12,8 +12,8 @@ use Rattle.audit_core.specs.Outcomes.{records_made}
 use Rattle.table_load.specs.Cells.{SecretView}
 use Rattle.journal_form.specs.Journal.{StandsAt}
 use Rattle.audit_store.specs.Refusals.{no_refusal}
-use Rattle.audit_store.specs.Stores.{StoreContents}
-use Rattle.audit_store.specs.StoreLaws.{table_by, core_is_history}
+use Rattle.audit_store.specs.Stores.{StoreContents, table_by}
+use Rattle.audit_store.specs.StoreLaws.{core_is_history}
 use Rattle.audit_store.specs.Twice.{group_of}
 use Rattle.audit_store.proofs.InsideStores.{kept, refused}
 use Rattle.audit_store.proofs.AskedGroups.{asked, asked_in_vain, decided, found, journal_after, not_of_spare, over_other, spare_asked, spare_asked_in_vain, spare_is_ahead, spare_unasked, unasked, uncalled}

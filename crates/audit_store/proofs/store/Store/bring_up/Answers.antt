@@ -12,8 +12,8 @@ use Rattle.bench_core.specs.Stops.{IsOfBench}
 use Rattle.journal_form.specs.Journal.{StandsAt}
 use Rattle.bench_core.specs.declared.stops.Stop.TheVariants as stop
 use Rattle.audit_store.specs.Refusals.{no_refusal}
-use Rattle.audit_store.specs.Stores.{StoreContents, IsStore, IsAuditedBy, table_of}
-use Rattle.audit_store.specs.StoreLaws.{core_is_history, kept_store, more_released, refused_history, refused_store, store_in, table_by}
+use Rattle.audit_store.specs.Stores.{StoreContents, IsStore, IsAuditedBy, table_of, table_by}
+use Rattle.audit_store.specs.StoreLaws.{core_is_history, kept_store, more_released, refused_history, refused_store, store_in}
 use Rattle.audit_store.specs.Twice.{IsBroughtUp, StandsWithSome}
 use Rattle.audit_store.proofs.LegalHistories.{legal_fits_after}
 use Rattle.audit_store.proofs.Appended.{nothing_brought_up}

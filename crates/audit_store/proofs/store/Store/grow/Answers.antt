@@ -9,7 +9,6 @@ use Rattle.audit_types.specs.declared.records.Answered.{Answered}
 use Rattle.audit_types.specs.Widening.{over, widened}
 use Rattle.journal_form.specs.Journal.{StandsAt, StandsFor}
 use Rattle.answer_journal.specs.Moments.{IsBeforeOrGrown}
-use Rattle.table_load.specs.Database.{secret_table}
 use Rattle.bench_core.specs.Ends.{DoneUnlessStopped, EndsBy, IsDueUnlessStopped, IsStop, RefusedUnlessStopped, refused_as}
 use Rattle.bench_core.specs.EndLaws.{EndsBy-weaker, by_cause, due_of_one, not_stopped_by, renamed_by, renamed_stopped, renamed_tells, stopped_of_none}
 use Rattle.bench_core.specs.Stops.{IsOfBench, IsOfMemory, of_bench}
@@ -58,8 +57,7 @@ returns g c =
     let old = c.args.bench.now in
     let mid = c.read_back.new.bench in
     let file = bench.file old in
-    let secret = c.args.secret in
-    let table = secret_table secret c.args.protected in
+    let table = c.args.guarded in
     let reads = c.read_back.ensures.reads in
     let end = c.in-Err.end in
     let is_as : c.of_journal.result ≡ refused_as Journal end = c.of_journal.ensures in
@@ -75,10 +73,10 @@ returns g c =
           cause);
       grows = λ told can.
           subst (λ (e : End GrowRefusal). IsStop e) (sym is_as)
-          (renamed_stopped Journal end (c.in-Err.ensures.whole (over can.rows secret.shape) can.history can.stands.0 told can.stands.1));
+          (renamed_stopped Journal end (c.in-Err.ensures.whole (over can.rows table.setting.shape) can.history can.stands.0 told can.stands.1));
       done = λ told. tt;
       any_moment = λ told quiet grown.
-          read_alone bench old (over grown.rows secret.shape) grown.history secret.shape.rows grown.stands mid (reads.untouched quiet);
+          read_alone bench old (over grown.rows table.setting.shape) grown.history table.setting.shape.rows grown.stands mid (reads.untouched quiet);
       untouched = λ told quiet no. reads.untouched quiet;
       kept = λ other. reads.file;
       quiet = λ told quiet other. still_quiet bench old mid reads quiet;
@@ -98,8 +96,7 @@ returns-in_err-may_grow-in-Ok g c =
     let old = c.args.bench.now in
     let mid = c.read_back.new.bench in
     let file = bench.file old in
-    let secret = c.args.secret in
-    let table = secret_table secret c.args.protected in
+    let table = c.args.guarded in
     let journal = c.in-Ok.journal in
     let list = c.in-Ok.list.items in
     let reads = c.read_back.ensures.reads in
@@ -126,7 +123,7 @@ returns-in_err-may_grow-in-Ok g c =
           (stopped_of_none e IsOfMemory _ (λ r. grows_has_no_cause journal.shape list table r from) here);
       done = λ told. no_answer answer e same _;
       any_moment = λ told quiet grown.
-          read_alone bench old (over grown.rows secret.shape) grown.history secret.shape.rows grown.stands mid (reads.untouched quiet);
+          read_alone bench old (over grown.rows table.setting.shape) grown.history table.setting.shape.rows grown.stands mid (reads.untouched quiet);
       untouched = λ told quiet no. reads.untouched quiet;
       kept = on_refusal answer e same _ (λ other. reads.file);
       quiet = λ told quiet other. still_quiet bench old mid reads quiet;
@@ -148,8 +145,7 @@ returns-in_err-append_growth-in-Ok g c =
     let mid = c.read_back.new.bench in
     let new = c.append_growth.new.bench in
     let file = bench.file old in
-    let secret = c.args.secret in
-    let table = secret_table secret c.args.protected in
+    let table = c.args.guarded in
     let journal = c.in-Ok.journal in
     let list = c.in-Ok.list.items in
     let reads = c.read_back.ensures.reads in
@@ -165,10 +161,10 @@ returns-in_err-append_growth-in-Ok g c =
       grows = λ told can. subst (λ (r : Result (Unit {0}) (End GrowRefusal)). DoneUnlessStopped r) (sym same) tt;
       done = λ told. no_answer answer (Stopped Bench) same _;
       any_moment = λ told quiet grown.
-          let read = c.in-Ok.ensures.whole (over grown.rows secret.shape) grown.history grown.stands.0 told grown.stands.1 in
-          let same_rows : rows ≡ secret.shape.rows = ap (λ (s : Shape). s.rows) c.shape-rows.ensures.shape in
+          let read = c.in-Ok.ensures.whole (over grown.rows table.setting.shape) grown.history grown.stands.0 told grown.stands.1 in
+          let same_rows : rows ≡ table.setting.shape.rows = ap (λ (s : Shape). s.rows) c.shape-rows.ensures.shape in
           let stands = subst (λ (f : List ℕ). StandsAt f journal.shape list journal.gate) (sym reads.file) (c.in-Ok.ensures.stands told) in
-          in_two_steps bench old (over grown.rows secret.shape) grown.history secret.shape.rows grown.stands mid new journal.shape list rows
+          in_two_steps bench old (over grown.rows table.setting.shape) grown.history table.setting.shape.rows grown.stands mid new journal.shape list rows
           read.0 read.1 same_rows reads.sent (reads.untouched quiet)
           (c.append_growth.ensures.any_moment list told stands (still_quiet bench old mid reads quiet));
       untouched = λ told quiet no. absurd (no (can_grow file journal.shape list journal.gate table (c.in-Ok.ensures.stands told) here));
@@ -194,8 +190,7 @@ returns-in-Ok g c =
     let mid = c.read_back.new.bench in
     let new = c.append_growth.new.bench in
     let file = bench.file old in
-    let secret = c.args.secret in
-    let table = secret_table secret c.args.protected in
+    let table = c.args.guarded in
     let journal = c.in-Ok.journal in
     let list = c.in-Ok.list.items in
     let reads = c.read_back.ensures.reads in
@@ -203,7 +198,7 @@ returns-in-Ok g c =
     let found : GrowsFrom c.shape-kept.result c.deref_mut.result.now table = c.in_ok-may_grow-in-Ok.ensures.ok in
     let here = subst (λ (s : Shape). GrowsFrom s list table) c.shape-kept.ensures.shape
     (subst (λ (l : List Answered). GrowsFrom c.shape-kept.result l table) c.deref_mut.ensures.value found) in
-    let same_rows : rows ≡ secret.shape.rows = ap (λ (s : Shape). s.rows) c.shape-rows.ensures.shape in
+    let same_rows : rows ≡ table.setting.shape.rows = ap (λ (s : Shape). s.rows) c.shape-rows.ensures.shape in
     record {
       cause = λ refusal told is. let none : ⊥ = cc in absurd none;
       due = λ refusal told cause.
@@ -215,19 +210,19 @@ returns-in-Ok g c =
       done = λ told.
           let stands = subst (λ (f : List ℕ). StandsAt f journal.shape list journal.gate) (sym reads.file) (c.in-Ok.ensures.stands told) in
           let after = c.in_ok-append_growth-in-Ok.ensures.done list told stands in
-          let shape : c.append_growth.new.self.shape ≡ secret.shape = c.in_ok-append_growth-in-Ok.ensures.shape
-          ∙ ap (λ (s : Shape). over rows s) here.fewer.columns ∙ ap (λ k. over k secret.shape) same_rows in (
+          let shape : c.append_growth.new.self.shape ≡ table.setting.shape = c.in_ok-append_growth-in-Ok.ensures.shape
+          ∙ ap (λ (s : Shape). over rows s) here.fewer.columns ∙ ap (λ k. over k table.setting.shape) same_rows in (
             can_grow file journal.shape list journal.gate table (c.in-Ok.ensures.stands told) here,
             (
               c.append_growth.new.self.gate,
-              subst (λ (s : Shape). StandsAt (bench.file new) s (widened secret.shape.rows list) c.append_growth.new.self.gate) shape
+              subst (λ (s : Shape). StandsAt (bench.file new) s (widened table.setting.shape.rows list) c.append_growth.new.self.gate) shape
                   (subst (λ (k : ℕ). StandsAt (bench.file new) c.append_growth.new.self.shape (widened k list) c.append_growth.new.self.gate) same_rows after),
             ),
           );
       any_moment = λ told quiet grown.
-          let read = c.in-Ok.ensures.whole (over grown.rows secret.shape) grown.history grown.stands.0 told grown.stands.1 in
+          let read = c.in-Ok.ensures.whole (over grown.rows table.setting.shape) grown.history grown.stands.0 told grown.stands.1 in
           let stands = subst (λ (f : List ℕ). StandsAt f journal.shape list journal.gate) (sym reads.file) (c.in-Ok.ensures.stands told) in
-          in_two_steps bench old (over grown.rows secret.shape) grown.history secret.shape.rows grown.stands mid new journal.shape list rows
+          in_two_steps bench old (over grown.rows table.setting.shape) grown.history table.setting.shape.rows grown.stands mid new journal.shape list rows
           read.0 read.1 same_rows reads.sent (reads.untouched quiet)
           (c.append_growth.ensures.any_moment list told stands (still_quiet bench old mid reads quiet));
       untouched = λ told quiet no. absurd (no (can_grow file journal.shape list journal.gate table (c.in-Ok.ensures.stands told) here));

@@ -5,7 +5,7 @@ use Rattle.audit_types.specs.declared.records.Answered.{Answered}
 use Rattle.audit_types.specs.Widening.{over as over_rows, widened}
 use Rattle.bench_core.specs.Calls.{LeavesOnly}
 use Rattle.bench_core.specs.Reports.{not_called, told_as}
-use Rattle.table_load.specs.Database.{Database, base_of, secret_table, table_in}
+use Rattle.table_load.specs.Database.{Database, table_in}
 use Rattle.journal_form.specs.Journal.{StandsFor}
 use Rattle.answer_journal.specs.Moments.{IsBeforeOrGrown}
 use Rattle.audit_store.specs.Growing.{CanGrow}
@@ -17,6 +17,7 @@ use Rattle.auditor_top.specs.Causes.{FaultCause}
 use Rattle.auditor_top.specs.Commands.{AreSoundFilesOf, GrowsOver}
 use Rattle.auditor_top.specs.Ends.{GrowEnds}
 use Rattle.auditor_top.specs.Faults.{growing_status}
+use Rattle.auditor_top.specs.Ready.{base_around}
 use Rattle.auditor_top.specs.Runs.{Growing, Objects, faults_of, objects}
 use Rattle.auditor_top.specs.Says.{Says}
 use Rattle.auditor_top.specs.Stages.{reading_lines}
@@ -39,7 +40,7 @@ module _ (g : Over) (c : goal.After-grown g) where
   new = objects c.open.new.schema c.open.new.table c.args.input.now c.grow.new.bench c.args.spare.now
 
   abbrev ready : Ready
-  ready = made.Grow c.in-Ok-Grow.secret c.in-Ok-Grow.protected
+  ready = made.Grow c.in-Ok-Grow.guarded
 
   goes : GoesOnWith g.P.Source g.B.Bench (command_of (map string_bytes c.args.words.now.items)) ready old mid
   goes =
@@ -55,7 +56,7 @@ module _ (g : Over) (c : goal.After-grown g) where
       record {
         last = step.last;
         words = step.words;
-        file = λ told table for. growth_file c.grow.result _ (secret_table c.in-Ok-Grow.secret c.in-Ok-Grow.protected) does.ends
+        file = λ told table for. growth_file c.grow.result _ c.in-Ok-Grow.guarded does.ends
             (done_so c.grow.result (λ grown. grown.0) (does.done told)) (λ refusal is. does.cause refusal told is);
         spare_file = λ told calls. absurd (false≢true calls);
         input = λ itold reads. absurd (false≢true reads);
@@ -90,7 +91,7 @@ module _ (g : Over) (c : goal.After-grown g) where
 
   -- what is given is so of the table that was opened
   abbrev seen : g.P.Source.told → Database
-  seen ptold = base_of (goes.over ptold).0 (goes.over ptold).1 c.in-Ok-Grow.protected c.in-Ok-Grow.secret
+  seen ptold = base_around (goes.over ptold).0 (goes.over ptold).1 c.in-Ok-Grow.guarded
 
   is_seen : (ptold : g.P.Source.told) (base : Database) → AreSoundFilesOf (g.P.Source.left old.schema) (g.P.Source.left old.table) base → seen ptold ≡ base
   is_seen ptold base sound = one_base c.groups_of_a_schema.ensures.entries _ _ (seen ptold) base (goes.over ptold).2 sound
@@ -112,7 +113,7 @@ module _ (g : Over) (c : goal.After-grown g) where
   growing : Growing g.P.Source g.I.Source g.B.Bench (growing_status c.grow.result) (begun mid.bench) new
   growing =
       let does = c.grow.ensures in
-      let secret = c.in-Ok-Grow.secret in
+      let shape = c.in-Ok-Grow.guarded.setting.shape in
       let file = g.B.Bench.file mid.bench in
       let later = g.B.Bench.file new.bench in
       record {
@@ -120,7 +121,7 @@ module _ (g : Over) (c : goal.After-grown g) where
             let held = given ptold base rows history over in
             subst (λ (b : Database). GrowEnds (growing_status c.grow.result) b history file later) (is_seen ptold base over.files)
             (growth_ends c.grow.result (seen ptold) history file later does.ends
-            (done_so c.grow.result (λ grown. subst (λ (h : List Answered). StandsFor later secret.shape (widened secret.shape.rows h))
+            (done_so c.grow.result (λ grown. subst (λ (h : List Answered). StandsFor later shape (widened shape.rows h))
             (c.one_reading.ensures file _ _ _ _ _ _ grown.0.stands.1 held.stands.1).1 grown.1) (does.done told))
             (does.grows told (can ptold base rows history over)) does.kept);
         growing = λ ptold told quiet base rows history over.

@@ -5,7 +5,7 @@ use Rattle.audit_types.specs.declared.records.Answered.{Answered}
 use Rattle.audit_types.specs.History.{Table}
 use Rattle.bench_core.specs.Calls.{LeavesOnly}
 use Rattle.bench_core.specs.Reports.{told_as}
-use Rattle.table_load.specs.Database.{Database, base_of, secret_table, table_in}
+use Rattle.table_load.specs.Database.{Database, table_in}
 use Rattle.answer_journal.specs.Moments.{IsUnmadeOrWhole}
 use Rattle.twin_journal.specs.Restoring.{CanRestore, IsLostOf, Restored}
 use Rattle.auditor_top.specs.declared.words.Command.TheVariants as command
@@ -15,6 +15,7 @@ use Rattle.auditor_top.specs.Words.{command_of}
 use Rattle.auditor_top.specs.Causes.{BothCause, FaultCause}
 use Rattle.auditor_top.specs.Commands.{AreSoundFilesOf}
 use Rattle.auditor_top.specs.Faults.{restoring_status}
+use Rattle.auditor_top.specs.Ready.{base_around}
 use Rattle.auditor_top.specs.Runs.{Objects, Restoring, faults_of, objects}
 use Rattle.auditor_top.specs.Says.{Says}
 use Rattle.auditor_top.proofs.LastSteps.{Answers, GoesOnWith, StepEnds, after_step, answers, done_or_wants, goes_with, not_of_lines, unread_input}
@@ -35,7 +36,7 @@ module _ (g : Over) (c : goal.After-restored g) where
   new = objects c.open.new.schema c.open.new.table c.args.input.now c.restore.new.bench c.restore.new.spare
 
   abbrev ready : Ready
-  ready = made.Restore c.in-Ok-Restore.secret c.in-Ok-Restore.protected
+  ready = made.Restore c.in-Ok-Restore.guarded
 
   goes : GoesOnWith g.P.Source g.B.Bench (command_of (map string_bytes c.args.words.now.items)) ready old mid
   goes =
@@ -52,7 +53,7 @@ module _ (g : Over) (c : goal.After-restored g) where
       record {
         last = step.last;
         words = step.words;
-        file = λ told table for. restore_file ended _ _ (secret_table c.in-Ok-Restore.secret c.in-Ok-Restore.protected) does.ends
+        file = λ told table for. restore_file ended _ _ c.in-Ok-Restore.guarded does.ends
             (λ refusal is. does.cause refusal told told is);
         spare_file = λ told calls. step.spare_file _;
         input = λ itold reads. absurd (false≢true reads);
@@ -88,11 +89,11 @@ module _ (g : Over) (c : goal.After-restored g) where
   -- the table of the groups is every table that the files mean
   is_seen : (ptold : g.P.Source.told) (base : Database) →
       AreSoundFilesOf (g.P.Source.left old.schema) (g.P.Source.left old.table) base →
-      secret_table c.in-Ok-Restore.secret c.in-Ok-Restore.protected ≡ table_in base
+      c.in-Ok-Restore.guarded ≡ table_in base
   is_seen ptold base sound =
       let over = goes.over ptold in
       ap (λ (b : Database). table_in b) (one_base c.groups_of_a_schema.ensures.entries _ _
-      (base_of over.0 over.1 c.in-Ok-Restore.protected c.in-Ok-Restore.secret) base over.2 sound)
+      (base_around over.0 over.1 c.in-Ok-Restore.guarded) base over.2 sound)
 
   restoring : Restoring g.P.Source g.I.Source g.B.Bench (restoring_status c.restore.result) (begun mid.bench) new
   restoring =

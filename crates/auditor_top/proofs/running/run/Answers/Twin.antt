@@ -1,12 +1,12 @@
 -- What `run` says of `serve` over two journals that were opened.
 use Rattle.std.proofs.Common.{◌≡◌, ◌+◌, ℕ, List, refl, sym, ◌∙◌, ap, subst, arith, inr, true, map, string_bytes}
 use Rattle.std.proofs.lemmas.Bool.{true≢false}
-use Rattle.audit_types.specs.History.{Protection}
+use Rattle.audit_types.specs.History.{Table as Guarded}
 use Rattle.audit_types.specs.declared.records.Answered.{Answered}
 use Rattle.bench_core.specs.Calls.{IsQuiet, LeavesOnly}
 use Rattle.bench_core.specs.Moments.{then_tells}
 use Rattle.table_load.specs.Cells.{SecretView}
-use Rattle.table_load.specs.Database.{Database, base_of, secret_table, table_in}
+use Rattle.table_load.specs.Database.{Database, table_in}
 use Rattle.journal_form.specs.Journal.{StandsFor}
 use Rattle.line_wire.specs.Lines.{counted_lines}
 use Rattle.audit_store.specs.Stores.{table_of as store_table}
@@ -21,6 +21,7 @@ use Rattle.auditor_top.specs.Causes.{BothCause, FaultCause}
 use Rattle.auditor_top.specs.Commands.{AreSoundFilesOf, TwinsOver}
 use Rattle.auditor_top.specs.Ends.{Outside, outside}
 use Rattle.auditor_top.specs.Faults.{ended_status}
+use Rattle.auditor_top.specs.Ready.{base_around}
 use Rattle.auditor_top.specs.Runs.{Objects, TwinServing, faults_of, objects}
 use Rattle.auditor_top.specs.Says.{Says}
 use Rattle.auditor_top.specs.Twins.{LeavesTwins, TwinEnds}
@@ -45,7 +46,7 @@ module _ (g : Over) (c : goal.After-drop-index-inside-in-Ok-start-7 g) where
   new = objects c.open.new.schema c.open.new.table c.serve_twin.new.source c.serve_twin.new.bench c.serve_twin.new.spare
 
   abbrev ready : Ready
-  ready = made.Twin c.in-Ok-Twin.index c.in-Ok-Twin.secret c.in-Ok-Twin.protected c.in-Ok-Twin.batch
+  ready = made.Twin c.in-Ok-Twin.index c.in-Ok-Twin.guarded c.in-Ok-Twin.batch
 
   goes : GoesOnWith g.P.Source g.B.Bench (command_of (map string_bytes c.args.words.now.items)) ready old mid
   goes =
@@ -55,7 +56,7 @@ module _ (g : Over) (c : goal.After-drop-index-inside-in-Ok-start-7 g) where
       found.ensures.over opening.reads found.ensures.steady opening.unread opening.unopened found.ensures.ticks
 
   -- the journals keep together, and the history is the longer one
-  together : g.B.Bench.told → KeepWhole (secret_table c.in-Ok-Twin.secret c.in-Ok-Twin.protected) (g.B.Bench.file mid.bench) (g.B.Bench.file old.spare)
+  together : g.B.Bench.told → KeepWhole c.in-Ok-Twin.guarded (g.B.Bench.file mid.bench) (g.B.Bench.file old.spare)
       c.in-Ok-start.twin.store.history
   together told = c.in-Ok-start.ensures.together told told
 
@@ -70,7 +71,7 @@ module _ (g : Over) (c : goal.After-drop-index-inside-in-Ok-start-7 g) where
         input_fault = record { later = does.later; failed = does.input; last_read = does.last_read; steady = does.steady };
         bench_fault = then_tells g.B.Bench mid.bench c.start.new.bench new.bench _ _ begun.fault (not_both _ _) does.fault;
         spare_fault = then_tells g.B.Bench old.spare c.start.new.spare new.spare _ _ begun.spare_fault (not_both _ _) c.serve_twin.ensures.spare.fault;
-        file = λ told table for. front_is_legal (secret_table c.in-Ok-Twin.secret c.in-Ok-Twin.protected) _ _ _ (together told);
+        file = λ told table for. front_is_legal c.in-Ok-Twin.guarded _ _ _ (together told);
         spare_file = λ told. tt;
         reads = λ itold reads. stop_reads c.serve_twin.result _ _ (does.read itold) (does.within itold) (does.input_within itold) (does.limit itold);
         quiet = λ told quiet. does.quiet told (begun.quiet told quiet (not_both _ _));
@@ -97,7 +98,7 @@ module _ (g : Over) (c : goal.After-drop-index-inside-in-Ok-start-7 g) where
 
   -- the table of the groups is every table that the files mean
   abbrev seen : Database
-  seen = base_of c.in-Ok-Twin.index.columns c.in-Ok-Twin.index.public c.in-Ok-Twin.protected c.in-Ok-Twin.secret
+  seen = base_around c.in-Ok-Twin.index.columns c.in-Ok-Twin.index.public c.in-Ok-Twin.guarded
 
   are : g.P.Source.told → AreSoundFilesOf (g.P.Source.left old.schema) (g.P.Source.left old.table) seen
   are ptold = goes.over ptold
@@ -122,10 +123,7 @@ module _ (g : Over) (c : goal.After-drop-index-inside-in-Ok-start-7 g) where
 
   asks : asked ≡ seen
   asks =
-      let index = c.in-Ok-Twin.index in
-      let store = c.in-Ok-start.ensures.store in
-      ap (λ (l : Protection). base_of index.columns index.public l c.in-Ok-start.twin.store.secret) store.1
-      ∙ ap (λ (s : SecretView). base_of index.columns index.public c.in-Ok-Twin.protected s) store.0
+      ap (λ (t : Guarded). base_around c.in-Ok-Twin.index.columns c.in-Ok-Twin.index.public t) c.in-Ok-start.ensures.store.0
 
   -- what the session says of it is said of every table that the files mean, and of the longer history
   said : (P : Database → List Answered → Type 0) → g.P.Source.told → g.B.Bench.told → (base : Database) (main other whole : List Answered) →
@@ -176,12 +174,8 @@ module _ (g : Over) (c : goal.After-drop-index-inside-in-Ok-start-7 g) where
       (started later : g.row.B.Denot) → LeavesOnly g.B.Bench started later (λ image sent. IsHarmless (store_table c.in-Ok-start.twin.store) image) →
       LeavesOnly g.B.Bench started later (λ image sent. IsHarmless (table_in base) image)
   harmless_for ptold base sound started later harmless =
-      let store = c.in-Ok-start.twin.store in
       subst (λ (b : Database). LeavesOnly g.B.Bench started later (λ image sent. IsHarmless (table_in b) image)) (is_seen ptold base sound)
-      (subst (λ (s : SecretView). LeavesOnly g.B.Bench started later (λ image sent. IsHarmless (secret_table s c.in-Ok-Twin.protected) image))
-      c.in-Ok-start.ensures.store.0
-      (subst (λ (p : Protection). LeavesOnly g.B.Bench started later (λ image sent. IsHarmless (secret_table store.secret p) image))
-      c.in-Ok-start.ensures.store.1 harmless))
+      (subst (λ (t : Guarded). LeavesOnly g.B.Bench started later (λ image sent. IsHarmless t image)) c.in-Ok-start.ensures.store.0 harmless)
 
   answering : TwinServing g.P.Source g.I.Source g.B.Bench c.in-Ok-Twin.batch (ended_status c.serve_twin.result) (begun mid.bench) new
   answering =

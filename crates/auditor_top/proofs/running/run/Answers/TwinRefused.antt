@@ -6,7 +6,7 @@ use Rattle.audit_types.specs.declared.records.Answered.{Answered}
 use Rattle.bench_core.specs.Calls.{IsQuiet, LeavesOnly}
 use Rattle.bench_core.specs.Moments.{weakens}
 use Rattle.bench_core.specs.Reports.{told_as}
-use Rattle.table_load.specs.Database.{Database, base_of, secret_table, table_in}
+use Rattle.table_load.specs.Database.{Database, table_in}
 use Rattle.twin_journal.specs.Twins.{CatchesUp, KeepApart, KeepTogether, TwinCause}
 use Rattle.twin_journal.specs.declared.starting.TwinRefusal.{TwinRefusal}
 use Rattle.bench_core.specs.Ends.{EndsBy, IsStop}
@@ -23,6 +23,7 @@ use Rattle.auditor_top.specs.Causes.{BothCause, FaultCause}
 use Rattle.auditor_top.specs.Commands.{AreSoundFilesOf, TwinsOver}
 use Rattle.auditor_top.specs.Ends.{Outside, outside}
 use Rattle.auditor_top.specs.Faults.{end_status, twin_status}
+use Rattle.auditor_top.specs.Ready.{base_around}
 use Rattle.auditor_top.specs.Runs.{Objects, TwinServing, faults_of, objects}
 use Rattle.auditor_top.specs.Says.{Says}
 use Rattle.auditor_top.specs.Twins.{BothCatchUp}
@@ -46,7 +47,7 @@ module _ (g : Over) (c : goal.After-drop-index-inside-in-Ok-Twin-7 g) where
   new = objects c.open.new.schema c.open.new.table c.args.input.now c.start.new.bench c.start.new.spare
 
   abbrev ready : Ready
-  ready = made.Twin c.in-Ok-Twin.index c.in-Ok-Twin.secret c.in-Ok-Twin.protected c.in-Ok-Twin.batch
+  ready = made.Twin c.in-Ok-Twin.index c.in-Ok-Twin.guarded c.in-Ok-Twin.batch
 
   goes : GoesOnWith g.P.Source g.B.Bench (command_of (map string_bytes c.args.words.now.items)) ready old mid
   goes =
@@ -63,7 +64,7 @@ module _ (g : Over) (c : goal.After-drop-index-inside-in-Ok-Twin-7 g) where
   step = twin_says end c.in-Err-start.ensures.ends
 
   cause : g.B.Bench.told → EndsBy IsOfBenches
-      (λ refused. TwinCause refused (g.B.Bench.file mid.bench) (g.B.Bench.file old.spare) (secret_table c.in-Ok-Twin.secret c.in-Ok-Twin.protected)) end
+      (λ refused. TwinCause refused (g.B.Bench.file mid.bench) (g.B.Bench.file old.spare) c.in-Ok-Twin.guarded) end
   cause told =
       by_cause end IsOfBenches _ (λ _. ⊤) c.in-Err-start.ensures.ends (λ refused is. c.in-Err-start.ensures.cause refused told told is)
 
@@ -108,7 +109,7 @@ module _ (g : Over) (c : goal.After-drop-index-inside-in-Ok-Twin-7 g) where
 
   -- the table of the groups is every table that the files mean
   abbrev seen : Database
-  seen = base_of c.in-Ok-Twin.index.columns c.in-Ok-Twin.index.public c.in-Ok-Twin.protected c.in-Ok-Twin.secret
+  seen = base_around c.in-Ok-Twin.index.columns c.in-Ok-Twin.index.public c.in-Ok-Twin.guarded
 
   are : g.P.Source.told → AreSoundFilesOf (g.P.Source.left old.schema) (g.P.Source.left old.table) seen
   are ptold = goes.over ptold

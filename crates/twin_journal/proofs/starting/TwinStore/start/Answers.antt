@@ -44,7 +44,7 @@ unmet end = Err end
 
 pub returns-in-Err : goal.returns-in-Err
 returns-in-Err g c =
-    let table = secret_table c.args.secret c.args.protected in
+    let table = c.args.guarded in
     let bench = c.args.bench.now in
     let spare_at = c.args.spare.now in
     let file = g.B.Bench.file bench in
@@ -75,9 +75,9 @@ returns-in-Err g c =
           subst (λ (e : End TwinRefusal). IsStop e) (sym is)
           (renamed_stopped Main end (does.opens m told keep.main_stands (main_is_legal table file spare m o whole keep)));
       main_moments = λ m o whole told spare_told quiet keep.
-          while_read g.B.Bench bench started c.args.secret.shape m whole reads quiet keep.main_stands keep.main_front;
+          while_read g.B.Bench bench started table.setting.shape m whole reads quiet keep.main_stands keep.main_front;
       spare_moments = λ m o whole told spare_told quiet keep.
-          still_there g.S.Bench c.args.secret.shape o whole spare_at keep.spare_stands.0 (λ image sent was. g.met.S.Bench.only_now spare_at image sent was)
+          still_there g.S.Bench table.setting.shape o whole spare_at keep.spare_stands.0 (λ image sent was. g.met.S.Bench.only_now spare_at image sent was)
           quiet keep.spare_stands.1 keep.spare_front;
       no_memory = λ m o whole told spare_told keep refusal.
           read_between table file spare (g.B.Bench.file started) spare m o whole reads.file refl keep;
@@ -103,7 +103,7 @@ returns-in-Err g c =
 
 pub returns-in-Err-open_other : goal.returns-in-Err-open_other
 returns-in-Err-open_other g c =
-    let table = secret_table c.args.secret c.args.protected in
+    let table = c.args.guarded in
     let bench = c.args.bench.now in
     let spare_at = c.args.spare.now in
     let file = g.B.Bench.file bench in
@@ -113,12 +113,11 @@ returns-in-Err-open_other g c =
     let store = c.in-Ok.store in
     let opened = c.in-Ok.ensures in
     let of_store = opened.store in
-    let same_table : table_of store ≡ table = ap (λ (s : SecretView). secret_table s store.protected) of_store.0
-    ∙ ap (λ (p : Protection). secret_table c.args.secret p) of_store.1 in
-    let same_shape : store.secret.shape ≡ c.args.secret.shape = ap (λ (s : SecretView). s.shape) of_store.0 in
+    let same_table : table_of store ≡ table = of_store.0 in
+    let same_shape : store.secret.shape ≡ table.setting.shape = ap (λ (t : Table). t.setting.shape) same_table in
     let main = store.history in
-    let legal : IsLegal table main = subst (λ (t : Table). IsLegal t main) same_table of_store.3.legal in
-    let stands : g.B.Bench.told → StandsFor file c.args.secret.shape main = λ told.
+    let legal : IsLegal table main = subst (λ (t : Table). IsLegal t main) same_table of_store.2.legal in
+    let stands : g.B.Bench.told → StandsFor file table.setting.shape main = λ told.
     (store.journal.gate, subst (λ (s : Shape). StandsAt file s main store.journal.gate) same_shape (opened.stands told)) in
     let none : g.B.Bench.told → (d : JournalRefusal) → StartCause d file table → ⊥ = λ told d cause. opened.due d told cause in
     let spare_opened = c.open_other.new.spare in
@@ -153,9 +152,9 @@ returns-in-Err-open_other g c =
           (does.opens o spare_told (subst (λ (s : Shape). StandsFor spare s o) (sym same_shape) keep.spare_stands)
           (subst (λ (t : Table). IsLegal t o) (sym same_table) (spare_is_legal table file spare m o whole keep)))));
       main_moments = λ m o whole told spare_told quiet keep.
-          while_read g.B.Bench bench started c.args.secret.shape m whole reads quiet keep.main_stands keep.main_front;
+          while_read g.B.Bench bench started table.setting.shape m whole reads quiet keep.main_stands keep.main_front;
       spare_moments = λ m o whole told spare_told quiet keep.
-          while_read g.S.Bench spare_at spare_opened c.args.secret.shape o whole spare_reads quiet keep.spare_stands keep.spare_front;
+          while_read g.S.Bench spare_at spare_opened table.setting.shape o whole spare_reads quiet keep.spare_stands keep.spare_front;
       no_memory = λ m o whole told spare_told keep refusal.
           read_between table file spare (g.B.Bench.file started) (g.S.Bench.file spare_opened) m o whole reads.file spare_reads.file keep;
       untouched = λ told spare_told quiet apart. reads.untouched quiet;
@@ -182,7 +181,7 @@ returns-in-Err-open_other g c =
 
 pub returns-in_err-catch_up : goal.returns-in_err-catch_up
 returns-in_err-catch_up g c =
-    let table = secret_table c.args.secret c.args.protected in
+    let table = c.args.guarded in
     let bench = c.args.bench.now in
     let spare_at = c.args.spare.now in
     let file = g.B.Bench.file bench in
@@ -192,12 +191,11 @@ returns-in_err-catch_up g c =
     let store = c.in-Ok.store in
     let opened = c.in-Ok.ensures in
     let of_store = opened.store in
-    let same_table : table_of store ≡ table = ap (λ (s : SecretView). secret_table s store.protected) of_store.0
-    ∙ ap (λ (p : Protection). secret_table c.args.secret p) of_store.1 in
-    let same_shape : store.secret.shape ≡ c.args.secret.shape = ap (λ (s : SecretView). s.shape) of_store.0 in
+    let same_table : table_of store ≡ table = of_store.0 in
+    let same_shape : store.secret.shape ≡ table.setting.shape = ap (λ (t : Table). t.setting.shape) same_table in
     let main = store.history in
-    let legal : IsLegal table main = subst (λ (t : Table). IsLegal t main) same_table of_store.3.legal in
-    let stands : g.B.Bench.told → StandsFor file c.args.secret.shape main = λ told.
+    let legal : IsLegal table main = subst (λ (t : Table). IsLegal t main) same_table of_store.2.legal in
+    let stands : g.B.Bench.told → StandsFor file table.setting.shape main = λ told.
     (store.journal.gate, subst (λ (s : Shape). StandsAt file s main store.journal.gate) same_shape (opened.stands told)) in
     let none : g.B.Bench.told → (d : JournalRefusal) → StartCause d file table → ⊥ = λ told d cause. opened.due d told cause in
     let spare_opened = c.open_other.new.spare in
@@ -207,7 +205,7 @@ returns-in_err-catch_up g c =
     let listed : found.1.items ≡ other = sym c.deref.ensures.value in
     let other_legal : IsLegal table other = subst (λ (t : Table). IsLegal t other) same_table
     (subst (λ (h : List Answered). IsLegal (table_of store) h) listed c.in-Ok-open_other.ensures.legal) in
-    let spare_stands : g.S.Bench.told → StandsFor spare c.args.secret.shape other = λ told. (
+    let spare_stands : g.S.Bench.told → StandsFor spare table.setting.shape other = λ told. (
       found.0.gate,
       subst (λ (s : Shape). StandsAt spare s other found.0.gate) same_shape
           (subst (λ (h : List Answered). StandsAt spare store.secret.shape h found.0.gate) listed (c.in-Ok-open_other.ensures.stands told)),
@@ -308,7 +306,7 @@ returns-in_err-catch_up g c =
 
 pub returns : goal.returns
 returns g c =
-    let table = secret_table c.args.secret c.args.protected in
+    let table = c.args.guarded in
     let bench = c.args.bench.now in
     let spare_at = c.args.spare.now in
     let file = g.B.Bench.file bench in
@@ -318,12 +316,11 @@ returns g c =
     let store = c.in-Ok.store in
     let opened = c.in-Ok.ensures in
     let of_store = opened.store in
-    let same_table : table_of store ≡ table = ap (λ (s : SecretView). secret_table s store.protected) of_store.0
-    ∙ ap (λ (p : Protection). secret_table c.args.secret p) of_store.1 in
-    let same_shape : store.secret.shape ≡ c.args.secret.shape = ap (λ (s : SecretView). s.shape) of_store.0 in
+    let same_table : table_of store ≡ table = of_store.0 in
+    let same_shape : store.secret.shape ≡ table.setting.shape = ap (λ (t : Table). t.setting.shape) same_table in
     let main = store.history in
-    let legal : IsLegal table main = subst (λ (t : Table). IsLegal t main) same_table of_store.3.legal in
-    let stands : g.B.Bench.told → StandsFor file c.args.secret.shape main = λ told.
+    let legal : IsLegal table main = subst (λ (t : Table). IsLegal t main) same_table of_store.2.legal in
+    let stands : g.B.Bench.told → StandsFor file table.setting.shape main = λ told.
     (store.journal.gate, subst (λ (s : Shape). StandsAt file s main store.journal.gate) same_shape (opened.stands told)) in
     let none : g.B.Bench.told → (d : JournalRefusal) → StartCause d file table → ⊥ = λ told d cause. opened.due d told cause in
     let spare_opened = c.open_other.new.spare in
@@ -333,7 +330,7 @@ returns g c =
     let listed : found.1.items ≡ other = sym c.deref.ensures.value in
     let other_legal : IsLegal table other = subst (λ (t : Table). IsLegal t other) same_table
     (subst (λ (h : List Answered). IsLegal (table_of store) h) listed c.in-Ok-open_other.ensures.legal) in
-    let spare_stands : g.S.Bench.told → StandsFor spare c.args.secret.shape other = λ told. (
+    let spare_stands : g.S.Bench.told → StandsFor spare table.setting.shape other = λ told. (
       found.0.gate,
       subst (λ (s : Shape). StandsAt spare s other found.0.gate) same_shape
           (subst (λ (h : List Answered). StandsAt spare store.secret.shape h found.0.gate) listed (c.in-Ok-open_other.ensures.stands told)),
@@ -348,8 +345,8 @@ returns g c =
     let usable = does.usable in
     record {
       store = (
-        c.catch_up.ensures.table.0 ∙ of_store.0,
-        c.catch_up.ensures.table.1 ∙ of_store.1,
+        ap (λ (s : SecretView). secret_table s c.catch_up.new.store.protected) c.catch_up.ensures.table.0
+            ∙ ap (λ (p : Protection). secret_table store.secret p) c.catch_up.ensures.table.1 ∙ same_table,
         usable.0,
         c.catch_up.ensures.is,
         record { spare_usable = λ is. usable.1.usable; same_shape = λ is. usable.1.same_shape; counted = λ is. usable.1.counted },
