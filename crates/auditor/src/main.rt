@@ -1,7 +1,7 @@
 //! The program: the real files, standard input and standard output under the top call; and what it says of itself.
 #![tactic(auto)]
 
-use auditor_top::{Status, run, status_code, status_text};
+use auditor_top::{Object, Status, run, status_code, status_text};
 use file_adapters::{FileBench, FileSource, InputSource, hold_streams};
 use std::io;
 use std::process::ExitCode;
@@ -46,7 +46,7 @@ fn show_or_run(rt: &HostRuntime, words: &Vec<String>) -> Status {
 fn show(rt: &HostRuntime, shown: &Shown) -> Status {
     match println!(rt; "{shown}") {
         Ok(()) => Status::Done,
-        Err(_) => Status::BenchFault,
+        Err(_) => Status::Failed(Object::Bench),
     }
 }
 

@@ -15,14 +15,15 @@ use Rattle.bench_core.specs.declared.stops.End.{End}
 use Rattle.bench_core.specs.declared.stops.End.TheVariants.{Stopped, Refused}
 use Rattle.bench_core.specs.declared.stops.Stop.TheVariants as stop
 use Rattle.auditor_top.specs.declared.words.Command.TheVariants.{Compact}
-use Rattle.auditor_top.specs.declared.status.Status.TheVariants.{Done, BenchFault, SpareFault, SpareThere, NoMemory}
+use Rattle.auditor_top.specs.declared.status.Object.TheVariants.{Spare}
+use Rattle.auditor_top.specs.declared.status.Refusal.TheVariants.{SpareThere}
+use Rattle.auditor_top.specs.declared.status.Status.TheVariants.{Failed}
 use Rattle.auditor_top.specs.Causes.{WordCause, FileCause, SpareCause, HoldsLegal}
 use Rattle.auditor_top.specs.Compactions.{CompactEnds}
 use Rattle.auditor_top.specs.Stages.{Before, opening_spare, reading_lines}
 use Rattle.auditor_top.specs.Faults.{compacting_status}
-use Rattle.auditor_top.proofs.LastSteps.{IsUnrefused}
 use Rattle.auditor_top.proofs.StepFaults.{end_unrefused}
-use Rattle.auditor_top.proofs.StepStatuses.{EndsLastStep}
+use Rattle.auditor_top.proofs.StepStatuses.{EndsLastStep, IsUnrefused}
 
 -- a call of the bench or of the spare ends it early, or that memory ran out
 abbrev pub CompactStops : {X : Type 0} → Result X (End There) → Type 0
@@ -33,14 +34,10 @@ pub record CompactSays {X : Type 0} (ended : Result X (End There)) : Type 1 wher
   pub last : EndsLastStep (compacting_status ended)
   pub words : WordCause (compacting_status ended) (Some Compact)
   pub file : (file : List ℕ) (table : Guarded) → HoldsLegal file table → FileCause (compacting_status ended) Compact file table
-  pub bench : compacting_status ended ≡ BenchFault → IsErrOf ended (Stopped stop.Bench)
-  pub spare : compacting_status ended ≡ SpareFault → IsErrOf ended (Stopped stop.Spare)
-  pub memory : compacting_status ended ≡ NoMemory → IsErrOf ended (Stopped stop.NoMemory)
-  pub done : (P : Type 0) → compacting_status ended ≡ Done → OnOk ended P → P
   -- it comes to the spare, and nothing was sent before the lines, nor if the spare failed
   pub at_spare : (P : Type 0) → Before opening_spare (compacting_status ended) P
   pub at_lines : (P : Type 0) → OnErr ended (ended ≢ Err (Stopped stop.Bench) → P) → Before reading_lines (compacting_status ended) P
-  pub unsent : (P : Type 0) → compacting_status ended ≡ SpareFault → OnErr ended (ended ≢ Err (Stopped stop.Bench) → P) → P
+  pub unsent : (P : Type 0) → compacting_status ended ≡ Failed Spare → OnErr ended (ended ≢ Err (Stopped stop.Bench) → P) → P
 
 pub compact_says : {X : Type 0} (ended : Result X (End There)) → CompactStops ended → CompactSays ended
 compact_says (Err (Stopped stop.Input)) stops = absurd stops

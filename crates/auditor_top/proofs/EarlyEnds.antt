@@ -9,17 +9,20 @@ use Rattle.set_index.specs.Groups.{Protects}
 use Rattle.table_load.specs.Database.{table_in}
 use Rattle.auditor_top.specs.declared.words.Command.{Command}
 use Rattle.auditor_top.specs.declared.words.Command.TheVariants as command
+use Rattle.auditor_top.specs.declared.status.Object.{Object}
+use Rattle.auditor_top.specs.declared.status.Object.TheVariants.{Schema, Table, Input, Bench, Spare}
 use Rattle.auditor_top.specs.declared.status.Status.{Status}
-use Rattle.auditor_top.specs.Causes.{FileCause, WordCause}
+use Rattle.auditor_top.specs.declared.status.Status.TheVariants.{Failed}
+use Rattle.auditor_top.specs.Causes.{FileCause, TellsFailure, WordCause}
 use Rattle.auditor_top.specs.Commands.{reads_files, reads_groups, reads_secrets}
 use Rattle.auditor_top.specs.Ready.{EndsEarly, Refuses}
-use Rattle.auditor_top.specs.Runs.{Objects}
+use Rattle.auditor_top.specs.Runs.{Objects, faults_of, last_failed_of}
 use Rattle.auditor_top.specs.Says.{Says}
 use Rattle.auditor_top.specs.Stages.{opening_journal, opening_spare, reading_lines, reading_table}
+use Rattle.auditor_top.proofs.Failures.{of_bench, of_file, unfailed}
 use Rattle.auditor_top.proofs.OneCommand.{none_asked, one_command}
-use Rattle.auditor_top.proofs.Openings.{stays}
 use Rattle.auditor_top.proofs.SpareCauses.{spare_unread}
-use Rattle.auditor_top.proofs.StepStatuses.{IsNoStep, always_before, never_fall, reads_nothing}
+use Rattle.auditor_top.proofs.StepStatuses.{IsNoStep, always_before, reads_nothing}
 
 -- nothing was called
 pub after_nothing : {P I B : Type 0} (files : source.Ghosts P) (lines : source.Ghosts I) (bench : Ghosts B) (asked : Option Command) (status : Status)
@@ -35,15 +38,9 @@ after_nothing files lines bench asked status at none words = record {
   file = λ ptold told other named base given entries. none.file other _ _;
   spare_file = λ told other named calls. none.spare_file other _;
   input = λ itold other named reads. none.input _;
-  faults = none.faults _;
-  schema_last = λ is. absurd (none.no_schema is);
-  table_last = λ is. absurd (none.no_table is);
-  input_last = λ is. absurd (none.no_input is);
-  bench_last = λ is. absurd (none.no_bench is);
-  spare_last = λ is. absurd (none.no_spare is);
-  later = never_fall _;
-  schema_within = λ ptold is. absurd (none.no_schema is);
-  table_within = λ ptold is. absurd (none.no_table is);
+  faults = λ object. unfailed _ _ _ _ refl (none.unfailed object);
+  schema_within = λ ptold is. absurd (none.unfailed Schema is);
+  table_within = λ ptold is. absurd (none.unfailed Table is);
   quiet = λ told quiet fine. quiet;
   before_table = always_before reading_table status refl;
   before_bench = always_before opening_journal status refl;
@@ -57,15 +54,29 @@ after_nothing files lines bench asked status at none words = record {
   spare = λ other named none. refl;
 }
 
--- the command was refused
+-- the command was refused: which call failed
+pub refused_failures : {P I B : Type 0} (files : source.Ghosts P) (lines : source.Ghosts I) (bench : Ghosts B) (one : Command) (status : Status)
+    (old : Objects P I B) (later_schema later_table : P) (opened : B) →
+    Refuses files bench one status old.schema later_schema old.table later_table old.bench opened →
+    (let new : Objects P I B = record { schema = later_schema; table = later_table; input = old.input; bench = opened; spare = old.spare } in
+    (object : Object) → TellsFailure (faults_of files lines bench old object) (faults_of files lines bench new object)
+    (last_failed_of files lines bench new object) (status ≡ Failed object))
+refused_failures files lines bench one status old later_schema later_table opened refuses Schema = of_file refuses.schema_read
+refused_failures files lines bench one status old later_schema later_table opened refuses Table = of_file refuses.table_read
+refused_failures files lines bench one status old later_schema later_table opened refuses Input =
+    unfailed _ _ _ _ refl (λ is. subst EndsEarly is refuses.early)
+refused_failures files lines bench one status old later_schema later_table opened refuses Bench = of_bench refuses.bench_fault
+refused_failures files lines bench one status old later_schema later_table opened refuses Spare =
+    unfailed _ _ _ _ refl (λ is. subst EndsEarly is refuses.early)
+
+-- and all that is said of it
 pub after_refusal : {P I B : Type 0} (files : source.Ghosts P) (lines : source.Ghosts I) (bench : Ghosts B) (asked : Option Command) (one : Command)
     (status : Status) (old : Objects P I B) (later_schema later_table : P) (opened : B) → asked ≡ Some one →
     Refuses files bench one status old.schema later_schema old.table later_table old.bench opened → OnlyReads bench old.bench opened →
-    (files.faults old.schema ≤ files.faults later_schema) × (files.faults old.table ≤ files.faults later_table) ×
-    (bench.faults old.bench ≤ bench.faults opened) → (reads_files one ≡ false → (later_schema ≡ old.schema) × (later_table ≡ old.table)) →
+    (reads_files one ≡ false → (later_schema ≡ old.schema) × (later_table ≡ old.table)) →
     Says files lines bench asked status old
     (record { schema = later_schema; table = later_table; input = old.input; bench = opened; spare = old.spare })
-after_refusal files lines bench asked one status old later_schema later_table opened named refuses reads later unread =
+after_refusal files lines bench asked one status old later_schema later_table opened named refuses reads unread =
     let same : ((other : Command) → asked ≡ Some other → one ≡ other) = λ other is. one_command asked one other named is in
     record {
       words = subst (λ (k : Option Command). WordCause status k) (sym named) refuses.words;
@@ -80,15 +91,9 @@ after_refusal files lines bench asked one status old later_schema later_table op
           (subst (λ (k : Command). OnTrue (reads_groups k) (Protects base.columns base.public given.guards base.protected)) (sym (same other is)) entries));
       spare_file = λ told other is calls. spare_unread status other (bench.file old.spare) refuses.early;
       input = λ itold other is takes. reads_nothing status (lines.left old.input) refuses.early;
-      faults = refuses.faults (lines.faults old.input) (bench.faults old.spare);
-      schema_last = refuses.schema_last;
-      table_last = refuses.table_last;
-      input_last = λ is. absurd (subst EndsEarly is refuses.early);
-      bench_last = refuses.bench_last;
-      spare_last = λ is. absurd (subst EndsEarly is refuses.early);
-      later = record { schema = later.0; table = later.1; input = stays _; bench = later.2; spare = stays _ };
-      schema_within = refuses.schema_within;
-      table_within = refuses.table_within;
+      faults = refused_failures files lines bench one status old later_schema later_table opened refuses;
+      schema_within = λ ptold. refuses.schema_read.within ptold;
+      table_within = λ ptold. refuses.table_read.within ptold;
       quiet = λ told quiet fine. still_quiet bench old.bench opened reads quiet;
       before_table = refuses.before_table;
       before_bench = refuses.before_bench;

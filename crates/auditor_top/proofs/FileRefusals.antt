@@ -1,5 +1,6 @@
 -- What a refusal says: the files weren't opened, or the journal wasn't.
 use Rattle.std.proofs.Common.{◌≡◌, ◌≢◌, ℕ, true, List, Some, Result, Ok, refl, subst, rules, Err, IsErr, IsErrAnd, IfErr, sym}
+use Rattle.bench_core.specs.Reports.{not_called}
 use Rattle.bench_core.specs.declared.bench.Bench.{Ghosts}
 use Rattle.bench_core.specs.declared.source.Source as source
 use Rattle.schema_json.specs.Columns.{Column, Guards, SchemaView}
@@ -19,9 +20,10 @@ use Rattle.auditor_top.specs.declared.opening.OpenFault.{OpenFault}
 use Rattle.auditor_top.specs.declared.opening.OpenFault.TheVariants as opening
 use Rattle.auditor_top.specs.declared.words.Command.{Command}
 use Rattle.auditor_top.specs.declared.words.Command.TheVariants as command
-use Rattle.auditor_top.specs.declared.status.Which.TheVariants.{Schema, Table}
+use Rattle.auditor_top.specs.declared.status.Object.TheVariants.{Bench}
+use Rattle.auditor_top.specs.declared.status.Refusal.TheVariants.{BadSchema, BadTable}
 use Rattle.auditor_top.specs.declared.status.Status.{Status}
-use Rattle.auditor_top.specs.declared.status.Status.TheVariants.{BadSchema, BadTable, SourceFault, BenchFault}
+use Rattle.auditor_top.specs.declared.status.Status.TheVariants.{Failed, Refused}
 use Rattle.auditor_top.specs.Openings.{LeavesUnopened}
 use Rattle.auditor_top.specs.Faults.{open_status}
 use Rattle.auditor_top.specs.Causes.{WordCause, SchemaCause, TableCause, GroupCause, FileCause}
@@ -44,11 +46,9 @@ record FileRefusal (fault : OpenFault) : Type 1 where
   pub journal : (asked : Command) (bytes : List ℕ) (table : Guarded) → FileCause (open_status fault) asked bytes table
   pub early : EndsEarly (open_status fault)
   pub groups : (columns : List Column) (guards : Guards) → GroupCause (open_status fault) columns guards
-  pub own_schema : open_status fault ≡ BadSchema schema_fault.NoMemory → fault ≡ opening.Schema (file.Bad schema_fault.NoMemory)
-  pub own_table : open_status fault ≡ BadTable table_fault.NoMemory → fault ≡ opening.Table (file.Bad table_fault.NoMemory)
-  pub schema : open_status fault ≡ SourceFault Schema → fault ≡ opening.Schema file.Failed
-  pub table : open_status fault ≡ SourceFault Table → fault ≡ opening.Table file.Failed
-  pub no_bench : open_status fault ≢ BenchFault
+  pub own_schema : open_status fault ≡ Refused (BadSchema schema_fault.NoMemory) → fault ≡ opening.Schema (file.Bad schema_fault.NoMemory)
+  pub own_table : open_status fault ≡ Refused (BadTable table_fault.NoMemory) → fault ≡ opening.Table (file.Bad table_fault.NoMemory)
+  pub no_bench : open_status fault ≢ Failed Bench
   pub gives_up : (X : Type 0) (schema : SchemaView) (meant : X) → SchemaCause (open_status fault) (Ok schema) → TableCause (open_status fault) (Ok meant) →
       GivesUp (open_status fault)
 
@@ -80,14 +80,11 @@ module _ {P B X : Type 0} (files : source.Ghosts P) (bench : Ghosts B) (asked : 
         file = λ ptold told base given sound. says.journal asked (bench.file at) (table_in base);
         own_schema_fault = λ is. unopened.own_schema_fault (says.own_schema is);
         own_table_fault = λ is. unopened.own_table_fault (says.own_table is);
-        schema_within = λ ptold is. unopened.schema_within ptold (says.schema is);
-        table_within = λ ptold is. unopened.table_within ptold (says.table is);
         early = says.early;
         gives_up = λ ptold told given. gives_up ptold given;
-        faults = λ input spare. unopened.faults input (bench.faults at) spare;
-        schema_last = λ is. unopened.schema_last (says.schema is);
-        table_last = λ is. unopened.table_last (says.table is);
-        bench_last = λ is. absurd (says.no_bench is);
+        schema_read = unopened.schema_read;
+        table_read = unopened.table_read;
+        bench_fault = not_called bench at _ says.no_bench;
         before_table = unopened.untouched;
         before_bench = always_before opening_journal (open_status fault) refl;
       }

@@ -2,13 +2,15 @@
 use Rattle.std.proofs.Common.{◌≡◌, ℕ, Bool, true, false, List, Some, Result, Ok, IsOk, refl, sym, ◌∙◌, ap, subst, rules}
 use Rattle.std.proofs.lemmas.Bool.{true≢false}
 use Rattle.audit_types.specs.History.{Protection, Table as Guarded}
+use Rattle.bench_core.specs.Reports.{not_called}
 use Rattle.bench_core.specs.declared.bench.Bench.{Ghosts}
 use Rattle.bench_core.specs.declared.source.Source as source
 use Rattle.schema_json.specs.Columns.{Column, Guards, SchemaView}
-use Rattle.schema_json.specs.Reading.{schema_of}
+use Rattle.schema_json.specs.Reading.{schema_of, most_schema}
 use Rattle.schema_json.specs.declared.faults.SchemaFault.{SchemaFault}
 use Rattle.table_load.specs.Cells.{PublicView}
 use Rattle.table_load.specs.Database.{Database, table_in}
+use Rattle.table_load.specs.Reading.{most_table}
 use Rattle.table_load.specs.Tables.{table_of, public_of}
 use Rattle.table_load.specs.declared.faults.TableFault.{TableFault}
 use Rattle.set_index.specs.Groups.{Protects, IsFirstBad}
@@ -20,14 +22,15 @@ use Rattle.set_index.specs.declared.index.GuardPart.TheVariants as part
 use Rattle.auditor_top.specs.declared.words.Command.{Command}
 use Rattle.auditor_top.specs.declared.words.Command.TheVariants.{Simulate}
 use Rattle.auditor_top.specs.declared.status.Status.{Status}
-use Rattle.auditor_top.specs.declared.status.Status.TheVariants.{BadOnly, BadGroup, NoMemory}
+use Rattle.auditor_top.specs.declared.status.Refusal.TheVariants.{BadOnly, BadGroup}
+use Rattle.auditor_top.specs.declared.status.Status.TheVariants.{NoMemory, Refused}
 use Rattle.auditor_top.specs.Faults.{index_status}
-use Rattle.auditor_top.specs.Causes.{FaultCounts, FaultCause, WordCause, SchemaCause, TableCause, GroupCause, FileCause, counts}
+use Rattle.auditor_top.specs.Causes.{WordCause, SchemaCause, TableCause, GroupCause, FileCause}
 use Rattle.auditor_top.specs.Commands.{AreSoundFilesOf, ArePublicFilesOf, opens_store, reads_groups, reads_secrets}
 use Rattle.auditor_top.specs.Ready.{EndsEarly, GivesUp, IsGiven, Refuses}
 use Rattle.auditor_top.specs.Stages.{Before, reading_table, opening_journal}
+use Rattle.auditor_top.proofs.Failures.{unfailed_read}
 use Rattle.auditor_top.proofs.OneTable.{same_ok, schema_is_ok}
-use Rattle.auditor_top.proofs.StepFaults.{moved}
 use Rattle.auditor_top.proofs.StepStatuses.{always_before}
 
 -- a command takes no step that its kind doesn't, and takes each that it does
@@ -39,8 +42,8 @@ no_step step is taken none = absurd (true≢false (sym taken ∙ sym (ap step is
 
 -- a run may end so when the groups are made ready
 abbrev EndsGroups : Status → Type 0
-EndsGroups BadOnly = Unit {0}
-EndsGroups (BadGroup place) = Unit {0}
+EndsGroups (Refused BadOnly) = Unit {0}
+EndsGroups (Refused (BadGroup place)) = Unit {0}
 EndsGroups NoMemory = Unit {0}
 EndsGroups status = ⊥
 
@@ -53,7 +56,6 @@ record GroupRefusal (fault : IndexFault) : Type 1 where
   pub early : EndsEarly (index_status fault)
   pub ends : EndsGroups (index_status fault)
   pub before : (P : Type 0) → Before reading_table (index_status fault) P
-  pub same : (before : FaultCounts) → FaultCause (index_status fault) before before
 
 group_refusal : (fault : IndexFault) → GroupRefusal fault
 group_refusal (index.Bad part.Only) = search rules
@@ -97,16 +99,11 @@ module _ {P B : Type 0} (files : source.Ghosts P) (bench : Ghosts B) (asked : Co
         file = λ ptold told base given sound. says.journal asked (bench.file at) (table_in base);
         own_schema_fault = λ is. subst EndsGroups is says.ends;
         own_table_fault = λ is. subst EndsGroups is says.ends;
-        schema_within = λ ptold is. absurd (subst EndsGroups is says.ends);
-        table_within = λ ptold is. absurd (subst EndsGroups is says.ends);
         early = says.early;
         gives_up = gives_up;
-        faults = λ input spare.
-            moved (index_status fault) (counts (files.faults schema) (files.faults table) input (bench.faults at) spare) _ _ _ _ input (bench.faults at) spare
-            same_schema same_table (says.same _);
-        schema_last = λ is. absurd (subst EndsGroups is says.ends);
-        table_last = λ is. absurd (subst EndsGroups is says.ends);
-        bench_last = λ is. absurd (subst EndsGroups is says.ends);
+        schema_read = unfailed_read files most_schema schema later_schema _ same_schema (λ is. subst EndsGroups is says.ends);
+        table_read = unfailed_read files most_table table later_table _ same_table (λ is. subst EndsGroups is says.ends);
+        bench_fault = not_called bench at _ (λ is. subst EndsGroups is says.ends);
         before_table = says.before (later_table ≡ table);
         before_bench = always_before opening_journal (index_status fault) refl;
       }

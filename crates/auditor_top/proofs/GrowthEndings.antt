@@ -12,20 +12,18 @@ use Rattle.bench_core.specs.Stops.{IsOfBench, IsOfBenches, of_benches}
 use Rattle.bench_core.specs.declared.stops.End.{End}
 use Rattle.bench_core.specs.declared.stops.End.TheVariants.{Stopped, Refused}
 use Rattle.bench_core.specs.declared.stops.Stop.TheVariants as stop
-use Rattle.answer_journal.specs.declared.refusals.JournalRefusal.TheVariants as journal
 use Rattle.audit_store.specs.Growing.{CanGrow, GrowCause}
 use Rattle.audit_store.specs.declared.growing.GrowRefusal.{GrowRefusal}
 use Rattle.audit_store.specs.declared.growing.GrowRefusal.TheVariants as grow
 use Rattle.auditor_top.specs.declared.words.Command.TheVariants.{Grow}
-use Rattle.auditor_top.specs.declared.status.Status.TheVariants.{Done, BenchFault}
+use Rattle.auditor_top.specs.declared.status.Object.TheVariants.{Bench}
+use Rattle.auditor_top.specs.declared.status.Status.TheVariants.{Done, Failed}
 use Rattle.auditor_top.specs.Causes.{WordCause, FileCause}
 use Rattle.auditor_top.specs.Ends.{GrowEnds}
 use Rattle.auditor_top.specs.Stages.{Before, reading_lines}
-use Rattle.auditor_top.specs.Faults.{grow_status, growing_status}
-use Rattle.auditor_top.proofs.LastSteps.{IsUnrefused}
-use Rattle.auditor_top.proofs.StartEndings.{refusal_says}
+use Rattle.auditor_top.specs.Faults.{grow_refusal, growing_status}
 use Rattle.auditor_top.proofs.StepFaults.{end_unrefused}
-use Rattle.auditor_top.proofs.StepStatuses.{EndsLastStep}
+use Rattle.auditor_top.proofs.StepStatuses.{EndsLastStep, IsUnrefused}
 
 -- a call of the bench ends it early, or that memory ran out
 abbrev pub GrowthStops : {X : Type 0} → Result X (End GrowRefusal) → Type 0
@@ -35,15 +33,13 @@ GrowthStops ended = IfErr ended (EndsBy IsOfBench (λ _. ⊤))
 pub record GrowthSays {X : Type 0} (ended : Result X (End GrowRefusal)) : Type 1 where
   pub last : EndsLastStep (growing_status ended)
   pub words : WordCause (growing_status ended) (Some Grow)
-  pub bench : growing_status ended ≡ BenchFault → IsErrOf ended (Stopped stop.Bench)
-  pub done : (P : Type 0) → growing_status ended ≡ Done → OnOk ended P → P
   pub at_lines : (P Q : Type 0) → (Q → P) → OnErr ended (ended ≢ Err (Stopped stop.Bench) → Q) → Before reading_lines (growing_status ended) P
 
 pub growth_says : {X : Type 0} (ended : Result X (End GrowRefusal)) → GrowthStops ended → GrowthSays ended
 growth_says (Err (Stopped stop.Input)) stops = absurd stops
 growth_says (Err (Stopped stop.Limit)) stops = absurd stops
 growth_says (Err (Stopped stop.Spare)) stops = absurd stops
-growth_says (Err (Refused (grow.Journal journal.NotMade))) stops = search rules
+growth_says (Err (Refused (grow.Journal refusal))) stops = search rules
 growth_says ended stops = search rules
 
 -- the file is the cause of a refusal, and can grow if it is done
@@ -55,7 +51,7 @@ growth_file (Err (Stopped stop.Limit)) file table stops can cause = absurd stops
 growth_file (Err (Stopped stop.Bench)) file table stops can cause = tt
 growth_file (Err (Stopped stop.Spare)) file table stops can cause = absurd stops
 growth_file (Err (Stopped stop.NoMemory)) file table stops can cause = tt
-growth_file (Err (Refused (grow.Journal refusal))) file table stops can cause = (refusal_says refusal).file Grow file table (cause (grow.Journal refusal) refl)
+growth_file (Err (Refused (grow.Journal refusal))) file table stops can cause = cause (grow.Journal refusal) refl
 growth_file (Err (Refused (grow.NothingNew rows))) file table stops can cause = cause (grow.NothingNew rows) refl
 
 -- over a journal that can grow: what the file stands for
@@ -74,10 +70,10 @@ growth_ends (Err (Refused refusal)) base history before after stops stands gave_
 pub growth_unrefused : (ended : Result (Unit {0}) (End GrowRefusal)) → GrowthStops ended → DoneUnlessStopped ended → IsUnrefused (growing_status ended)
 growth_unrefused (Ok done) stops gave_up = tt
 growth_unrefused (Err end) stops gave_up =
-    end_unrefused grow_status end (EndsBy-weaker end IsOfBench IsOfBenches _ _ of_benches (λ refusal is. is) stops) gave_up
+    end_unrefused grow_refusal end (EndsBy-weaker end IsOfBench IsOfBenches _ _ of_benches (λ refusal is. is) stops) gave_up
 
 -- what holds unless the bench failed holds of each refusal
-pub growth_kept : {X P : Type 0} (ended : Result X (End GrowRefusal)) → growing_status ended ≢ Done → growing_status ended ≢ BenchFault →
+pub growth_kept : {X P : Type 0} (ended : Result X (End GrowRefusal)) → growing_status ended ≢ Done → growing_status ended ≢ Failed Bench →
     OnErr ended (ended ≢ Err (Stopped stop.Bench) → P) → P
 growth_kept (Ok done) undone fine kept = absurd (undone refl)
 growth_kept (Err end) undone fine kept = kept (λ is. fine (ap growing_status is))

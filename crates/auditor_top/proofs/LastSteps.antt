@@ -4,7 +4,7 @@ use Rattle.std.proofs.lemmas.Bool.{false≢true, true≢false}
 use Rattle.std.specs.Bool.{OnTrue}
 use Rattle.audit_types.specs.History.{Protection, Table}
 use Rattle.audit_store.specs.Stores.{IsAsLeft, StoreContents}
-use Rattle.bench_core.specs.Calls.{IsQuiet, IsUntouched, LeavesOnly, OnlyReads, TellsFault}
+use Rattle.bench_core.specs.Calls.{IsQuiet, IsUntouched, LeavesOnly, OnlyReads}
 use Rattle.bench_core.specs.Causes.{Rose}
 use Rattle.bench_core.specs.Moments.{joins, still_quiet}
 use Rattle.bench_core.specs.declared.bench.Bench.{Ghosts}
@@ -16,23 +16,25 @@ use Rattle.table_load.specs.MeaningLaws.{means_read}
 use Rattle.table_load.specs.Tables.{public_of, table_of}
 use Rattle.set_index.specs.Groups.{AreSound, Protects}
 use Rattle.set_index.specs.Indexed.{OneListOfEntries}
-use Rattle.line_wire.specs.Talks.{TellsInput}
 use Rattle.auditor_top.specs.declared.ready.Ready.{Ready}
 use Rattle.auditor_top.specs.declared.ready.Ready.TheVariants.{Init, Serve, Twin, Audit, Simulate, Drill, Grow, Explain, Compact, Restore}
 use Rattle.auditor_top.specs.declared.words.Command.{Command}
 use Rattle.auditor_top.specs.declared.words.Command.TheVariants as command
-use Rattle.auditor_top.specs.declared.status.Which.TheVariants.{Schema, Table as TableFile, Input}
+use Rattle.auditor_top.specs.declared.status.Object.{Object}
+use Rattle.auditor_top.specs.declared.status.Object.TheVariants.{Schema, Table as TableFile, Input, Bench, Spare}
 use Rattle.auditor_top.specs.declared.status.Status.{Status}
-use Rattle.auditor_top.specs.declared.status.Status.TheVariants.{Done, SourceFault, BenchFault, SpareFault, NoMemory}
-use Rattle.auditor_top.specs.Causes.{FaultCounts, FaultCause, FileCause, HoldsLegal, InputCause, IsDoneOrWants, IsReadyFor, NothingFailed, SpareCause, WordCause, counts}
+use Rattle.auditor_top.specs.declared.status.Status.TheVariants.{Done, Failed, NoMemory}
+use Rattle.auditor_top.specs.Causes.{FileCause, HoldsLegal, InputCause, IsDoneOrWants, IsReadyFor, NothingFailed, SpareCause, TellsFailure, WordCause}
 use Rattle.auditor_top.specs.Commands.{AreFilesOf, AreSoundFilesOf, calls_spare, opens_journal, opens_store, reads_files, reads_groups, reads_lines, reads_secrets, writes}
+use Rattle.auditor_top.specs.Faults.{stop_status}
 use Rattle.auditor_top.specs.Ready.{IsOpened, IsReady, IsReadyOver, command_for}
-use Rattle.auditor_top.specs.Runs.{Does, Objects, faults_of}
+use Rattle.auditor_top.specs.Runs.{Does, Objects, faults_of, last_failed_of}
 use Rattle.auditor_top.specs.Says.{Says}
 use Rattle.auditor_top.specs.Stages.{Before, opening_spare, reading_lines}
+use Rattle.auditor_top.proofs.Failures.{TellsStop, of_bench, of_input, stop_after, unfailed}
 use Rattle.auditor_top.proofs.OneCommand.{none_asked, one_command}
 use Rattle.auditor_top.proofs.OneTable.{groups_are_sound, one_base, schema_is_ok, table_is_ok}
-use Rattle.auditor_top.proofs.StepStatuses.{EndsLastStep, always_before, before_so, groups_read, no_schema_fault, no_table_fault, past_journal, past_table, schema_read, schema_was_read, table_read, table_was_read}
+use Rattle.auditor_top.proofs.StepStatuses.{EndsLastStep, IsUnrefused, always_before, before_so, groups_read, no_schema_fault, no_table_fault, past_journal, past_table, schema_read, schema_was_read, table_read, table_was_read}
 
 -- ---- what a command goes on with
 
@@ -203,11 +205,9 @@ pub record StepEnds {P I B : Type 0} (lines : source.Ghosts I) (bench : Ghosts B
   pub spare_file : bench.told → calls_spare (command_for ready) ≡ true → SpareCause status (command_for ready) (bench.file mid.spare)
   pub input : lines.told → reads_lines (command_for ready) ≡ true → InputCause status (lines.left mid.input) (lines.left new.input)
   -- the call that failed
-  pub input_fault : TellsInput lines mid.input new.input (status ≡ SourceFault Input)
-  pub bench_fault : TellsFault bench mid.bench new.bench (status ≡ BenchFault)
-  pub spare_fault : TellsFault bench mid.spare new.spare (status ≡ SpareFault)
+  pub tells : TellsStop lines bench (λ why. status ≡ stop_status why) mid.input new.input mid.bench new.bench mid.spare new.spare
   -- what it leaves alone
-  pub quiet : bench.told → IsQuiet bench mid.bench → status ≢ BenchFault → IsQuiet bench new.bench
+  pub quiet : bench.told → IsQuiet bench mid.bench → status ≢ Failed Bench → IsQuiet bench new.bench
   pub nothing_began : bench.told → opens_journal (command_for ready) ≡ true → opens_store (command_for ready) ≡ false → IsQuiet bench mid.bench →
       (table : Table) → (IsReadyFor (command_for ready) (bench.file mid.bench) (table_for ready table) → ⊥) →
       LeavesOnly bench mid.bench new.bench (IsUntouched (bench.file mid.bench) (bench.sent mid.bench))
@@ -218,80 +218,27 @@ pub record StepEnds {P I B : Type 0} (lines : source.Ghosts I) (bench : Ghosts B
   pub no_lines : reads_lines (command_for ready) ≡ false → new.input ≡ mid.input
   pub spare : calls_spare (command_for ready) ≡ false → new.spare ≡ mid.spare
 
--- the count of what failed rose, and no other changed
-pub told_faults : (status : Status) → EndsLastStep status → (before : FaultCounts) (input bench spare : ℕ) →
-    (status ≡ SourceFault Input → Rose before.input input) → (status ≢ SourceFault Input → input ≡ before.input) →
-    (status ≡ BenchFault → Rose before.bench bench) → (status ≢ BenchFault → bench ≡ before.bench) →
-    (status ≡ SpareFault → Rose before.spare spare) → (status ≢ SpareFault → spare ≡ before.spare) →
-    FaultCause status before (record before { input = input; bench = bench; spare = spare })
-told_faults (SourceFault Schema) last before input bench spare input_rose input_same bench_rose bench_same spare_rose spare_same = absurd last
-told_faults (SourceFault TableFile) last before input bench spare input_rose input_same bench_rose bench_same spare_rose spare_same = absurd last
-told_faults (SourceFault Input) last before input bench spare input_rose input_same bench_rose bench_same spare_rose spare_same = (
-  input_rose refl,
-  ap (λ (n : ℕ). record before { input = input; bench = n; spare = spare }) (bench_same (λ is. cc))
-      ∙ ap (λ (n : ℕ). record before { input = input; spare = n }) (spare_same (λ is. cc)),
-)
-told_faults BenchFault last before input bench spare input_rose input_same bench_rose bench_same spare_rose spare_same = (
-  bench_rose refl,
-  ap (λ (n : ℕ). record before { input = n; bench = bench; spare = spare }) (input_same (λ is. cc))
-      ∙ ap (λ (n : ℕ). record before { bench = bench; spare = n }) (spare_same (λ is. cc)),
-)
-told_faults SpareFault last before input bench spare input_rose input_same bench_rose bench_same spare_rose spare_same = (
-  spare_rose refl,
-  ap (λ (n : ℕ). record before { input = n; bench = bench; spare = spare }) (input_same (λ is. cc))
-      ∙ ap (λ (n : ℕ). record before { bench = n; spare = spare }) (bench_same (λ is. cc)),
-)
-told_faults status last before input bench spare input_rose input_same bench_rose bench_same spare_rose spare_same =
-    ap (λ (n : ℕ). record before { input = n; bench = bench; spare = spare }) (input_same (λ is. cc))
-    ∙ ap (λ (n : ℕ). record before { bench = n; spare = spare }) (bench_same (λ is. cc))
-    ∙ ap (λ (n : ℕ). record before { spare = n }) (spare_same (λ is. cc))
-
--- a step that isn't refused is done, or a call failed, or memory ran out
-abbrev pub IsUnrefused : Status → Type 0
-IsUnrefused Done = Unit {0}
-IsUnrefused (SourceFault Input) = Unit {0}
-IsUnrefused BenchFault = Unit {0}
-IsUnrefused SpareFault = Unit {0}
-IsUnrefused NoMemory = Unit {0}
-IsUnrefused status = ⊥
-
--- so if nothing failed it is done, or there was no memory
-pub done_or_wants : (status : Status) (before after : FaultCounts) → IsUnrefused status → FaultCause status before after → NothingFailed before after →
-    (status ≡ SpareFault → Rose before.spare after.spare → ⊥) → IsDoneOrWants status
-done_or_wants Done before after unrefused rose none fine = inl refl
-done_or_wants (SourceFault Input) before after unrefused rose none fine = absurd (none.input rose.0)
-done_or_wants BenchFault before after unrefused rose none fine = absurd (none.bench rose.0)
-done_or_wants SpareFault before after unrefused rose none fine = absurd (fine refl rose.0)
-done_or_wants NoMemory before after unrefused rose none fine = inr refl
-done_or_wants status before after unrefused rose none fine = absurd unrefused
+-- a step that isn't refused is done, or a call failed, or memory ran out; so if nothing failed it is done, or there was no memory
+pub done_or_wants : {P I B : Type 0} (files : source.Ghosts P) (lines : source.Ghosts I) (bench : Ghosts B) (status : Status) (before after : Objects P I B) →
+    IsUnrefused status →
+    TellsStop lines bench (λ why. status ≡ stop_status why) before.input after.input before.bench after.bench before.spare after.spare →
+    NothingFailed (faults_of files lines bench before) (faults_of files lines bench after) →
+    (status ≡ Failed Spare → Rose (bench.faults before.spare) (bench.faults after.spare) → ⊥) → IsDoneOrWants status
+done_or_wants files lines bench Done before after unrefused tells none fine = inl refl
+done_or_wants files lines bench (Failed Input) before after unrefused tells none fine = absurd (none Input (λ is. cc) (tells.input.failed refl))
+done_or_wants files lines bench (Failed Bench) before after unrefused tells none fine = absurd (none Bench (λ is. cc) (tells.bench.failed refl))
+done_or_wants files lines bench (Failed Spare) before after unrefused tells none fine = absurd (fine refl (tells.spare.failed refl))
+done_or_wants files lines bench NoMemory before after unrefused tells none fine = inr refl
+done_or_wants files lines bench status before after unrefused tells none fine = absurd unrefused
 
 -- a status that only a call of another object makes isn't the command's
-pub not_of_lines : (one : Command) (status : Status) → reads_lines one ≡ false → WordCause status (Some one) → status ≢ SourceFault Input
+pub not_of_lines : (one : Command) (status : Status) → reads_lines one ≡ false → WordCause status (Some one) → status ≢ Failed Input
 not_of_lines one status none cause is =
     false≢true (sym none ∙ (subst (λ (s : Status). WordCause s (Some one)) is cause))
 
-pub not_of_spare : (one : Command) (status : Status) → calls_spare one ≡ false → WordCause status (Some one) → status ≢ SpareFault
+pub not_of_spare : (one : Command) (status : Status) → calls_spare one ≡ false → WordCause status (Some one) → status ≢ Failed Spare
 not_of_spare one status none cause is =
     false≢true (sym none ∙ (subst (λ (s : Status). WordCause s (Some one)) is cause))
-
--- what isn't called didn't fail
-pub unread_input : {I : Type 0} (lines : source.Ghosts I) (at : I) (Answered : Type 0) → (Answered → ⊥) → TellsInput lines at at Answered
-unread_input lines at Answered none = record {
-  later = omega arith;
-  failed = λ answered. absurd (none answered);
-  last_read = λ answered. absurd (none answered);
-  steady = λ other. refl;
-}
-
--- what is told of one answer is told of another that says the same
-pub input_as : {I : Type 0} (lines : source.Ghosts I) (old new : I) (Told Answered : Type 0) → (Told → Answered) → (Answered → Told) →
-    TellsInput lines old new Told → TellsInput lines old new Answered
-input_as lines old new Told Answered to from tells = record {
-  later = tells.later;
-  failed = λ answered. tells.failed (from answered);
-  last_read = λ answered. tells.last_read (from answered);
-  steady = λ other. tells.steady (λ told. other (to told));
-}
 
 -- ---- so it is of the run
 
@@ -309,13 +256,6 @@ pub record Answers {P I B : Type 0} (files : source.Ghosts P) (lines : source.Gh
 either_way : {Y : Type 0} (b : Bool) → (b ≡ true → Y) → (b ≡ false → Y) → Y
 either_way true one other = one refl
 either_way false one other = other refl
-
--- a count is no less than one that it equals, and rises from there
-level : (a b : ℕ) → b ≡ a → a ≤ b
-level a b same = omega (arith, same)
-
-risen : (a b c : ℕ) → b ≡ a → b ≤ c → a ≤ c
-risen a b c same rose = omega (arith, same, rose)
 
 module _ {P I B : Type 0} (files : source.Ghosts P) (lines : source.Ghosts I) (bench : Ghosts B) (law : OneListOfEntries) (asked : Option Command)
     (ready : Ready) (status : Status) (old : Objects P I B) (later_schema later_table : P) (opened : B) (input : I) (at spare : B) where
@@ -342,19 +282,13 @@ module _ {P I B : Type 0} (files : source.Ghosts P) (lines : source.Ghosts I) (b
         (same_table law bench opened _ _ ready goes.fit (goes.over ptold) base given entries)
         (ends.file told (table_in base) (ready_for bench opened ready (table_in base) goes.fit told)))
 
-    fault_cause : FaultCause status (faults_of files lines bench old) (faults_of files lines bench new)
-    fault_cause =
-        let schema = files.faults later_schema in
-        let table = files.faults later_table in
-        let input_before = lines.faults old.input in
-        let spare_before = bench.faults old.spare in
-        let after : FaultCounts = faults_of files lines bench new in
-        subst (λ (n : ℕ). FaultCause status (counts (files.faults old.schema) (files.faults old.table) input_before n spare_before) after) goes.steady.2
-        (subst (λ (n : ℕ). FaultCause status (counts (files.faults old.schema) n input_before (bench.faults opened) spare_before) after) goes.steady.1
-        (subst (λ (n : ℕ). FaultCause status (counts n table input_before (bench.faults opened) spare_before) after) goes.steady.0
-        (told_faults status ends.last (counts schema table input_before (bench.faults opened) spare_before) (lines.faults input) (bench.faults at)
-        (bench.faults spare) ends.input_fault.failed ends.input_fault.steady ends.bench_fault.failed ends.bench_fault.steady ends.spare_fault.failed
-        ends.spare_fault.steady)))
+    failures : (object : Object) → TellsFailure (faults_of files lines bench old object) (faults_of files lines bench new object)
+        (last_failed_of files lines bench new object) (status ≡ Failed object)
+    failures Schema = unfailed _ _ _ _ goes.steady.0 (schema_was_read status ends.last)
+    failures TableFile = unfailed _ _ _ _ goes.steady.1 (table_was_read status ends.last)
+    failures Input = of_input ends.tells.input
+    failures Bench = of_bench (stop_after bench at goes.steady.2 ends.tells).bench
+    failures Spare = of_bench ends.tells.spare
 
     pub after_step : Says files lines bench asked status old new
     after_step = record {
@@ -376,21 +310,9 @@ module _ {P I B : Type 0} (files : source.Ghosts P) (lines : source.Ghosts I) (b
           subst (λ (k : Command). SpareCause status k (bench.file old.spare)) (same other is)
           (ends.spare_file told (ap calls_spare (same other is) ∙ calls));
       input = λ itold other is reads. ends.input itold (ap reads_lines (same other is) ∙ reads);
-      faults = fault_cause;
-      schema_last = schema_was_read status ends.last;
-      table_last = table_was_read status ends.last;
-      input_last = ends.input_fault.last_read;
-      bench_last = ends.bench_fault.last_call;
-      spare_last = ends.spare_fault.last_call;
-      later = record {
-        schema = level _ _ goes.steady.0;
-        table = level _ _ goes.steady.1;
-        input = ends.input_fault.later;
-        bench = risen _ _ _ goes.steady.2 ends.bench_fault.later;
-        spare = ends.spare_fault.later;
-      };
-      schema_within = λ ptold. schema_was_read status ends.last;
-      table_within = λ ptold. table_was_read status ends.last;
+      faults = failures;
+      schema_within = λ ptold is. absurd (schema_was_read status ends.last is);
+      table_within = λ ptold is. absurd (table_was_read status ends.last is);
       quiet = λ told quiet. ends.quiet told (still_quiet bench old.bench opened goes.reads quiet);
       before_table = past_table _ status ends.last;
       before_bench = past_journal _ status ends.last;

@@ -1,6 +1,5 @@
 -- What the fault of a file comes to, by cases on that fault.
 use Rattle.std.proofs.Common.{◌≡◌, ◌≢◌, ℕ, ◌≤◌, ◌+◌, Result, Ok, Err, refl, sym, ap, subst, arith, List}
-use Rattle.bench_core.specs.Causes.{Rose}
 use Rattle.bench_core.specs.declared.source.Source as source
 use Rattle.schema_json.specs.Columns.{Column, SchemaView}
 use Rattle.schema_json.specs.Reading.{schema_of, most_schema}
@@ -14,10 +13,13 @@ use Rattle.auditor_top.specs.declared.files.FileFault.TheVariants as file
 use Rattle.auditor_top.specs.declared.opening.OpenFault.TheVariants as opening
 use Rattle.auditor_top.specs.Faults.{open_status}
 use Rattle.auditor_top.specs.Files.{IsFaultOf}
-use Rattle.auditor_top.specs.Causes.{FaultCause, SchemaCause, TableCause, counts}
+use Rattle.auditor_top.specs.declared.status.Object.TheVariants.{Schema, Table as TableFile}
+use Rattle.auditor_top.specs.declared.status.Status.TheVariants.{Failed}
+use Rattle.auditor_top.specs.Causes.{SchemaCause, TableCause}
 use Rattle.auditor_top.specs.Openings.{LeavesUnopened}
 use Rattle.auditor_top.specs.Reading.{TellsRead}
 use Rattle.auditor_top.specs.Stages.{Before, reading_table}
+use Rattle.auditor_top.proofs.Failures.{read_as, unfailed_read}
 use Rattle.auditor_top.proofs.OneTable.{same_ok}
 use Rattle.auditor_top.proofs.StepStatuses.{always_before}
 
@@ -45,12 +47,14 @@ pub schema_only : {X : Type 0} (fault : FileFault SchemaFault) (meant : Result X
 schema_only file.Failed meant = tt
 schema_only fault meant = tt
 
-pub schema_faults : {X : Type 0} (fault : FileFault SchemaFault) (schema later table input bench spare : ℕ)
-    → (◌≡◌ {A = Result X (FileFault SchemaFault)} (Err fault) (Err file.Failed) → Rose schema later)
-    → (◌≢◌ {A = Result X (FileFault SchemaFault)} (Err fault) (Err file.Failed) → later ≡ schema)
-    → FaultCause (open_status (opening.Schema fault)) (counts schema table input bench spare) (counts later table input bench spare)
-schema_faults file.Failed schema later table input bench spare failed steady = (failed refl, refl)
-schema_faults fault schema later table input bench spare failed steady = ap (λ (n : ℕ). counts n table input bench spare) (steady (λ is. cc))
+-- if it is a failed call, that is told
+schema_failed : (fault : FileFault SchemaFault) → open_status (opening.Schema fault) ≡ Failed Schema → fault ≡ file.Failed
+schema_failed file.Failed is = refl
+schema_failed fault is = cc
+
+not_of_table : (fault : FileFault SchemaFault) → open_status (opening.Schema fault) ≢ Failed TableFile
+not_of_table file.Failed is = cc
+not_of_table fault is = cc
 
 -- ---- the table's file
 
@@ -69,20 +73,14 @@ past_schema fault meant schema is = subst (SchemaCause (open_status (opening.Tab
     of_schema file.NoMemory = tt
     of_schema (file.Bad f) = refl
 
-pub table_faults : {X : Type 0} (fault : FileFault TableFault) (schema later_schema table later input bench spare : ℕ) → later_schema ≡ schema
-    → (◌≡◌ {A = Result X (FileFault TableFault)} (Err fault) (Err file.Failed) → Rose table later)
-    → (◌≢◌ {A = Result X (FileFault TableFault)} (Err fault) (Err file.Failed) → later ≡ table)
-    → FaultCause (open_status (opening.Table fault)) (counts schema table input bench spare) (counts later_schema later input bench spare)
-table_faults {X} fault schema later_schema table later input bench spare is failed steady =
-    subst (λ (n : ℕ). FaultCause (open_status (opening.Table fault)) (counts schema table input bench spare) (counts n later input bench spare)) (sym is)
-    (by_fault fault failed steady)
-  where
-    by_fault : (fault : FileFault TableFault) → (◌≡◌ {A = Result X (FileFault TableFault)} (Err fault) (Err file.Failed) → Rose table later)
-        → (◌≢◌ {A = Result X (FileFault TableFault)} (Err fault) (Err file.Failed) → later ≡ table)
-        → FaultCause (open_status (opening.Table fault)) (counts schema table input bench spare) (counts schema later input bench spare)
-    by_fault file.Failed failed steady = (failed refl, refl)
-    by_fault file.NoMemory failed steady = ap (λ (n : ℕ). counts schema n input bench spare) (steady (λ is. cc))
-    by_fault (file.Bad f) failed steady = ap (λ (n : ℕ). counts schema n input bench spare) (steady (λ is. cc))
+-- if it is a failed call, that is told
+table_failed : (fault : FileFault TableFault) → open_status (opening.Table fault) ≡ Failed TableFile → fault ≡ file.Failed
+table_failed file.Failed is = refl
+table_failed fault is = cc
+
+not_of_schema : (fault : FileFault TableFault) → open_status (opening.Table fault) ≢ Failed Schema
+not_of_schema file.Failed is = cc
+not_of_schema fault is = cc
 
 -- it was called
 pub at_table : (P : Type 0) (fault : FileFault TableFault) → Before reading_table (open_status (opening.Table fault)) P
@@ -96,20 +94,21 @@ at_table P (file.Bad f) = tt
 abbrev DidFail : (Y : Type 0) {F : Type 0} → FileFault F → Type 0
 DidFail Y {F} fault = ◌≡◌ {A = Result Y (FileFault F)} (Err fault) (Err file.Failed)
 
+of_failed : {Y F : Type 0} {fault : FileFault F} → DidFail Y fault → fault ≡ file.Failed
+of_failed is = cc
+
 module _ {P X : Type 0} (files : source.Ghosts P) (meaning : List Column → List ℕ → Result X TableFault) where
   pub schema_unopened : {Y : Type 0} (fault : FileFault SchemaFault) (schema later table : P) → (files.told → IsFaultOf fault (schema_of (files.left schema))) →
       ◌≢◌ {A = Result Y (FileFault SchemaFault)} (Err fault) (Err (file.Bad schema_fault.NoMemory)) →
       TellsRead files most_schema schema later (DidFail Y fault) → LeavesUnopened files meaning (opening.Schema fault) schema later table table
-  schema_unopened fault schema later table means own tells = record {
+  schema_unopened {Y} fault schema later table means own tells = record {
     schema = λ told. schema_says fault _ (means told);
     table = λ told meant is. schema_only fault _;
     own_schema_fault = λ is. own cc;
     own_table_fault = λ is. cc;
-    schema_within = λ told is. tells.within told cc;
-    table_within = λ told is. cc;
-    faults = λ input bench spare. schema_faults fault _ _ _ input bench spare tells.failed tells.steady;
-    schema_last = λ is. tells.last_call cc;
-    table_last = λ is. cc;
+    schema_read = read_as files most_schema schema later (DidFail Y fault) _ (λ is. ap (λ f. open_status (opening.Schema f)) (of_failed is))
+        (λ is. ap (λ f. Err f) (schema_failed fault is)) tells;
+    table_read = unfailed_read files most_table table table _ refl (not_of_table fault);
     untouched = always_before reading_table (open_status (opening.Schema fault)) refl;
   }
 
@@ -118,16 +117,14 @@ module _ {P X : Type 0} (files : source.Ghosts P) (meaning : List Column → Lis
       (files.told → IsFaultOf fault (meaning read.columns (files.left table))) →
       ◌≢◌ {A = Result Y (FileFault TableFault)} (Err fault) (Err (file.Bad table_fault.NoMemory)) →
       TellsRead files most_table table left (DidFail Y fault) → LeavesUnopened files meaning (opening.Table fault) schema later table left
-  table_unopened fault schema later table left read schema_is same means own tells = record {
+  table_unopened {Y} fault schema later table left read schema_is same means own tells = record {
     schema = λ told. past_schema fault _ read (schema_is told);
     table = λ told meant is. table_says fault _
         (subst (λ (s : SchemaView). IsFaultOf fault (meaning s.columns (files.left table))) (same_ok _ read meant (schema_is told) is) (means told));
     own_schema_fault = λ is. cc;
     own_table_fault = λ is. own cc;
-    schema_within = λ told is. cc;
-    table_within = λ told is. tells.within told cc;
-    faults = λ input bench spare. table_faults fault _ _ _ _ input bench spare same tells.failed tells.steady;
-    schema_last = λ is. cc;
-    table_last = λ is. tells.last_call cc;
+    schema_read = unfailed_read files most_schema schema later _ same (not_of_schema fault);
+    table_read = read_as files most_table table left (DidFail Y fault) _ (λ is. ap (λ f. open_status (opening.Table f)) (of_failed is))
+        (λ is. ap (λ f. Err f) (table_failed fault is)) tells;
     untouched = at_table _ fault;
   }

@@ -23,20 +23,22 @@ use Rattle.journal_audit.specs.Reports.{ReportsFront}
 use Rattle.journal_audit.specs.SendLaws.{none_front}
 use Rattle.auditor_top.specs.declared.words.Command.{Command}
 use Rattle.auditor_top.specs.declared.words.Command.TheVariants.{Init, Serve, Audit, Simulate, Drill, Grow, Explain, Compact, Restore}
+use Rattle.auditor_top.specs.declared.status.Object.{Object}
+use Rattle.auditor_top.specs.declared.status.Object.TheVariants.{Schema, Table, Bench}
 use Rattle.auditor_top.specs.declared.status.Status.{Status}
-use Rattle.auditor_top.specs.declared.status.Status.TheVariants.{Done}
+use Rattle.auditor_top.specs.declared.status.Status.TheVariants.{Done, Failed}
 use Rattle.audit_types.specs.declared.shapes.Shape.{Shape}
 use Rattle.twin_journal.specs.Fronts.{main_is_legal, spare_is_legal}
 use Rattle.twin_journal.specs.Twins.{StandsBetween}
 use Rattle.auditor_top.specs.Stages.{opening_journal, reading_lines}
 use Rattle.auditor_top.specs.Twins.{TwinEnds}
-use Rattle.auditor_top.specs.Causes.{BeginningCause, BothCause, FaultCause, NothingFailed, IsDoneOrWants}
+use Rattle.auditor_top.specs.Causes.{BeginningCause, BothCause, NothingFailed, IsDoneOrWants, TellsFailure}
 use Rattle.auditor_top.specs.Commands.{ArePublicFilesOf, AreSoundFilesOf, opens_store}
 use Rattle.auditor_top.specs.Compactions.{CompactEnds}
 use Rattle.auditor_top.specs.Ends.{AuditEnds, GrowEnds, LeavesFile, ServeEnds, SendsTexts, SimulateEnds, StandsForWhat, TalkEnds, audit_over, people_over, subjects_over, outside, public_part}
 use Rattle.auditor_top.specs.Promise.{RunsMakeLives}
 use Rattle.auditor_top.specs.Ready.{IsGiven, EndsEarly, GivesUp}
-use Rattle.auditor_top.specs.Runs.{Objects, objects, faults_of, Does, Making, Serving, Auditing, Simulating, Drilling, Growing, Explaining, Compacting, TwinServing, Restoring}
+use Rattle.auditor_top.specs.Runs.{Objects, objects, faults_of, last_failed_of, Does, Making, Serving, Auditing, Simulating, Drilling, Growing, Explaining, Compacting, TwinServing, Restoring}
 use Rattle.auditor_top.proofs.AuditEndings.{untouched_report}
 use Rattle.auditor_top.proofs.OneRunMore.{spare_goes_on}
 use Rattle.auditor_top.proofs.OneTable.{OneReading, nothing_served, untouched_stops}
@@ -68,8 +70,9 @@ at_first shape first whole stands front image same = record {
 
 module _ {P I B : Type 0} (files : source.Ghosts P) (lines : source.Ghosts I) (bench : Ghosts B) (schema later_schema table later_table : P) (input : I)
     (at later : B) (spare : B) (status : Status) (early : EndsEarly status) (reads : OnlyReads bench at later)
-    (cause : FaultCause status (faults_of files lines bench (objects schema table input at spare))
-    (faults_of files lines bench (objects later_schema later_table input later spare)))
+    (failures : (object : Object) → TellsFailure (faults_of files lines bench (objects schema table input at spare) object)
+    (faults_of files lines bench (objects later_schema later_table input later spare) object)
+    (last_failed_of files lines bench (objects later_schema later_table input later spare) object) (status ≡ Failed object))
     (asked : Option Command)
     (gives_up : (command : Command) → asked ≡ Some command → files.told → (opens_store command ≡ true → bench.told) →
     IsGiven command (files.left schema) (files.left table) (bench.file at) → GivesUp status)
@@ -83,8 +86,9 @@ module _ {P I B : Type 0} (files : source.Ghosts P) (lines : source.Ghosts I) (b
   -- if nothing failed there was no memory
   wants : GivesUp status → NothingFailed (faults_of files lines bench old) (faults_of files lines bench new) → IsDoneOrWants status
   wants gave_up none =
-      by_giving_up (λ (s : Status). FaultCause s (faults_of files lines bench old) (faults_of files lines bench new) → IsDoneOrWants s) status gave_up
-      (λ rose. absurd (none.schema rose.0)) (λ rose. absurd (none.table rose.0)) (λ rose. absurd (none.bench rose.0)) (λ same. inr refl) cause
+      by_giving_up (λ (s : Status). status ≡ s → IsDoneOrWants s) status gave_up (λ is. absurd (none Schema (λ same. cc) ((failures Schema).failed is)))
+      (λ is. absurd (none Table (λ same. cc) ((failures Table).failed is))) (λ is. absurd (none Bench (λ same. cc) ((failures Bench).failed is)))
+      (λ is. inr refl) refl
 
   -- a crash finds the file as it was, and nothing sent
   still : {Found : List ℕ → List ℕ → Type 0} → IsQuiet bench at →

@@ -7,20 +7,16 @@ use Rattle.bench_core.specs.Stops.{IsOfBenches}
 use Rattle.bench_core.specs.declared.stops.End.{End}
 use Rattle.bench_core.specs.declared.stops.End.TheVariants.{Stopped, Refused}
 use Rattle.bench_core.specs.declared.stops.Stop.TheVariants as stop
-use Rattle.answer_journal.specs.declared.refusals.JournalRefusal.{JournalRefusal}
 use Rattle.answer_journal.specs.declared.refusals.JournalRefusal.TheVariants as journal
 use Rattle.twin_journal.specs.Restoring.{RestoreCause}
 use Rattle.twin_journal.specs.declared.restoring.RestoreRefusal.{RestoreRefusal}
 use Rattle.twin_journal.specs.declared.restoring.RestoreRefusal.TheVariants as restore
 use Rattle.auditor_top.specs.declared.words.Command.TheVariants.{Restore}
-use Rattle.auditor_top.specs.declared.status.Status.TheVariants.{Done, BenchFault, SpareFault, NoMemory}
 use Rattle.auditor_top.specs.Causes.{BothCause, WordCause, FileCause, SpareCause}
 use Rattle.auditor_top.specs.Stages.{Before, opening_journal, reading_lines}
-use Rattle.auditor_top.specs.Faults.{journal_status, restore_status, restoring_status}
-use Rattle.auditor_top.proofs.LastSteps.{IsUnrefused}
-use Rattle.auditor_top.proofs.StartEndings.{refusal_says}
+use Rattle.auditor_top.specs.Faults.{restore_refusal, restoring_status}
 use Rattle.auditor_top.proofs.StepFaults.{end_unrefused}
-use Rattle.auditor_top.proofs.StepStatuses.{EndsLastStep}
+use Rattle.auditor_top.proofs.StepStatuses.{EndsLastStep, IsUnrefused}
 
 -- a call of one of the benches ends it early, or that memory ran out
 abbrev pub RestoreStops : {X : Type 0} → Result X (End RestoreRefusal) → Type 0
@@ -31,25 +27,12 @@ pub record RestoreSays {X : Type 0} (ended : Result X (End RestoreRefusal)) : Ty
   pub last : EndsLastStep (restoring_status ended)
   pub words : WordCause (restoring_status ended) (Some Restore)
   pub spare_file : (file : List ℕ) → SpareCause (restoring_status ended) Restore file
-  pub bench : restoring_status ended ≡ BenchFault → IsErrOf ended (Stopped stop.Bench)
-  pub spare : restoring_status ended ≡ SpareFault → IsErrOf ended (Stopped stop.Spare)
-  pub memory : restoring_status ended ≡ NoMemory → IsErrOf ended (Stopped stop.NoMemory)
-  pub done : (P : Type 0) → restoring_status ended ≡ Done → OnOk ended P → P
   pub at_journal : (P : Type 0) → Before opening_journal (restoring_status ended) P
 
 pub restore_says : {X : Type 0} (ended : Result X (End RestoreRefusal)) → RestoreStops ended → RestoreSays ended
 restore_says (Err (Stopped stop.Input)) stops = absurd stops
 restore_says (Err (Stopped stop.Limit)) stops = absurd stops
-restore_says (Err (Refused (restore.Main refusal))) stops = let says = refusal_says refusal in record {
-  last = says.last;
-  words = says.words Restore refl;
-  spare_file = says.spare Restore;
-  bench = λ is. absurd (says.no_bench is);
-  spare = λ is. absurd (says.no_spare is);
-  memory = λ is. absurd (says.no_memory is);
-  done = λ P is holds. absurd (says.undone is);
-  at_journal = says.at_journal;
-}
+restore_says (Err (Refused (restore.Main refusal))) stops = search rules
 restore_says ended stops = search rules
 
 -- each refusal has its cause in the journal's file, and in both
@@ -61,7 +44,7 @@ restore_file (Err (Stopped stop.Limit)) file spare table stops cause = absurd st
 restore_file (Err (Stopped why)) file spare table stops cause = tt
 restore_file (Err (Refused restore.BothLost)) file spare table stops cause = (cause restore.BothLost refl).0
 restore_file (Err (Refused (restore.Main refusal))) file spare table stops cause =
-    (refusal_says refusal).file Restore file table (cause (restore.Main refusal) refl).2
+    (cause (restore.Main refusal) refl).2
 restore_file (Err (Refused refusal)) file spare table stops cause = tt
 
 pub restore_cause : {X : Type 0} (ended : Result X (End RestoreRefusal)) (file spare : List ℕ) (table : Guarded) → RestoreStops ended →
@@ -73,18 +56,16 @@ restore_cause (Err (Stopped stop.Limit)) file spare table stops cause = absurd s
 restore_cause (Err (Stopped why)) file spare table stops cause = tt
 restore_cause (Err (Refused restore.NothingLost)) file spare table stops cause = cause restore.NothingLost refl
 restore_cause (Err (Refused restore.BothLost)) file spare table stops cause = cause restore.BothLost refl
-restore_cause (Err (Refused (restore.Main refusal))) file spare table stops cause = of_main refusal (cause (restore.Main refusal) refl)
-  where
-    of_main : (refusal : JournalRefusal) → RestoreCause (restore.Main refusal) file spare table → BothCause (journal_status refusal) Restore file spare table
-    of_main journal.NotMade main = absurd (main.2 main.1)
-    of_main refusal main = main
+restore_cause (Err (Refused (restore.Main journal.NotMade))) file spare table stops cause =
+    let main = cause (restore.Main journal.NotMade) refl in absurd (main.2 main.1)
+restore_cause (Err (Refused (restore.Main refusal))) file spare table stops cause = cause (restore.Main refusal) refl
 restore_cause (Err (Refused (restore.Spare refusal))) file spare table stops cause = cause (restore.Spare refusal) refl
 
 -- if one can be restored it isn't refused
 pub restore_unrefused : {X : Type 0} (ended : Result X (End RestoreRefusal)) → RestoreStops ended → DoneUnlessStopped ended →
     IsUnrefused (restoring_status ended)
 restore_unrefused (Ok done) stops gave = tt
-restore_unrefused (Err end) stops gave = end_unrefused restore_status end stops gave
+restore_unrefused (Err end) stops gave = end_unrefused restore_refusal end stops gave
 
 -- before the lines what was only read is as it was
 pub restore_at_lines : {X : Type 0} (P : Type 0) (ended : Result X (End RestoreRefusal)) → RestoreStops ended → (IsRefused ended → P) →
@@ -93,5 +74,5 @@ restore_at_lines P (Ok done) stops holds = tt
 restore_at_lines P (Err (Stopped stop.Input)) stops holds = absurd stops
 restore_at_lines P (Err (Stopped stop.Limit)) stops holds = absurd stops
 restore_at_lines P (Err (Stopped why)) stops holds = tt
-restore_at_lines P (Err (Refused (restore.Main refusal))) stops holds = (refusal_says refusal).at_lines P (holds tt)
+restore_at_lines P (Err (Refused (restore.Main refusal))) stops holds = holds tt
 restore_at_lines P (Err (Refused refusal)) stops holds = holds tt

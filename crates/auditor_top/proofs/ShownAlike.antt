@@ -8,9 +8,9 @@ use Rattle.table_load.specs.Database.{Database, AreTwins}
 use Rattle.journal_audit.specs.Reports.{Audit, Reports, ReportsFront, SendsMeanwhile, subjects}
 use Rattle.certificate_lines.specs.Explained.{AreExplained}
 use Rattle.transcript_sim.specs.Verdicts.{AreVerdicts}
-use Rattle.auditor_top.specs.declared.status.Which.TheVariants.{Input}
+use Rattle.auditor_top.specs.declared.status.Object.TheVariants.{Bench}
 use Rattle.auditor_top.specs.declared.status.Status.{Status}
-use Rattle.auditor_top.specs.declared.status.Status.TheVariants.{Done, SourceFault, BenchFault, NoMemory}
+use Rattle.auditor_top.specs.declared.status.Status.TheVariants.{Done, Failed, NoMemory}
 use Rattle.auditor_top.specs.Commands.{SimulatesOver}
 use Rattle.journal_compact.specs.Compactions.{SendsCounts}
 use Rattle.auditor_top.specs.Compactions.{CompactEnds}
@@ -39,11 +39,10 @@ same_report : (status : Status) (base other : Database) (history : List Answered
     people_over other ≡ people_over base → (before after : List ℕ) →
     AuditEnds status base history before after ↔ AuditEnds status other history before after
 same_report Done base other history same people before after = same_told (λ (a : Audit) (p : Option ℕ). Reports a p before after) base other history same people
-same_report BenchFault base other history same people before after =
+same_report (Failed Bench) base other history same people before after =
     same_told (λ (a : Audit) (p : Option ℕ). ReportsFront a p before after) base other history same people
 same_report NoMemory base other history same people before after =
     same_told (λ (a : Audit) (p : Option ℕ). ReportsFront a p before after) base other history same people
-same_report (SourceFault Input) base other history same people before after = (λ x. x, λ x. x)
 same_report status base other history same people before after = (λ x. x, λ x. x)
 
 -- an audit of these columns, over this shape

@@ -14,7 +14,6 @@ use Rattle.table_load.specs.Tables.{public_of}
 use Rattle.line_wire.specs.Lines.{counted_lines}
 use Rattle.line_wire.specs.Talks.{EndDue, EndReads, EndSends}
 use Rattle.question_plan.specs.Session.{Replied}
-use Rattle.answer_journal.specs.declared.refusals.JournalRefusal.TheVariants as journal
 use Rattle.transcript_sim.specs.declared.simulating.SimulationRefusal.{SimulationRefusal}
 use Rattle.transcript_sim.specs.declared.simulating.SimulationRefusal.TheVariants as verdict
 use Rattle.transcript_sim.specs.Beginning.{EndBegins, OnUnbegun}
@@ -22,17 +21,13 @@ use Rattle.transcript_sim.specs.Verdicts.{AreVerdicts}
 use Rattle.transcript_sim.specs.Laws.{FirstLinesHaveVerdicts}
 use Rattle.transcript_sim.specs.Ends.{RefusesWithin, simulation}
 use Rattle.auditor_top.specs.declared.words.Command.TheVariants as command
-use Rattle.auditor_top.specs.Faults.{journal_status, simulation_status}
+use Rattle.auditor_top.specs.Faults.{simulation_status}
 use Rattle.auditor_top.specs.Ends.{SendsTexts, SimulateEnds}
 use Rattle.auditor_top.specs.Commands.{ArePublicFilesOf}
 use Rattle.auditor_top.specs.Causes.{BeginningCause, InputCause, WordCause, FileCause}
 use Rattle.auditor_top.proofs.OneTable.{same_ok}
-use Rattle.auditor_top.proofs.LastSteps.{IsUnrefused}
-use Rattle.auditor_top.proofs.StartEndings.{refusal_says}
-use Rattle.auditor_top.specs.declared.status.Which.TheVariants.{Input}
-use Rattle.auditor_top.specs.declared.status.Status.TheVariants.{Done, SourceFault, BenchFault}
 use Rattle.auditor_top.specs.Stages.{Before, reading_lines}
-use Rattle.auditor_top.proofs.StepStatuses.{EndsLastStep}
+use Rattle.auditor_top.proofs.StepStatuses.{EndsLastStep, IsUnrefused}
 
 abbrev index_of : List Column → PublicView → Protection → IndexView
 index_of columns public protected = record { columns = columns; public = public; protected = protected }
@@ -75,30 +70,19 @@ pub simulation_cause : (ended : Result (Unit {0}) (End SimulationRefusal)) (file
     BeginningCause (simulation_status ended) file setting
 simulation_cause (Err (Stopped stop.Bench)) file setting cause = tt
 simulation_cause (Err (Stopped stop.NoMemory)) file setting cause = tt
-simulation_cause (Err (Refused (verdict.Journal journal.NotMade))) file setting cause = cause
+simulation_cause (Err (Refused (verdict.Journal why))) file setting cause = cause
 simulation_cause ended file setting cause = cause
 
 -- what its status says by itself
 pub record SimulationSays (ended : Result (Unit {0}) (End SimulationRefusal)) : Type 1 where
   pub last : EndsLastStep (simulation_status ended)
   pub words : ended ≢ Err (Stopped stop.Spare) → WordCause (simulation_status ended) (Some command.Simulate)
-  pub bench : simulation_status ended ≡ BenchFault → ended ≡ Err (Stopped stop.Bench)
-  pub input : simulation_status ended ≡ SourceFault Input → ended ≡ Err (Stopped stop.Input)
-  pub done : (P : Type 0) → simulation_status ended ≡ Done → OnOk ended P → P
   pub at_lines : (P : Type 0) → OnUnbegun ended P → Before reading_lines (simulation_status ended) P
   pub file : (file : List ℕ) (table : Guarded) → FileCause (simulation_status ended) command.Simulate file table
 
 pub simulation_says : (ended : Result (Unit {0}) (End SimulationRefusal)) → SimulationSays ended
 simulation_says (Err (Stopped stop.Input)) = search rules
-simulation_says (Err (Refused (verdict.Journal refusal))) = let says = refusal_says refusal in record {
-  last = says.last;
-  words = λ alone. says.words command.Simulate refl;
-  bench = λ is. absurd (says.no_bench is);
-  input = λ is. absurd (says.no_input is);
-  done = λ P is. absurd (says.undone is);
-  at_lines = says.at_lines;
-  file = λ file table. says.file command.Simulate file table tt;
-}
+simulation_says (Err (Refused (verdict.Journal refusal))) = search rules
 simulation_says ended = search rules
 
 -- ---- reading the transcript
@@ -127,7 +111,7 @@ simulation_reads (Err (Stopped stop.Bench)) before after reads unread = tt
 simulation_reads (Err (Stopped stop.Spare)) before after reads unread = tt
 simulation_reads (Err (Stopped stop.NoMemory)) before after reads unread = tt
 simulation_reads (Err (Refused (verdict.Journal refusal))) before after reads unread =
-    subst (λ (l : List ℕ). InputCause (journal_status refusal) before l) (sym unread) ((refusal_says refusal).input before)
+    unread
 simulation_reads ended before after reads unread = reads
 
 -- if every reply agrees and the input is within its limit it isn't refused

@@ -19,26 +19,19 @@ use Rattle.audit_session.specs.Ends.{Serves, ServesWhole, ServesSome, limited}
 use Rattle.auditor_top.specs.declared.words.Command.{Command}
 use Rattle.auditor_top.specs.declared.words.Command.TheVariants.{Init}
 use Rattle.auditor_top.specs.declared.status.Status.{Status}
-use Rattle.auditor_top.specs.declared.status.Status.TheVariants.{Done, BenchFault, SourceFault, SpareFault, NoMemory}
+use Rattle.auditor_top.specs.declared.status.Object.TheVariants.{Bench}
+use Rattle.auditor_top.specs.declared.status.Refusal.{Refusal}
+use Rattle.auditor_top.specs.declared.status.Status.TheVariants.{Done, Failed, NoMemory}
 use Rattle.auditor_top.specs.Faults.{end_status, ended_status, making_status, stop_status}
 use Rattle.auditor_top.specs.Ends.{Outside, ServeEnds}
-use Rattle.auditor_top.specs.Causes.{FaultCounts, counts, FaultCause, FileCause, IsReadyFor, IsSpareFor, InputCause, SpareCause, WordCause}
-use Rattle.auditor_top.specs.declared.status.Which.TheVariants.{Input}
+use Rattle.auditor_top.specs.Causes.{FileCause, IsReadyFor, IsSpareFor, InputCause, SpareCause, WordCause}
 use Rattle.auditor_top.specs.Stages.{Before, opening_spare, reading_lines}
-use Rattle.auditor_top.proofs.LastSteps.{IsUnrefused}
-use Rattle.auditor_top.proofs.StepStatuses.{EndsLastStep}
+use Rattle.auditor_top.proofs.StepStatuses.{EndsLastStep, IsUnrefused}
 use Rattle.auditor_top.specs.Commands.{calls_spare, reads_lines}
 
 -- an answer isn't good and bad
 pub not_both : {X E : Type 0} (x : X) (e : E) → Ok x ≡ Err e → ⊥
 not_both x e is = search rules
-
--- what is said after counts that are the same
-pub moved : (status : Status) (before : FaultCounts) (schema later_schema table later_table input bench spare : ℕ) → later_schema ≡ schema → later_table ≡ table
-    → FaultCause status before (counts schema table input bench spare) → FaultCause status before (counts later_schema later_table input bench spare)
-moved status before schema later_schema table later_table input bench spare is also cause =
-    subst (λ (s : ℕ). FaultCause status before (counts s later_table input bench spare)) (sym is)
-    (subst (λ (t : ℕ). FaultCause status before (counts schema t input bench spare)) (sym also) cause)
 
 -- a file that isn't there already isn't a made journal
 pub not_made : (file : List ℕ) → (IsAlready file → ⊥) → IsMade file → ⊥
@@ -53,9 +46,7 @@ MakingStops ended = IfErr ended (EndsBy (λ why. why ≡ stop.Bench) (λ _. ⊤)
 pub record MakingSays {X : Type 0} (ended : Result X (End There)) : Type 1 where
   pub last : EndsLastStep (making_status ended)
   pub words : WordCause (making_status ended) (Some Init)
-  pub bench : making_status ended ≡ BenchFault → IsErrOf ended (Stopped stop.Bench)
   pub no_memory : making_status ended ≢ NoMemory
-  pub done : (P : Type 0) → making_status ended ≡ Done → OnOk ended P → P
   -- before the lines it ends only if a journal or another file was there
   pub at_lines : (P : Type 0) → (IsRefused ended → P) → Before reading_lines (making_status ended) P
 
@@ -73,10 +64,6 @@ pub record StopSays {X : Type 0} (ended : Result X Stop) : Type 1 where
   pub last : EndsLastStep (ended_status ended)
   pub words : (one : Command) → (ended ≡ Err stop.Input → reads_lines one ≡ true) → (ended ≡ Err stop.Limit → reads_lines one ≡ true)
       → (ended ≡ Err stop.Spare → calls_spare one ≡ true) → WordCause (ended_status ended) (Some one)
-  pub bench : ended_status ended ≡ BenchFault → ended ≡ Err stop.Bench
-  pub spare : ended_status ended ≡ SpareFault → ended ≡ Err stop.Spare
-  pub input : ended_status ended ≡ SourceFault Input → ended ≡ Err stop.Input
-  pub memory : ended_status ended ≡ NoMemory → ended ≡ Err stop.NoMemory
   pub done : (P : Type 0) → ended_status ended ≡ Done → OnOk ended P → P
   pub at_lines : (P : Type 0) → Before reading_lines (ended_status ended) P
   pub at_spare : (P : Type 0) → Before opening_spare (ended_status ended) P
@@ -90,12 +77,9 @@ stop_says ended = search rules
 -- ---- the end of a step that may be refused
 
 -- if something of the outside brought it about, other than the limit of the input, it isn't refused
-pub end_unrefused : {R : Type 0} (name : R → Status) (end : End R) → EndsBy IsOfBenches (λ _. ⊤) end → IsStop end → IsUnrefused (end_status name end)
-end_unrefused name (Stopped stop.Input) by stopped = absurd by
+pub end_unrefused : {R : Type 0} (name : R → Refusal) (end : End R) → EndsBy IsOfBenches (λ _. ⊤) end → IsStop end → IsUnrefused (end_status name end)
 end_unrefused name (Stopped stop.Limit) by stopped = absurd by
-end_unrefused name (Stopped stop.Bench) by stopped = tt
-end_unrefused name (Stopped stop.Spare) by stopped = tt
-end_unrefused name (Stopped stop.NoMemory) by stopped = tt
+end_unrefused name (Stopped why) by stopped = tt
 end_unrefused name (Refused refusal) by stopped = absurd stopped
 
 -- ---- making a journal
@@ -115,14 +99,14 @@ making_unrefused (Err (Stopped why)) stops absent = subst (λ (s : Stop). IsUnre
 making_unrefused (Err (Refused there)) stops absent = absurd (absent tt)
 
 -- if the bench didn't fail, a journal was made, or one or another file was there
-pub made_or_there : {P : Type 0} (making : Result (Unit {0}) (End There)) → MakingStops making → making_status making ≢ BenchFault → OnOk making P →
+pub made_or_there : {P : Type 0} (making : Result (Unit {0}) (End There)) → MakingStops making → making_status making ≢ Failed Bench → OnOk making P →
     (IsRefused making → P) → P
 made_or_there (Ok done) stops fine made there = made
 made_or_there (Err (Stopped why)) stops fine made there = absurd (fine (ap stop_status stops))
 made_or_there (Err (Refused is)) stops fine made there = there tt
 
 -- if the bench didn't fail and it isn't done, one or another file was there
-pub there_is : (making : Result (Unit {0}) (End There)) → MakingStops making → making_status making ≢ Done → making_status making ≢ BenchFault →
+pub there_is : (making : Result (Unit {0}) (End There)) → MakingStops making → making_status making ≢ Done → making_status making ≢ Failed Bench →
     IsRefused making
 there_is (Ok done) stops undone fine = absurd (undone refl)
 there_is (Err (Stopped why)) stops undone fine = absurd (fine (ap stop_status stops))

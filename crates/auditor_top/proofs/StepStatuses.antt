@@ -9,10 +9,12 @@ use Rattle.table_load.specs.declared.faults.TableFault.TheVariants as table_faul
 use Rattle.set_index.specs.Groups.{AreSound}
 use Rattle.audit_types.specs.History.{Table as Guarded}
 use Rattle.auditor_top.specs.declared.words.Command.{Command}
-use Rattle.auditor_top.specs.declared.status.Which.TheVariants.{Schema, Table, Input}
+use Rattle.auditor_top.specs.declared.status.Object.{Object}
+use Rattle.auditor_top.specs.declared.status.Object.TheVariants.{Schema, Table, Input, Bench, Spare}
+use Rattle.auditor_top.specs.declared.status.Refusal.TheVariants.{BadSchema, BadTable, BadOnly, BadGroup, Disagrees}
 use Rattle.auditor_top.specs.declared.status.Status.{Status}
-use Rattle.auditor_top.specs.declared.status.Status.TheVariants.{Done, BadWords, BadSchema, BadTable, SourceFault, BenchFault, InputLimit, Disagrees, BadOnly, BadGroup, SpareFault, NoMemory}
-use Rattle.auditor_top.specs.Causes.{FaultCause, FaultCounts, FileCause, GroupCause, InputCause, NeverFall, SchemaCause, SpareCause, TableCause}
+use Rattle.auditor_top.specs.declared.status.Status.TheVariants.{Done, BadWords, Failed, InputLimit, NoMemory, Refused}
+use Rattle.auditor_top.specs.Causes.{FileCause, GroupCause, InputCause, SchemaCause, SpareCause, TableCause}
 use Rattle.auditor_top.specs.Ready.{EndsEarly, GivesUp}
 use Rattle.auditor_top.specs.Stages.{Stage, reading_schema, reading_table, reading_groups, opening_journal, reading_lines, is_short_of, has_passed, reached, Before, Passed}
 
@@ -35,21 +37,13 @@ so_then false follows holds = tt
 pub before_so : {P Q : Type 0} (stage : Stage) (status : Status) → (P → Q) → Before stage status P → Before stage status Q
 before_so stage status follows holds = so_then (is_short_of stage (reached status)) follows holds
 
--- no count of faults fell if they are as they were
-pub never_fall : (before : FaultCounts) → NeverFall before before
-never_fall before = record { schema = omega arith; table = omega arith; input = omega arith; bench = omega arith; spare = omega arith }
-
 -- ---- no command was taken
 
 -- a status that isn't a fault of a step
 pub record IsNoStep (status : Status) : Type 1 where
-  pub own_schema : status ≢ BadSchema schema_fault.NoMemory
-  pub own_table : status ≢ BadTable table_fault.NoMemory
-  pub no_schema : status ≢ SourceFault Schema
-  pub no_table : status ≢ SourceFault Table
-  pub no_input : status ≢ SourceFault Input
-  pub no_bench : status ≢ BenchFault
-  pub no_spare : status ≢ SpareFault
+  pub own_schema : status ≢ Refused (BadSchema schema_fault.NoMemory)
+  pub own_table : status ≢ Refused (BadTable table_fault.NoMemory)
+  pub unfailed : (object : Object) → status ≢ Failed object
   pub undone : status ≢ Done
   -- it says nothing of the files, the spare or the input
   pub schema : (meant : Result SchemaView SchemaFault) → SchemaCause status meant
@@ -58,7 +52,6 @@ pub record IsNoStep (status : Status) : Type 1 where
   pub file : (command : Command) (file : List ℕ) (table : Guarded) → FileCause status command file table
   pub spare_file : (command : Command) (file : List ℕ) → SpareCause status command file
   pub input : (bytes : List ℕ) → InputCause status bytes bytes
-  pub faults : (before : FaultCounts) → FaultCause status before before
 
 pub bad_words_say : IsNoStep BadWords
 bad_words_say = search rules
@@ -69,20 +62,20 @@ no_memory_says = search rules
 -- ---- the command didn't go on
 
 -- what holds at each status with which opening gives up
-pub by_giving_up : (P : Status → Type 0) (status : Status) → GivesUp status → P (SourceFault Schema) → P (SourceFault Table) → P BenchFault → P NoMemory →
+pub by_giving_up : (P : Status → Type 0) (status : Status) → GivesUp status → P (Failed Schema) → P (Failed Table) → P (Failed Bench) → P NoMemory →
     P status
-by_giving_up P (SourceFault Schema) gave_up schema table bench memory = schema
-by_giving_up P (SourceFault Table) gave_up schema table bench memory = table
-by_giving_up P BenchFault gave_up schema table bench memory = bench
+by_giving_up P (Failed Schema) gave_up schema table bench memory = schema
+by_giving_up P (Failed Table) gave_up schema table bench memory = table
+by_giving_up P (Failed Bench) gave_up schema table bench memory = bench
 by_giving_up P NoMemory gave_up schema table bench memory = memory
 by_giving_up P status gave_up schema table bench memory = absurd gave_up
 
 -- a run that ends early read nothing of the input, and isn't done
 pub reads_nothing : (status : Status) (bytes : List ℕ) → EndsEarly status → InputCause status bytes bytes
 reads_nothing Done bytes early = absurd early
-reads_nothing (SourceFault Input) bytes early = absurd early
+reads_nothing (Failed Input) bytes early = absurd early
 reads_nothing InputLimit bytes early = absurd early
-reads_nothing (Disagrees line due) bytes early = absurd early
+reads_nothing (Refused (Disagrees line due)) bytes early = absurd early
 reads_nothing status bytes early = always_before {P = bytes ≡ bytes} reading_lines status refl
 
 -- ---- the last step of a command
@@ -90,53 +83,64 @@ reads_nothing status bytes early = always_before {P = bytes ≡ bytes} reading_l
 -- a run may end so once its command goes on
 abbrev pub EndsLastStep : Status → Type 0
 EndsLastStep BadWords = ⊥
-EndsLastStep (BadSchema fault) = ⊥
-EndsLastStep (BadTable fault) = ⊥
-EndsLastStep (SourceFault Schema) = ⊥
-EndsLastStep (SourceFault Table) = ⊥
-EndsLastStep BadOnly = ⊥
-EndsLastStep (BadGroup place) = ⊥
+EndsLastStep (Failed Schema) = ⊥
+EndsLastStep (Failed Table) = ⊥
+EndsLastStep (Refused (BadSchema fault)) = ⊥
+EndsLastStep (Refused (BadTable fault)) = ⊥
+EndsLastStep (Refused BadOnly) = ⊥
+EndsLastStep (Refused (BadGroup place)) = ⊥
 EndsLastStep status = Unit {0}
 
 -- the files were read before, the groups were made ready, and the journal was opened
 pub groups_read : (status : Status) (columns : List Column) (guards : Guards) → EndsLastStep status → AreSound columns guards → GroupCause status columns guards
-groups_read BadOnly columns guards last are = absurd last
-groups_read (BadGroup place) columns guards last are = absurd last
+groups_read (Refused BadOnly) columns guards last are = absurd last
+groups_read (Refused (BadGroup place)) columns guards last are = absurd last
 groups_read status columns guards last are = always_passed reading_groups status are
 
 pub schema_read : (status : Status) (meant : Result SchemaView SchemaFault) → EndsLastStep status → IsOk meant → SchemaCause status meant
-schema_read (BadSchema fault) meant last is = absurd last
+schema_read (Refused (BadSchema fault)) meant last is = absurd last
 schema_read status meant last is = always_passed reading_schema status is
 
 pub table_read : {X : Type 0} (status : Status) (meant : Result X TableFault) → EndsLastStep status → IsOk meant → TableCause status meant
-table_read (BadTable fault) meant last is = absurd last
+table_read (Refused (BadTable fault)) meant last is = absurd last
 table_read status meant last is = always_passed reading_table status is
 
 pub past_table : (P : Type 0) (status : Status) → EndsLastStep status → Before reading_table status P
 past_table P BadWords last = absurd last
-past_table P (BadSchema fault) last = absurd last
-past_table P (SourceFault Schema) last = absurd last
+past_table P (Refused (BadSchema fault)) last = absurd last
+past_table P (Failed Schema) last = absurd last
 past_table P status last = tt
 
 pub past_journal : (P : Type 0) (status : Status) → EndsLastStep status → Before opening_journal status P
 past_journal P BadWords last = absurd last
-past_journal P (BadSchema fault) last = absurd last
-past_journal P (BadTable fault) last = absurd last
-past_journal P BadOnly last = absurd last
-past_journal P (BadGroup place) last = absurd last
-past_journal P (SourceFault Schema) last = absurd last
-past_journal P (SourceFault Table) last = absurd last
+past_journal P (Refused (BadSchema fault)) last = absurd last
+past_journal P (Refused (BadTable fault)) last = absurd last
+past_journal P (Refused BadOnly) last = absurd last
+past_journal P (Refused (BadGroup place)) last = absurd last
+past_journal P (Failed Schema) last = absurd last
+past_journal P (Failed Table) last = absurd last
 past_journal P status last = tt
 
--- so it isn't one of theirs that failed
-pub no_schema_fault : (status : Status) → EndsLastStep status → status ≢ BadSchema schema_fault.NoMemory
+-- so it isn't one of theirs
+pub no_schema_fault : (status : Status) → EndsLastStep status → status ≢ Refused (BadSchema schema_fault.NoMemory)
 no_schema_fault status last is = subst EndsLastStep is last
 
-pub no_table_fault : (status : Status) → EndsLastStep status → status ≢ BadTable table_fault.NoMemory
+pub no_table_fault : (status : Status) → EndsLastStep status → status ≢ Refused (BadTable table_fault.NoMemory)
 no_table_fault status last is = subst EndsLastStep is last
 
-pub schema_was_read : {Y : Type 0} (status : Status) → EndsLastStep status → status ≡ SourceFault Schema → Y
-schema_was_read status last is = absurd (subst EndsLastStep is last)
+pub schema_was_read : (status : Status) → EndsLastStep status → status ≢ Failed Schema
+schema_was_read status last is = subst EndsLastStep is last
 
-pub table_was_read : {Y : Type 0} (status : Status) → EndsLastStep status → status ≡ SourceFault Table → Y
-table_was_read status last is = absurd (subst EndsLastStep is last)
+pub table_was_read : (status : Status) → EndsLastStep status → status ≢ Failed Table
+table_was_read status last is = subst EndsLastStep is last
+
+-- ---- a last step that is done, or was ended by a call that failed, or by memory that ran out
+
+-- it wasn't refused
+abbrev pub IsUnrefused : Status → Type 0
+IsUnrefused Done = Unit {0}
+IsUnrefused (Failed Input) = Unit {0}
+IsUnrefused (Failed Bench) = Unit {0}
+IsUnrefused (Failed Spare) = Unit {0}
+IsUnrefused NoMemory = Unit {0}
+IsUnrefused status = ⊥

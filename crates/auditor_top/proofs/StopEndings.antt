@@ -3,21 +3,21 @@
 use Rattle.std.proofs.Common.{◌≡◌, ◌≢◌, true, false, Result, Err, refl, sym, ◌∙◌, ap}
 use Rattle.std.proofs.lemmas.Bool.{true≢false}
 use Rattle.audit_types.specs.History.{Table}
-use Rattle.bench_core.specs.Calls.{IsQuiet, TellsFault}
-use Rattle.bench_core.specs.Reports.{told_as}
+use Rattle.bench_core.specs.Calls.{IsQuiet}
 use Rattle.bench_core.specs.declared.bench.Bench.{Ghosts}
 use Rattle.bench_core.specs.declared.source.Source as source
 use Rattle.bench_core.specs.declared.stops.Stop.{Stop}
 use Rattle.bench_core.specs.declared.stops.Stop.TheVariants as stop
-use Rattle.line_wire.specs.Talks.{TellsInput}
 use Rattle.auditor_top.specs.declared.ready.Ready.{Ready}
 use Rattle.auditor_top.specs.Causes.{InputCause, IsReadyFor, IsSpareFor}
 use Rattle.auditor_top.specs.Commands.{calls_spare, opens_store, reads_lines, writes}
 use Rattle.auditor_top.specs.Faults.{ended_status}
 use Rattle.auditor_top.specs.Ready.{command_for}
 use Rattle.auditor_top.specs.Runs.{Objects}
-use Rattle.auditor_top.proofs.LastSteps.{IsUnrefused, StepEnds, input_as, table_for}
+use Rattle.auditor_top.proofs.Failures.{TellsStop, ended_tells}
+use Rattle.auditor_top.proofs.LastSteps.{StepEnds, table_for}
 use Rattle.auditor_top.proofs.StepFaults.{stop_says}
+use Rattle.auditor_top.proofs.StepStatuses.{IsUnrefused}
 
 -- what such a step says by how it ended
 pub record StopEnds {P I B X : Type 0} (lines : source.Ghosts I) (bench : Ghosts B) (ready : Ready) (ended : Result X Stop) (mid new : Objects P I B) :
@@ -26,9 +26,7 @@ pub record StopEnds {P I B X : Type 0} (lines : source.Ghosts I) (bench : Ghosts
   pub input : ended ≡ Err stop.Input → reads_lines (command_for ready) ≡ true
   pub limit : ended ≡ Err stop.Limit → reads_lines (command_for ready) ≡ true
   pub other : ended ≡ Err stop.Spare → calls_spare (command_for ready) ≡ true
-  pub input_fault : TellsInput lines mid.input new.input (ended ≡ Err stop.Input)
-  pub bench_fault : TellsFault bench mid.bench new.bench (ended ≡ Err stop.Bench)
-  pub spare_fault : TellsFault bench mid.spare new.spare (ended ≡ Err stop.Spare)
+  pub tells : TellsStop lines bench (λ why. ended ≡ Err why) mid.input new.input mid.bench new.bench mid.spare new.spare
   -- the files were taken, and how much of the input there was
   pub file : bench.told → (table : Table) →
       (opens_store (command_for ready) ≡ true → IsReadyFor (command_for ready) (bench.file mid.bench) (table_for ready table)) →
@@ -51,9 +49,7 @@ stop_ends lines bench ready ended mid new ends =
       file = λ told table for. says.file (command_for ready) (bench.file mid.bench) (table_for ready table) (ends.file told table for);
       spare_file = λ told calls. says.spare_file (command_for ready) (bench.file mid.spare) (ends.spare_file told);
       input = ends.reads;
-      input_fault = input_as lines mid.input new.input _ _ (λ is. ap ended_status is) says.input ends.input_fault;
-      bench_fault = told_as bench mid.bench new.bench _ _ (λ is. ap ended_status is) says.bench ends.bench_fault;
-      spare_fault = told_as bench mid.spare new.spare _ _ (λ is. ap ended_status is) says.spare ends.spare_fault;
+      tells = ended_tells lines bench ended ends.tells;
       quiet = λ told quiet fine. ends.quiet told quiet (λ is. fine (ap ended_status is));
       nothing_began = λ told opens closed quiet table unready.
           absurd (unready (ends.file told table (λ store. absurd (true≢false (sym store ∙ closed)))));

@@ -6,14 +6,16 @@ use Rattle.audit_types.specs.declared.records.Answered.{Answered}
 use Rattle.audit_types.specs.History.{Protection, IsLegal, Table as Guarded}
 use Rattle.std.specs.Bool.{OnTrue}
 use Rattle.bench_core.specs.Calls.{TellsFault}
+use Rattle.bench_core.specs.Reports.{told_as}
 use Rattle.bench_core.specs.declared.bench.Bench.{Ghosts}
 use Rattle.bench_core.specs.declared.source.Source as source
 use Rattle.schema_json.specs.Columns.{Column, SchemaView}
-use Rattle.schema_json.specs.Reading.{schema_of}
+use Rattle.schema_json.specs.Reading.{schema_of, most_schema}
 use Rattle.table_load.specs.Cells.{PublicView, TableView, whole}
 use Rattle.table_load.specs.Database.{Database, base_of, secret_table, table_in}
 use Rattle.table_load.specs.Meaning.{MeansTable}
 use Rattle.table_load.specs.MeaningLaws.{means_read, read_means}
+use Rattle.table_load.specs.Reading.{most_table}
 use Rattle.table_load.specs.Tables.{table_of}
 use Rattle.set_index.specs.Groups.{Protects, IsFirstBad}
 use Rattle.set_index.specs.Indexed.{OneListOfEntries}
@@ -33,18 +35,16 @@ use Rattle.auditor_top.specs.declared.starting.NotStarted.{NotStarted}
 use Rattle.auditor_top.specs.declared.starting.NotStarted.TheVariants as began
 use Rattle.auditor_top.specs.declared.words.Command.{Command}
 use Rattle.auditor_top.specs.declared.words.Command.TheVariants.{Init, Serve, Audit, Simulate, Drill, Grow, Explain, Compact, Restore}
+use Rattle.auditor_top.specs.declared.status.Refusal.TheVariants.{BadJournal}
 use Rattle.auditor_top.specs.declared.status.Status.{Status}
-use Rattle.auditor_top.specs.Faults.{index_status, start_status, started_status}
-use Rattle.auditor_top.specs.Causes.{FileCause, GroupCause, OpeningCause, SchemaCause, TableCause, counts}
+use Rattle.auditor_top.specs.Faults.{index_status, start_status, started_status, step_status}
+use Rattle.auditor_top.specs.Causes.{FileCause, GroupCause, OpeningCause, SchemaCause, TableCause}
 use Rattle.auditor_top.specs.Commands.{AreFilesOf, AreSoundFilesOf, ServesOver, comes_to_journal, opens_journal, opens_store, reads_files, reads_groups}
-use Rattle.auditor_top.specs.declared.status.Status.{Status}
-use Rattle.auditor_top.specs.declared.status.Status.TheVariants.{BenchFault}
-use Rattle.auditor_top.specs.Ready.{EndsEarly, IsGiven, Refuses}
+use Rattle.auditor_top.specs.Ready.{IsGiven, Refuses}
 use Rattle.auditor_top.proofs.GroupRefusals.{groups_refused, group_gives_up}
 use Rattle.auditor_top.proofs.OneTable.{groups_are_sound, one_base, same_ok, schema_is_ok, table_is_ok}
 use Rattle.auditor_top.proofs.StartEndings.{start_says}
-use Rattle.auditor_top.proofs.LastSteps.{told_faults}
-use Rattle.auditor_top.proofs.StepFaults.{moved}
+use Rattle.auditor_top.proofs.Failures.{stopped_by, unfailed_read}
 use Rattle.auditor_top.proofs.StepStatuses.{EndsLastStep, groups_read, no_schema_fault, no_table_fault, past_journal, past_table, schema_read, schema_was_read, table_read, table_was_read}
 
 -- the files were read, and no group has a fault
@@ -83,10 +83,6 @@ refused_so refusal Simulate file table opens cause = absurd (false≢true opens)
 refused_so refusal (Drill number) file table opens cause = absurd (false≢true opens)
 refused_so refusal Grow file table opens cause = absurd (false≢true opens)
 refused_so refusal asked file table opens cause = cause
-
--- a call of the bench that failed is what its status says
-bench_so : {X : Type 0} (end : End JournalRefusal) → IsErrOf {T = X} (Err end) (Stopped stop.Bench) → start_status end ≡ BenchFault
-bench_so end is = let same : end ≡ Stopped stop.Bench = cc in ap start_status same
 
 -- what is given to a command that opens a store
 pub given_history : (asked : Command) (schema table file : List ℕ) → opens_store asked ≡ true → IsGiven asked schema table file →
@@ -153,6 +149,7 @@ module _ {P B : Type 0} (files : source.Ghosts P) (bench : Ghosts B) (law : OneL
       Refuses files bench asked (start_status end) schema later_schema table later_table at later
   store_refused {X} end public protected all entries cause by tells =
       let status = start_status end in
+      let name = λ (refusal : JournalRefusal). BadJournal refusal in
       let says = start_says end by in
       let last = says.last in
       let are = λ (ptold : files.told). sound_files ptold public protected all entries in
@@ -172,23 +169,16 @@ module _ {P B : Type 0} (files : source.Ghosts P) (bench : Ghosts B) (law : OneL
             (EndsBy-weaker end IsOfBench IsOfBench _ _ (λ why is. is) (λ refusal. refused_so refusal asked _ _ opens) (cause told).0));
         own_schema_fault = no_schema_fault status last;
         own_table_fault = no_table_fault status last;
-        schema_within = λ ptold. schema_was_read status last;
-        table_within = λ ptold. table_was_read status last;
         early = says.early;
         gives_up = λ ptold told given.
             let all = given_history asked _ _ _ opens given in
             let one = sym (one_base law _ _ (seen public protected) all.0 (are ptold) all.2.files) in
             says.gives_up ((cause (told opens)).1 all.1 (subst (λ (b : Database). StandsFor (bench.file at) b.secret.shape all.1) one all.2.stands)
             (subst (λ (b : Database). IsLegal (table_in b) all.1) one all.2.legal));
-        faults = λ input spare.
-            moved status (counts (files.faults schema) (files.faults table) input (bench.faults at) spare) _ _ _ _ input (bench.faults later) spare
-            same_schema same_table (told_faults status last _ input (bench.faults later) spare
-            (λ is. absurd (subst EndsEarly is says.early)) (λ other. refl)
-            (λ is. tells.failed (ap (λ (e : End JournalRefusal). Err e) (says.bench is))) (λ other. tells.steady (λ is. other (bench_so {X = X} end is)))
-            (λ is. absurd (subst EndsEarly is says.early)) (λ other. refl));
-        schema_last = schema_was_read status last;
-        table_last = table_was_read status last;
-        bench_last = λ is. tells.last_call (ap (λ (e : End JournalRefusal). Err e) (says.bench is));
+        schema_read = unfailed_read files most_schema schema later_schema _ same_schema (schema_was_read status last);
+        table_read = unfailed_read files most_table table later_table _ same_table (table_was_read status last);
+        bench_fault = told_as bench at later _ _ (λ is. ap (λ (e : Result X (End JournalRefusal)). step_status name e) is)
+            (stopped_by {X = X} name (Err end) stop.Bench) tells;
         before_table = past_table _ status last;
         before_bench = past_journal _ status last;
       }

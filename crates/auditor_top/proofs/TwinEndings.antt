@@ -21,24 +21,17 @@ use Rattle.twin_journal.specs.Twins.{KeepWhole, TwinCause}
 use Rattle.twin_journal.specs.declared.starting.TwinRefusal.{TwinRefusal}
 use Rattle.twin_journal.specs.declared.starting.TwinRefusal.TheVariants as twin
 use Rattle.auditor_top.specs.declared.words.Command.TheVariants.{Serve}
-use Rattle.auditor_top.specs.declared.status.Which.TheVariants.{Input}
-use Rattle.auditor_top.specs.declared.status.Status.{Status}
-use Rattle.auditor_top.specs.declared.status.Status.TheVariants.{Done, SourceFault, BenchFault, SpareFault}
+use Rattle.auditor_top.specs.declared.status.Object.TheVariants.{Input}
+use Rattle.auditor_top.specs.declared.status.Status.TheVariants.{Done, Failed}
 use Rattle.auditor_top.specs.Causes.{BothCause, WordCause, FileCause, HoldsLegal, InputCause, SpareCause}
 use Rattle.auditor_top.specs.Ends.{Outside}
 use Rattle.auditor_top.specs.Stages.{Before, opening_spare, reading_lines}
-use Rattle.auditor_top.specs.Faults.{end_status, ended_status, journal_status, twin_status}
+use Rattle.auditor_top.specs.Faults.{end_status, ended_status, twin_refusal}
 use Rattle.auditor_top.specs.Twins.{BothCatchUp, TwinEnds}
-use Rattle.auditor_top.proofs.StartEndings.{refusal_says}
 use Rattle.auditor_top.proofs.StepFaults.{not_both}
 use Rattle.auditor_top.proofs.StepStatuses.{EndsLastStep}
 
 -- ---- they weren't opened
-
--- the status that a refusal to open them makes
-abbrev pub refused_status : {X : Type 0} → Result X (End TwinRefusal) → Status
-refused_status (Ok done) = Done
-refused_status (Err end) = end_status twin_status end
 
 abbrev pub refusal : {X : Type 0} → End TwinRefusal → Result X (End TwinRefusal)
 refusal end = Err end
@@ -49,70 +42,53 @@ TwinStops end = EndsBy IsOfBenches (λ _. ⊤) end
 
 -- what its status says by itself
 pub record TwinSays (end : End TwinRefusal) : Type 1 where
-  pub last : EndsLastStep (end_status twin_status end)
-  pub spare_file : (batch : ℕ) (file : List ℕ) → SpareCause (end_status twin_status end) (Serve batch true) file
-  pub input : (bytes : List ℕ) → InputCause (end_status twin_status end) bytes bytes
-  pub bench : end_status twin_status end ≡ BenchFault → end ≡ Stopped stop.Bench
-  pub spare : end_status twin_status end ≡ SpareFault → end ≡ Stopped stop.Spare
-  pub no_input : end_status twin_status end ≢ SourceFault Input
-  pub undone : end_status twin_status end ≢ Done
+  pub last : EndsLastStep (end_status twin_refusal end)
+  pub spare_file : (batch : ℕ) (file : List ℕ) → SpareCause (end_status twin_refusal end) (Serve batch true) file
+  pub input : (bytes : List ℕ) → InputCause (end_status twin_refusal end) bytes bytes
+  pub no_input : end_status twin_refusal end ≢ Failed Input
+  pub undone : end_status twin_refusal end ≢ Done
   -- before the lines what was only read is as it was, and the spare isn't called before the journal was found sound
-  pub at_lines : (P : Type 0) → (IsRefusal end → P) → Before reading_lines (end_status twin_status end) P
-  pub at_spare : (P : Type 0) → ((kept : JournalRefusal) → end ≡ Refused (twin.Main kept) → P) → Before opening_spare (end_status twin_status end) P
+  pub at_lines : (P : Type 0) → (IsRefusal end → P) → Before reading_lines (end_status twin_refusal end) P
+  pub at_spare : (P : Type 0) → ((kept : JournalRefusal) → end ≡ Refused (twin.Main kept) → P) → Before opening_spare (end_status twin_refusal end) P
 
 pub twin_says : (end : End TwinRefusal) → TwinStops end → TwinSays end
 twin_says (Stopped stop.Input) stops = absurd stops
 twin_says (Stopped stop.Limit) stops = absurd stops
-twin_says (Refused (twin.Main kept)) stops = let says = refusal_says kept in record {
-  last = says.last;
-  spare_file = λ batch file. says.spare (Serve batch true) file;
-  input = says.input;
-  bench = λ is. absurd (says.no_bench is);
-  spare = λ is. absurd (says.no_spare is);
-  no_input = says.no_input;
-  undone = says.undone;
-  at_lines = λ P holds. says.at_lines P (holds tt);
-  at_spare = λ P first. says.at_spare P (first kept refl);
-}
 twin_says end stops = search rules
 
-pub twin_words : (end : End TwinRefusal) (batch : ℕ) → TwinStops end → WordCause (end_status twin_status end) (Some (Serve batch true))
+pub twin_words : (end : End TwinRefusal) (batch : ℕ) → TwinStops end → WordCause (end_status twin_refusal end) (Some (Serve batch true))
 twin_words (Stopped stop.Input) batch stops = absurd stops
 twin_words (Stopped stop.Limit) batch stops = absurd stops
-twin_words (Refused (twin.Main kept)) batch stops = (refusal_says kept).words (Serve batch true) refl
 twin_words (Refused (twin.Differ place)) batch stops = (batch, refl)
 twin_words end batch stops = search rules
 
 -- the cause of each stands in the journal's file, and in both
 pub twin_file : (end : End TwinRefusal) (batch : ℕ) (file spare : List ℕ) (table : Guarded) →
     EndsBy IsOfBenches (λ refused. TwinCause refused file spare table) end → (end ≡ Stopped stop.Spare → HoldsLegal file table) →
-    FileCause (end_status twin_status end) (Serve batch true) file table
+    FileCause (end_status twin_refusal end) (Serve batch true) file table
 twin_file (Stopped stop.Input) batch file spare table cause second = absurd cause
 twin_file (Stopped stop.Limit) batch file spare table cause second = absurd cause
 twin_file (Stopped stop.Bench) batch file spare table cause second = tt
 twin_file (Stopped stop.Spare) batch file spare table cause second = second refl
 twin_file (Stopped stop.NoMemory) batch file spare table cause second = tt
-twin_file (Refused (twin.Main kept)) batch file spare table cause second = (refusal_says kept).file (Serve batch true) file table cause
+twin_file (Refused (twin.Main kept)) batch file spare table cause second = cause
 twin_file (Refused (twin.Spare kept)) batch file spare table cause second = cause.0
 twin_file (Refused (twin.Differ place)) batch file spare table cause second = (cause.0, cause.1, cause.2.0)
 
 pub twin_cause : (end : End TwinRefusal) (batch : ℕ) (file spare : List ℕ) (table : Guarded) →
-    EndsBy IsOfBenches (λ refused. TwinCause refused file spare table) end → BothCause (end_status twin_status end) (Serve batch true) file spare table
+    EndsBy IsOfBenches (λ refused. TwinCause refused file spare table) end → BothCause (end_status twin_refusal end) (Serve batch true) file spare table
 twin_cause (Stopped stop.Input) batch file spare table cause = absurd cause
 twin_cause (Stopped stop.Limit) batch file spare table cause = absurd cause
 twin_cause (Stopped why) batch file spare table cause = tt
-twin_cause (Refused (twin.Main kept)) batch file spare table cause = of_main kept
-  where
-    of_main : (kept : JournalRefusal) → BothCause (journal_status kept) (Serve batch true) file spare table
-    of_main journal.NotMade = tt
-    of_main kept = tt
+twin_cause (Refused (twin.Main journal.NotMade)) batch file spare table cause = tt
+twin_cause (Refused (twin.Main kept)) batch file spare table cause = tt
 twin_cause (Refused (twin.Spare kept)) batch file spare table cause = cause
 twin_cause (Refused (twin.Differ place)) batch file spare table cause = cause
 
 -- if the files keep together, a call failed or memory ran out, no line was read and nothing was sent
 pub twin_gave_up : (end : End TwinRefusal) (batch : ℕ) (base : Database) (main other whole : List Answered) (before after : Outside) (spare : List ℕ) →
     TwinStops end → IsStop end → (end ≡ Stopped stop.NoMemory → BothCatchUp base main other whole before after after.file spare) →
-    (end ≡ Stopped stop.Spare → after ≡ before) → TwinEnds batch (end_status twin_status end) base main other whole before after spare
+    (end ≡ Stopped stop.Spare → after ≡ before) → TwinEnds batch (end_status twin_refusal end) base main other whole before after spare
 twin_gave_up (Stopped stop.Input) batch base main other whole before after spare stops gave catch same = absurd stops
 twin_gave_up (Stopped stop.Limit) batch base main other whole before after spare stops gave catch same = absurd stops
 twin_gave_up (Stopped stop.Bench) batch base main other whole before after spare stops gave catch same = tt

@@ -6,18 +6,19 @@ use Rattle.audit_types.specs.declared.records.Verdict.{Verdict}
 use Rattle.audit_types.specs.Shapes.{columns}
 use Rattle.audit_types.specs.History.{Table, IsLegal, IsDecisionAfter}
 use Rattle.journal_compact.specs.Compactions.{Compacts, CompactsFront}
-use Rattle.auditor_top.specs.declared.status.Which.TheVariants.{Schema, Table as TableFile}
+use Rattle.auditor_top.specs.declared.status.Object.TheVariants.{Schema, Table as TableFile, Bench, Spare}
+use Rattle.auditor_top.specs.declared.status.Refusal.TheVariants.{SpareThere}
 use Rattle.auditor_top.specs.declared.status.Status.{Status}
-use Rattle.auditor_top.specs.declared.status.Status.TheVariants.{Done, SourceFault, BenchFault, SpareThere, SpareFault, NoMemory}
+use Rattle.auditor_top.specs.declared.status.Status.TheVariants.{Done, Failed, NoMemory, Refused}
 
 -- what the spare holds then, and what was sent. Files without fault and a legal journal are never refused
 abbrev pub CompactEnds : Status → Shape → List Answered → List ℕ → List ℕ → List ℕ → List ℕ → Type 0
 CompactEnds Done shape history spare new_spare before after = Compacts shape history spare new_spare before after
-CompactEnds (SourceFault Schema) shape history spare new_spare before after = after ≡ before
-CompactEnds (SourceFault TableFile) shape history spare new_spare before after = after ≡ before
-CompactEnds BenchFault shape history spare new_spare before after = (after ≡ before) ⊎ CompactsFront shape history spare new_spare before after
-CompactEnds SpareThere shape history spare new_spare before after = after ≡ before
-CompactEnds SpareFault shape history spare new_spare before after = after ≡ before
+CompactEnds (Failed Schema) shape history spare new_spare before after = after ≡ before
+CompactEnds (Failed TableFile) shape history spare new_spare before after = after ≡ before
+CompactEnds (Failed Bench) shape history spare new_spare before after = (after ≡ before) ⊎ CompactsFront shape history spare new_spare before after
+CompactEnds (Refused SpareThere) shape history spare new_spare before after = after ≡ before
+CompactEnds (Failed Spare) shape history spare new_spare before after = after ≡ before
 CompactEnds NoMemory shape history spare new_spare before after = after ≡ before
 CompactEnds status shape history spare new_spare before after = ⊥
 

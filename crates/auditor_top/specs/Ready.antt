@@ -1,9 +1,10 @@
 -- What a command goes on with once its files are read and its journal is opened, and with which statuses that may end.
-use Rattle.std.specs.Prelude.{◌≡◌, ◌≢◌, ◌≤◌, ◌+◌, List, ℕ, true, false, length, Some, Ok}
+use Rattle.std.specs.Prelude.{◌≡◌, ◌≢◌, List, ℕ, true, false, Some, Ok}
 use Rattle.audit_types.specs.declared.records.Answered.{Answered}
 use Rattle.audit_types.specs.Shapes.{IsShape}
 use Rattle.bench_core.specs.declared.bench.Bench.{Ghosts}
 use Rattle.bench_core.specs.declared.source.Source as source
+use Rattle.bench_core.specs.Calls.{TellsFault}
 use Rattle.std.specs.Bool.{OnTrue}
 use Rattle.audit_types.specs.History.{Table as Guarded}
 use Rattle.schema_json.specs.Columns.{Column, SchemaView}
@@ -23,12 +24,14 @@ use Rattle.auditor_top.specs.declared.ready.Ready.{Ready}
 use Rattle.auditor_top.specs.declared.ready.Ready.TheVariants.{Init, Serve, Twin, Audit, Simulate, Drill, Grow, Explain, Compact, Restore}
 use Rattle.auditor_top.specs.declared.words.Command.{Command}
 use Rattle.auditor_top.specs.declared.words.Command.TheVariants as command
-use Rattle.auditor_top.specs.declared.status.Which.TheVariants.{Schema, Table, Input}
+use Rattle.auditor_top.specs.declared.status.Object.TheVariants.{Schema, Table, Bench}
+use Rattle.auditor_top.specs.declared.status.Refusal.TheVariants.{BadSchema, BadTable, BadOnly, BadGroup, BadJournal}
 use Rattle.auditor_top.specs.declared.status.Status.{Status}
-use Rattle.auditor_top.specs.declared.status.Status.TheVariants.{Done, BadWords, BadSchema, BadTable, SourceFault, BenchFault, AlreadyThere, NothingNew, InputLimit, Disagrees, SpareThere, SpareFault, BadSpare, TwinsDiffer, NothingLost, NoMemory}
+use Rattle.auditor_top.specs.declared.status.Status.TheVariants.{Failed, NoMemory, Refused}
 use Rattle.auditor_top.specs.Ends.{people_told}
-use Rattle.auditor_top.specs.Causes.{WordCause, SchemaCause, TableCause, GroupCause, FileCause, FaultCause, counts}
+use Rattle.auditor_top.specs.Causes.{WordCause, SchemaCause, TableCause, GroupCause, FileCause}
 use Rattle.auditor_top.specs.Commands.{AreFilesOf, AreSoundFilesOf, ArePublicFilesOf, ServesOver, opens_store, reads_files, reads_groups, reads_secrets}
+use Rattle.auditor_top.specs.Reading.{TellsRead}
 use Rattle.auditor_top.specs.Stages.{Before, reading_table, opening_journal}
 
 -- ---- what is given and what comes of it
@@ -106,25 +109,22 @@ IsReadyOver schema_file table_file (Restore guarded) =
 
 -- a run may end so before its command goes on
 abbrev pub EndsEarly : Status → Type 0
-EndsEarly Done = ⊥
-EndsEarly BadWords = ⊥
-EndsEarly (SourceFault Input) = ⊥
-EndsEarly AlreadyThere = ⊥
-EndsEarly (NothingNew rows) = ⊥
-EndsEarly InputLimit = ⊥
-EndsEarly (Disagrees line due) = ⊥
-EndsEarly SpareThere = ⊥
-EndsEarly SpareFault = ⊥
-EndsEarly (BadSpare fault) = ⊥
-EndsEarly (TwinsDiffer place) = ⊥
-EndsEarly NothingLost = ⊥
-EndsEarly status = Unit {0}
+EndsEarly (Failed Schema) = Unit {0}
+EndsEarly (Failed Table) = Unit {0}
+EndsEarly (Failed Bench) = Unit {0}
+EndsEarly NoMemory = Unit {0}
+EndsEarly (Refused (BadSchema fault)) = Unit {0}
+EndsEarly (Refused (BadTable fault)) = Unit {0}
+EndsEarly (Refused BadOnly) = Unit {0}
+EndsEarly (Refused (BadGroup place)) = Unit {0}
+EndsEarly (Refused (BadJournal refusal)) = Unit {0}
+EndsEarly status = ⊥
 
 -- before that a call failed, or memory ran out: that may come whatever is given
 abbrev pub GivesUp : Status → Type 0
-GivesUp (SourceFault Schema) = Unit {0}
-GivesUp (SourceFault Table) = Unit {0}
-GivesUp BenchFault = Unit {0}
+GivesUp (Failed Schema) = Unit {0}
+GivesUp (Failed Table) = Unit {0}
+GivesUp (Failed Bench) = Unit {0}
 GivesUp NoMemory = Unit {0}
 GivesUp status = ⊥
 
@@ -141,19 +141,15 @@ pub record Refuses {P B : Type 0} (files : source.Ghosts P) (bench : Ghosts B) (
       GroupCause status meant.columns meant.guards
   pub file : files.told → bench.told → (base : Database) → (given : AreFilesOf (files.left old_schema) (files.left old_table) base) →
       OnTrue (reads_groups asked) (Protects base.columns base.public given.guards base.protected) → FileCause status asked (bench.file old) (table_in base)
-  pub own_schema_fault : status ≢ BadSchema schema_fault.NoMemory
-  pub own_table_fault : status ≢ BadTable table_fault.NoMemory
-  pub schema_within : files.told → status ≡ SourceFault Schema → length (files.left old_schema) ≤ most_schema + length (files.left new_schema)
-  pub table_within : files.told → status ≡ SourceFault Table → length (files.left old_table) ≤ most_table + length (files.left new_table)
+  pub own_schema_fault : status ≢ Refused (BadSchema schema_fault.NoMemory)
+  pub own_table_fault : status ≢ Refused (BadTable table_fault.NoMemory)
   pub early : EndsEarly status
   -- if what is given has no fault, a call failed or memory ran out
   pub gives_up : files.told → (opens_store asked ≡ true → bench.told) → IsGiven asked (files.left old_schema) (files.left old_table) (bench.file old) →
       GivesUp status
-  pub faults : (input spare : ℕ) → FaultCause status (counts (files.faults old_schema) (files.faults old_table) input (bench.faults old) spare)
-      (counts (files.faults new_schema) (files.faults new_table) input (bench.faults new) spare)
-  pub schema_last : status ≡ SourceFault Schema → files.last_failed new_schema ≡ true
-  pub table_last : status ≡ SourceFault Table → files.last_failed new_table ≡ true
-  pub bench_last : status ≡ BenchFault → bench.last_failed new ≡ true
+  pub schema_read : TellsRead files most_schema old_schema new_schema (status ≡ Failed Schema)
+  pub table_read : TellsRead files most_table old_table new_table (status ≡ Failed Table)
+  pub bench_fault : TellsFault bench old new (status ≡ Failed Bench)
   -- what isn't come to isn't called
   pub before_table : Before reading_table status (new_table ≡ old_table)
   pub before_bench : Before opening_journal status (new ≡ old)

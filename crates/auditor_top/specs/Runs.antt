@@ -1,5 +1,5 @@
 -- What a run of each command does, by its status, and by the objects that it is handed: as they were and as they are left.
-use Rattle.std.specs.Prelude.{◌≡◌, ◌≢◌, ◌≤◌, ◌+◌, ◌⊎◌, List, [], ◌++◌, ℕ, true, false, length}
+use Rattle.std.specs.Prelude.{◌≡◌, ◌≢◌, ◌≤◌, ◌+◌, ◌⊎◌, List, [], ◌++◌, ℕ, Bool, true, false, length}
 use Rattle.audit_types.specs.declared.records.Answered.{Answered}
 use Rattle.audit_types.specs.History.{IsLegal, IsUndisclosed}
 use Rattle.audit_types.specs.Widening.{over}
@@ -23,8 +23,10 @@ use Rattle.transcript_sim.specs.Ends.{simulation}
 use Rattle.transcript_sim.specs.Verdicts.{AreVerdicts, exchanges}
 use Rattle.auditor_top.specs.declared.words.Command.{Command}
 use Rattle.auditor_top.specs.declared.words.Command.TheVariants.{Init, Serve, Audit, Simulate, Drill, Grow, Explain, Compact, Restore}
+use Rattle.auditor_top.specs.declared.status.Object.{Object}
+use Rattle.auditor_top.specs.declared.status.Object.TheVariants.{Schema, Table, Input, Bench, Spare}
 use Rattle.auditor_top.specs.declared.status.Status.{Status}
-use Rattle.auditor_top.specs.declared.status.Status.TheVariants.{Done, BenchFault, SpareFault, NoMemory}
+use Rattle.auditor_top.specs.declared.status.Status.TheVariants.{Done, Failed, NoMemory}
 use Rattle.bench_core.specs.Causes.{Rose}
 use Rattle.journal_compact.specs.Compactions.{IsUnmadeOrKept, SendsCounts}
 use Rattle.auditor_top.specs.Compactions.{CompactEnds, DecideAlike}
@@ -32,7 +34,7 @@ use Rattle.twin_journal.specs.Restoring.{CanRestore, IsLost, IsLostOf, Restored,
 use Rattle.twin_journal.specs.Twins.{CatchesUpOrStops, SpareCatchesUpOrStops, calls_to_open}
 use Rattle.auditor_top.specs.Stages.{Before, opening_journal, reading_lines}
 use Rattle.auditor_top.specs.Twins.{LeavesTwins, TwinEnds}
-use Rattle.auditor_top.specs.Causes.{BeginningCause, BothCause, FaultCounts, counts, NothingFailed, IsDoneOrWants}
+use Rattle.auditor_top.specs.Causes.{BeginningCause, BothCause, NothingFailed, IsDoneOrWants}
 use Rattle.auditor_top.specs.Commands.{AreFilesOf, ArePublicFilesOf, AreSoundFilesOf, GoesOnOver, GrowsOver, ServesOver, SimulatesOver, TwinsOver}
 use Rattle.auditor_top.specs.Promise.{GoesOn}
 use Rattle.auditor_top.specs.Drills.{DrillEnds}
@@ -50,9 +52,20 @@ abbrev pub objects : {P I B : Type 0} → P → P → I → B → B → Objects 
 objects schema table input bench spare = record { schema = schema; table = table; input = input; bench = bench; spare = spare }
 
 -- how often each of them has failed
-abbrev pub faults_of : {P I B : Type 0} → source.Ghosts P → source.Ghosts I → Ghosts B → Objects P I B → FaultCounts
-faults_of files lines bench at =
-    counts (files.faults at.schema) (files.faults at.table) (lines.faults at.input) (bench.faults at.bench) (bench.faults at.spare)
+abbrev pub faults_of : {P I B : Type 0} → source.Ghosts P → source.Ghosts I → Ghosts B → Objects P I B → Object → ℕ
+faults_of files lines bench at Schema = files.faults at.schema
+faults_of files lines bench at Table = files.faults at.table
+faults_of files lines bench at Input = lines.faults at.input
+faults_of files lines bench at Bench = bench.faults at.bench
+faults_of files lines bench at Spare = bench.faults at.spare
+
+-- and whether its last call failed
+abbrev pub last_failed_of : {P I B : Type 0} → source.Ghosts P → source.Ghosts I → Ghosts B → Objects P I B → Object → Bool
+last_failed_of files lines bench at Schema = files.last_failed at.schema
+last_failed_of files lines bench at Table = files.last_failed at.table
+last_failed_of files lines bench at Input = lines.last_failed at.input
+last_failed_of files lines bench at Bench = bench.last_failed at.bench
+last_failed_of files lines bench at Spare = bench.last_failed at.spare
 
 -- a run of `serve`
 pub record Serving {P I B : Type 0} (files : source.Ghosts P) (lines : source.Ghosts I) (bench : Ghosts B) (batch : ℕ) (status : Status)
@@ -138,7 +151,7 @@ pub record Making {P I B : Type 0} (files : source.Ghosts P) (lines : source.Gho
   -- it makes a journal that stands for the empty history, and sends nothing
   pub made : files.told → bench.told → status ≡ Done → (base : Database) → AreFilesOf (files.left old.schema) (files.left old.table) base →
       StandsFor (bench.file new.bench) base.secret.shape []
-  pub kept : bench.told → status ≢ Done → status ≢ BenchFault → bench.file new.bench ≡ bench.file old.bench
+  pub kept : bench.told → status ≢ Done → status ≢ Failed Bench → bench.file new.bench ≡ bench.file old.bench
   pub unsent : bench.sent new.bench ≡ bench.sent old.bench
   -- at every moment the file is the one that was there already, or no made journal, or stands for the empty history
   pub untouched : bench.told → IsAlready (bench.file old.bench) → IsQuiet bench old.bench →
@@ -177,7 +190,7 @@ pub record Growing {P I B : Type 0} (files : source.Ghosts P) (lines : source.Gh
       LeavesOnly bench old.bench new.bench (IsBeforeOrGrown (over rows base.secret.shape) history base.secret.shape.rows (bench.sent old.bench))
   -- nothing is sent, and the file is written only if it is done, or if the bench failed
   pub unsent : bench.sent new.bench ≡ bench.sent old.bench
-  pub kept : status ≢ Done → status ≢ BenchFault → bench.file new.bench ≡ bench.file old.bench
+  pub kept : status ≢ Done → status ≢ Failed Bench → bench.file new.bench ≡ bench.file old.bench
   -- it took two calls of the bench to open the journal, and four for the growth
   pub grow_calls : bench.told → status ≡ Done → bench.moment new.bench ≡ bench.moment old.bench + 6
   -- if nothing is wrong and nothing fails, it is done
@@ -222,7 +235,7 @@ pub record Compacting {P I B : Type 0} (files : source.Ghosts P) (lines : source
       ServesOver (files.left old.schema) (files.left old.table) (bench.file old.bench) base history →
       LeavesOnly bench old.spare new.spare (IsUnmadeOrKept base.secret.shape history (bench.sent old.spare))
   pub stable : bench.told → status ≡ Done → IsQuiet bench new.spare
-  pub unsent_yet : status ≡ SpareFault → bench.sent new.bench ≡ bench.sent old.bench
+  pub unsent_yet : status ≡ Failed Spare → bench.sent new.bench ≡ bench.sent old.bench
   -- so every journal that a crash at any moment leaves there is legal for the table, and decides every question as the history does
   pub alike : files.told → bench.told → (IsMade (bench.file old.spare) → ⊥) → IsQuiet bench old.spare → (base : Database) (history : List Answered) →
       ServesOver (files.left old.schema) (files.left old.table) (bench.file old.bench) base history →
@@ -299,7 +312,7 @@ pub record TwinServing {P I B : Type 0} (files : source.Ghosts P) (lines : sourc
   -- each refusal has its cause in both files
   pub cause : files.told → bench.told → (base : Database) → AreSoundFilesOf (files.left old.schema) (files.left old.table) base →
       BothCause status (Serve batch true) (bench.file old.bench) (bench.file old.spare) (table_in base)
-  pub spare_quiet : bench.told → IsQuiet bench old.spare → status ≢ SpareFault → IsQuiet bench new.spare
+  pub spare_quiet : bench.told → IsQuiet bench old.spare → status ≢ Failed Spare → IsQuiet bench new.spare
   pub spare_unsent : bench.sent new.spare ≡ bench.sent old.spare
   -- a run that is refused leaves the spare as it was
   pub spare_unwritten : Before reading_lines status (bench.file new.spare ≡ bench.file old.spare)
@@ -348,7 +361,7 @@ pub record Restoring {P I B : Type 0} (files : source.Ghosts P) (lines : source.
   pub spare_untouched : files.told → bench.told → IsQuiet bench old.spare → ((base : Database) → AreSoundFilesOf (files.left old.schema) (files.left old.table) base →
       CanRestore (table_in base) (bench.file old.bench) (bench.file old.spare) → ⊥) →
       LeavesOnly bench old.spare new.spare (IsUntouched (bench.file old.spare) (bench.sent old.spare))
-  pub spare_quiet : bench.told → IsQuiet bench old.spare → status ≢ SpareFault → IsQuiet bench new.spare
+  pub spare_quiet : bench.told → IsQuiet bench old.spare → status ≢ Failed Spare → IsQuiet bench new.spare
   pub unsent : (bench.sent new.bench ≡ bench.sent old.bench) × (bench.sent new.spare ≡ bench.sent old.spare)
   pub uncalled : Before opening_journal status (new.spare ≡ old.spare)
   -- it took eight calls of the lost one, and four of the other

@@ -14,12 +14,14 @@ use Rattle.table_load.specs.Tables.{table_of, public_of}
 use Rattle.table_load.specs.declared.faults.TableFault.TheVariants as table_fault
 use Rattle.auditor_top.specs.declared.words.Command.{Command}
 use Rattle.auditor_top.specs.declared.words.Command.TheVariants.{Simulate, Restore}
-use Rattle.auditor_top.specs.declared.status.Which.TheVariants.{Schema, Table, Input}
+use Rattle.auditor_top.specs.declared.status.Object.{Object}
+use Rattle.auditor_top.specs.declared.status.Object.TheVariants.{Schema, Table, Bench}
+use Rattle.auditor_top.specs.declared.status.Refusal.TheVariants.{BadSchema, BadTable}
 use Rattle.auditor_top.specs.declared.status.Status.{Status}
-use Rattle.auditor_top.specs.declared.status.Status.TheVariants.{BadSchema, BadTable, SourceFault, BenchFault, SpareFault}
-use Rattle.auditor_top.specs.Causes.{FaultCause, WordCause, SchemaCause, TableCause, GroupCause, FileCause, SpareCause, InputCause, NeverFall}
+use Rattle.auditor_top.specs.declared.status.Status.TheVariants.{Failed, Refused}
+use Rattle.auditor_top.specs.Causes.{WordCause, SchemaCause, TableCause, GroupCause, FileCause, SpareCause, InputCause, TellsFailure}
 use Rattle.auditor_top.specs.Commands.{AreFilesOf, calls_spare, reads_files, reads_groups, reads_lines, reads_secrets, writes}
-use Rattle.auditor_top.specs.Runs.{Objects, faults_of}
+use Rattle.auditor_top.specs.Runs.{Objects, faults_of, last_failed_of}
 use Rattle.auditor_top.specs.Stages.{Before, reading_table, opening_journal, opening_spare, reading_lines}
 
 -- what is said of a run that ended with a status, by the command that its arguments name, if they name one, and by the objects that it was
@@ -35,8 +37,8 @@ pub record Says {P I B : Type 0} (files : source.Ghosts P) (lines : source.Ghost
       TableCause status (public_of meant.columns (files.left old.table))
   pub groups : files.told → (command : Command) → asked ≡ Some command → reads_groups command ≡ true → (meant : SchemaView) →
       schema_of (files.left old.schema) ≡ Ok meant → GroupCause status meant.columns meant.guards
-  pub own_schema_fault : status ≢ BadSchema schema_fault.NoMemory
-  pub own_table_fault : status ≢ BadTable table_fault.NoMemory
+  pub own_schema_fault : status ≢ Refused (BadSchema schema_fault.NoMemory)
+  pub own_table_fault : status ≢ Refused (BadTable table_fault.NoMemory)
   pub file : files.told → bench.told → (command : Command) → asked ≡ Some command → (base : Database) →
       (given : AreFilesOf (files.left old.schema) (files.left old.table) base) →
       OnTrue (reads_groups command) (Protects base.columns base.public given.guards base.protected) →
@@ -46,17 +48,12 @@ pub record Says {P I B : Type 0} (files : source.Ghosts P) (lines : source.Ghost
       InputCause status (lines.left old.input) (lines.left new.input)
   -- a failed call is reported when it happens: it is the only call that failed, and the last one that was made, of the object that the status
   -- says has failed, and of no other did one fail; a file whose read failed had not been read past what it may have
-  pub faults : FaultCause status (faults_of files lines bench old) (faults_of files lines bench new)
-  pub schema_last : status ≡ SourceFault Schema → files.last_failed new.schema ≡ true
-  pub table_last : status ≡ SourceFault Table → files.last_failed new.table ≡ true
-  pub input_last : status ≡ SourceFault Input → lines.last_failed new.input ≡ true
-  pub bench_last : status ≡ BenchFault → bench.last_failed new.bench ≡ true
-  pub spare_last : status ≡ SpareFault → bench.last_failed new.spare ≡ true
-  pub later : NeverFall (faults_of files lines bench old) (faults_of files lines bench new)
-  pub schema_within : files.told → status ≡ SourceFault Schema → length (files.left old.schema) ≤ most_schema + length (files.left new.schema)
-  pub table_within : files.told → status ≡ SourceFault Table → length (files.left old.table) ≤ most_table + length (files.left new.table)
+  pub faults : (object : Object) → TellsFailure (faults_of files lines bench old object) (faults_of files lines bench new object)
+      (last_failed_of files lines bench new object) (status ≡ Failed object)
+  pub schema_within : files.told → status ≡ Failed Schema → length (files.left old.schema) ≤ most_schema + length (files.left new.schema)
+  pub table_within : files.told → status ≡ Failed Table → length (files.left old.table) ≤ most_table + length (files.left new.table)
   -- if it ends without a failed call of the bench, a crash leaves the file that reads
-  pub quiet : bench.told → IsQuiet bench old.bench → status ≢ BenchFault → IsQuiet bench new.bench
+  pub quiet : bench.told → IsQuiet bench old.bench → status ≢ Failed Bench → IsQuiet bench new.bench
   -- what it doesn't come to, it doesn't call, and before the lines nothing is written or sent
   pub before_table : Before reading_table status (new.table ≡ old.table)
   pub before_bench : Before opening_journal status (new.bench ≡ old.bench)

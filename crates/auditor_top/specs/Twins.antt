@@ -6,9 +6,9 @@ use Rattle.line_wire.specs.Lines.{counted_lines}
 use Rattle.audit_session.specs.Ends.{Serves, ServesWhole, ServesSome, limited}
 use Rattle.audit_session.specs.Stops.{LeavesBoth, stands_over}
 use Rattle.twin_journal.specs.Twins.{StandsBetween}
-use Rattle.auditor_top.specs.declared.status.Which.TheVariants.{Input}
+use Rattle.auditor_top.specs.declared.status.Object.TheVariants.{Schema, Table, Input, Bench, Spare}
 use Rattle.auditor_top.specs.declared.status.Status.{Status}
-use Rattle.auditor_top.specs.declared.status.Status.TheVariants.{Done, SourceFault, BenchFault, InputLimit, SpareFault, NoMemory}
+use Rattle.auditor_top.specs.declared.status.Status.TheVariants.{Done, Failed, InputLimit, NoMemory}
 use Rattle.auditor_top.specs.Ends.{Outside, StandsForWhat}
 
 -- both files stand for a history with this
@@ -27,11 +27,12 @@ BothCatchUp base main other whole before after file spare =
 abbrev pub TwinEnds : ℕ → Status → Database → List Answered → List Answered → List Answered → Outside → Outside → List ℕ → Type 0
 TwinEnds batch Done base main other whole before after spare =
     StandForWhat after.file spare base (λ now. Serves base whole (counted_lines before.input) now before.sent after.sent)
-TwinEnds batch (SourceFault Input) base main other whole before after spare =
+TwinEnds batch (Failed Input) base main other whole before after spare =
     StandForWhat after.file spare base (λ now. ServesWhole base whole batch before.input after.input now before.sent after.sent)
-TwinEnds batch (SourceFault which) base main other whole before after spare = (after.sent ≡ before.sent) × (after.file ≡ before.file)
-TwinEnds batch BenchFault base main other whole before after spare = Unit {0}
-TwinEnds batch SpareFault base main other whole before after spare =
+TwinEnds batch (Failed Schema) base main other whole before after spare = (after.sent ≡ before.sent) × (after.file ≡ before.file)
+TwinEnds batch (Failed Table) base main other whole before after spare = (after.sent ≡ before.sent) × (after.file ≡ before.file)
+TwinEnds batch (Failed Bench) base main other whole before after spare = Unit {0}
+TwinEnds batch (Failed Spare) base main other whole before after spare =
     (after ≡ before) ⊎ StandsForWhat after.file base (λ now. ServesSome base whole batch (counted_lines before.input) now before.sent after.sent)
 TwinEnds batch InputLimit base main other whole before after spare =
     StandForWhat after.file spare base (λ now. ServesWhole base whole batch (limited before.input) [] now before.sent after.sent)

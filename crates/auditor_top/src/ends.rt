@@ -2,7 +2,7 @@
 ghost use Rattle.std.specs.Prelude.{◌≡◌};
 ghost use Rattle.auditor_top.specs.Faults.{ended_status, making_status, simulation_status, growing_status, compacting_status, restoring_status};
 
-use crate::status::Status;
+use crate::status::{Refusal, Status};
 use answer_journal::AlreadyThere;
 use audit_store::GrowRefusal;
 use bench_core::{End, Stop};
@@ -26,7 +26,7 @@ pub fn made(making: Result<(), End<AlreadyThere>>) -> Status
     match making {
         Ok(()) => Status::Done,
         Err(End::Stopped(stop)) => Status::from(stop),
-        Err(End::Refused(AlreadyThere)) => Status::AlreadyThere,
+        Err(End::Refused(AlreadyThere)) => Status::Refused(Refusal::AlreadyThere),
     }
 }
 
@@ -37,7 +37,7 @@ pub fn judged(simulation: Result<(), End<SimulationRefusal>>) -> Status
     match simulation {
         Ok(()) => Status::Done,
         Err(End::Stopped(stop)) => Status::from(stop),
-        Err(End::Refused(refusal)) => Status::from(refusal),
+        Err(End::Refused(refusal)) => Status::Refused(Refusal::from(refusal)),
     }
 }
 
@@ -48,7 +48,7 @@ pub fn grown(growth: Result<(), End<GrowRefusal>>) -> Status
     match growth {
         Ok(()) => Status::Done,
         Err(End::Stopped(stop)) => Status::from(stop),
-        Err(End::Refused(refusal)) => Status::from(refusal),
+        Err(End::Refused(refusal)) => Status::Refused(Refusal::from(refusal)),
     }
 }
 
@@ -59,7 +59,7 @@ pub fn compacted(compaction: Result<(), End<AlreadyThere>>) -> Status
     match compaction {
         Ok(()) => Status::Done,
         Err(End::Stopped(stop)) => Status::from(stop),
-        Err(End::Refused(AlreadyThere)) => Status::SpareThere,
+        Err(End::Refused(AlreadyThere)) => Status::Refused(Refusal::SpareThere),
     }
 }
 
@@ -70,6 +70,6 @@ pub fn restored(restoring: Result<(), End<RestoreRefusal>>) -> Status
     match restoring {
         Ok(()) => Status::Done,
         Err(End::Stopped(stop)) => Status::from(stop),
-        Err(End::Refused(refusal)) => Status::from(refusal),
+        Err(End::Refused(refusal)) => Status::Refused(Refusal::from(refusal)),
     }
 }

@@ -2,7 +2,7 @@
 use crate::files::FileFault;
 use crate::opening::OpenFault;
 use crate::starting::NotStarted;
-use crate::status::{Status, Which};
+use crate::status::{Object, Refusal, Status};
 use answer_journal::JournalRefusal;
 use audit_store::GrowRefusal;
 use bench_core::{End, Stop};
@@ -18,10 +18,10 @@ impl From<Stop> for Status {
 
     fn from(stop: Stop) -> Status {
         match stop {
-            Stop::Input => Status::SourceFault(Which::Input),
+            Stop::Input => Status::Failed(Object::Input),
             Stop::Limit => Status::InputLimit,
-            Stop::Bench => Status::BenchFault,
-            Stop::Spare => Status::SpareFault,
+            Stop::Bench => Status::Failed(Object::Bench),
+            Stop::Spare => Status::Failed(Object::Spare),
             Stop::NoMemory => Status::NoMemory,
         }
     }
@@ -35,10 +35,10 @@ impl From<OpenFault> for Status {
 
     fn from(fault: OpenFault) -> Status {
         match fault {
-            OpenFault::Schema(FileFault::Failed) => Status::SourceFault(Which::Schema),
-            OpenFault::Schema(FileFault::Bad(fault)) => Status::BadSchema(fault),
-            OpenFault::Table(FileFault::Failed) => Status::SourceFault(Which::Table),
-            OpenFault::Table(FileFault::Bad(fault)) => Status::BadTable(fault),
+            OpenFault::Schema(FileFault::Failed) => Status::Failed(Object::Schema),
+            OpenFault::Schema(FileFault::Bad(fault)) => Status::Refused(Refusal::BadSchema(fault)),
+            OpenFault::Table(FileFault::Failed) => Status::Failed(Object::Table),
+            OpenFault::Table(FileFault::Bad(fault)) => Status::Refused(Refusal::BadTable(fault)),
             OpenFault::Schema(FileFault::NoMemory) | OpenFault::Table(FileFault::NoMemory) => {
                 Status::NoMemory
             }
@@ -55,8 +55,8 @@ impl From<IndexFault> for Status {
     fn from(fault: IndexFault) -> Status {
         match fault {
             IndexFault::Bad { part } => match part {
-                GuardPart::Only => Status::BadOnly,
-                GuardPart::Group { place } => Status::BadGroup { place },
+                GuardPart::Only => Status::Refused(Refusal::BadOnly),
+                GuardPart::Group { place } => Status::Refused(Refusal::BadGroup { place }),
             },
             IndexFault::NoMemory => Status::NoMemory,
         }
@@ -73,84 +73,82 @@ impl From<NotStarted> for Status {
         match fault {
             NotStarted::Groups(fault) => Status::from(fault),
             NotStarted::Journal(End::Stopped(stop)) => Status::from(stop),
-            NotStarted::Journal(End::Refused(refusal)) => Status::from(refusal),
+            NotStarted::Journal(End::Refused(refusal)) => {
+                Status::Refused(Refusal::BadJournal(refusal))
+            }
         }
     }
 }
 
-impl From<JournalRefusal> for Status {
+impl From<GrowRefusal> for Refusal {
     ghost use Rattle.std.specs.Prelude.{◌≡◌};
-    ghost use Rattle.auditor_top.specs.Faults.{journal_status};
+    ghost use Rattle.auditor_top.specs.Faults.{grow_refusal};
 
-    ghost from_gives = { λ refusal status. status ≡ journal_status refusal };
+    ghost from_gives = { λ found refusal. refusal ≡ grow_refusal found };
 
-    fn from(refusal: JournalRefusal) -> Status {
-        match refusal {
-            JournalRefusal::NotMade => Status::NotMade,
-            JournalRefusal::Damaged { at } => Status::Damaged { at },
-            JournalRefusal::OtherShape { kept, now } => Status::OtherShape { kept, now },
-            JournalRefusal::Untrue { place, kept, now } => Status::Untrue { place, kept, now },
-            JournalRefusal::Illegal { place, group } => Status::Illegal { place, group },
+    fn from(found: GrowRefusal) -> Refusal {
+        match found {
+            GrowRefusal::Journal(refusal) => Refusal::BadJournal(refusal),
+            GrowRefusal::NothingNew { rows } => Refusal::NothingNew { rows },
         }
     }
 }
 
-impl From<GrowRefusal> for Status {
+impl From<TwinRefusal> for Refusal {
     ghost use Rattle.std.specs.Prelude.{◌≡◌};
-    ghost use Rattle.auditor_top.specs.Faults.{grow_status};
+    ghost use Rattle.auditor_top.specs.Faults.{twin_refusal};
 
-    ghost from_gives = { λ refusal status. status ≡ grow_status refusal };
+    ghost from_gives = { λ found refusal. refusal ≡ twin_refusal found };
 
-    fn from(refusal: GrowRefusal) -> Status {
-        match refusal {
-            GrowRefusal::Journal(refusal) => Status::from(refusal),
-            GrowRefusal::NothingNew { rows } => Status::NothingNew { rows },
+    fn from(found: TwinRefusal) -> Refusal {
+        match found {
+            TwinRefusal::Main(refusal) => Refusal::BadJournal(refusal),
+            TwinRefusal::Spare(refusal) => Refusal::BadSpare(refusal),
+            TwinRefusal::Differ { place } => Refusal::TwinsDiffer { place },
         }
     }
 }
 
 impl From<End<TwinRefusal>> for Status {
     ghost use Rattle.std.specs.Prelude.{◌≡◌};
-    ghost use Rattle.auditor_top.specs.Faults.{end_status, twin_status};
+    ghost use Rattle.auditor_top.specs.Faults.{end_status, twin_refusal};
 
-    ghost from_gives = { λ end status. status ≡ end_status twin_status end };
+    ghost from_gives = { λ end status. status ≡ end_status twin_refusal end };
 
     fn from(end: End<TwinRefusal>) -> Status {
         match end {
             End::Stopped(stop) => Status::from(stop),
-            End::Refused(TwinRefusal::Main(refusal)) => Status::from(refusal),
-            End::Refused(TwinRefusal::Spare(refusal)) => Status::BadSpare(refusal),
-            End::Refused(TwinRefusal::Differ { place }) => Status::TwinsDiffer { place },
+            End::Refused(refusal) => Status::Refused(Refusal::from(refusal)),
         }
     }
 }
 
-impl From<RestoreRefusal> for Status {
+impl From<RestoreRefusal> for Refusal {
     ghost use Rattle.std.specs.Prelude.{◌≡◌};
-    ghost use Rattle.auditor_top.specs.Faults.{restore_status};
+    ghost use Rattle.auditor_top.specs.Faults.{restore_refusal};
 
-    ghost from_gives = { λ refusal status. status ≡ restore_status refusal };
+    ghost from_gives = { λ found refusal. refusal ≡ restore_refusal found };
 
-    fn from(refusal: RestoreRefusal) -> Status {
-        match refusal {
-            RestoreRefusal::NothingLost => Status::NothingLost,
-            RestoreRefusal::BothLost => Status::NotMade,
-            RestoreRefusal::Main(refusal) => Status::from(refusal),
-            RestoreRefusal::Spare(refusal) => Status::BadSpare(refusal),
+    fn from(found: RestoreRefusal) -> Refusal {
+        match found {
+            RestoreRefusal::NothingLost => Refusal::NothingLost,
+            RestoreRefusal::BothLost => Refusal::BadJournal(JournalRefusal::NotMade),
+            RestoreRefusal::Main(refusal) => Refusal::BadJournal(refusal),
+            RestoreRefusal::Spare(refusal) => Refusal::BadSpare(refusal),
         }
     }
 }
 
-impl From<SimulationRefusal> for Status {
+impl From<SimulationRefusal> for Refusal {
     ghost use Rattle.std.specs.Prelude.{◌≡◌};
-    ghost use Rattle.auditor_top.specs.Faults.{simulation_refused};
+    ghost use Rattle.auditor_top.specs.Faults.{simulation_refusal};
 
-    ghost from_gives = { λ refusal status. status ≡ simulation_refused refusal };
+    ghost from_gives = { λ found refusal. refusal ≡ simulation_refusal found };
 
-    fn from(refusal: SimulationRefusal) -> Status {
-        match refusal {
-            SimulationRefusal::Journal(refusal) => Status::from(refusal),
-            SimulationRefusal::Disagrees { line, due } => Status::Disagrees { line, due },
+    fn from(found: SimulationRefusal) -> Refusal {
+        match found {
+            SimulationRefusal::Journal(refusal) => Refusal::BadJournal(refusal),
+            SimulationRefusal::Disagrees { line, due } => Refusal::Disagrees { line, due },
         }
     }
 }

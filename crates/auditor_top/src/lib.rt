@@ -16,5 +16,5 @@ mod status;
 mod words;
 
 pub use running::run;
-pub use status::{Status, Which, status_code, status_text};
+pub use status::{Object, Refusal, Status, status_code, status_text};
 pub use words::Command;

@@ -10,12 +10,48 @@ use std::alloc::Global;
 use std::fmt;
 use table_load::TableFault;
 
-/// The sources that a run reads.
+/// The objects whose calls can fail.
 #[derive(Clone, Copy, PartialEq, Eq)]
-pub enum Which {
+pub enum Object {
+    /// The schema's file.
     Schema,
+    /// The table's file.
     Table,
+    /// What the lines are read from.
     Input,
+    /// The journal's file, and what is sent on: replies, reports and verdicts.
+    Bench,
+    /// The place of a second journal.
+    Spare,
+}
+
+/// What the command doesn't take of what it read.
+#[derive(Clone, Copy, PartialEq, Eq)]
+pub enum Refusal {
+    /// The schema's bytes have this fault. It is never that memory ran out.
+    BadSchema(SchemaFault),
+    /// The table's bytes have this fault. It is never that memory ran out.
+    BadTable(TableFault),
+    /// The schema's `only` isn't a condition.
+    BadOnly,
+    /// The first group of the schema, from 0, whose column isn't one of sums, or whose condition is none.
+    BadGroup { place: u8 },
+    /// The journal isn't gone on from.
+    BadJournal(JournalRefusal),
+    /// There is a journal or another file where one was to be made.
+    AlreadyThere,
+    /// The journal has the table's rows, so it can't grow.
+    NothingNew { rows: u16 },
+    /// The journal on the spare isn't gone on from.
+    BadSpare(JournalRefusal),
+    /// The journal and the one on the spare hold other records from this place on, from 0.
+    TwinsDiffer { place: u32 },
+    /// Both journals are made, so none is to be restored.
+    NothingLost,
+    /// There is a made journal on the spare.
+    SpareThere,
+    /// The line of the transcript, from 1, that is the first reply which doesn't agree, and the verdict on its question.
+    Disagrees { line: u64, due: Due },
 }
 
 /// How a run ended. docs/STATUSES.md says what to do at each.
@@ -25,48 +61,14 @@ pub enum Status {
     Done,
     /// The arguments aren't a command.
     BadWords,
-    /// The schema's bytes have this fault. It is never that memory ran out.
-    BadSchema(SchemaFault),
-    /// The table's bytes have this fault. It is never that memory ran out.
-    BadTable(TableFault),
-    /// A source failed.
-    SourceFault(Which),
-    /// A call on the journal's file failed, or a reply couldn't be sent.
-    BenchFault,
-    /// There is no journal: the file has fewer bytes than one, or its header gate is closed.
-    NotMade,
-    /// There is a journal or another file where one was to be made.
-    AlreadyThere,
-    /// The first byte that breaks the journal's grammar, or the file's length if it ends too early.
-    Damaged { at: u64 },
-    /// The journal is that of a table of another shape.
-    OtherShape { kept: Shape, now: Shape },
-    /// The journal has the table's rows, so it can't grow.
-    NothingNew { rows: u16 },
-    /// The first record, from 0, whose answer isn't what the table gives.
-    Untrue { place: u32, kept: i128, now: i128 },
-    /// The first record, from 0, that should not have been released.
-    Illegal { place: u32, group: Option<u8> },
+    /// A call of this object failed.
+    Failed(Object),
     /// The input has more than 2^30 bytes.
     InputLimit,
-    /// The line of the transcript, from 1, that is the first reply which doesn't agree, and the verdict on its question.
-    Disagrees { line: u64, due: Due },
-    /// The schema's `only` isn't a condition.
-    BadOnly,
-    /// The first group of the schema, from 0, whose column isn't one of sums, or whose condition is none.
-    BadGroup { place: u8 },
-    /// There is a made journal on the spare.
-    SpareThere,
-    /// A call on the spare failed.
-    SpareFault,
-    /// The journal on the spare isn't gone on from.
-    BadSpare(JournalRefusal),
-    /// The journal and the one on the spare hold other records from this place on, from 0.
-    TwinsDiffer { place: u32 },
-    /// Both journals are made, so none is to be restored.
-    NothingLost,
     /// Memory ran out.
     NoMemory,
+    /// What was read isn't what the command takes.
+    Refused(Refusal),
 }
 
 // Where a fault of the table is, as it is reported after the fault's number.
@@ -96,38 +98,16 @@ impl fmt::Display for Place {
     }
 }
 
-// The words of a status that tells no number, none if it is done or tells one.
-fn words_of(status: &Status) -> &'static str
-    ensures { result.now ≡ spec.words_of status.now }
+// What is told of an object of which a call failed.
+fn failure_text(object: Object) -> &'static str
+    ensures { result.now ≡ spec.failure_text object }
 {
-    match status {
-        Status::BadWords => {
-            "usage: auditor init, serve [--batch N] [--twin], audit, simulate, drill N, grow, explain, compact, restore"
-        }
-        Status::SourceFault(Which::Schema) => "cannot read schema",
-        Status::SourceFault(Which::Table) => "cannot read table",
-        Status::SourceFault(Which::Input) => "cannot read input",
-        Status::BenchFault => "journal or output failed",
-        Status::NotMade => "no journal",
-        Status::AlreadyThere => "journal is already there",
-        Status::InputLimit => "input is too long",
-        Status::SpareThere => "spare is already there",
-        Status::SpareFault => "spare failed",
-        Status::BadOnly => "schema: only is bad",
-        Status::NothingLost => "no journal is lost",
-        Status::NoMemory => "out of memory",
-        Status::Done
-        | Status::BadSchema(_)
-        | Status::BadTable(_)
-        | Status::Damaged { .. }
-        | Status::OtherShape { .. }
-        | Status::NothingNew { .. }
-        | Status::Untrue { .. }
-        | Status::Illegal { .. }
-        | Status::Disagrees { .. }
-        | Status::BadGroup { .. }
-        | Status::BadSpare(_)
-        | Status::TwinsDiffer { .. } => "",
+    match object {
+        Object::Schema => "cannot read schema",
+        Object::Table => "cannot read table",
+        Object::Input => "cannot read input",
+        Object::Bench => "journal or output failed",
+        Object::Spare => "spare failed",
     }
 }
 
@@ -149,43 +129,59 @@ impl fmt::Display for Blamed {
     }
 }
 
-// A status as it is told, but of a spare's fault.
+// A journal that isn't gone on from, as it is reported.
 #[derive(Clone, Copy, Drop)]
-struct Plain(Status);
+struct Unread(JournalRefusal);
 
-impl fmt::Display for Plain {
+impl fmt::Display for Unread {
     ghost use Rattle.std.specs.Prelude.{Some};
-    ghost use Rattle.auditor_top.specs.Status.{plain_text};
+    ghost use Rattle.auditor_top.specs.Status.{journal_text};
 
-    ghost output = { λ s. Some (plain_text s.0) };
+    ghost output = { λ unread. Some (journal_text unread.0) };
 
     fn fmt<W: fmt::Write>(&self, f: &mut fmt::Formatter<W>) -> fmt::Result {
-        match &self.0 {
-            Status::BadSchema(fault) => write!(f, "schema: fault {}", fault.number()),
-            Status::BadTable(fault) => {
-                write!(f, "table: fault {}{}", fault.number(), Place(*fault))
-            }
-            Status::Damaged { at } => write!(f, "journal damaged at byte {at}"),
-            Status::OtherShape { kept, now } => write!(
+        match self.0 {
+            JournalRefusal::NotMade => f.write_str("no journal"),
+            JournalRefusal::Damaged { at } => write!(f, "journal damaged at byte {at}"),
+            JournalRefusal::OtherShape { kept, now } => write!(
                 f,
                 "journal is of another table: rows {}, now {}",
                 kept.rows, now.rows
             ),
-            Status::NothingNew { rows } => write!(f, "nothing to grow: rows {rows}"),
-            Status::Untrue { place, kept, now } => {
+            JournalRefusal::Untrue { place, kept, now } => {
                 write!(f, "record {place} holds {kept}, table gives {now}")
             }
-            Status::Illegal { place, group } => {
-                write!(
-                    f,
-                    "record {place} should not have been released{}",
-                    Blamed(*group)
-                )
+            JournalRefusal::Illegal { place, group } => write!(
+                f,
+                "record {place} should not have been released{}",
+                Blamed(group)
+            ),
+        }
+    }
+}
+
+impl fmt::Display for Refusal {
+    ghost use Rattle.std.specs.Prelude.{Some};
+    ghost use Rattle.auditor_top.specs.Status.{refusal_text};
+
+    ghost output = { λ refusal. Some (refusal_text refusal) };
+
+    fn fmt<W: fmt::Write>(&self, f: &mut fmt::Formatter<W>) -> fmt::Result {
+        match *self {
+            Refusal::BadSchema(fault) => write!(f, "schema: fault {}", fault.number()),
+            Refusal::BadTable(fault) => {
+                write!(f, "table: fault {}{}", fault.number(), Place(fault))
             }
-            Status::Disagrees { line, due } => write!(f, "line {line} disagrees, due {due}"),
-            Status::BadGroup { place } => write!(f, "schema: group {place} is bad"),
-            Status::TwinsDiffer { place } => write!(f, "journals differ at record {place}"),
-            plain => f.write_str(words_of(plain)),
+            Refusal::BadOnly => f.write_str("schema: only is bad"),
+            Refusal::BadGroup { place } => write!(f, "schema: group {place} is bad"),
+            Refusal::BadJournal(refusal) => Unread(refusal).fmt(f),
+            Refusal::AlreadyThere => f.write_str("journal is already there"),
+            Refusal::NothingNew { rows } => write!(f, "nothing to grow: rows {rows}"),
+            Refusal::BadSpare(refusal) => write!(f, "spare: {}", Unread(refusal)),
+            Refusal::TwinsDiffer { place } => write!(f, "journals differ at record {place}"),
+            Refusal::NothingLost => f.write_str("no journal is lost"),
+            Refusal::SpareThere => f.write_str("spare is already there"),
+            Refusal::Disagrees { line, due } => write!(f, "line {line} disagrees, due {due}"),
         }
     }
 }
@@ -197,10 +193,48 @@ impl fmt::Display for Status {
     ghost output = { λ s. Some (status_text s) };
 
     fn fmt<W: fmt::Write>(&self, f: &mut fmt::Formatter<W>) -> fmt::Result {
-        match self {
-            Status::BadSpare(refusal) => write!(f, "spare: {}", Plain(Status::from(*refusal))),
-            plain => Plain(*plain).fmt(f),
+        match *self {
+            Status::Done => f.write_str(""),
+            Status::BadWords => f.write_str(
+                "usage: auditor init, serve [--batch N] [--twin], audit, simulate, drill N, grow, explain, compact, restore",
+            ),
+            Status::Failed(object) => f.write_str(failure_text(object)),
+            Status::InputLimit => f.write_str("input is too long"),
+            Status::NoMemory => f.write_str("out of memory"),
+            Status::Refused(refusal) => refusal.fmt(f),
         }
+    }
+}
+
+// The exit status over a journal that isn't gone on from.
+fn journal_code(refusal: JournalRefusal) -> u8
+    ensures { result ≡ spec.journal_code refusal }
+{
+    match refusal {
+        JournalRefusal::NotMade => 7,
+        JournalRefusal::Damaged { .. } => 9,
+        JournalRefusal::OtherShape { .. } => 10,
+        JournalRefusal::Untrue { .. } => 11,
+        JournalRefusal::Illegal { .. } => 12,
+    }
+}
+
+// The exit status of a refusal.
+fn refusal_code(refusal: Refusal) -> u8
+    ensures { result ≡ spec.refusal_code refusal }
+{
+    match refusal {
+        Refusal::BadSchema(_) => 3,
+        Refusal::BadTable(_) => 4,
+        Refusal::BadOnly | Refusal::BadGroup { .. } => 16,
+        Refusal::BadJournal(refusal) => journal_code(refusal),
+        Refusal::AlreadyThere => 8,
+        Refusal::NothingNew { .. } => 17,
+        Refusal::BadSpare(_) => 20,
+        Refusal::TwinsDiffer { .. } => 21,
+        Refusal::NothingLost => 22,
+        Refusal::SpareThere => 18,
+        Refusal::Disagrees { .. } => 14,
     }
 }
 
@@ -208,29 +242,15 @@ impl fmt::Display for Status {
 pub fn status_code(status: &Status) -> u8
     ensures { result ≡ spec.status_code status.now }
 {
-    match status {
+    match *status {
         Status::Done => 0,
         Status::BadWords => 2,
-        Status::BadSchema(_) => 3,
-        Status::BadTable(_) => 4,
-        Status::SourceFault(_) => 5,
-        Status::BenchFault => 6,
-        Status::NotMade => 7,
-        Status::AlreadyThere => 8,
-        Status::Damaged { .. } => 9,
-        Status::OtherShape { .. } => 10,
-        Status::Untrue { .. } => 11,
-        Status::Illegal { .. } => 12,
+        Status::Failed(Object::Bench) => 6,
+        Status::Failed(Object::Spare) => 19,
+        Status::Failed(_) => 5,
         Status::InputLimit => 13,
-        Status::Disagrees { .. } => 14,
-        Status::BadOnly | Status::BadGroup { .. } => 16,
-        Status::NothingNew { .. } => 17,
-        Status::SpareThere => 18,
-        Status::SpareFault => 19,
-        Status::BadSpare(_) => 20,
-        Status::TwinsDiffer { .. } => 21,
-        Status::NothingLost => 22,
         Status::NoMemory => 15,
+        Status::Refused(refusal) => refusal_code(refusal),
     }
 }
 

@@ -3,7 +3,7 @@ use crate::left::{Files, files_left, images_left};
 use crate::stage::{Benches, End, ROOM, Stage};
 use crate::telling::{Bytes, Case};
 use anyhow::{Result, bail};
-use auditor_top::{Status, Which};
+use auditor_top::{Object, Status};
 use case_script::{Breach, Exchange, Failures, Fault, Law, Over};
 use std::alloc::Global;
 use std::fmt;
@@ -66,11 +66,11 @@ impl fmt::Display for Broken {
 // How a run ends that a fault befalls.
 fn status_of(fault: Fault) -> Status {
     match fault {
-        Fault::Stop | Fault::Fail => Status::BenchFault,
-        Fault::SpareStop | Fault::SpareFail => Status::SpareFault,
-        Fault::Schema => Status::SourceFault(Which::Schema),
-        Fault::Table => Status::SourceFault(Which::Table),
-        Fault::Input => Status::SourceFault(Which::Input),
+        Fault::Stop | Fault::Fail => Status::Failed(Object::Bench),
+        Fault::SpareStop | Fault::SpareFail => Status::Failed(Object::Spare),
+        Fault::Schema => Status::Failed(Object::Schema),
+        Fault::Table => Status::Failed(Object::Table),
+        Fault::Input => Status::Failed(Object::Input),
     }
 }
 

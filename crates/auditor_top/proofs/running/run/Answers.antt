@@ -19,7 +19,8 @@ use Rattle.auditor_top.specs.Words.{command_of}
 use Rattle.auditor_top.specs.Commands.{opens_store, reads_files}
 use Rattle.auditor_top.specs.Ready.{IsGiven, GivesUp, IsReady}
 use Rattle.auditor_top.specs.Runs.{objects}
-use Rattle.auditor_top.proofs.EarlyEnds.{after_nothing, after_refusal}
+use Rattle.auditor_top.proofs.EarlyEnds.{after_nothing, after_refusal, refused_failures}
+use Rattle.auditor_top.proofs.Failures.{unfailed}
 use Rattle.auditor_top.proofs.OneRunMore.{goes_on}
 use Rattle.auditor_top.proofs.OneCommand.{one_command, asked_for, none_asked, refused_words}
 use Rattle.auditor_top.proofs.Openings.{one_more}
@@ -58,7 +59,8 @@ returns-in-Err-NoMemory g c =
     let at = objects c.args.schema.now c.args.table.now c.args.input.now c.args.bench.now c.args.spare.now in
     let uncalled = λ (b : g.row.B.Denot). not_written g.B.Bench b (λ image sent was. g.met.B.Bench.only_now b image sent was) in
     let all = refused g.P.Source g.I.Source g.B.Bench at.schema at.schema at.table at.table at.input at.bench at.bench at.spare NoMemory tt (uncalled at.bench)
-    refl (command_of (map string_bytes c.args.words.now.items)) (λ command asked ptold told given. tt) (λ command asked none. refl) c.stops_are_legal.ensures
+    (λ object. unfailed _ _ _ _ refl (no_memory_says.unfailed object)) (command_of (map string_bytes c.args.words.now.items))
+    (λ command asked ptold told given. tt) (λ command asked none. refl) c.stops_are_legal.ensures
     c.lives.ensures.longer c.one_reading.ensures c.read_words.ensures.batch (uncalled at.spare)
     (λ number asked. record {
       drilled = λ told. refl;
@@ -87,7 +89,7 @@ returns-in-Err g c =
     let new = objects c.open.new.schema c.open.new.table c.args.input.now c.open.new.bench c.args.spare.now in
     let same = λ (command : Command) (asked : words ≡ Some command). one_command words _ command named asked in
     let all = refused g.P.Source g.I.Source g.B.Bench old.schema new.schema old.table new.table old.input old.bench new.bench old.spare status refuses.early
-    opening.reads (refuses.faults (g.I.Source.faults old.input) (g.B.Bench.faults old.spare)) words
+    opening.reads (refused_failures g.P.Source g.I.Source g.B.Bench c.in-Ok.command status old new.schema new.table new.bench refuses) words
     (λ command asked ptold told given. subst (λ (k : Command). (opens_store k ≡ true → g.B.Bench.told)
     → IsGiven k (g.P.Source.left old.schema) (g.P.Source.left old.table) (g.B.Bench.file old.bench) → GivesUp status) (same command asked)
     (refuses.gives_up ptold) told given)
@@ -97,7 +99,7 @@ returns-in-Err g c =
     (λ number asked. absurd (false≢true (c.in-Err.ensures.taken (ap reads_files (same (command.Drill number) asked))))) in
     record {
       says = after_refusal g.P.Source g.I.Source g.B.Bench words c.in-Ok.command status old new.schema new.table new.bench named refuses opening.reads
-          opening.later opening.unread;
+          opening.unread;
       lives = goes_on g.P.Source g.I.Source g.B.Bench _ status old new c.lives.ensures.longer c.one_reading.ensures c.read_words.ensures.batch all;
       does = all;
       nothing_began = λ ptold told command asked opens quiet none. opening.reads.untouched quiet;

@@ -17,9 +17,9 @@ use Rattle.auditor_top.specs.Commands.{ServesOver}
 use Rattle.auditor_top.specs.Ends.{AuditEnds, audit_over, subjects_over}
 use Rattle.auditor_top.specs.Faults.{ended_status}
 use Rattle.auditor_top.specs.Runs.{Auditing, Objects, objects}
-use Rattle.auditor_top.specs.Says.{Says}
 use Rattle.auditor_top.proofs.AuditEndings.{untouched_report, report_ends}
-use Rattle.auditor_top.proofs.LastSteps.{Answers, GoesOnWith, StepEnds, after_step, answers, done_or_wants, goes_with, stands_so, unread_input}
+use Rattle.auditor_top.proofs.Failures.{ended_by, stop_after, unread_input}
+use Rattle.auditor_top.proofs.LastSteps.{Answers, GoesOnWith, StepEnds, answers, done_or_wants, goes_with, stands_so}
 use Rattle.auditor_top.proofs.OneRunMore.{goes_on}
 use Rattle.auditor_top.proofs.OneTable.{carried, same_given}
 use Rattle.auditor_top.proofs.StepFaults.{of_bench, stop_says}
@@ -58,9 +58,11 @@ module _ (g : Over) (c : goal.After-drop-schema-inside-in-Ok-Audit-2 g) where
         input = λ is. absurd (is_of_bench stop.Input is);
         limit = λ is. absurd (is_of_bench stop.Limit is);
         other = λ is. absurd (is_of_bench stop.Spare is);
-        input_fault = unread_input g.I.Source old.input _ (is_of_bench stop.Input);
-        bench_fault = record { later = does.later; failed = does.failed; last_call = does.last_call; steady = does.steady };
-        spare_fault = not_called g.B.Bench old.spare _ (is_of_bench stop.Spare);
+        tells = record {
+          input = unread_input g.I.Source old.input _ (is_of_bench stop.Input);
+          bench = record { later = does.later; failed = does.failed; last_call = does.last_call; steady = does.steady };
+          spare = not_called g.B.Bench old.spare _ (is_of_bench stop.Spare);
+        };
         file = λ told table for. for refl;
         spare_file = λ told. tt;
         reads = λ itold reads. absurd (false≢true reads);
@@ -69,11 +71,6 @@ module _ (g : Over) (c : goal.After-drop-schema-inside-in-Ok-Audit-2 g) where
         no_lines = λ none. refl;
         spare = λ none. refl;
       })
-
-  says : Says g.P.Source g.I.Source g.B.Bench (command_of (map string_bytes c.args.words.now.items)) (ended_status c.audit.result) old new
-  says =
-      after_step g.P.Source g.I.Source g.B.Bench c.groups_of_a_schema.ensures.entries _ ready _ old mid.schema mid.table mid.bench new.input new.bench new.spare
-      goes ends
 
   -- the table whose journal was opened, and what was opened is what is given
   abbrev seen : g.P.Source.told → Database
@@ -131,8 +128,8 @@ module _ (g : Over) (c : goal.After-drop-schema-inside-in-Ok-Audit-2 g) where
             (subst (λ (n : ℕ). TakesOneEach (audit_of columns store) (about people) n (g.B.Bench.moment later)) (goes.ticks told refl)
             ((stop_says ended).done _ done (does.ticks told))));
         audits = λ ptold told base history over none.
-            done_or_wants _ _ _ (stop_unrefused ended (is_of_bench stop.Limit)) says.faults none
-            (λ is. absurd (is_of_bench stop.Spare ((stop_says ended).spare is)));
+            done_or_wants g.P.Source g.I.Source g.B.Bench _ old new (stop_unrefused ended (is_of_bench stop.Limit))
+            (stop_after g.B.Bench later goes.steady.2 ends.tells) none (λ is. absurd (is_of_bench stop.Spare (ended_by ended stop.Spare is)));
       }
 
   all : Answers g.P.Source g.I.Source g.B.Bench (command_of (map string_bytes c.args.words.now.items)) c.ended-in-Ok-Audit.result old new

@@ -4,7 +4,6 @@ use Rattle.std.proofs.lemmas.Bool.{false≢true, true≢false}
 use Rattle.audit_types.specs.declared.records.Answered.{Answered}
 use Rattle.bench_core.specs.Calls.{IsQuiet, IsUntouched, LeavesOnly}
 use Rattle.bench_core.specs.Moments.{joins, still_quiet, weakens}
-use Rattle.bench_core.specs.Reports.{told_as}
 use Rattle.table_load.specs.Database.{Database, base_of, secret_table}
 use Rattle.answer_journal.specs.Moments.{IsMade}
 use Rattle.audit_store.specs.Stores.{IsAsLeft}
@@ -20,10 +19,10 @@ use Rattle.auditor_top.specs.Compactions.{CompactEnds}
 use Rattle.auditor_top.specs.Ends.{LeavesFile}
 use Rattle.auditor_top.specs.Faults.{compacting_status}
 use Rattle.auditor_top.specs.Runs.{Compacting, Objects, objects}
-use Rattle.auditor_top.specs.Says.{Says}
 use Rattle.auditor_top.specs.Stages.{reading_lines}
 use Rattle.auditor_top.proofs.CompactEndings.{compact_ends, compact_says, compact_spare, compact_unrefused, unsent_so}
-use Rattle.auditor_top.proofs.LastSteps.{Answers, GoesOnWith, StepEnds, after_step, answers, done_or_wants, goes_with, not_of_lines, stands_so, unread_input}
+use Rattle.auditor_top.proofs.Failures.{is_done, step_tells, stop_after, stopped_by, unread_input}
+use Rattle.auditor_top.proofs.LastSteps.{Answers, GoesOnWith, StepEnds, answers, done_or_wants, goes_with, not_of_lines, stands_so}
 use Rattle.auditor_top.proofs.OneRunMore.{goes_on}
 use Rattle.auditor_top.proofs.OneTable.{carried, same_given}
 use Rattle.auditor_top.proofs.StepStatuses.{always_before, before_so}
@@ -60,9 +59,11 @@ module _ (g : Over) (c : goal.After-drop-store-inside-in-Ok-Compact-5 g) where
         file = λ told table for. step.file _ (secret_table c.in-Ok-Compact.store.secret c.in-Ok-Compact.store.protected) (for refl);
         spare_file = λ told calls. compact_spare c.compact.result _ does.ends (does.already told) (λ made. (does.refused told made).0);
         input = λ itold reads. absurd (false≢true reads);
-        input_fault = unread_input g.I.Source old.input _ (not_of_lines command.Compact _ refl step.words);
-        bench_fault = told_as g.B.Bench mid.bench new.bench _ _ (λ is. ap compacting_status is) step.bench does.fault;
-        spare_fault = told_as g.B.Bench old.spare new.spare _ _ (λ is. ap compacting_status is) step.spare does.spare_fault;
+        tells = step_tells g.I.Source g.B.Bench _ c.compact.result (record {
+          input = unread_input g.I.Source old.input _ (λ is. not_of_lines command.Compact _ refl step.words (ap compacting_status is));
+          bench = does.fault;
+          spare = does.spare_fault;
+        });
         quiet = λ told quiet fine image left. quiet image (does.crash image left) ∙ sym does.file;
         nothing_began = λ told opens closed. absurd (true≢false closed);
         before_lines = before_so reading_lines (compacting_status c.compact.result) (λ is. (refl, ap g.B.Bench.sent is)) (step.at_lines _ does.unsent);
@@ -72,11 +73,6 @@ module _ (g : Over) (c : goal.After-drop-store-inside-in-Ok-Compact-5 g) where
         no_lines = λ none. refl;
         spare = λ none. absurd (true≢false none);
       }
-
-  says : Says g.P.Source g.I.Source g.B.Bench (command_of (map string_bytes c.args.words.now.items)) (compacting_status c.compact.result) old new
-  says =
-      after_step g.P.Source g.I.Source g.B.Bench c.groups_of_a_schema.ensures.entries _ ready _ old mid.schema mid.table mid.bench new.input new.bench new.spare
-      goes ends
 
   -- the table whose journal was opened, as it stood
   abbrev seen : g.P.Source.told → Database
@@ -140,7 +136,7 @@ module _ (g : Over) (c : goal.After-drop-store-inside-in-Ok-Compact-5 g) where
             goes.reads.sent (does.part told))
             (unsent_so ended (λ is. ap g.B.Bench.sent is ∙ goes.reads.sent) does.unsent));
         compacting = spare_moments;
-        stable = λ told done. step.done _ done (does.quiet told);
+        stable = λ told done. is_done _ ended _ done (does.quiet told);
         unsent_yet = λ failed. ap g.B.Bench.sent (step.unsent _ failed does.unsent) ∙ goes.reads.sent;
         alike = λ ptold told unmade quiet base records over image bytes found was is_made stands.
             c.compactions.ensures _ _ _ image bytes base records found over.files over.legal
@@ -156,14 +152,15 @@ module _ (g : Over) (c : goal.After-drop-store-inside-in-Ok-Compact-5 g) where
             subst (λ b. LeavesOnly g.B.Bench old.bench b (IsUntouched file sent)) (sym (does.refused told is_made).1) (goes.reads.untouched quiet);
         uncalled = λ ptold told none. absurd (none (seen ptold) history
             (record { files = (goes.over ptold).2; stands = (c.in-Ok-Compact.store.journal.gate, stands told); legal = goes.fit.is.legal }));
-        no_memory = λ is. does.no_memory (step.memory is);
+        no_memory = λ is. does.no_memory (stopped_by _ ended stop.NoMemory is);
         compact_calls = λ told done.
             let opening = goes.ticks told refl in
-            let send = step.done _ done (does.ticks told) in
+            let send = is_done _ ended _ done (does.ticks told) in
             omega (arith, opening, send);
-        spare_calls = λ told done. step.done _ done (does.spare_ticks told);
+        spare_calls = λ told done. is_done _ ended _ done (does.spare_ticks told);
         compacts = λ ptold told unmade base records over none fine.
-            done_or_wants _ _ _ (compact_unrefused ended does.ends (λ is. unmade (does.already told is))) says.faults none (λ is. fine);
+            done_or_wants g.P.Source g.I.Source g.B.Bench _ old new (compact_unrefused ended does.ends (λ is. unmade (does.already told is)))
+            (stop_after g.B.Bench new.bench goes.steady.2 ends.tells) none (λ is. fine);
       }
 
   all : Answers g.P.Source g.I.Source g.B.Bench (command_of (map string_bytes c.args.words.now.items)) c.compacted.result old new

@@ -8,12 +8,11 @@ use Rattle.bench_core.specs.declared.stops.Stop.TheVariants as stop
 use Rattle.auditor_top.specs.declared.ready.Ready.{Ready}
 use Rattle.auditor_top.specs.declared.ready.Ready.TheVariants as made
 use Rattle.auditor_top.specs.Words.{command_of}
-use Rattle.auditor_top.specs.Causes.{FaultCause}
 use Rattle.auditor_top.specs.Faults.{ended_status}
-use Rattle.auditor_top.specs.Runs.{Drilling, Objects, faults_of, objects}
-use Rattle.auditor_top.specs.Says.{Says}
+use Rattle.auditor_top.specs.Runs.{Drilling, Objects, objects}
 use Rattle.auditor_top.proofs.DrillEndings.{drill_sends}
-use Rattle.auditor_top.proofs.LastSteps.{Answers, GoesOnWith, StepEnds, after_step, answers, done_or_wants, goes_with, unread_input}
+use Rattle.auditor_top.proofs.Failures.{ended_by, unread_input}
+use Rattle.auditor_top.proofs.LastSteps.{Answers, GoesOnWith, StepEnds, answers, done_or_wants, goes_with}
 use Rattle.auditor_top.proofs.OneRunMore.{goes_on}
 use Rattle.auditor_top.proofs.StepFaults.{of_bench, stop_says}
 use Rattle.auditor_top.proofs.StopEndings.{stop_ends, stop_unrefused}
@@ -51,9 +50,11 @@ module _ (g : Over) (c : goal.After-ended-in-Ok-Drill g) where
         input = λ is. absurd (is_of_bench stop.Input is);
         limit = λ is. absurd (is_of_bench stop.Limit is);
         other = λ is. absurd (is_of_bench stop.Spare is);
-        input_fault = unread_input g.I.Source old.input _ (is_of_bench stop.Input);
-        bench_fault = does.fault;
-        spare_fault = not_called g.B.Bench old.spare _ (is_of_bench stop.Spare);
+        tells = record {
+          input = unread_input g.I.Source old.input _ (is_of_bench stop.Input);
+          bench = does.fault;
+          spare = not_called g.B.Bench old.spare _ (is_of_bench stop.Spare);
+        };
         file = λ told table for. tt;
         spare_file = λ told. tt;
         reads = λ itold reads. absurd (false≢true reads);
@@ -63,21 +64,9 @@ module _ (g : Over) (c : goal.After-ended-in-Ok-Drill g) where
         spare = λ none. refl;
       })
 
-  says : Says g.P.Source g.I.Source g.B.Bench (command_of (map string_bytes c.args.words.now.items)) (ended_status c.drill.result) old new
-  says =
-      after_step g.P.Source g.I.Source g.B.Bench c.groups_of_a_schema.ensures.entries _ ready _ old mid.schema mid.table mid.bench new.input new.bench new.spare
-      goes ends
-
   -- opening called nothing of the bench
   abbrev begun : g.row.B.Denot → Objects g.row.P.Denot g.row.I.Denot g.row.B.Denot
   begun at = objects old.schema old.table old.input at old.spare
-
-  faults : FaultCause (ended_status c.drill.result) (faults_of g.P.Source g.I.Source g.B.Bench (begun mid.bench))
-      (faults_of g.P.Source g.I.Source g.B.Bench new)
-  faults =
-      subst (λ b. FaultCause (ended_status c.drill.result) (faults_of g.P.Source g.I.Source g.B.Bench (begun b))
-      (faults_of g.P.Source g.I.Source g.B.Bench new))
-      (sym (goes.unopened refl)) says.faults
 
   drilling : Drilling g.P.Source g.I.Source g.B.Bench c.in-Ok-Drill.number (ended_status c.drill.result) (begun mid.bench) new
   drilling =
@@ -88,10 +77,10 @@ module _ (g : Over) (c : goal.After-ended-in-Ok-Drill g) where
             (λ is. ap g.B.Bench.sent (does.no_memory is));
         drill_calls = λ told done. step.done _ done (does.ticks told);
         drill_call = does.one_tick;
-        undrilled = λ is. does.no_memory (step.memory is);
+        undrilled = λ is. does.no_memory (ended_by c.drill.result stop.NoMemory is);
         drills = λ none.
-            done_or_wants _ _ _ (stop_unrefused c.drill.result (is_of_bench stop.Limit)) faults none
-            (λ is. absurd (is_of_bench stop.Spare (step.spare is)));
+            done_or_wants g.P.Source g.I.Source g.B.Bench _ (begun mid.bench) new (stop_unrefused c.drill.result (is_of_bench stop.Limit)) ends.tells none
+            (λ is. absurd (is_of_bench stop.Spare (ended_by c.drill.result stop.Spare is)));
       }
 
   all : Answers g.P.Source g.I.Source g.B.Bench (command_of (map string_bytes c.args.words.now.items)) c.ended-in-Ok-Drill.result old new

@@ -17,8 +17,8 @@ use Rattle.auditor_top.specs.Commands.{ServesOver}
 use Rattle.auditor_top.specs.Ends.{LeavesFile, SendsTexts, TalkEnds, public_part}
 use Rattle.auditor_top.specs.Faults.{ended_status}
 use Rattle.auditor_top.specs.Runs.{Explaining, Objects, objects}
-use Rattle.auditor_top.specs.Says.{Says}
-use Rattle.auditor_top.proofs.LastSteps.{Answers, GoesOnWith, StepEnds, after_step, answers, done_or_wants, goes_with, stands_so}
+use Rattle.auditor_top.proofs.Failures.{ended_by, stop_after}
+use Rattle.auditor_top.proofs.LastSteps.{Answers, GoesOnWith, StepEnds, answers, done_or_wants, goes_with, stands_so}
 use Rattle.auditor_top.proofs.OneRunMore.{goes_on}
 use Rattle.auditor_top.proofs.OneTable.{carried, same_given}
 use Rattle.auditor_top.proofs.StepFaults.{stop_says}
@@ -58,9 +58,11 @@ module _ (g : Over) (c : goal.After-drop-index-inside-in-Ok-Explain-7 g) where
         input = λ is. refl;
         limit = λ is. refl;
         other = λ is. absurd (never_spare c.explain.result does is);
-        input_fault = input_told c.explain.result does;
-        bench_fault = fault_told c.explain.result does;
-        spare_fault = not_called g.B.Bench old.spare _ (never_spare c.explain.result does);
+        tells = record {
+          input = input_told c.explain.result does;
+          bench = fault_told c.explain.result does;
+          spare = not_called g.B.Bench old.spare _ (never_spare c.explain.result does);
+        };
         file = λ told table for. for refl;
         spare_file = λ told. tt;
         reads = λ itold reads. talk_reads talk c.explain.result _ _ (does.reads itold);
@@ -69,11 +71,6 @@ module _ (g : Over) (c : goal.After-drop-index-inside-in-Ok-Explain-7 g) where
         no_lines = λ none. absurd (true≢false none);
         spare = λ none. refl;
       })
-
-  says : Says g.P.Source g.I.Source g.B.Bench (command_of (map string_bytes c.args.words.now.items)) (ended_status c.explain.result) old new
-  says =
-      after_step g.P.Source g.I.Source g.B.Bench c.groups_of_a_schema.ensures.entries _ ready _ old mid.schema mid.table mid.bench new.input new.bench new.spare
-      goes ends
 
   -- the table whose journal was opened, and what was opened is what is given
   abbrev seen : Database
@@ -128,9 +125,9 @@ module _ (g : Over) (c : goal.After-drop-index-inside-in-Ok-Explain-7 g) where
         explain_calls = λ itold told done.
             (stop_says ended).done _ done (done_too _ ended (does.calls itold told)) ∙ ap (λ (n : ℕ). n + length (counted_lines text)) (goes.ticks told refl);
         explains = λ ptold itold told base history over within none.
-            done_or_wants _ _ _ (stop_unrefused ended
-            (λ is. let over = subst (λ r. EndReads talk.Reads (unrefused r) text left) is (does.reads itold) in omega (arith, over, within))) says.faults none
-            (λ is. absurd (never_spare ended does ((stop_says ended).spare is)));
+            done_or_wants g.P.Source g.I.Source g.B.Bench _ old new (stop_unrefused ended
+            (λ is. let over = subst (λ r. EndReads talk.Reads (unrefused r) text left) is (does.reads itold) in omega (arith, over, within)))
+            (stop_after g.B.Bench new.bench goes.steady.2 ends.tells) none (λ is. absurd (never_spare ended does (ended_by ended stop.Spare is)));
       }
 
   all : Answers g.P.Source g.I.Source g.B.Bench (command_of (map string_bytes c.args.words.now.items)) c.ended-in-Ok-Explain.result old new

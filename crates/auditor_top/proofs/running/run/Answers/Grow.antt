@@ -4,7 +4,7 @@ use Rattle.std.proofs.lemmas.Bool.{false≢true, true≢false}
 use Rattle.audit_types.specs.declared.records.Answered.{Answered}
 use Rattle.audit_types.specs.Widening.{over as over_rows, widened}
 use Rattle.bench_core.specs.Calls.{LeavesOnly}
-use Rattle.bench_core.specs.Reports.{not_called, told_as}
+use Rattle.bench_core.specs.Reports.{not_called}
 use Rattle.table_load.specs.Database.{Database, table_in}
 use Rattle.journal_form.specs.Journal.{StandsFor}
 use Rattle.answer_journal.specs.Moments.{IsBeforeOrGrown}
@@ -13,16 +13,15 @@ use Rattle.auditor_top.specs.declared.words.Command.TheVariants as command
 use Rattle.auditor_top.specs.declared.ready.Ready.{Ready}
 use Rattle.auditor_top.specs.declared.ready.Ready.TheVariants as made
 use Rattle.auditor_top.specs.Words.{command_of}
-use Rattle.auditor_top.specs.Causes.{FaultCause}
 use Rattle.auditor_top.specs.Commands.{AreSoundFilesOf, GrowsOver}
 use Rattle.auditor_top.specs.Ends.{GrowEnds}
 use Rattle.auditor_top.specs.Faults.{growing_status}
 use Rattle.auditor_top.specs.Ready.{base_around}
-use Rattle.auditor_top.specs.Runs.{Growing, Objects, faults_of, objects}
-use Rattle.auditor_top.specs.Says.{Says}
+use Rattle.auditor_top.specs.Runs.{Growing, Objects, objects}
 use Rattle.auditor_top.specs.Stages.{reading_lines}
 use Rattle.auditor_top.proofs.GrowthEndings.{done_so, growth_ends, growth_file, growth_kept, growth_says, growth_unrefused}
-use Rattle.auditor_top.proofs.LastSteps.{Answers, GoesOnWith, StepEnds, after_step, answers, done_or_wants, goes_with, not_of_lines, not_of_spare, unread_input}
+use Rattle.auditor_top.proofs.Failures.{is_done, step_tells, unread_input}
+use Rattle.auditor_top.proofs.LastSteps.{Answers, GoesOnWith, StepEnds, answers, done_or_wants, goes_with, not_of_lines, not_of_spare}
 use Rattle.auditor_top.proofs.OneRunMore.{goes_on}
 use Rattle.auditor_top.proofs.OneTable.{one_base}
 use Rattle.auditor_top.proofs.StepStatuses.{always_before}
@@ -60,9 +59,11 @@ module _ (g : Over) (c : goal.After-grown g) where
             (done_so c.grow.result (λ grown. grown.0) (does.done told)) (λ refusal is. does.cause refusal told is);
         spare_file = λ told calls. absurd (false≢true calls);
         input = λ itold reads. absurd (false≢true reads);
-        input_fault = unread_input g.I.Source old.input _ (not_of_lines command.Grow _ refl step.words);
-        bench_fault = told_as g.B.Bench mid.bench new.bench _ _ (λ is. ap growing_status is) step.bench does.fault;
-        spare_fault = not_called g.B.Bench old.spare _ (not_of_spare command.Grow _ refl step.words);
+        tells = step_tells g.I.Source g.B.Bench _ c.grow.result (record {
+          input = unread_input g.I.Source old.input _ (λ is. not_of_lines command.Grow _ refl step.words (ap growing_status is));
+          bench = does.fault;
+          spare = not_called g.B.Bench old.spare _ (λ is. not_of_spare command.Grow _ refl step.words (ap growing_status is));
+        });
         quiet = λ told quiet fine. does.quiet told quiet (λ is. fine (ap growing_status is));
         nothing_began = λ told opens closed quiet table unready. does.untouched told quiet unready;
         before_lines = always_before reading_lines (growing_status c.grow.result) (refl, does.sent);
@@ -73,21 +74,9 @@ module _ (g : Over) (c : goal.After-grown g) where
         spare = λ none. refl;
       }
 
-  says : Says g.P.Source g.I.Source g.B.Bench (command_of (map string_bytes c.args.words.now.items)) (growing_status c.grow.result) old new
-  says =
-      after_step g.P.Source g.I.Source g.B.Bench c.groups_of_a_schema.ensures.entries _ ready _ old mid.schema mid.table mid.bench new.input new.bench new.spare
-      goes ends
-
   -- opening called nothing of the bench
   abbrev begun : g.row.B.Denot → Objects g.row.P.Denot g.row.I.Denot g.row.B.Denot
   begun at = objects old.schema old.table old.input at old.spare
-
-  faults : FaultCause (growing_status c.grow.result) (faults_of g.P.Source g.I.Source g.B.Bench (begun mid.bench))
-      (faults_of g.P.Source g.I.Source g.B.Bench new)
-  faults =
-      subst (λ b. FaultCause (growing_status c.grow.result) (faults_of g.P.Source g.I.Source g.B.Bench (begun b))
-      (faults_of g.P.Source g.I.Source g.B.Bench new))
-      (sym (goes.unopened refl)) says.faults
 
   -- what is given is so of the table that was opened
   abbrev seen : g.P.Source.told → Database
@@ -130,9 +119,10 @@ module _ (g : Over) (c : goal.After-grown g) where
             (does.any_moment told quiet (can ptold base rows history over));
         unsent = does.sent;
         kept = λ undone fine. growth_kept c.grow.result undone fine does.kept;
-        grow_calls = λ told done. (growth_says c.grow.result does.ends).done _ done (does.ticks told);
+        grow_calls = λ told done. is_done _ c.grow.result _ done (does.ticks told);
         grows = λ ptold told base rows history over none.
-            done_or_wants _ _ _ (growth_unrefused c.grow.result does.ends (does.grows told (can ptold base rows history over))) faults none
+            done_or_wants g.P.Source g.I.Source g.B.Bench _ (begun mid.bench) new
+            (growth_unrefused c.grow.result does.ends (does.grows told (can ptold base rows history over))) ends.tells none
             (λ is. absurd (not_of_spare command.Grow _ refl (growth_says c.grow.result does.ends).words is));
       }
 

@@ -3,7 +3,7 @@ use Rattle.std.proofs.Common.{◌≡◌, [], refl, sym, ◌∙◌, ap, subst, ma
 use Rattle.std.proofs.lemmas.Bool.{false≢true, true≢false}
 use Rattle.audit_types.specs.declared.shapes.Shape.{Shape}
 use Rattle.bench_core.specs.Calls.{LeavesOnly}
-use Rattle.bench_core.specs.Reports.{not_called, told_as}
+use Rattle.bench_core.specs.Reports.{not_called}
 use Rattle.table_load.specs.Cells.{SecretView}
 use Rattle.table_load.specs.Database.{Database}
 use Rattle.journal_form.specs.Journal.{StandsFor}
@@ -12,13 +12,12 @@ use Rattle.auditor_top.specs.declared.words.Command.TheVariants as command
 use Rattle.auditor_top.specs.declared.ready.Ready.{Ready}
 use Rattle.auditor_top.specs.declared.ready.Ready.TheVariants as made
 use Rattle.auditor_top.specs.Words.{command_of}
-use Rattle.auditor_top.specs.Causes.{FaultCause}
 use Rattle.auditor_top.specs.Commands.{AreFilesOf}
 use Rattle.auditor_top.specs.Faults.{making_status}
-use Rattle.auditor_top.specs.Runs.{Making, Objects, faults_of, objects}
-use Rattle.auditor_top.specs.Says.{Says}
+use Rattle.auditor_top.specs.Runs.{Making, Objects, objects}
 use Rattle.auditor_top.specs.Stages.{reading_lines}
-use Rattle.auditor_top.proofs.LastSteps.{Answers, GoesOnWith, StepEnds, after_step, answers, done_or_wants, goes_with, not_of_lines, not_of_spare, unread_input}
+use Rattle.auditor_top.proofs.Failures.{is_done, step_tells, unread_input}
+use Rattle.auditor_top.proofs.LastSteps.{Answers, GoesOnWith, StepEnds, answers, done_or_wants, goes_with, not_of_lines, not_of_spare}
 use Rattle.auditor_top.proofs.OneRunMore.{goes_on}
 use Rattle.auditor_top.proofs.OneTable.{one_secret}
 use Rattle.auditor_top.proofs.StepFaults.{made_or_there, making_cause, making_says, making_unrefused, there_is}
@@ -56,9 +55,11 @@ module _ (g : Over) (c : goal.After-made g) where
         file = λ told table for. making_cause c.make.result _ table does.ends (does.refused told) (λ is. (does.already told is).0);
         spare_file = λ told calls. absurd (false≢true calls);
         input = λ itold reads. absurd (false≢true reads);
-        input_fault = unread_input g.I.Source old.input _ (not_of_lines command.Init _ refl step.words);
-        bench_fault = told_as g.B.Bench mid.bench new.bench _ _ (λ is. ap making_status is) step.bench does.fault;
-        spare_fault = not_called g.B.Bench old.spare _ (not_of_spare command.Init _ refl step.words);
+        tells = step_tells g.I.Source g.B.Bench _ c.make.result (record {
+          input = unread_input g.I.Source old.input _ (λ is. not_of_lines command.Init _ refl step.words (ap making_status is));
+          bench = does.fault;
+          spare = not_called g.B.Bench old.spare _ (λ is. not_of_spare command.Init _ refl step.words (ap making_status is));
+        });
         quiet = λ told quiet fine. made_or_there c.make.result does.ends fine (does.quiet told) (λ there image left.
             let already = does.already told there in
             let moments = does.untouched told already.0 quiet in
@@ -73,21 +74,9 @@ module _ (g : Over) (c : goal.After-made g) where
         spare = λ none. refl;
       }
 
-  says : Says g.P.Source g.I.Source g.B.Bench (command_of (map string_bytes c.args.words.now.items)) (making_status c.make.result) old new
-  says =
-      after_step g.P.Source g.I.Source g.B.Bench c.groups_of_a_schema.ensures.entries _ ready _ old mid.schema mid.table mid.bench new.input new.bench new.spare
-      goes ends
-
   -- opening called nothing of the bench
   abbrev begun : g.row.B.Denot → Objects g.row.P.Denot g.row.I.Denot g.row.B.Denot
   begun at = objects old.schema old.table old.input at old.spare
-
-  faults : FaultCause (making_status c.make.result) (faults_of g.P.Source g.I.Source g.B.Bench (begun mid.bench))
-      (faults_of g.P.Source g.I.Source g.B.Bench new)
-  faults =
-      subst (λ b. FaultCause (making_status c.make.result) (faults_of g.P.Source g.I.Source g.B.Bench (begun b))
-      (faults_of g.P.Source g.I.Source g.B.Bench new))
-      (sym (goes.unopened refl)) says.faults
 
   -- the shape is that of every table that the files mean
   shape : g.P.Source.told → (base : Database) → AreFilesOf (g.P.Source.left old.schema) (g.P.Source.left old.table) base →
@@ -102,7 +91,7 @@ module _ (g : Over) (c : goal.After-made g) where
       let step = making_says c.make.result c.make.ensures.ends in
       record {
         made = λ ptold told done base files.
-            subst (λ (s : Shape). StandsFor (g.B.Bench.file new.bench) s []) (shape ptold base files) (20, step.done _ done (does.done told));
+            subst (λ (s : Shape). StandsFor (g.B.Bench.file new.bench) s []) (shape ptold base files) (20, is_done _ c.make.result _ done (does.done told));
         kept = λ told undone fine. (does.already told (there_is c.make.result does.ends undone fine)).1;
         unsent = does.sent;
         untouched = does.untouched;
@@ -110,9 +99,10 @@ module _ (g : Over) (c : goal.After-made g) where
             subst (λ (s : Shape). LeavesOnly g.B.Bench mid.bench new.bench (IsUnmadeOrWhole s [] (g.B.Bench.sent mid.bench))) (shape ptold base files)
             (does.any_moment told absent quiet);
         unmade = λ is. absurd (step.no_memory is);
-        init_calls = λ told done. step.done _ done (does.ticks told);
+        init_calls = λ told done. is_done _ c.make.result _ done (does.ticks told);
         makes = λ ptold told base files absent none.
-            done_or_wants _ _ _ (making_unrefused c.make.result does.ends (λ is. absent (does.already told is).0)) faults none
+            done_or_wants g.P.Source g.I.Source g.B.Bench _ (begun mid.bench) new
+            (making_unrefused c.make.result does.ends (λ is. absent (does.already told is).0)) ends.tells none
             (λ is. absurd (not_of_spare command.Init _ refl step.words is));
       }
 

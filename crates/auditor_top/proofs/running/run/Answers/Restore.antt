@@ -4,21 +4,21 @@ use Rattle.std.proofs.lemmas.Bool.{false≢true, true≢false}
 use Rattle.audit_types.specs.declared.records.Answered.{Answered}
 use Rattle.audit_types.specs.History.{Table}
 use Rattle.bench_core.specs.Calls.{LeavesOnly}
-use Rattle.bench_core.specs.Reports.{told_as}
 use Rattle.table_load.specs.Database.{Database, table_in}
 use Rattle.answer_journal.specs.Moments.{IsUnmadeOrWhole}
 use Rattle.twin_journal.specs.Restoring.{CanRestore, IsLostOf, Restored}
+use Rattle.bench_core.specs.declared.stops.Stop.TheVariants as stop
 use Rattle.auditor_top.specs.declared.words.Command.TheVariants as command
 use Rattle.auditor_top.specs.declared.ready.Ready.{Ready}
 use Rattle.auditor_top.specs.declared.ready.Ready.TheVariants as made
 use Rattle.auditor_top.specs.Words.{command_of}
-use Rattle.auditor_top.specs.Causes.{BothCause, FaultCause}
+use Rattle.auditor_top.specs.Causes.{BothCause}
 use Rattle.auditor_top.specs.Commands.{AreSoundFilesOf}
 use Rattle.auditor_top.specs.Faults.{restoring_status}
 use Rattle.auditor_top.specs.Ready.{base_around}
-use Rattle.auditor_top.specs.Runs.{Objects, Restoring, faults_of, objects}
-use Rattle.auditor_top.specs.Says.{Says}
-use Rattle.auditor_top.proofs.LastSteps.{Answers, GoesOnWith, StepEnds, after_step, answers, done_or_wants, goes_with, not_of_lines, unread_input}
+use Rattle.auditor_top.specs.Runs.{Objects, Restoring, objects}
+use Rattle.auditor_top.proofs.Failures.{is_done, step_tells, stopped_by, unread_input}
+use Rattle.auditor_top.proofs.LastSteps.{Answers, GoesOnWith, StepEnds, answers, done_or_wants, goes_with, not_of_lines}
 use Rattle.auditor_top.proofs.OneRunMore.{goes_on}
 use Rattle.auditor_top.proofs.OneTable.{one_base}
 use Rattle.auditor_top.proofs.RestoreEndings.{restore_at_lines, restore_cause, restore_file, restore_says, restore_unrefused}
@@ -57,9 +57,11 @@ module _ (g : Over) (c : goal.After-restored g) where
             (λ refusal is. does.cause refusal told told is);
         spare_file = λ told calls. step.spare_file _;
         input = λ itold reads. absurd (false≢true reads);
-        input_fault = unread_input g.I.Source old.input _ (not_of_lines command.Restore _ refl step.words);
-        bench_fault = told_as g.B.Bench mid.bench new.bench _ _ (λ is. ap restoring_status is) step.bench does.fault;
-        spare_fault = told_as g.B.Bench old.spare new.spare _ _ (λ is. ap restoring_status is) step.spare does.spare_fault;
+        tells = step_tells g.I.Source g.B.Bench _ ended (record {
+          input = unread_input g.I.Source old.input _ (λ is. not_of_lines command.Restore _ refl step.words (ap restoring_status is));
+          bench = does.fault;
+          spare = does.spare_fault;
+        });
         quiet = λ told quiet fine. does.quiet told quiet (λ is. fine (ap restoring_status is));
         nothing_began = λ told opens closed quiet table unready. absurd (unready tt);
         before_lines = restore_at_lines _ ended does.ends (λ refuses. (refl, does.sent));
@@ -70,21 +72,9 @@ module _ (g : Over) (c : goal.After-restored g) where
         spare = λ none. absurd (true≢false none);
       }
 
-  says : Says g.P.Source g.I.Source g.B.Bench (command_of (map string_bytes c.args.words.now.items)) (restoring_status c.restore.result) old new
-  says =
-      after_step g.P.Source g.I.Source g.B.Bench c.groups_of_a_schema.ensures.entries _ ready _ old mid.schema mid.table mid.bench new.input new.bench new.spare
-      goes ends
-
   -- opening called nothing of the bench
   abbrev begun : g.row.B.Denot → Objects g.row.P.Denot g.row.I.Denot g.row.B.Denot
   begun at = objects old.schema old.table old.input at old.spare
-
-  faults : FaultCause (restoring_status c.restore.result) (faults_of g.P.Source g.I.Source g.B.Bench (begun mid.bench))
-      (faults_of g.P.Source g.I.Source g.B.Bench new)
-  faults =
-      subst (λ b. FaultCause (restoring_status c.restore.result) (faults_of g.P.Source g.I.Source g.B.Bench (begun b))
-      (faults_of g.P.Source g.I.Source g.B.Bench new))
-      (sym (goes.unopened refl)) says.faults
 
   -- the table of the groups is every table that the files mean
   is_seen : (ptold : g.P.Source.told) (base : Database) →
@@ -109,12 +99,12 @@ module _ (g : Over) (c : goal.After-restored g) where
             subst (λ (t : Table). (history : List Answered) ×
             (Restored t spare file (g.B.Bench.file new.spare) (g.B.Bench.file later) history
             ⊎ Restored t file spare (g.B.Bench.file later) (g.B.Bench.file new.spare) history))
-            (is_seen ptold base sound) (step.done _ done (does.done told told));
-        same = λ told done. step.done _ done (does.alike told told);
+            (is_seen ptold base sound) (is_done _ ended _ done (does.done told told));
+        same = λ told done. is_done _ ended _ done (does.alike told told);
         cause = λ ptold told base sound.
             subst (λ (t : Table). BothCause (restoring_status ended) command.Restore file spare t) (is_seen ptold base sound)
             (restore_cause ended file spare _ does.ends (λ refusal is. does.cause refusal told told is));
-        no_memory = λ is. let read = does.no_memory (step.memory is) in (read.0.file, read.1.file);
+        no_memory = λ is. let read = does.no_memory (stopped_by _ ended stop.NoMemory is) in (read.0.file, read.1.file);
         restoring = λ ptold told quiet base history sound lost.
             let same = is_seen ptold base sound in
             subst (λ (t : Table). LeavesOnly g.B.Bench at later (IsUnmadeOrWhole t.setting.shape history (g.B.Bench.sent at))) same
@@ -131,10 +121,10 @@ module _ (g : Over) (c : goal.After-restored g) where
             (λ is. fine (ap restoring_status is));
         unsent = (does.sent, does.spare_sent);
         uncalled = step.at_journal _;
-        restore_calls = λ told done. step.done _ done (does.ticks told told);
+        restore_calls = λ told done. is_done _ ended _ done (does.ticks told told);
         restores = λ ptold told base sound can none fine.
-            done_or_wants _ _ _ (restore_unrefused ended does.ends (does.restores told told
-            (subst (λ (t : Table). CanRestore t file spare) (sym (is_seen ptold base sound)) can))) faults none (λ is. fine);
+            done_or_wants g.P.Source g.I.Source g.B.Bench _ (begun mid.bench) new (restore_unrefused ended does.ends (does.restores told told
+            (subst (λ (t : Table). CanRestore t file spare) (sym (is_seen ptold base sound)) can))) ends.tells none (λ is. fine);
       }
 
   all : Answers g.P.Source g.I.Source g.B.Bench (command_of (map string_bytes c.args.words.now.items)) c.restored.result old new

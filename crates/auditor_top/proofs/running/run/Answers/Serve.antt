@@ -5,6 +5,7 @@ use Rattle.audit_types.specs.declared.records.Answered.{Answered}
 use Rattle.bench_core.specs.Moments.{still_quiet}
 use Rattle.bench_core.specs.Reports.{not_called}
 use Rattle.table_load.specs.Cells.{SecretView}
+use Rattle.bench_core.specs.declared.stops.Stop.TheVariants as stop
 use Rattle.table_load.specs.Database.{Database}
 use Rattle.journal_form.specs.Journal.{StandsFor}
 use Rattle.audit_session.specs.Ends.{base_over}
@@ -15,8 +16,8 @@ use Rattle.auditor_top.specs.Commands.{ServesOver}
 use Rattle.auditor_top.specs.Ends.{outside}
 use Rattle.auditor_top.specs.Faults.{ended_status}
 use Rattle.auditor_top.specs.Runs.{Objects, objects, Serving}
-use Rattle.auditor_top.specs.Says.{Says}
-use Rattle.auditor_top.proofs.LastSteps.{Answers, GoesOnWith, StepEnds, after_step, answers, done_or_wants, goes_with, stands_so}
+use Rattle.auditor_top.proofs.Failures.{ended_by, stop_after}
+use Rattle.auditor_top.proofs.LastSteps.{Answers, GoesOnWith, StepEnds, answers, done_or_wants, goes_with, stands_so}
 use Rattle.auditor_top.proofs.OneRunMore.{goes_on}
 use Rattle.auditor_top.proofs.OneTable.{same_given}
 use Rattle.auditor_top.proofs.Sessions.{ends_so, stops_so, harmless_so, calls_so}
@@ -52,9 +53,11 @@ module _ (g : Over) (c : goal.After-drop-index-inside-in-Ok-Serve-6 g) where
         input = λ is. refl;
         limit = λ is. refl;
         other = λ is. absurd (c.serve.ensures.alone is);
-        input_fault = record { later = does.later; failed = does.input; last_read = does.last_read; steady = does.steady };
-        bench_fault = does.fault;
-        spare_fault = not_called g.B.Bench old.spare _ c.serve.ensures.alone;
+        tells = record {
+          input = record { later = does.later; failed = does.input; last_read = does.last_read; steady = does.steady };
+          bench = does.fault;
+          spare = not_called g.B.Bench old.spare _ c.serve.ensures.alone;
+        };
         file = λ told table for. for refl;
         spare_file = λ told. tt;
         reads = λ itold reads.
@@ -64,11 +67,6 @@ module _ (g : Over) (c : goal.After-drop-index-inside-in-Ok-Serve-6 g) where
         no_lines = λ none. absurd (true≢false none);
         spare = λ none. refl;
       })
-
-  says : Says g.P.Source g.I.Source g.B.Bench (command_of (map string_bytes c.args.words.now.items)) (ended_status c.serve.result) old new
-  says =
-      after_step g.P.Source g.I.Source g.B.Bench c.groups_of_a_schema.ensures.entries _ ready _ old mid.schema mid.table mid.bench new.input new.bench new.spare
-      goes ends
 
   -- the table whose journal was opened, and what was opened is what is given
   abbrev seen : Database
@@ -113,8 +111,8 @@ module _ (g : Over) (c : goal.After-drop-index-inside-in-Ok-Serve-6 g) where
             calls_so g.B.Bench at opened later goes.reads seen base kept history (given ptold told base history over) n text
             (goes.ticks told refl) ((stop_says ended).done _ done (does.calls itold told));
         complete = λ ptold itold told base history over within none.
-            done_or_wants (ended_status ended) _ _ (stop_unrefused ended (λ is. omega (arith, does.limit itold is, within))) says.faults none
-            (λ is rose. c.serve.ensures.alone ((stop_says ended).spare is));
+            done_or_wants g.P.Source g.I.Source g.B.Bench _ old new (stop_unrefused ended (λ is. omega (arith, does.limit itold is, within)))
+            (stop_after g.B.Bench later goes.steady.2 ends.tells) none (λ is rose. c.serve.ensures.alone (ended_by ended stop.Spare is));
       }
 
   all : Answers g.P.Source g.I.Source g.B.Bench (command_of (map string_bytes c.args.words.now.items)) c.ended.result old new

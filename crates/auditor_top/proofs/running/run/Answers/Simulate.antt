@@ -3,7 +3,7 @@ use Rattle.std.proofs.Common.{List, refl, sym, ◌∙◌, ap, subst, map, string
 use Rattle.std.proofs.lemmas.Bool.{false≢true, true≢false}
 use Rattle.audit_types.specs.declared.records.Answered.{Answered}
 use Rattle.bench_core.specs.Calls.{LeavesOnly}
-use Rattle.bench_core.specs.Reports.{not_called, told_as}
+use Rattle.bench_core.specs.Reports.{not_called}
 use Rattle.set_index.specs.Indexed.{IndexView, public_setting}
 use Rattle.line_wire.specs.Lines.{counted_lines}
 use Rattle.question_plan.specs.Session.{Replied}
@@ -11,15 +11,15 @@ use Rattle.transcript_sim.specs.Beginning.{BeginsWith, EndBegins}
 use Rattle.transcript_sim.specs.Ends.{simulation}
 use Rattle.line_wire.specs.Talks.{EndDue, EndSends, TalksMeanwhile}
 use Rattle.auditor_top.specs.declared.words.Command.TheVariants as command
+use Rattle.bench_core.specs.declared.stops.Stop.TheVariants as stop
 use Rattle.auditor_top.specs.declared.ready.Ready.{Ready}
 use Rattle.auditor_top.specs.declared.ready.Ready.TheVariants as made
 use Rattle.auditor_top.specs.Words.{command_of}
-use Rattle.auditor_top.specs.Causes.{FaultCause}
 use Rattle.auditor_top.specs.Commands.{ArePublicFilesOf, SimulatesOver}
 use Rattle.auditor_top.specs.Faults.{simulation_status}
-use Rattle.auditor_top.specs.Runs.{Objects, Simulating, faults_of, objects}
-use Rattle.auditor_top.specs.Says.{Says}
-use Rattle.auditor_top.proofs.LastSteps.{Answers, GoesOnWith, StepEnds, after_step, answers, done_or_wants, goes_with, input_as, not_of_spare}
+use Rattle.auditor_top.specs.Runs.{Objects, Simulating, objects}
+use Rattle.auditor_top.proofs.Failures.{is_done, step_tells, stopped_by}
+use Rattle.auditor_top.proofs.LastSteps.{Answers, GoesOnWith, StepEnds, answers, done_or_wants, goes_with}
 use Rattle.auditor_top.proofs.OneRunMore.{goes_on}
 use Rattle.auditor_top.proofs.SimulationEndings.{carried_public, simulation_cause, simulation_ends, simulation_reads, simulation_says, simulation_sends, simulation_unrefused, unbegun_so, unbegun_too}
 use Rattle.auditor_top.proofs.running.run.Given.{Over}
@@ -56,9 +56,11 @@ module _ (g : Over) (c : goal.After-drop-index-inside-in-Ok-Simulate-7 g) where
         file = λ told table for. step.file _ table;
         spare_file = λ told calls. absurd (false≢true calls);
         input = λ itold reads. simulation_reads ended _ _ (does.reads itold) (unbegun_so ended (λ unbegun. ap g.I.Source.left unbegun.0) does.unbegun);
-        input_fault = input_as g.I.Source old.input new.input _ _ (λ is. ap simulation_status is) step.input does.input;
-        bench_fault = told_as g.B.Bench mid.bench new.bench _ _ (λ is. ap simulation_status is) step.bench does.fault;
-        spare_fault = not_called g.B.Bench old.spare _ (not_of_spare command.Simulate _ refl (step.words does.alone));
+        tells = step_tells g.I.Source g.B.Bench _ ended (record {
+          input = does.input;
+          bench = does.fault;
+          spare = not_called g.B.Bench old.spare _ (λ is. does.alone is);
+        });
         quiet = λ told quiet fine image left. quiet image (does.crash image left) ∙ sym does.file;
         nothing_began = λ told opens. absurd (false≢true opens);
         before_lines = step.at_lines _ does.unbegun;
@@ -69,21 +71,9 @@ module _ (g : Over) (c : goal.After-drop-index-inside-in-Ok-Simulate-7 g) where
         spare = λ none. refl;
       }
 
-  says : Says g.P.Source g.I.Source g.B.Bench (command_of (map string_bytes c.args.words.now.items)) (simulation_status c.simulate.result) old new
-  says =
-      after_step g.P.Source g.I.Source g.B.Bench c.groups_of_a_schema.ensures.entries _ ready _ old mid.schema mid.table mid.bench new.input new.bench new.spare
-      goes ends
-
   -- opening called nothing of the bench
   abbrev begun : g.row.B.Denot → Objects g.row.P.Denot g.row.I.Denot g.row.B.Denot
   begun at = objects old.schema old.table old.input at old.spare
-
-  faults : FaultCause (simulation_status c.simulate.result) (faults_of g.P.Source g.I.Source g.B.Bench (begun mid.bench))
-      (faults_of g.P.Source g.I.Source g.B.Bench new)
-  faults =
-      subst (λ b. FaultCause (simulation_status c.simulate.result) (faults_of g.P.Source g.I.Source g.B.Bench (begun b))
-      (faults_of g.P.Source g.I.Source g.B.Bench new))
-      (sym (goes.unopened refl)) says.faults
 
   -- what is said of what was read is said of what the files mean
   given : (Says : IndexView → Type 0) (ptold : g.P.Source.told) (index : IndexView) →
@@ -127,11 +117,12 @@ module _ (g : Over) (c : goal.After-drop-index-inside-in-Ok-Simulate-7 g) where
         undisturbed = does.undisturbed;
         untouched = λ ptold told quiet none. does.untouched told quiet
             (λ history begins. none c.in-Ok-Simulate.index history (record { files = goes.over ptold; begins = begins }));
-        simulate_calls = λ itold told done. (simulation_says ended).done _ done (does.calls itold told);
+        simulate_calls = λ itold told done. is_done _ ended _ done (does.calls itold told);
         simulates = λ ptold itold told index history over agreed agree within none.
             let all = verdicts ptold itold told index history over in
-            done_or_wants _ _ _ (simulation_unrefused c.one_verdict.ensures.first ended index history text left all.0 agreed all.1 (does.reads itold)
-            agree within) faults none (λ is. absurd (not_of_spare command.Simulate _ refl ((simulation_says ended).words does.alone) is));
+            done_or_wants g.P.Source g.I.Source g.B.Bench _ (begun mid.bench) new
+            (simulation_unrefused c.one_verdict.ensures.first ended index history text left all.0 agreed all.1 (does.reads itold) agree within) ends.tells none
+            (λ is. absurd (does.alone (stopped_by _ ended stop.Spare is)));
       }
 
   all : Answers g.P.Source g.I.Source g.B.Bench (command_of (map string_bytes c.args.words.now.items)) c.judged.result old new

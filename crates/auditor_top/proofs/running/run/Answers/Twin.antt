@@ -17,15 +17,14 @@ use Rattle.auditor_top.specs.declared.words.Command.TheVariants as command
 use Rattle.auditor_top.specs.declared.ready.Ready.{Ready}
 use Rattle.auditor_top.specs.declared.ready.Ready.TheVariants as made
 use Rattle.auditor_top.specs.Words.{command_of}
-use Rattle.auditor_top.specs.Causes.{BothCause, FaultCause}
+use Rattle.auditor_top.specs.Causes.{BothCause}
 use Rattle.auditor_top.specs.Commands.{AreSoundFilesOf, TwinsOver}
 use Rattle.auditor_top.specs.Ends.{Outside, outside}
 use Rattle.auditor_top.specs.Faults.{ended_status}
 use Rattle.auditor_top.specs.Ready.{base_around}
-use Rattle.auditor_top.specs.Runs.{Objects, TwinServing, faults_of, objects}
-use Rattle.auditor_top.specs.Says.{Says}
+use Rattle.auditor_top.specs.Runs.{Objects, TwinServing, objects}
 use Rattle.auditor_top.specs.Twins.{LeavesTwins, TwinEnds}
-use Rattle.auditor_top.proofs.LastSteps.{Answers, GoesOnWith, StepEnds, after_step, answers, done_or_wants, goes_with}
+use Rattle.auditor_top.proofs.LastSteps.{Answers, GoesOnWith, StepEnds, answers, done_or_wants, goes_with}
 use Rattle.auditor_top.proofs.OneRunMore.{goes_on, left_of_spare, spare_goes_on}
 use Rattle.auditor_top.proofs.OneTable.{one_base}
 use Rattle.auditor_top.proofs.StepFaults.{not_both, stop_reads, stop_says}
@@ -68,9 +67,11 @@ module _ (g : Over) (c : goal.After-drop-index-inside-in-Ok-start-7 g) where
         input = λ is. refl;
         limit = λ is. refl;
         other = λ is. refl;
-        input_fault = record { later = does.later; failed = does.input; last_read = does.last_read; steady = does.steady };
-        bench_fault = then_tells g.B.Bench mid.bench c.start.new.bench new.bench _ _ begun.fault (not_both _ _) does.fault;
-        spare_fault = then_tells g.B.Bench old.spare c.start.new.spare new.spare _ _ begun.spare_fault (not_both _ _) c.serve_twin.ensures.spare.fault;
+        tells = record {
+          input = record { later = does.later; failed = does.input; last_read = does.last_read; steady = does.steady };
+          bench = then_tells g.B.Bench mid.bench c.start.new.bench new.bench _ _ begun.fault (not_both _ _) does.fault;
+          spare = then_tells g.B.Bench old.spare c.start.new.spare new.spare _ _ begun.spare_fault (not_both _ _) c.serve_twin.ensures.spare.fault;
+        };
         file = λ told table for. front_is_legal c.in-Ok-Twin.guarded _ _ _ (together told);
         spare_file = λ told. tt;
         reads = λ itold reads. stop_reads c.serve_twin.result _ _ (does.read itold) (does.within itold) (does.input_within itold) (does.limit itold);
@@ -80,21 +81,9 @@ module _ (g : Over) (c : goal.After-drop-index-inside-in-Ok-start-7 g) where
         spare = λ none. absurd (true≢false none);
       })
 
-  says : Says g.P.Source g.I.Source g.B.Bench (command_of (map string_bytes c.args.words.now.items)) (ended_status c.serve_twin.result) old new
-  says =
-      after_step g.P.Source g.I.Source g.B.Bench c.groups_of_a_schema.ensures.entries _ ready _ old mid.schema mid.table mid.bench new.input new.bench new.spare
-      goes ends
-
   -- opening called nothing of the bench
   abbrev begun : g.row.B.Denot → Objects g.row.P.Denot g.row.I.Denot g.row.B.Denot
   begun at = objects old.schema old.table old.input at old.spare
-
-  faults : FaultCause (ended_status c.serve_twin.result) (faults_of g.P.Source g.I.Source g.B.Bench (begun mid.bench))
-      (faults_of g.P.Source g.I.Source g.B.Bench new)
-  faults =
-      subst (λ b. FaultCause (ended_status c.serve_twin.result) (faults_of g.P.Source g.I.Source g.B.Bench (begun b))
-      (faults_of g.P.Source g.I.Source g.B.Bench new))
-      (sym (goes.unopened refl)) says.faults
 
   -- the table of the groups is every table that the files mean
   abbrev seen : Database
@@ -250,7 +239,8 @@ module _ (g : Over) (c : goal.After-drop-index-inside-in-Ok-start-7 g) where
             (opening.spare_ticks main other whole told told (keep ptold base main other whole over))
             (step.done _ done (c.serve_twin.ensures.spare.calls itold told)));
         twins_complete = λ ptold itold told base main other whole over within none fine.
-            done_or_wants _ _ _ (stop_unrefused ended (λ is. omega (arith, does.limit itold is, within))) faults none (λ is. fine);
+            done_or_wants g.P.Source g.I.Source g.B.Bench _ (begun mid.bench) new
+            (stop_unrefused ended (λ is. omega (arith, does.limit itold is, within))) ends.tells none (λ is. fine);
       }
 
   all : Answers g.P.Source g.I.Source g.B.Bench (command_of (map string_bytes c.args.words.now.items)) c.ended-in-Ok-start.result old new

@@ -5,7 +5,6 @@ use Rattle.std.proofs.lemmas.Bool.{true≢false}
 use Rattle.audit_types.specs.declared.records.Answered.{Answered}
 use Rattle.bench_core.specs.Calls.{IsQuiet, LeavesOnly}
 use Rattle.bench_core.specs.Moments.{weakens}
-use Rattle.bench_core.specs.Reports.{told_as}
 use Rattle.table_load.specs.Database.{Database, table_in}
 use Rattle.twin_journal.specs.Twins.{CatchesUp, KeepApart, KeepTogether, TwinCause}
 use Rattle.twin_journal.specs.declared.starting.TwinRefusal.{TwinRefusal}
@@ -19,19 +18,19 @@ use Rattle.auditor_top.specs.declared.words.Command.TheVariants as command
 use Rattle.auditor_top.specs.declared.ready.Ready.{Ready}
 use Rattle.auditor_top.specs.declared.ready.Ready.TheVariants as made
 use Rattle.auditor_top.specs.Words.{command_of}
-use Rattle.auditor_top.specs.Causes.{BothCause, FaultCause}
+use Rattle.auditor_top.specs.Causes.{BothCause}
 use Rattle.auditor_top.specs.Commands.{AreSoundFilesOf, TwinsOver}
 use Rattle.auditor_top.specs.Ends.{Outside, outside}
-use Rattle.auditor_top.specs.Faults.{end_status, twin_status}
+use Rattle.auditor_top.specs.Faults.{end_status, step_status, twin_refusal}
 use Rattle.auditor_top.specs.Ready.{base_around}
-use Rattle.auditor_top.specs.Runs.{Objects, TwinServing, faults_of, objects}
-use Rattle.auditor_top.specs.Says.{Says}
+use Rattle.auditor_top.specs.Runs.{Objects, TwinServing, objects}
 use Rattle.auditor_top.specs.Twins.{BothCatchUp}
-use Rattle.auditor_top.proofs.LastSteps.{Answers, GoesOnWith, StepEnds, after_step, answers, done_or_wants, goes_with, unread_input}
+use Rattle.auditor_top.proofs.Failures.{step_tells, unread_input}
+use Rattle.auditor_top.proofs.LastSteps.{Answers, GoesOnWith, StepEnds, answers, done_or_wants, goes_with}
 use Rattle.auditor_top.proofs.OneRunMore.{goes_on, left_of_spare, spare_goes_on}
 use Rattle.auditor_top.proofs.OneTable.{one_base}
 use Rattle.auditor_top.proofs.StepFaults.{end_unrefused}
-use Rattle.auditor_top.proofs.TwinEndings.{TwinSays, front_is_legal, refusal, refused_status, twin_cause, twin_file, twin_gave_up, twin_says, twin_words}
+use Rattle.auditor_top.proofs.TwinEndings.{TwinSays, front_is_legal, refusal, twin_cause, twin_file, twin_gave_up, twin_says, twin_words}
 use Rattle.auditor_top.proofs.TwinSessions.{catching_is_harmless, left_between}
 use Rattle.auditor_top.proofs.running.run.Given.{Over}
 use Rattle.auditor_top.proofs.running.run.Goals as goal
@@ -68,7 +67,7 @@ module _ (g : Over) (c : goal.After-drop-index-inside-in-Ok-Twin-7 g) where
   cause told =
       by_cause end IsOfBenches _ (λ _. ⊤) c.in-Err-start.ensures.ends (λ refused is. c.in-Err-start.ensures.cause refused told told is)
 
-  ends : StepEnds g.I.Source g.B.Bench ready (end_status twin_status end) mid new
+  ends : StepEnds g.I.Source g.B.Bench ready (end_status twin_refusal end) mid new
   ends =
       let does = c.in-Err-start.ensures in
       record {
@@ -77,10 +76,12 @@ module _ (g : Over) (c : goal.After-drop-index-inside-in-Ok-Twin-7 g) where
         file = λ told table for. twin_file end c.in-Ok-Twin.batch _ _ _ (cause told) (λ is. does.spare_second told (ap refusal is));
         spare_file = λ told calls. step.spare_file c.in-Ok-Twin.batch _;
         input = λ itold reads. step.input _;
-        input_fault = unread_input g.I.Source old.input _ step.no_input;
-        bench_fault = told_as g.B.Bench mid.bench new.bench _ _ (λ is. ap refused_status is) (λ is. ap refusal (step.bench is)) does.fault;
-        spare_fault = told_as g.B.Bench old.spare new.spare _ _ (λ is. ap refused_status is) (λ is. ap refusal (step.spare is)) does.spare_fault;
-        quiet = λ told quiet fine. does.quiet told quiet (λ is. fine (ap refused_status is));
+        tells = step_tells g.I.Source g.B.Bench twin_refusal (refusal end) (record {
+          input = unread_input g.I.Source old.input _ (λ is. step.no_input (ap (step_status twin_refusal) is));
+          bench = does.fault;
+          spare = does.spare_fault;
+        });
+        quiet = λ told quiet fine. does.quiet told quiet (λ is. fine (ap (step_status twin_refusal) is));
         nothing_began = λ told opens closed quiet table unready. does.untouched told told quiet
             (λ main other whole all. unready (front_is_legal _ _ (g.B.Bench.file old.spare) whole (main, other, all)));
         before_lines = step.at_lines _ (λ refuses. (refl, does.sent));
@@ -91,21 +92,9 @@ module _ (g : Over) (c : goal.After-drop-index-inside-in-Ok-Twin-7 g) where
         spare = λ none. absurd (true≢false none);
       }
 
-  says : Says g.P.Source g.I.Source g.B.Bench (command_of (map string_bytes c.args.words.now.items)) (end_status twin_status end) old new
-  says =
-      after_step g.P.Source g.I.Source g.B.Bench c.groups_of_a_schema.ensures.entries _ ready _ old mid.schema mid.table mid.bench new.input new.bench new.spare
-      goes ends
-
   -- opening called nothing of the bench
   abbrev begun : g.row.B.Denot → Objects g.row.P.Denot g.row.I.Denot g.row.B.Denot
   begun at = objects old.schema old.table old.input at old.spare
-
-  faults : FaultCause (end_status twin_status end) (faults_of g.P.Source g.I.Source g.B.Bench (begun mid.bench))
-      (faults_of g.P.Source g.I.Source g.B.Bench new)
-  faults =
-      subst (λ b. FaultCause (end_status twin_status end) (faults_of g.P.Source g.I.Source g.B.Bench (begun b))
-      (faults_of g.P.Source g.I.Source g.B.Bench new))
-      (sym (goes.unopened refl)) says.faults
 
   -- the table of the groups is every table that the files mean
   abbrev seen : Database
@@ -192,7 +181,7 @@ module _ (g : Over) (c : goal.After-drop-index-inside-in-Ok-Twin-7 g) where
       KeepApart (table_in seen) (g.B.Bench.file mid.bench) (g.B.Bench.file old.spare)
   apart ptold none main other whole all = none seen main other whole (record { files = are ptold; together = all })
 
-  refusing : TwinServing g.P.Source g.I.Source g.B.Bench c.in-Ok-Twin.batch (end_status twin_status end) (begun mid.bench) new
+  refusing : TwinServing g.P.Source g.I.Source g.B.Bench c.in-Ok-Twin.batch (end_status twin_refusal end) (begun mid.bench) new
   refusing =
       let n = c.in-Ok-Twin.batch in
       let does = c.in-Err-start.ensures in
@@ -226,23 +215,24 @@ module _ (g : Over) (c : goal.After-drop-index-inside-in-Ok-Twin-7 g) where
         apart = λ ptold told quiet none. does.untouched told told quiet (apart ptold none);
         spare_apart = λ ptold told quiet none. does.spare_untouched told told quiet (apart ptold none);
         cause = λ ptold told base sound.
-            subst (λ (b : Database). BothCause (end_status twin_status end) (command.Serve n true) (g.B.Bench.file mid.bench) (g.B.Bench.file old.spare)
+            subst (λ (b : Database). BothCause (end_status twin_refusal end) (command.Serve n true) (g.B.Bench.file mid.bench) (g.B.Bench.file old.spare)
             (table_in b))
             (is_seen ptold base sound) (twin_cause end n _ _ _ (cause told));
-        spare_quiet = λ told quiet fine. does.spare_quiet told quiet (λ is. fine (ap refused_status is));
+        spare_quiet = λ told quiet fine. does.spare_quiet told quiet (λ is. fine (ap (step_status twin_refusal) is));
         spare_unsent = does.spare_sent;
         spare_unwritten = step.at_lines _ (λ refuses. (does.reads refuses).1.file);
         twin_calls = λ ptold itold told done. absurd (step.undone done);
         spare_calls = λ ptold itold told done. absurd (step.undone done);
         twins_complete = λ ptold itold told base main other whole over within none fine.
-            done_or_wants _ _ _ (end_unrefused twin_status end does.ends (gave ptold told base main other whole over)) faults none (λ is. fine);
+            done_or_wants g.P.Source g.I.Source g.B.Bench _ (begun mid.bench) new
+            (end_unrefused twin_refusal end does.ends (gave ptold told base main other whole over)) ends.tells none (λ is. fine);
       }
 
   all : Answers g.P.Source g.I.Source g.B.Bench (command_of (map string_bytes c.args.words.now.items)) c.from.result old new
   all =
       answers g.P.Source g.I.Source g.B.Bench c.groups_of_a_schema.ensures.entries _ ready _ old mid.schema mid.table mid.bench new.input new.bench new.spare
       goes ends c.from.ensures
-      (subst (λ b. TwinServing g.P.Source g.I.Source g.B.Bench c.in-Ok-Twin.batch (end_status twin_status end) (begun b) new) (goes.unopened refl)
+      (subst (λ b. TwinServing g.P.Source g.I.Source g.B.Bench c.in-Ok-Twin.batch (end_status twin_refusal end) (begun b) new) (goes.unopened refl)
       refusing)
 
 pub twin_refused : goal.returns-in-Ok-Twin
