@@ -116,18 +116,6 @@ module _ (shape : Shape) (history : List Answered) (table : Table) where
       ∙ sym first.now_is)
   legal_has_no_cause (Illegal place group) same legal cause = let first = cause.1 in first.denied (legal.each place first.at first.stands).released
 
-  -- of what was opened each cause is reported, and a legal history was
-  pub due_answer : {X : Type 0} (answer : Result X (End JournalRefusal)) → shape ≡ table.setting.shape → OnOk answer (IsLegal table history)
-      → IfErr answer (EndsBy IsOfMemory (λ refusal. HistoryCause refusal shape history table)) → (due : JournalRefusal) →
-      HistoryCause due shape history table → RefusedUnlessStopped due answer
-  due_answer (Ok x) same legal err due cause = legal_has_no_cause due same legal cause
-  due_answer (Err end) same legal err due cause = due_of_one end IsOfMemory _ due (λ refusal other. one_cause due refusal cause other) err
-
-  pub opens_answer : {X : Type 0} (answer : Result X (End JournalRefusal)) → shape ≡ table.setting.shape
-      → IfErr answer (EndsBy IsOfMemory (λ refusal. HistoryCause refusal shape history table)) → IsLegal table history → DoneUnlessStopped answer
-  opens_answer (Ok x) same err legal = tt
-  opens_answer (Err end) same err legal = stopped_of_none end IsOfMemory _ (λ refusal cause. legal_has_no_cause refusal same legal cause) err
-
 module _ (file : List ℕ) (table : Table) where
   -- if the journal wasn't read back, what is due of the start is due of the reading
   pub due_of_reading : (end : End JournalRefusal) (due : JournalRefusal)
