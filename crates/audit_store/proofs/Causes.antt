@@ -1,6 +1,6 @@
 -- Why a store isn't started: one cause at most holds, and none of a legal history.
-use Rattle.std.proofs.Common.{◌≡◌, ℕ, ◌<◌, inl, inr, List, sym, ap, subst, ◌∙◌, arith, Result, Ok, Err}
-use Rattle.std.specs.Prelude.{ℤ, Bool, true, false, Option, take, IfErr, OnOk, slice_get}
+use Rattle.std.proofs.Common.{◌≡◌, ℕ, ◌<◌, inl, inr, List, sym, ap, subst, ◌∙◌, arith}
+use Rattle.std.specs.Prelude.{ℤ, Bool, true, false, Option, take, slice_get}
 use Rattle.std.proofs.lemmas.Bool.{cases_lt}
 use Rattle.std.proofs.lemmas.Int.{ints}
 use Rattle.std.proofs.lemmas.Option.{same_Some}
@@ -9,9 +9,8 @@ use Rattle.audit_types.specs.declared.records.Answered.{Answered}
 use Rattle.audit_types.specs.History.{Table, IsLegal}
 use Rattle.audit_types.specs.Minima.{as_it_stands}
 use Rattle.journal_form.specs.Journal.{StandsAt}
-use Rattle.bench_core.specs.Ends.{DoneUnlessStopped, EndsBy, IsDueUnlessStopped, IsStop, RefusedUnlessStopped}
-use Rattle.bench_core.specs.EndLaws.{due_of_one, stopped_is_due, stopped_of_none}
-use Rattle.bench_core.specs.Stops.{IsOfMemory}
+use Rattle.bench_core.specs.Ends.{IsDueUnlessStopped, IsStop}
+use Rattle.bench_core.specs.EndLaws.{stopped_is_due}
 use Rattle.bench_core.specs.declared.stops.End.{End}
 use Rattle.answer_journal.specs.Refusals.{ReadCause}
 use Rattle.answer_journal.specs.declared.refusals.JournalRefusal.{JournalRefusal}
