@@ -1,6 +1,6 @@
 -- Why a store isn't started: one cause at most holds, and none of a legal history.
-use Rattle.std.proofs.Common.{◌≡◌, ℕ, ◌<◌, inl, inr, List, sym, ap, subst, ◌∙◌, arith, Result, Ok, Err}
-use Rattle.std.specs.Prelude.{ℤ, Bool, true, false, Option, take, IfErr, OnOk, slice_get}
+use Rattle.std.proofs.Common.{◌≡◌, ℕ, ◌<◌, inl, inr, List, sym, ap, subst, ◌∙◌, arith}
+use Rattle.std.specs.Prelude.{ℤ, Bool, true, false, Option, take, slice_get}
 use Rattle.std.proofs.lemmas.Bool.{cases_lt}
 use Rattle.std.proofs.lemmas.Int.{ints}
 use Rattle.std.proofs.lemmas.Option.{same_Some}
@@ -9,9 +9,8 @@ use Rattle.audit_types.specs.declared.records.Answered.{Answered}
 use Rattle.audit_types.specs.History.{Table, IsLegal}
 use Rattle.audit_types.specs.Minima.{as_it_stands}
 use Rattle.journal_form.specs.Journal.{StandsAt}
-use Rattle.bench_core.specs.Ends.{DoneUnlessStopped, EndsBy, IsDueUnlessStopped, IsStop, RefusedUnlessStopped}
-use Rattle.bench_core.specs.EndLaws.{due_of_one, stopped_is_due, stopped_of_none}
-use Rattle.bench_core.specs.Stops.{IsOfMemory}
+use Rattle.bench_core.specs.Ends.{IsDueUnlessStopped, IsStop}
+use Rattle.bench_core.specs.EndLaws.{stopped_is_due}
 use Rattle.bench_core.specs.declared.stops.End.{End}
 use Rattle.answer_journal.specs.Refusals.{ReadCause}
 use Rattle.answer_journal.specs.declared.refusals.JournalRefusal.{JournalRefusal}
@@ -115,18 +114,6 @@ module _ (shape : Shape) (history : List Answered) (table : Table) where
       let first = cause.1 in first.differ (first.kept_is ∙ ap (stated_answer table first.at) (legal.each place first.at first.stands).true_answer
       ∙ sym first.now_is)
   legal_has_no_cause (Illegal place group) same legal cause = let first = cause.1 in first.denied (legal.each place first.at first.stands).released
-
-  -- of what was opened each cause is reported, and a legal history was
-  pub due_answer : {X : Type 0} (answer : Result X (End JournalRefusal)) → shape ≡ table.setting.shape → OnOk answer (IsLegal table history)
-      → IfErr answer (EndsBy IsOfMemory (λ refusal. HistoryCause refusal shape history table)) → (due : JournalRefusal) →
-      HistoryCause due shape history table → RefusedUnlessStopped due answer
-  due_answer (Ok x) same legal err due cause = legal_has_no_cause due same legal cause
-  due_answer (Err end) same legal err due cause = due_of_one end IsOfMemory _ due (λ refusal other. one_cause due refusal cause other) err
-
-  pub opens_answer : {X : Type 0} (answer : Result X (End JournalRefusal)) → shape ≡ table.setting.shape
-      → IfErr answer (EndsBy IsOfMemory (λ refusal. HistoryCause refusal shape history table)) → IsLegal table history → DoneUnlessStopped answer
-  opens_answer (Ok x) same err legal = tt
-  opens_answer (Err end) same err legal = stopped_of_none end IsOfMemory _ (λ refusal cause. legal_has_no_cause refusal same legal cause) err
 
 module _ (file : List ℕ) (table : Table) where
   -- if the journal wasn't read back, what is due of the start is due of the reading

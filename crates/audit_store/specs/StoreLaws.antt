@@ -59,20 +59,20 @@ store_in secret core released journal usable =
     record { secret = secret; protected = core.setting.protected; history = take released core.history; journal = journal; usable = usable }
 
 -- a journal of the same history and what is sealed make a store, all of whose records are released
-pub sealed_store : (table : Table) (history : List Answered) (secret : SecretView) (core : Audited) (journal : JournalContents) →
+pub sealed_store : (table : Table) (history : List Answered) (secret : SecretView) (core : Audited) (journal : JournalContents) (released : ℕ) →
     IsSealed table history secret core → journal.usable ≡ true → journal.shape ≡ table.setting.shape → journal.count ≡ length history →
-    IsStore (store_in secret core journal.count journal true) × IsAuditedBy (table_by secret core) core journal.count true
-sealed_store table history secret core journal is usable same_shape counted =
-    let all : journal.count ≡ length core.history = counted ∙ ap length (sym is.same_history) in
-    let whole : take journal.count core.history ≡ core.history = ap (λ n. take n core.history) all ∙ take-length core.history in (
+    released ≡ journal.count → IsStore (store_in secret core released journal true) × IsAuditedBy (table_by secret core) core released true
+sealed_store table history secret core journal released is usable same_shape counted released_is =
+    let all : released ≡ length core.history = released_is ∙ counted ∙ ap length (sym is.same_history) in
+    let whole : take released core.history ≡ core.history = ap (λ n. take n core.history) all ∙ take-length core.history in (
       record {
         numbers = is.numbers;
         fit = subst (λ (t : Table). AreProtected t.setting.shape t.setting.protected) (sym is.same_table) is.fit;
-        legal = subst (λ (t : Table). IsLegal t (take journal.count core.history)) (sym is.same_table)
+        legal = subst (λ (t : Table). IsLegal t (take released core.history)) (sym is.same_table)
             (subst (λ (h : List Answered). IsLegal table h) (sym (whole ∙ is.same_history)) is.legal);
         journal_usable = λ _. usable;
         same_shape = λ _. same_shape ∙ ap (λ (t : Table). t.setting.shape) (sym is.same_table);
-        counted = λ _. all ∙ ap length (sym whole);
+        counted = λ _. sym released_is ∙ all ∙ ap length (sym whole);
       },
       record {
         same_setting = is.same_setting ∙ ap (λ (t : Table). t.setting) (sym is.same_table);

@@ -11,5 +11,5 @@ audited-requires-clause-fit c =
     let kinds : c.args.kept.now.kinds ≡ now.kinds = search rules in
     let all = fit_wider c.args.kept.now now c.args.list.now kinds c.if-now-kept.false c.requires.fit in
     subst (λ (s : Shape). All (λ (r : Answered). FitsShape s r.column r.rows) c.widen_all.new.list)
-    (c.shape-now.ensures.shape ∙ ap (λ (t : Table). t.setting.shape) (sym c.apart.ensures.table))
+    (c.shape-now.ensures.shape ∙ ap (λ (t : Table). t.setting.shape) (sym c.apart-secret.ensures.table))
     (subst (λ (l : List Answered). All (λ (r : Answered). FitsShape now r.column r.rows) l) (sym c.widen_all.ensures) all)

@@ -8,8 +8,9 @@ use Rattle.bench_core.specs.Reports.{of_refusal}
 use Rattle.bench_core.specs.Ends.{DoneUnlessStopped, EndsBy, RefusedUnlessStopped}
 use Rattle.bench_core.specs.EndLaws.{due_of_one, stopped_of_none}
 use Rattle.bench_core.specs.Stops.{IsOfMemory}
-use Rattle.table_load.specs.Cells.{IsSecret}
-use Rattle.audit_store.specs.Starting.{HistoryCause}
+use Rattle.table_load.specs.Cells.{IsSecret, SecretView}
+use Rattle.table_load.specs.Database.{secret_table}
+use Rattle.audit_store.specs.Starting.{HistoryCause, IsSealed}
 use Rattle.audit_store.specs.Stores.{secrets_of}
 use Rattle.audit_store.proofs.Causes.{legal_has_no_cause, one_cause}
 use Rattle.audit_store.proofs.starting.opened.Goals as goal
@@ -26,7 +27,7 @@ returns-in_err-core c =
     let refuses = c.from_residual.ensures in
     let shape : table.setting.shape ≡ kept = search rules in
     let found = subst (λ (s : Shape). EndsBy IsOfMemory (λ refusal. HistoryCause refusal s list table) end) shape
-    (subst (λ (t : Table). EndsBy IsOfMemory (λ refusal. HistoryCause refusal t.setting.shape list t) end) c.apart.ensures.table
+    (subst (λ (t : Table). EndsBy IsOfMemory (λ refusal. HistoryCause refusal t.setting.shape list t) end) c.apart-secret.ensures.table
     c.in_err-core.ensures.err) in
     record {
       ok = IfOk-from_err _ _ refuses.0;
@@ -49,8 +50,24 @@ returns c =
     let list = c.args.list.now in
     let core = c.in_ok-core.core in
     let core_is = c.in_ok-core.ensures.ok.0 in
-    let is_table = c.apart.ensures.table in
+    let is_table = c.apart-secret.ensures.table in
     let same : kept ≡ table.setting.shape = search rules in
     let legal : IsLegal table list = subst (λ (t : Table). IsLegal t list) is_table c.in_ok-core.ensures.ok.1 in
     let same_setting : core.setting ≡ table.setting = ap (λ (a : Audited). a.setting) core_is ∙ ap (λ (t : Table). t.setting) is_table in
-    ?
+    let secret = c.apart-secret.result.0 in
+    let sealed : IsSealed table list secret core = record {
+      numbers = subst (λ (t : Table). IsSecret (secrets_of t)) (sym is_table) c.shape-now.ensures.is;
+      fit = subst (λ (t : Table). AreProtected t.setting.shape t.setting.protected) is_table c.apart-secret.ensures.fit;
+      same_table = ap (λ (a : Audited). secret_table secret a.setting.protected) core_is ∙ is_table;
+      same_setting = same_setting;
+      same_history = ap (λ (a : Audited). a.history) core_is;
+      legal = legal;
+    } in
+    record {
+      ok = subst (λ (s : SecretView). IsSealed table list s c.new.result.core) (sym c.new.ensures.secret)
+          (subst (λ (a : Audited). IsSealed table list secret a) (sym c.new.ensures.core) sealed);
+      same = same;
+      err = tt;
+      due = λ due cause. legal_has_no_cause kept list table due same legal cause;
+      opens = λ same legal. tt;
+    }

@@ -51,8 +51,8 @@ err end = Err end
 
 -- ---- the journal was not read
 
-pub returns : goal.returns
-returns g c =
+pub returns-in-Err : goal.returns-in-Err
+returns-in-Err g c =
     let bench = g.B.Bench in
     let old = c.args.bench.now in
     let mid = c.read_back.new.bench in
@@ -183,8 +183,8 @@ returns-in_err-append_growth-in-Ok g c =
 
 -- ---- it was
 
-pub returns-in-Ok : goal.returns-in-Ok
-returns-in-Ok g c =
+pub returns-in_ok-append_growth-in-Ok : goal.returns-in_ok-append_growth-in-Ok
+returns-in_ok-append_growth-in-Ok g c =
     let bench = g.B.Bench in
     let old = c.args.bench.now in
     let mid = c.read_back.new.bench in

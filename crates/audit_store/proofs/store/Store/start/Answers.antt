@@ -1,4 +1,4 @@
-use Rattle.std.proofs.Common.{◌≡◌, Err, ℕ, List, length, take, true, refl, sym, ap, subst, ◌∙◌}
+use Rattle.std.proofs.Common.{◌≡◌, Err, ℕ, List, length, take, refl, sym, ap, subst, ◌∙◌}
 use Rattle.std.proofs.Math.Seq.{take-length}
 use Rattle.std.specs.Prelude.{⊤, IfErr, IsErrOf}
 use Rattle.std.proofs.lemmas.Result.{IfErr-at_err, IfOk-from_err}
@@ -14,21 +14,17 @@ use Rattle.bench_core.specs.declared.stops.Stop.TheVariants.{Bench}
 use Rattle.journal_form.specs.Journal.{StandsAt}
 use Rattle.audit_store.specs.Refusals.{no_refusal, same_fault}
 use Rattle.audit_store.specs.Starting.{HistoryCause}
-use Rattle.audit_store.specs.Stores.{IsStore, IsAuditedBy, table_by}
-use Rattle.audit_store.specs.StoreLaws.{sealed_store, store_in}
+use Rattle.audit_store.specs.StoreLaws.{sealed_store}
 use Rattle.audit_store.proofs.Causes.{cause_in_file, cause_of_reading, due_of_reading, due_of_history}
 use Rattle.audit_store.proofs.store.Store.start.Goals as goal
 
 pub invariant_of-result : goal.invariant_of-result
 invariant_of-result g c =
-    let journal = c.in_ok-journal.journal in
     let sealed = c.in_ok-sealed.sealed in
     let opened = c.in_ok-sealed.ensures in
     let usable = c.in_ok-journal.ensures.usable in
-    subst (λ (n : ℕ). IsStore (store_in sealed.secret sealed.core n journal true) × IsAuditedBy (table_by sealed.secret sealed.core) sealed.core n true)
-    (sym c.count.ensures.count)
-    (sealed_store c.args.guarded c.deref.result.now sealed.secret sealed.core journal opened.ok usable.0 (sym c.shape.ensures.shape ∙ opened.same)
-    (sym (ap length c.deref.ensures.value ∙ usable.2)))
+    sealed_store c.args.guarded c.deref.result.now sealed.secret sealed.core c.in_ok-journal.journal c.count.result opened.ok usable.0
+    (sym c.shape.ensures.shape ∙ opened.same) (sym (ap length c.deref.ensures.value ∙ usable.2)) c.count.ensures.count
 
 -- ---- the journal wasn't read
 
@@ -121,7 +117,12 @@ returns g c =
     let history : take c.count.result core.history ≡ list =
     ap (λ (n : ℕ). take n core.history) all ∙ take-length core.history ∙ opened.ok.same_history ∙ c.deref.ensures.value in
     record {
-      store = (opened.ok.same_table, refl, (invariant_of-result g c).0);
+      store = (
+        opened.ok.same_table,
+        refl,
+        (sealed_store table shown secret core journal c.count.result opened.ok read.usable.0 (sym c.shape.ensures.shape ∙ opened.same)
+            (sym (ap length c.deref.ensures.value ∙ read.usable.2)) c.count.ensures.count).0,
+      );
       stands = λ told.
           subst (λ (s : Shape). StandsAt file s (take c.count.result core.history) journal.gate) shape
           (subst (λ (h : List Answered). StandsAt file journal.shape h journal.gate) (sym history) (read.stands told));

@@ -12,7 +12,7 @@ use Rattle.audit_store.specs.Stores.{table_by}
 use Rattle.table_load.specs.Database.{secret_table}
 use Rattle.audit_store.proofs.Causes.{legal_has_no_cause, one_cause}
 use Rattle.audit_core.specs.LegalFronts.{legal_front}
-use Rattle.audit_store.proofs.sealed.Sealed.test_other.Goals as goal
+use Rattle.audit_store.proofs.sealed.Sealed+Secret.test_other.Goals as goal
 
 -- ---- it begins what is known
 

@@ -15,7 +15,7 @@ use Rattle.audit_store.specs.Refusals.{no_refusal}
 use Rattle.audit_store.specs.Starting.{HistoryCause}
 use Rattle.audit_store.specs.Stores.{table_by}
 use Rattle.audit_store.proofs.Causes.{cause_in_file, cause_of_reading, due_of_reading, due_of_history}
-use Rattle.audit_store.proofs.sealed.Sealed.open_other.Goals as goal
+use Rattle.audit_store.proofs.sealed.Sealed+Secret.open_other.Goals as goal
 
 -- ---- the journal wasn't read
 
