@@ -74,11 +74,11 @@ of_bench tells = record { later = tells.later; failed = tells.failed; last_call 
 -- ---- what a step is lent
 
 -- one call failed of the object that the stop says, the last one, and none of another
-pub record TellsStop {I B : Type 0} (lines : source.Ghosts I) (bench : Ghosts B) (Told : Stop → Type 0) (from first : I) (old new before after : B) :
+pub record TellsStop {I B : Type 0} (lines : source.Ghosts I) (outside : Ghosts B) (Told : Stop → Type 0) (from first : I) (old new before after : B) :
     Type 0 where
   pub input : TellsInput lines from first (Told stop.Input)
-  pub bench : TellsFault bench old new (Told stop.Bench)
-  pub spare : TellsFault bench before after (Told stop.Spare)
+  pub bench : TellsFault outside old new (Told stop.Bench)
+  pub spare : TellsFault outside before after (Told stop.Spare)
 
 -- so it was of the bench before an opening in which no call failed
 pub stop_after : {I B : Type 0} {lines : source.Ghosts I} (bench : Ghosts B) {Told : Stop → Type 0} {from first : I} {old mid : B} (new : B)

@@ -54,6 +54,15 @@ pub record TwinSays (end : End TwinRefusal) : Type 1 where
 pub twin_says : (end : End TwinRefusal) → TwinStops end → TwinSays end
 twin_says (Stopped stop.Input) stops = absurd stops
 twin_says (Stopped stop.Limit) stops = absurd stops
+twin_says (Refused (twin.Main kept)) stops = record {
+  last = tt;
+  spare_file = λ batch file. tt;
+  input = λ bytes. refl;
+  no_input = λ is. cc;
+  undone = λ is. cc;
+  at_lines = λ P holds. holds tt;
+  at_spare = λ P first. first kept refl;
+}
 twin_says end stops = search rules
 
 pub twin_words : (end : End TwinRefusal) (batch : ℕ) → TwinStops end → WordCause (end_status twin_refusal end) (Some (Serve batch true))

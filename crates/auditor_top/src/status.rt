@@ -140,7 +140,7 @@ impl fmt::Display for Unread {
     ghost output = { λ unread. Some (journal_text unread.0) };
 
     fn fmt<W: fmt::Write>(&self, f: &mut fmt::Formatter<W>) -> fmt::Result {
-        match self.0 {
+        match &self.0 {
             JournalRefusal::NotMade => f.write_str("no journal"),
             JournalRefusal::Damaged { at } => write!(f, "journal damaged at byte {at}"),
             JournalRefusal::OtherShape { kept, now } => write!(
@@ -154,7 +154,7 @@ impl fmt::Display for Unread {
             JournalRefusal::Illegal { place, group } => write!(
                 f,
                 "record {place} should not have been released{}",
-                Blamed(group)
+                Blamed(*group)
             ),
         }
     }

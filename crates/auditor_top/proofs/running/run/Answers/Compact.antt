@@ -67,7 +67,7 @@ module _ (g : Over) (c : goal.After-drop-store-inside-in-Ok-Compact-5 g) where
         quiet = λ told quiet fine image left. quiet image (does.crash image left) ∙ sym does.file;
         nothing_began = λ told opens closed. absurd (true≢false closed);
         before_lines = before_so reading_lines (compacting_status c.compact.result) (λ is. (refl, ap g.B.Bench.sent is)) (step.at_lines _ does.unsent);
-        unwritten = λ told. always_before reading_lines _ does.file;
+        unwritten = λ told. always_before reading_lines (compacting_status c.compact.result) does.file;
         before_spare = λ calls other. step.at_spare _;
         never_written = λ told none. does.file;
         no_lines = λ none. refl;

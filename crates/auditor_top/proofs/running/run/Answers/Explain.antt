@@ -5,6 +5,7 @@ use Rattle.audit_types.specs.declared.records.Answered.{Answered}
 use Rattle.bench_core.specs.Calls.{IsQuiet, IsUntouched, LeavesOnly}
 use Rattle.bench_core.specs.Moments.{joins, still_quiet, weakens}
 use Rattle.bench_core.specs.Reports.{not_called}
+use Rattle.bench_core.specs.declared.stops.Stop.TheVariants as stop
 use Rattle.table_load.specs.Database.{Database, base_of}
 use Rattle.line_wire.specs.Lines.{counted_lines}
 use Rattle.line_wire.specs.Talks.{EndReads, EndSends, Talk, TalksMeanwhile, unrefused}

@@ -89,12 +89,6 @@ module _ (g : Over) (c : goal.After-drop-index-inside-in-Ok-start-7 g) where
   abbrev seen : Database
   seen = base_around c.in-Ok-Twin.index.columns c.in-Ok-Twin.index.public c.in-Ok-Twin.guarded
 
-  are : g.P.Source.told → AreSoundFilesOf (g.P.Source.left old.schema) (g.P.Source.left old.table) seen
-  are ptold = goes.over ptold
-
-  is_seen : g.P.Source.told → (base : Database) → AreSoundFilesOf (g.P.Source.left old.schema) (g.P.Source.left old.table) base → seen ≡ base
-  is_seen ptold base sound = one_base c.groups_of_a_schema.ensures.entries _ _ seen base (are ptold) sound
-
   -- what is given: its files, and two journals of it of which one begins the other
   abbrev IsGiven : Database → List Answered → List Answered → List Answered → Type 0
   IsGiven base main other whole =
@@ -104,7 +98,7 @@ module _ (g : Over) (c : goal.After-drop-index-inside-in-Ok-start-7 g) where
       KeepTogether (table_in seen) (g.B.Bench.file mid.bench) (g.B.Bench.file old.spare) main other whole
   keep ptold base main other whole over =
       subst (λ (b : Database). KeepTogether (table_in b) (g.B.Bench.file mid.bench) (g.B.Bench.file old.spare) main other whole)
-      (sym (is_seen ptold base over.files)) over.together
+      (sym (one_base c.groups_of_a_schema.ensures.entries _ _ seen base (goes.over ptold) over.files)) over.together
 
   -- what the lines are answered over, which is that table
   abbrev asked : Database
@@ -119,7 +113,8 @@ module _ (g : Over) (c : goal.After-drop-index-inside-in-Ok-start-7 g) where
       IsGiven base main other whole → P asked c.in-Ok-start.twin.store.history → P base whole
   said P ptold told base main other whole over holds =
       subst (λ (h : List Answered). P base h) (c.in-Ok-start.ensures.longer main other whole told told (keep ptold base main other whole over))
-      (subst (λ (b : Database). P b c.in-Ok-start.twin.store.history) (asks ∙ is_seen ptold base over.files) holds)
+      (subst (λ (b : Database). P b c.in-Ok-start.twin.store.history)
+      (asks ∙ one_base c.groups_of_a_schema.ensures.entries _ _ seen base (goes.over ptold) over.files) holds)
 
   -- until both are brought up
   quiet_started : g.B.Bench.told → IsQuiet g.B.Bench mid.bench → IsQuiet g.B.Bench c.start.new.bench
@@ -133,7 +128,7 @@ module _ (g : Over) (c : goal.After-drop-index-inside-in-Ok-start-7 g) where
       LeavesOnly g.B.Bench mid.bench c.start.new.bench (CatchesUp base.secret.shape main whole (g.B.Bench.sent mid.bench))
   catching ptold told quiet base main other whole over =
       subst (λ (b : Database). LeavesOnly g.B.Bench mid.bench c.start.new.bench (CatchesUp b.secret.shape main whole (g.B.Bench.sent mid.bench)))
-      (is_seen ptold base over.files)
+      (one_base c.groups_of_a_schema.ensures.entries _ _ seen base (goes.over ptold) over.files)
       (c.in-Ok-start.ensures.main_moments main other whole told told quiet (keep ptold base main other whole over))
 
   spare_catching : g.P.Source.told → g.B.Bench.told → IsQuiet g.B.Bench old.spare → (base : Database) (main other whole : List Answered) →
@@ -141,7 +136,7 @@ module _ (g : Over) (c : goal.After-drop-index-inside-in-Ok-start-7 g) where
       LeavesOnly g.B.Bench old.spare c.start.new.spare (CatchesUp base.secret.shape other whole (g.B.Bench.sent old.spare))
   spare_catching ptold told quiet base main other whole over =
       subst (λ (b : Database). LeavesOnly g.B.Bench old.spare c.start.new.spare (CatchesUp b.secret.shape other whole (g.B.Bench.sent old.spare)))
-      (is_seen ptold base over.files)
+      (one_base c.groups_of_a_schema.ensures.entries _ _ seen base (goes.over ptold) over.files)
       (c.in-Ok-start.ensures.spare_moments main other whole told told quiet (keep ptold base main other whole over))
 
   both_left : g.P.Source.told → g.I.Source.told → g.B.Bench.told → IsQuiet g.B.Bench mid.bench → IsQuiet g.B.Bench old.spare →
@@ -163,7 +158,8 @@ module _ (g : Over) (c : goal.After-drop-index-inside-in-Ok-start-7 g) where
       (started later : g.row.B.Denot) → LeavesOnly g.B.Bench started later (λ image sent. IsHarmless (store_table c.in-Ok-start.twin.store) image) →
       LeavesOnly g.B.Bench started later (λ image sent. IsHarmless (table_in base) image)
   harmless_for ptold base sound started later harmless =
-      subst (λ (b : Database). LeavesOnly g.B.Bench started later (λ image sent. IsHarmless (table_in b) image)) (is_seen ptold base sound)
+      subst (λ (b : Database). LeavesOnly g.B.Bench started later (λ image sent. IsHarmless (table_in b) image))
+      (one_base c.groups_of_a_schema.ensures.entries _ _ seen base (goes.over ptold) sound)
       (subst (λ (t : Guarded). LeavesOnly g.B.Bench started later (λ image sent. IsHarmless t image)) c.in-Ok-start.ensures.store.0 harmless)
 
   answering : TwinServing g.P.Source g.I.Source g.B.Bench c.in-Ok-Twin.batch (ended_status c.serve_twin.result) (begun mid.bench) new
@@ -218,12 +214,12 @@ module _ (g : Over) (c : goal.After-drop-index-inside-in-Ok-start-7 g) where
             c.stops_are_legal.ensures _ _ over.files over.together.legal
             (harmless_for ptold base over.files spare_started new.spare (c.serve_twin.ensures.spare.legal told (spare_quiet_started told quiet)));
         apart = λ ptold told quiet none. let keeps = together told in
-            absurd (none seen keeps.0 keeps.1 kept (record { files = are ptold; together = keeps.2 }));
+            absurd (none seen keeps.0 keeps.1 kept (record { files = goes.over ptold; together = keeps.2 }));
         spare_apart = λ ptold told quiet none. let keeps = together told in
-            absurd (none seen keeps.0 keeps.1 kept (record { files = are ptold; together = keeps.2 }));
+            absurd (none seen keeps.0 keeps.1 kept (record { files = goes.over ptold; together = keeps.2 }));
         cause = λ ptold told base sound.
             subst (λ (b : Database). BothCause (ended_status ended) (command.Serve n true) (g.B.Bench.file mid.bench) (g.B.Bench.file old.spare) (table_in b))
-            (is_seen ptold base sound) (twins_cause ended n _ _ _ kept (together told));
+            (one_base c.groups_of_a_schema.ensures.entries _ _ seen base (goes.over ptold) sound) (twins_cause ended n _ _ _ kept (together told));
         spare_quiet = λ told quiet fine. c.serve_twin.ensures.spare.quiet told (spare_quiet_started told quiet) (λ is. fine (ap ended_status is));
         spare_unsent = c.serve_twin.ensures.spare.sent ∙ opening.spare_sent;
         spare_unwritten = step.at_lines _;

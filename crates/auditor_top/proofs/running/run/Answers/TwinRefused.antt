@@ -100,12 +100,6 @@ module _ (g : Over) (c : goal.After-drop-index-inside-in-Ok-Twin-7 g) where
   abbrev seen : Database
   seen = base_around c.in-Ok-Twin.index.columns c.in-Ok-Twin.index.public c.in-Ok-Twin.guarded
 
-  are : g.P.Source.told → AreSoundFilesOf (g.P.Source.left old.schema) (g.P.Source.left old.table) seen
-  are ptold = goes.over ptold
-
-  is_seen : g.P.Source.told → (base : Database) → AreSoundFilesOf (g.P.Source.left old.schema) (g.P.Source.left old.table) base → seen ≡ base
-  is_seen ptold base sound = one_base c.groups_of_a_schema.ensures.entries _ _ seen base (are ptold) sound
-
   -- what is given: its files, and two journals of it of which one begins the other
   abbrev IsGiven : Database → List Answered → List Answered → List Answered → Type 0
   IsGiven base main other whole =
@@ -115,7 +109,7 @@ module _ (g : Over) (c : goal.After-drop-index-inside-in-Ok-Twin-7 g) where
       KeepTogether (table_in seen) (g.B.Bench.file mid.bench) (g.B.Bench.file old.spare) main other whole
   keep ptold base main other whole over =
       subst (λ (b : Database). KeepTogether (table_in b) (g.B.Bench.file mid.bench) (g.B.Bench.file old.spare) main other whole)
-      (sym (is_seen ptold base over.files)) over.together
+      (sym (one_base c.groups_of_a_schema.ensures.entries _ _ seen base (goes.over ptold) over.files)) over.together
 
   gave : g.P.Source.told → g.B.Bench.told → (base : Database) (main other whole : List Answered) → IsGiven base main other whole →
       IsStop end
@@ -126,7 +120,7 @@ module _ (g : Over) (c : goal.After-drop-index-inside-in-Ok-Twin-7 g) where
       LeavesOnly g.B.Bench mid.bench new.bench (CatchesUp base.secret.shape main whole (g.B.Bench.sent mid.bench))
   catching ptold told quiet base main other whole over =
       subst (λ (b : Database). LeavesOnly g.B.Bench mid.bench new.bench (CatchesUp b.secret.shape main whole (g.B.Bench.sent mid.bench)))
-      (is_seen ptold base over.files)
+      (one_base c.groups_of_a_schema.ensures.entries _ _ seen base (goes.over ptold) over.files)
       (c.in-Err-start.ensures.main_moments main other whole told told quiet (keep ptold base main other whole over))
 
   spare_catching : g.P.Source.told → g.B.Bench.told → IsQuiet g.B.Bench old.spare → (base : Database) (main other whole : List Answered) →
@@ -134,7 +128,7 @@ module _ (g : Over) (c : goal.After-drop-index-inside-in-Ok-Twin-7 g) where
       LeavesOnly g.B.Bench old.spare new.spare (CatchesUp base.secret.shape other whole (g.B.Bench.sent old.spare))
   spare_catching ptold told quiet base main other whole over =
       subst (λ (b : Database). LeavesOnly g.B.Bench old.spare new.spare (CatchesUp b.secret.shape other whole (g.B.Bench.sent old.spare)))
-      (is_seen ptold base over.files)
+      (one_base c.groups_of_a_schema.ensures.entries _ _ seen base (goes.over ptold) over.files)
       (c.in-Err-start.ensures.spare_moments main other whole told told quiet (keep ptold base main other whole over))
 
   -- what there is of the outside before and after
@@ -152,7 +146,7 @@ module _ (g : Over) (c : goal.After-drop-index-inside-in-Ok-Twin-7 g) where
       let does = c.in-Err-start.ensures in
       let found = does.no_memory main other whole told told (keep ptold base main other whole over) (ap refusal is) in
       subst (λ (b : Database). BothCatchUp b main other whole before after (g.B.Bench.file new.bench) (g.B.Bench.file new.spare))
-      (is_seen ptold base over.files) (refl, does.sent, found.0, found.1)
+      (one_base c.groups_of_a_schema.ensures.entries _ _ seen base (goes.over ptold) over.files) (refl, does.sent, found.0, found.1)
 
   -- if the spare failed all but it is as it was
   all_else_same : end ≡ Stopped stop.Spare → after ≡ before
@@ -179,7 +173,7 @@ module _ (g : Over) (c : goal.After-drop-index-inside-in-Ok-Twin-7 g) where
   -- the files don't keep together
   apart : g.P.Source.told → ((base : Database) (main other whole : List Answered) → IsGiven base main other whole → ⊥) →
       KeepApart (table_in seen) (g.B.Bench.file mid.bench) (g.B.Bench.file old.spare)
-  apart ptold none main other whole all = none seen main other whole (record { files = are ptold; together = all })
+  apart ptold none main other whole all = none seen main other whole (record { files = goes.over ptold; together = all })
 
   refusing : TwinServing g.P.Source g.I.Source g.B.Bench c.in-Ok-Twin.batch (end_status twin_refusal end) (begun mid.bench) new
   refusing =
@@ -217,7 +211,7 @@ module _ (g : Over) (c : goal.After-drop-index-inside-in-Ok-Twin-7 g) where
         cause = λ ptold told base sound.
             subst (λ (b : Database). BothCause (end_status twin_refusal end) (command.Serve n true) (g.B.Bench.file mid.bench) (g.B.Bench.file old.spare)
             (table_in b))
-            (is_seen ptold base sound) (twin_cause end n _ _ _ (cause told));
+            (one_base c.groups_of_a_schema.ensures.entries _ _ seen base (goes.over ptold) sound) (twin_cause end n _ _ _ (cause told));
         spare_quiet = λ told quiet fine. does.spare_quiet told quiet (λ is. fine (ap (step_status twin_refusal) is));
         spare_unsent = does.spare_sent;
         spare_unwritten = step.at_lines _ (λ refuses. (does.reads refuses).1.file);
