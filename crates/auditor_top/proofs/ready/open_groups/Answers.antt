@@ -90,5 +90,4 @@ returns g c =
       entries = a.same.3;
       steady = e.steady;
       refusal = tt;
-      later = e.later;
     }
