@@ -1,5 +1,5 @@
 -- What follows from the status of each step of a run by itself.
-use Rattle.std.proofs.Common.{◌≡◌, ◌≢◌, List, ℕ, true, false, Bool, Result, IsOk, arith, refl, subst, rules}
+use Rattle.std.proofs.Common.{◌≡◌, ◌≢◌, List, ℕ, true, false, Bool, Result, IsOk, refl, rules}
 use Rattle.std.specs.Bool.{OnTrue}
 use Rattle.schema_json.specs.Columns.{Column, Guards, SchemaView}
 use Rattle.schema_json.specs.declared.faults.SchemaFault.{SchemaFault}
