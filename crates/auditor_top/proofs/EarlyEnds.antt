@@ -1,5 +1,5 @@
 -- What is said of a run that ends before its command's last step: arguments that are no command, no memory for them, or a refusal.
-use Rattle.std.proofs.Common.{◌≡◌, ◌≤◌, false, Option, Some, refl, sym, ◌∙◌, ap, subst}
+use Rattle.std.proofs.Common.{◌≡◌, false, Option, Some, refl, sym, ◌∙◌, ap, subst}
 use Rattle.std.specs.Bool.{OnTrue}
 use Rattle.bench_core.specs.Calls.{OnlyReads}
 use Rattle.bench_core.specs.Moments.{still_quiet}

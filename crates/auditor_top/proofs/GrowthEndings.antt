@@ -1,5 +1,5 @@
 -- What the end of the last step of `grow` comes to, by cases on it.
-use Rattle.std.proofs.Common.{rules, ◌≡◌, ◌≢◌, ℕ, List, Some, Result, Ok, Err, IsErrOf, OnOk, OnErr, ap, refl}
+use Rattle.std.proofs.Common.{rules, ◌≡◌, ◌≢◌, ℕ, List, Some, Result, Ok, Err, OnOk, OnErr, ap, refl}
 use Rattle.std.specs.Prelude.{⊤, IfErr}
 use Rattle.audit_types.specs.declared.records.Answered.{Answered}
 use Rattle.audit_types.specs.History.{Table as Guarded}

@@ -1,5 +1,5 @@
 -- What every last step of a command owes, over the objects as the opening left them, and what follows of the whole run.
-use Rattle.std.proofs.Common.{◌≡◌, ◌≢◌, ◌≤◌, ◌+◌, ℕ, Bool, true, false, List, Option, Some, Ok, IsOk, refl, sym, ◌∙◌, ap, subst, arith, inl, inr}
+use Rattle.std.proofs.Common.{◌≡◌, ◌≢◌, ◌+◌, ℕ, Bool, true, false, List, Option, Some, Ok, IsOk, refl, sym, ◌∙◌, ap, subst, inl, inr}
 use Rattle.std.proofs.lemmas.Bool.{false≢true, true≢false}
 use Rattle.std.specs.Bool.{OnTrue}
 use Rattle.audit_types.specs.History.{Protection, Table}
@@ -34,7 +34,7 @@ use Rattle.auditor_top.specs.Stages.{Before, opening_spare, reading_lines}
 use Rattle.auditor_top.proofs.Failures.{TellsStop, of_bench, of_input, stop_after, unfailed}
 use Rattle.auditor_top.proofs.OneCommand.{none_asked, one_command}
 use Rattle.auditor_top.proofs.OneTable.{groups_are_sound, one_base, schema_is_ok, table_is_ok}
-use Rattle.auditor_top.proofs.StepStatuses.{EndsLastStep, IsUnrefused, always_before, before_so, groups_read, no_schema_fault, no_table_fault, past_journal, past_table, schema_read, schema_was_read, table_read, table_was_read}
+use Rattle.auditor_top.proofs.StepStatuses.{EndsLastStep, IsUnrefused, always_before, before_so, groups_read, past_journal, past_table, schema_read, table_read}
 
 -- ---- what a command goes on with
 
@@ -89,29 +89,27 @@ record AreRead (one : Command) (schema table : List ℕ) : Type 0 where
   public_ok : one ≡ command.Simulate → (meant : SchemaView) → schema_of schema ≡ Ok meant → IsOk (public_of meant.columns table)
   groups_ok : reads_groups one ≡ true → (meant : SchemaView) → schema_of schema ≡ Ok meant → AreSound meant.columns meant.guards
 
-files_read : (one : Command) (schema table : List ℕ) (base : Database) → AreFilesOf schema table base → (one ≢ command.Simulate) →
+files_read : (one : Command) (schema table : List ℕ) (base : Database) → AreFilesOf schema table base → reads_secrets one ≡ true →
     (reads_groups one ≡ true → (meant : SchemaView) → schema_of schema ≡ Ok meant → AreSound meant.columns meant.guards) → AreRead one schema table
-files_read one schema table base are other sound = record {
+files_read one schema table base are secrets sound = record {
   schema_ok = λ reads. schema_is_ok _ _ are.schema_is;
   table_ok = λ reads meant is.
       table_is_ok (λ (cs : List Column). table_of cs table) _ _ meant _ are.schema_is (means_read are.table_means) is;
-  public_ok = λ is. absurd (other is);
+  public_ok = λ is. absurd (true≢false (sym secrets ∙ ap reads_secrets is));
   groups_ok = sound;
 }
 
-sound_read : OneListOfEntries → (one : Command) (schema table : List ℕ) (base : Database) → AreSoundFilesOf schema table base → (one ≢ command.Simulate) →
-    AreRead one schema table
-sound_read law one schema table base are other = files_read one schema table base are.files other
+sound_read : OneListOfEntries → (one : Command) (schema table : List ℕ) (base : Database) → AreSoundFilesOf schema table base →
+    reads_secrets one ≡ true → AreRead one schema table
+sound_read law one schema table base are secrets = files_read one schema table base are.files secrets
     (λ reads meant is. groups_are_sound law _ _ base.public _ base.protected meant are.files.schema_is are.entries is)
 
 are_read : OneListOfEntries → (schema table : List ℕ) (ready : Ready) → IsReadyOver schema table ready → AreRead (command_for ready) schema table
-are_read law schema table (Init shape) over = files_read command.Init schema table over.0 over.1 (λ is. absurd (true≢false (ap reads_secrets is)))
+are_read law schema table (Init shape) over = files_read command.Init schema table over.0 over.1 refl
     (λ reads. absurd (false≢true reads))
-are_read law schema table (Serve index store batch) over = sound_read law (command.Serve batch false) schema table _ over
-    (λ is. absurd (true≢false (ap reads_secrets is)))
-are_read law schema table (Twin index guarded batch) over = sound_read law (command.Serve batch true) schema table _ over
-    (λ is. absurd (true≢false (ap reads_secrets is)))
-are_read law schema table (Audit read people store) over = sound_read law command.Audit schema table _ over.1 (λ is. absurd (true≢false (ap reads_secrets is)))
+are_read law schema table (Serve index store batch) over = sound_read law (command.Serve batch false) schema table _ over refl
+are_read law schema table (Twin index guarded batch) over = sound_read law (command.Serve batch true) schema table _ over refl
+are_read law schema table (Audit read people store) over = sound_read law command.Audit schema table _ over.1 refl
 are_read law schema table (Simulate index) over = record {
   schema_ok = λ reads. schema_is_ok _ _ over.schema_is;
   table_ok = λ reads. absurd (false≢true reads);
@@ -125,11 +123,10 @@ are_read law schema table (Drill number) over =
       public_ok = λ is. absurd (false≢true (ap reads_files is));
       groups_ok = λ reads. absurd (false≢true reads);
     }
-are_read law schema table (Grow guarded) over = sound_read law command.Grow schema table _ over.2 (λ is. absurd (true≢false (ap reads_secrets is)))
-are_read law schema table (Explain index store) over = sound_read law command.Explain schema table _ over (λ is. absurd (true≢false (ap reads_secrets is)))
-are_read law schema table (Compact store) over = sound_read law command.Compact schema table _ over.2 (λ is. absurd (true≢false (ap reads_secrets is)))
-are_read law schema table (Restore guarded) over = sound_read law command.Restore schema table _ over.2
-    (λ is. absurd (true≢false (ap reads_secrets is)))
+are_read law schema table (Grow guarded) over = sound_read law command.Grow schema table _ over.2 refl
+are_read law schema table (Explain index store) over = sound_read law command.Explain schema table _ over refl
+are_read law schema table (Compact store) over = sound_read law command.Compact schema table _ over.2 refl
+are_read law schema table (Restore guarded) over = sound_read law command.Restore schema table _ over.2 refl
 
 -- ---- a store that was opened
 
@@ -284,8 +281,8 @@ module _ {P I B : Type 0} (files : source.Ghosts P) (lines : source.Ghosts I) (b
 
     failures : (object : Object) → TellsFailure (faults_of files lines bench old object) (faults_of files lines bench new object)
         (last_failed_of files lines bench new object) (status ≡ Failed object)
-    failures Schema = unfailed _ _ _ _ goes.steady.0 (schema_was_read status ends.last)
-    failures TableFile = unfailed _ _ _ _ goes.steady.1 (table_was_read status ends.last)
+    failures Schema = unfailed _ _ _ _ goes.steady.0 (λ is. subst EndsLastStep is ends.last)
+    failures TableFile = unfailed _ _ _ _ goes.steady.1 (λ is. subst EndsLastStep is ends.last)
     failures Input = of_input ends.tells.input
     failures Bench = of_bench (stop_after bench at goes.steady.2 ends.tells).bench
     failures Spare = of_bench ends.tells.spare
@@ -301,8 +298,8 @@ module _ {P I B : Type 0} (files : source.Ghosts P) (lines : source.Ghosts I) (b
           table_read status _ ends.last ((are_read law _ _ ready (goes.over ptold)).public_ok (same command.Simulate is) meant means);
       groups = λ ptold other is reads meant means.
           groups_read status _ _ ends.last ((are_read law _ _ ready (goes.over ptold)).groups_ok (ap reads_groups (same other is) ∙ reads) meant means);
-      own_schema_fault = no_schema_fault status ends.last;
-      own_table_fault = no_table_fault status ends.last;
+      own_schema_fault = λ is. subst EndsLastStep is ends.last;
+      own_table_fault = λ is. subst EndsLastStep is ends.last;
       file = λ ptold told other is base given entries.
           subst (λ (k : Command). FileCause status k (bench.file old.bench) (table_in base)) (same other is) (file_cause ptold told base given
           (subst (λ (k : Command). OnTrue (reads_groups k) (Protects base.columns base.public given.guards base.protected)) (sym (same other is)) entries));
@@ -311,8 +308,8 @@ module _ {P I B : Type 0} (files : source.Ghosts P) (lines : source.Ghosts I) (b
           (ends.spare_file told (ap calls_spare (same other is) ∙ calls));
       input = λ itold other is reads. ends.input itold (ap reads_lines (same other is) ∙ reads);
       faults = failures;
-      schema_within = λ ptold is. absurd (schema_was_read status ends.last is);
-      table_within = λ ptold is. absurd (table_was_read status ends.last is);
+      schema_within = λ ptold is. absurd (subst EndsLastStep is ends.last);
+      table_within = λ ptold is. absurd (subst EndsLastStep is ends.last);
       quiet = λ told quiet. ends.quiet told (still_quiet bench old.bench opened goes.reads quiet);
       before_table = past_table _ status ends.last;
       before_bench = past_journal _ status ends.last;

@@ -23,17 +23,9 @@ use Rattle.auditor_top.proofs.Failures.{read_as, unfailed_read}
 use Rattle.auditor_top.proofs.OneTable.{same_ok}
 use Rattle.auditor_top.proofs.StepStatuses.{always_before}
 
--- a count is no more than itself
-pub stays : (n : ℕ) → n ≤ n
-stays n = omega arith
-
--- nor than one more
+-- a count is no more than one more
 pub one_more : (n : ℕ) → n ≤ n + 1
 one_more n = omega arith
-
--- and no more than what it rose to in two steps
-pub later_still : (a b c : ℕ) → a ≤ b → b ≤ c → a ≤ c
-later_still a b c first second = omega arith
 
 -- ---- the schema's file
 

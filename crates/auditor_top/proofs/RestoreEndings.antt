@@ -1,5 +1,5 @@
 -- What the end of the last step of `restore` comes to, by cases on it.
-use Rattle.std.proofs.Common.{rules, ◌≡◌, ℕ, List, Some, Result, Ok, Err, IsErrOf, OnOk, refl}
+use Rattle.std.proofs.Common.{rules, ◌≡◌, ℕ, List, Some, Result, Ok, Err, refl}
 use Rattle.std.specs.Prelude.{⊤, IfErr}
 use Rattle.audit_types.specs.History.{Table as Guarded}
 use Rattle.bench_core.specs.Ends.{DoneUnlessStopped, EndsBy, IsRefused}

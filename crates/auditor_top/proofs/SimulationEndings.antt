@@ -1,5 +1,5 @@
 -- What a simulation comes to, by cases on how it ended.
-use Rattle.std.proofs.Common.{rules, ◌≡◌, ◌≢◌, ℕ, ◌^◌, ◌≤◌, List, length, Result, Ok, Err, refl, sym, ◌∙◌, ap, subst, arith, Some, OnOk}
+use Rattle.std.proofs.Common.{rules, ◌≡◌, ◌≢◌, ℕ, ◌^◌, ◌≤◌, List, length, Result, Ok, Err, ◌∙◌, ap, subst, arith, Some}
 use Rattle.audit_types.specs.declared.records.Answered.{Answered}
 use Rattle.audit_types.specs.History.{Protection, Setting, Table as Guarded}
 use Rattle.bench_core.specs.declared.stops.End.{End}

@@ -1,11 +1,11 @@
 -- What the end of the opening of a journal comes to, by cases on it.
-use Rattle.std.proofs.Common.{rules, ◌≡◌, ◌≢◌, ℕ, List, Some, true}
+use Rattle.std.proofs.Common.{rules, ◌≡◌, ℕ, List, Some, true}
 use Rattle.std.specs.Prelude.{⊤}
 use Rattle.audit_types.specs.History.{Table as Guarded}
 use Rattle.bench_core.specs.Ends.{EndsBy, IsStop}
 use Rattle.bench_core.specs.Stops.{IsOfBench}
 use Rattle.bench_core.specs.declared.stops.End.{End}
-use Rattle.bench_core.specs.declared.stops.End.TheVariants.{Stopped, Refused}
+use Rattle.bench_core.specs.declared.stops.End.TheVariants.{Stopped}
 use Rattle.bench_core.specs.declared.stops.Stop.TheVariants as stop
 use Rattle.answer_journal.specs.declared.refusals.JournalRefusal.{JournalRefusal}
 use Rattle.auditor_top.specs.declared.words.Command.{Command}

@@ -1,5 +1,5 @@
 -- What the end of the last step of `init` and of `serve` comes to, by cases on it.
-use Rattle.std.proofs.Common.{rules, ◌≡◌, ◌≢◌, ℕ, ◌+◌, ◌<◌, ◌≤◌, List, true, [], Result, Ok, Err, IfErr, IsErr, IsErrOf, OnOk, length, refl, sym, ap, arith, subst, Some}
+use Rattle.std.proofs.Common.{rules, ◌≡◌, ◌≢◌, ℕ, ◌+◌, ◌<◌, ◌≤◌, List, true, [], Result, Ok, Err, IfErr, IsErr, OnOk, length, refl, sym, ap, arith, subst, Some}
 use Rattle.std.specs.Prelude.{⊤}
 use Rattle.std.proofs.lemmas.Bool.{false≢true}
 use Rattle.audit_types.specs.declared.records.Answered.{Answered}
@@ -18,7 +18,6 @@ use Rattle.line_wire.specs.Lines.{counted_lines, most_input}
 use Rattle.audit_session.specs.Ends.{Serves, ServesWhole, ServesSome, limited}
 use Rattle.auditor_top.specs.declared.words.Command.{Command}
 use Rattle.auditor_top.specs.declared.words.Command.TheVariants.{Init}
-use Rattle.auditor_top.specs.declared.status.Status.{Status}
 use Rattle.auditor_top.specs.declared.status.Object.TheVariants.{Bench}
 use Rattle.auditor_top.specs.declared.status.Refusal.{Refusal}
 use Rattle.auditor_top.specs.declared.status.Status.TheVariants.{Done, Failed, NoMemory}

@@ -1,5 +1,5 @@
 -- What follows from the status of each step of a run by itself.
-use Rattle.std.proofs.Common.{◌≡◌, ◌≢◌, List, ℕ, true, false, Bool, Result, IsOk, arith, refl, subst, rules}
+use Rattle.std.proofs.Common.{◌≡◌, ◌≢◌, List, ℕ, true, false, Bool, Result, IsOk, refl, rules}
 use Rattle.std.specs.Bool.{OnTrue}
 use Rattle.schema_json.specs.Columns.{Column, Guards, SchemaView}
 use Rattle.schema_json.specs.declared.faults.SchemaFault.{SchemaFault}
@@ -120,19 +120,6 @@ past_journal P (Refused (BadGroup place)) last = absurd last
 past_journal P (Failed Schema) last = absurd last
 past_journal P (Failed Table) last = absurd last
 past_journal P status last = tt
-
--- so it isn't one of theirs
-pub no_schema_fault : (status : Status) → EndsLastStep status → status ≢ Refused (BadSchema schema_fault.NoMemory)
-no_schema_fault status last is = subst EndsLastStep is last
-
-pub no_table_fault : (status : Status) → EndsLastStep status → status ≢ Refused (BadTable table_fault.NoMemory)
-no_table_fault status last is = subst EndsLastStep is last
-
-pub schema_was_read : (status : Status) → EndsLastStep status → status ≢ Failed Schema
-schema_was_read status last is = subst EndsLastStep is last
-
-pub table_was_read : (status : Status) → EndsLastStep status → status ≢ Failed Table
-table_was_read status last is = subst EndsLastStep is last
 
 -- ---- a last step that is done, or was ended by a call that failed, or by memory that ran out
 

@@ -45,7 +45,7 @@ use Rattle.auditor_top.proofs.GroupRefusals.{groups_refused, group_gives_up}
 use Rattle.auditor_top.proofs.OneTable.{groups_are_sound, one_base, same_ok, schema_is_ok, table_is_ok}
 use Rattle.auditor_top.proofs.StartEndings.{start_says}
 use Rattle.auditor_top.proofs.Failures.{stopped_by, unfailed_read}
-use Rattle.auditor_top.proofs.StepStatuses.{EndsLastStep, groups_read, no_schema_fault, no_table_fault, past_journal, past_table, schema_read, schema_was_read, table_read, table_was_read}
+use Rattle.auditor_top.proofs.StepStatuses.{EndsLastStep, groups_read, past_journal, past_table, schema_read, table_read}
 
 -- the files were read, and no group has a fault
 schema_so : (status : Status) (schema table : List ℕ) (base : Database) → EndsLastStep status → AreFilesOf schema table base →
@@ -167,16 +167,16 @@ module _ {P B : Type 0} (files : source.Ghosts P) (bench : Ghosts B) (law : OneL
             subst (λ (b : Database). FileCause status asked (bench.file at) (table_in b)) one
             (says.file asked (bench.file at) (table_in (seen public protected))
             (EndsBy-weaker end IsOfBench IsOfBench _ _ (λ why is. is) (λ refusal. refused_so refusal asked _ _ opens) (cause told).0));
-        own_schema_fault = no_schema_fault status last;
-        own_table_fault = no_table_fault status last;
+        own_schema_fault = λ is. subst EndsLastStep is last;
+        own_table_fault = λ is. subst EndsLastStep is last;
         early = says.early;
         gives_up = λ ptold told given.
             let all = given_history asked _ _ _ opens given in
             let one = sym (one_base law _ _ (seen public protected) all.0 (are ptold) all.2.files) in
             says.gives_up ((cause (told opens)).1 all.1 (subst (λ (b : Database). StandsFor (bench.file at) b.secret.shape all.1) one all.2.stands)
             (subst (λ (b : Database). IsLegal (table_in b) all.1) one all.2.legal));
-        schema_read = unfailed_read files most_schema schema later_schema _ same_schema (schema_was_read status last);
-        table_read = unfailed_read files most_table table later_table _ same_table (table_was_read status last);
+        schema_read = unfailed_read files most_schema schema later_schema _ same_schema (λ is. subst EndsLastStep is last);
+        table_read = unfailed_read files most_table table later_table _ same_table (λ is. subst EndsLastStep is last);
         bench_fault = told_as bench at later _ _ (λ is. ap (λ (e : Result X (End JournalRefusal)). step_status name e) is)
             (stopped_by {X = X} name (Err end) stop.Bench) tells;
         before_table = past_table _ status last;
@@ -226,9 +226,5 @@ not_started {P} {B} {X} files bench law asked schema later_schema table later_ta
     let all = cause end refl in
     store_refused files bench law asked schema later_schema table later_table at later opens read meant schema_is table_is same_schema same_table {X = X} end
     all.0
-    all.1 all.2 all.3 all.4 (by end refl) (record {
-      later = tells.later;
-      failed = λ is. tells.failed (same_start end (Stopped stop.Bench) is);
-      last_call = λ is. tells.last_call (same_start end (Stopped stop.Bench) is);
-      steady = λ other. tells.steady (λ is. other (same_journal end (Stopped stop.Bench) is));
-    })
+    all.1 all.2 all.3 all.4 (by end refl)
+    (told_as bench at later _ _ (same_journal end (Stopped stop.Bench)) (same_start end (Stopped stop.Bench)) tells)

@@ -48,7 +48,6 @@ pub fn open_table<P: Source>(
     // A fault is the first that there is. The table is read only over a schema without fault.
     ensures refused { IfErr result (λ fault. LeavesUnopened P.Source table_of fault schema.old schema.new table.old table.new) }
     ensures steady { OnOk result ((P.faults schema.new ≡ P.faults schema.old) × (P.faults table.new ≡ P.faults table.old)) }
-    ensures later { (P.faults schema.old ≤ P.faults schema.new) × (P.faults table.old ≤ P.faults table.new) }
 {
     let schema = match schema_from(alloc, schema) {
         Ok(schema) => schema,
@@ -73,7 +72,6 @@ pub fn open_public<P: Source>(
     // A fault is the first that there is. The table is read only over a schema without fault.
     ensures refused { IfErr result (λ fault. LeavesUnopened P.Source public_of fault schema.old schema.new table.old table.new) }
     ensures steady { OnOk result ((P.faults schema.new ≡ P.faults schema.old) × (P.faults table.new ≡ P.faults table.old)) }
-    ensures later { (P.faults schema.old ≤ P.faults schema.new) × (P.faults table.old ≤ P.faults table.new) }
 {
     let schema = match schema_from(alloc, schema) {
         Ok(schema) => schema,

@@ -56,7 +56,6 @@ fn open_store<P: Source, B: Bench>(
     // A refusal has its cause. The journal is only read.
     ensures refusal { IfErr result (λ status. Refuses P.Source B.Bench command status schema.old schema.new table.old table.new bench.old bench.new) }
     ensures reads { OnlyReads B.Bench bench.old bench.new }
-    ensures later { (P.faults schema.old ≤ P.faults schema.new) × (P.faults table.old ≤ P.faults table.new) × (B.faults bench.old ≤ B.faults bench.new) }
 {
     groups_of_a_schema();
     let opened = open_table(alloc, schema, table)?;
@@ -83,7 +82,6 @@ fn open_groups<P: Source, B: Bench>(
 
     // A refusal has its cause.
     ensures refusal { IfErr result (λ status. Refuses P.Source B.Bench command status schema.old schema.new table.old table.new bench.now bench.now) }
-    ensures later { (P.faults schema.old ≤ P.faults schema.new) × (P.faults table.old ≤ P.faults table.new) }
 {
     groups_of_a_schema();
     let opened = open_table(alloc, schema, table)?;
@@ -119,9 +117,8 @@ pub fn open<P: Source, B: Bench>(
     ensures refusal { IfErr result (λ status. Refuses P.Source B.Bench command status schema.old schema.new table.old table.new bench.old bench.new) }
     ensures taken { reads_files command ≡ false → IsOk result }
 
-    // Nothing is written or sent, no count of faults falls, and what a command doesn't stand on isn't called.
+    // Nothing is written or sent, and what a command doesn't stand on isn't called.
     ensures reads { OnlyReads B.Bench bench.old bench.new }
-    ensures later { (P.faults schema.old ≤ P.faults schema.new) × (P.faults table.old ≤ P.faults table.new) × (B.faults bench.old ≤ B.faults bench.new) }
     ensures unread { reads_files command ≡ false → (schema.new ≡ schema.old) × (table.new ≡ table.old) }
     ensures unopened { opens_store command ≡ false → bench.new ≡ bench.old }
 {

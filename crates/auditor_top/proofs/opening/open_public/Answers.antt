@@ -1,5 +1,5 @@
 use Rattle.table_load.specs.Tables.{public_of}
-use Rattle.auditor_top.proofs.Openings.{stays, schema_unopened, table_unopened}
+use Rattle.auditor_top.proofs.Openings.{schema_unopened, table_unopened}
 use Rattle.auditor_top.proofs.StepFaults.{not_both}
 use Rattle.auditor_top.proofs.opening.open_public.Goals as goal
 
@@ -14,7 +14,6 @@ returns-in-Err g c =
       fits = tt;
       refused = schema_unopened g.P.Source public_of c.in-Err.fault _ _ _ e.means e.own e.fault;
       steady = tt;
-      later = (e.fault.later, stays _);
     }
 
 -- ---- the table's gave nothing
@@ -29,7 +28,6 @@ returns-in-Err-public_from g c =
       refused = table_unopened g.P.Source public_of c.in-Err-public_from.fault _ _ _ _ _ c.in-Ok.ensures.means
           (c.in-Ok.ensures.fault.steady (not_both _ _)) e.means e.own e.fault;
       steady = tt;
-      later = (c.in-Ok.ensures.fault.later, e.fault.later);
     }
 
 -- ---- both files were read
@@ -43,5 +41,4 @@ returns-in-Ok-public_from g c =
       fits = e.fits;
       refused = tt;
       steady = (c.in-Ok.ensures.fault.steady (not_both _ _), e.fault.steady (not_both _ _));
-      later = (c.in-Ok.ensures.fault.later, e.fault.later);
     }

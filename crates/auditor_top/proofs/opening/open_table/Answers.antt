@@ -1,5 +1,5 @@
 use Rattle.table_load.specs.Tables.{table_of}
-use Rattle.auditor_top.proofs.Openings.{stays, schema_unopened, table_unopened}
+use Rattle.auditor_top.proofs.Openings.{schema_unopened, table_unopened}
 use Rattle.auditor_top.proofs.StepFaults.{not_both}
 use Rattle.auditor_top.proofs.opening.open_table.Goals as goal
 
@@ -15,7 +15,6 @@ returns-in-Err g c =
       shape = tt;
       refused = schema_unopened g.P.Source table_of c.in-Err.fault _ _ _ e.means e.own e.fault;
       steady = tt;
-      later = (e.fault.later, stays _);
     }
 
 -- ---- the table's gave nothing
@@ -31,7 +30,6 @@ returns-in-Err-table_from g c =
       refused = table_unopened g.P.Source table_of c.in-Err-table_from.fault _ _ _ _ _ c.in-Ok.ensures.means
           (c.in-Ok.ensures.fault.steady (not_both _ _)) e.means e.own e.fault;
       steady = tt;
-      later = (c.in-Ok.ensures.fault.later, e.fault.later);
     }
 
 -- ---- both files were read
@@ -46,5 +44,4 @@ returns-in-Ok-table_from g c =
       shape = e.shape;
       refused = tt;
       steady = (c.in-Ok.ensures.fault.steady (not_both _ _), e.fault.steady (not_both _ _));
-      later = (c.in-Ok.ensures.fault.later, e.fault.later);
     }

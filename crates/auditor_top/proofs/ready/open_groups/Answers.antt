@@ -84,5 +84,4 @@ returns g c =
       entries = ap (λ (t : Guarded). t.setting.protected) (sym a.same.2);
       steady = e.steady;
       refusal = tt;
-      later = e.later;
     }

@@ -79,5 +79,4 @@ returns g c =
       ticks = a.ticks;
       refusal = tt;
       reads = c.start.ensures.reads;
-      later = (e.later.0, e.later.1, c.start.ensures.fault.later);
     }

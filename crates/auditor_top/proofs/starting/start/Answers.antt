@@ -10,6 +10,7 @@ use Rattle.table_load.specs.Database.{secret_table}
 use Rattle.journal_form.specs.Journal.{StandsFor}
 use Rattle.bench_core.specs.Ends.{EndsBy, IsStop}
 use Rattle.bench_core.specs.EndLaws.{by_cause}
+use Rattle.bench_core.specs.Reports.{told_as}
 use Rattle.bench_core.specs.Stops.{IsOfBench}
 use Rattle.bench_core.specs.declared.stops.End.{End}
 use Rattle.bench_core.specs.declared.stops.End.TheVariants.{Stopped}
@@ -53,13 +54,8 @@ returns-in-Err-start-clause-cause g c = λ end is.
 
 pub returns-in-Err-start-clause-fault : goal.returns-in-Err-start-clause-fault
 returns-in-Err-start-clause-fault g c =
-    let tells = c.in-Err-start.ensures.fault in
-    record {
-      later = tells.later;
-      failed = λ is. tells.failed (same_journal c.in-Err-start.end (Stopped stop.Bench) is);
-      last_call = λ is. tells.last_call (same_journal c.in-Err-start.end (Stopped stop.Bench) is);
-      steady = λ other. tells.steady (λ is. other (same_start c.in-Err-start.end (Stopped stop.Bench) is));
-    }
+    told_as g.B.Bench c.args.bench.now c.start.new.bench _ _ (same_start c.in-Err-start.end (Stopped stop.Bench))
+    (same_journal c.in-Err-start.end (Stopped stop.Bench)) c.in-Err-start.ensures.fault
 
 pub returns-in-Err-start-clause-ends : goal.returns-in-Err-start-clause-ends
 returns-in-Err-start-clause-ends g c = λ end is.

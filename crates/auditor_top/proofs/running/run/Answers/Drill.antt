@@ -1,5 +1,5 @@
 -- What `run` says of `drill`.
-use Rattle.std.proofs.Common.{◌≡◌, Err, refl, sym, ap, subst, map, string_bytes}
+use Rattle.std.proofs.Common.{◌≡◌, Err, refl, ap, subst, map, string_bytes}
 use Rattle.std.proofs.lemmas.Bool.{false≢true}
 use Rattle.bench_core.specs.Reports.{not_called}
 use Rattle.bench_core.specs.Stops.{IsOfBench}

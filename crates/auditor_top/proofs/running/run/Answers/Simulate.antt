@@ -10,7 +10,6 @@ use Rattle.question_plan.specs.Session.{Replied}
 use Rattle.transcript_sim.specs.Beginning.{BeginsWith, EndBegins}
 use Rattle.transcript_sim.specs.Ends.{simulation}
 use Rattle.line_wire.specs.Talks.{EndDue, EndSends, TalksMeanwhile}
-use Rattle.auditor_top.specs.declared.words.Command.TheVariants as command
 use Rattle.bench_core.specs.declared.stops.Stop.TheVariants as stop
 use Rattle.auditor_top.specs.declared.ready.Ready.{Ready}
 use Rattle.auditor_top.specs.declared.ready.Ready.TheVariants as made

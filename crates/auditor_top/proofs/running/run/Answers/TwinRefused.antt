@@ -19,7 +19,7 @@ use Rattle.auditor_top.specs.declared.ready.Ready.{Ready}
 use Rattle.auditor_top.specs.declared.ready.Ready.TheVariants as made
 use Rattle.auditor_top.specs.Words.{command_of}
 use Rattle.auditor_top.specs.Causes.{BothCause}
-use Rattle.auditor_top.specs.Commands.{AreSoundFilesOf, TwinsOver}
+use Rattle.auditor_top.specs.Commands.{TwinsOver}
 use Rattle.auditor_top.specs.Ends.{Outside, outside}
 use Rattle.auditor_top.specs.Faults.{end_status, step_status, twin_refusal}
 use Rattle.auditor_top.specs.Ready.{base_around}
