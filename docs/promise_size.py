@@ -32,7 +32,7 @@ MOST = {
     "lines and conditions": 394,
     "formats of files": 231,
     "journal and crash": 92,
-    "lives": 297,
+    "lives": 296,
     "the promise": 1230,
 }
 

@@ -67,6 +67,5 @@ MayHave base runs last column Is = (numbers : List ℤ) × (length numbers ≡ l
 
 -- a life leaves the numbers and the protected totals of the last table open within each range
 abbrev pub IsOpenWithin : Database → List Run → Standing → Type 0
-IsOpenWithin base runs last =
-    (column : ℕ) → column < columns last.base.secret.shape →
+IsOpenWithin base runs last = (column : ℕ) → column < columns last.base.secret.shape →
     StaysOpen (MayHave base runs last column) (known_of (table_in last.base).setting (history_over last.base last) column) (list_of last.base.secret.lists column)

@@ -3,7 +3,7 @@ use Rattle.std.specs.Prelude.{⊤, Err, IsErrOf}
 use Rattle.std.proofs.lemmas.Result.{IfErr-at_err}
 use Rattle.audit_types.specs.declared.records.Answered.{Answered}
 use Rattle.audit_types.specs.declared.shapes.Shape.{Shape}
-use Rattle.audit_types.specs.History.{FitsShape, IsLegal, Protection, Table}
+use Rattle.audit_types.specs.History.{FitsShape, IsLegal, Table}
 use Rattle.bench_core.specs.Calls.{IsQuiet}
 use Rattle.bench_core.specs.Moments.{still_quiet}
 use Rattle.bench_core.specs.Reports.{not_called, not_written, told_as}
@@ -17,8 +17,6 @@ use Rattle.bench_core.specs.declared.stops.End.{End}
 use Rattle.bench_core.specs.declared.stops.End.TheVariants.{Stopped, Refused}
 use Rattle.bench_core.specs.declared.stops.Stop.TheVariants as stop
 use Rattle.answer_journal.specs.declared.refusals.AlreadyThere.{AlreadyThere}
-use Rattle.table_load.specs.Cells.{SecretView}
-use Rattle.table_load.specs.Database.{secret_table}
 use Rattle.audit_core.specs.LegalFronts.{legal_fits}
 use Rattle.audit_store.specs.Refusals.{no_refusal}
 use Rattle.audit_store.specs.Stores.{table_of}

@@ -11,7 +11,6 @@ use Rattle.answer_journal.specs.Make.{calls_to_make}
 use Rattle.answer_journal.specs.MadeFiles.{stands_is_made}
 use Rattle.answer_journal.specs.Moments.{IsMade}
 use Rattle.answer_journal.specs.Whole.{HoldsWhole}
-use Rattle.table_load.specs.Database.{secret_table}
 use Rattle.audit_store.specs.Refusals.{no_refusal}
 use Rattle.bench_core.specs.Ends.{DoneUnlessStopped, EndsBy, IsDueUnlessStopped, IsStop, RefusedUnlessStopped, refused_as, turned_end}
 use Rattle.bench_core.specs.EndLaws.{EndsBy-weaker, by_cause, renamed_by, renamed_due, renamed_stopped}
