@@ -82,7 +82,9 @@ pub fn run<P: Source, I: Source, B: Bench>(
         Ok(Ready::Serve(index, mut store, batch)) => ended(audit_session::serve(
             alloc, &index, &mut store, input, bench, batch,
         )),
-        Ok(Ready::Twin(index, guarded, batch)) => match TwinStore::start(alloc, guarded, bench, spare) {
+        Ok(Ready::Twin(index, guarded, batch)) => match TwinStore::start(
+            alloc, guarded, bench, spare,
+        ) {
             Ok(mut twin) => ended(serve_twin(alloc, &index, &mut twin, input, bench, spare, batch)),
             Err(end) => Status::from(end),
         },
